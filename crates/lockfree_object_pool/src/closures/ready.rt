@@ -1,0 +1,62 @@
+//! Ready-made function objects.
+ghost use Rattle.std.specs.Prelude.{◌≡◌, Some};
+
+use crate::clean::{AnyValue, Clean};
+use crate::closures::{Init, Reset};
+use std::marker::{Model, PhantomData};
+use std::sync::Mutex;
+
+/// A reset that changes nothing.
+#[derive(Clone, Copy, Debug)]
+pub struct Keep;
+
+impl<T> Reset<T, AnyValue> for Keep {
+    ghost leaves = { λ _ old new. new ≡ old };
+
+    fn reset(&self, value: &mut T) {
+        let _ = value;
+    }
+}
+
+/// A value that meets the condition and is copied: each new item is a copy of it, and a reset leaves one.
+#[derive(Drop)]
+pub struct Copied<T, K: Clean<T>> {
+    value: T,
+    marker: PhantomData<(Mutex<T>, Mutex<K>)>,
+}
+
+impl<T, K: Clean<T>> Model for Copied<T, K> {
+    ghost Value = { T };
+
+    ghost view = { λ copied. copied.value };
+
+    ghost invariant = { λ copied. K.meets copied.value };
+}
+
+impl<T: Copy, K: Clean<T>> Copied<T, K> {
+    pub fn new(value: T) -> Copied<T, K>
+        requires { K.meets value }
+        ensures { result ≡ value }
+    {
+        Copied {
+            value,
+            marker: PhantomData,
+        }
+    }
+}
+
+impl<T: Copy, K: Clean<T>> Init<T, K> for Copied<T, K> {
+    ghost answers = { λ copied answer. answer ≡ Some copied };
+
+    fn make(&self) -> Option<T> {
+        Some(self.value)
+    }
+}
+
+impl<T: Copy, K: Clean<T>> Reset<T, K> for Copied<T, K> {
+    ghost leaves = { λ copied _ new. new ≡ copied };
+
+    fn reset(&self, value: &mut T) {
+        *value = self.value;
+    }
+}
