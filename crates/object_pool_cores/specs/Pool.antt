@@ -1,0 +1,49 @@
+-- A pool of items that are known by their numbers.
+use Rattle.std.specs.Prelude.{◌≡◌, ℕ, ◌+◌, ◌*◌, ◌≤◌, ◌==◌, if◌then◌else◌, Option, Some, None, List, slice_get, ⊤}
+
+-- the number of an item, by its page and its place there
+abbrev pub number : ℕ → ℕ → ℕ
+number page id = 32 * page + id
+
+-- what lies at a number: no item, a free item with its value, or an item that is out
+pub data Place (T : Type 0) : Type 0 where
+  Absent : Place T
+  Free : T → Place T
+  Out : Place T
+
+-- how many pages there are, and what lies at each number
+pub record Pool (T : Type 0) : Type 0 where
+  pub pages : ℕ
+  pub at : ℕ → Place T
+
+-- there may be so many pages
+abbrev pub AllowsPages : Option ℕ → ℕ → Type 0
+AllowsPages None pages = ⊤
+AllowsPages (Some limit) pages = pages ≤ limit
+
+module _ {T : Type 0} where
+  -- the number is free with this value
+  abbrev pub IsFree : Pool T → ℕ → T → Type 0
+  IsFree pool n v = pool.at n ≡ Free v
+
+  -- the number is out
+  abbrev pub IsOut : Pool T → ℕ → Type 0
+  IsOut pool n = pool.at n ≡ Out
+
+  -- two pools have as many pages, and the same at each number
+  pub record IsSame (a b : Pool T) : Type 0 where
+    pub pages : a.pages ≡ b.pages
+    pub places : (n : ℕ) → a.at n ≡ b.at n
+
+  -- free with a value, where there is one
+  abbrev pub free_with : Option T → Place T
+  free_with None = Absent
+  free_with (Some v) = Free v
+
+  -- a pool of one page, all of whose numbers are free with these values
+  abbrev pub opening : List T → Pool T
+  opening values = record { pages = 1; at = λ n. free_with (slice_get values n) }
+
+  -- the pool with another place at one number
+  abbrev pub with_place : Pool T → ℕ → Place T → Pool T
+  with_place pool n place = record { pages = pool.pages; at = λ m. if m == n then place else pool.at m }

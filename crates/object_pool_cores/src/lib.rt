@@ -1,0 +1,2 @@
+//! Pools that one owner uses, and what is said of them.
+#![tactic(auto)]
