@@ -1,2 +1,5 @@
-//! Pools that one owner uses, and what is said of them.
+//! The cores of the object pools for one owner, exact on `&mut self`.
 #![tactic(auto)]
+
+mod run_error;
+pub mod sequential;

@@ -1,0 +1,2 @@
+pub mod ReplyRuns
+pub mod HeldItems

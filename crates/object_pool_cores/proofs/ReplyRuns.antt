@@ -1,0 +1,37 @@
+-- A run of commands with their replies goes on by one.
+use Rattle.std.proofs.Common.{◌≡◌, List, [], ◌∷◌, ◌++◌, Result, IsErr, Ok, Err, OnOk, refl, ap, subst, ◌∙◌, append_assoc}
+use Rattle.lockfree_object_pool.specs.declared.pull_error.PullError.{PullError}
+use Rattle.object_pool_cores.specs.declared.sequential.item.Item.{Item}
+use Rattle.object_pool_cores.specs.declared.sequential.attach_error.AttachError.{AttachError}
+use Rattle.object_pool_cores.specs.declared.sequential.command.Command.{Command}
+use Rattle.object_pool_cores.specs.declared.sequential.reply.Reply.{Reply}
+use Rattle.std.proofs.lemmas.Bool.{false≢true}
+use Rattle.std.specs.Iterator.{Yields}
+use Rattle.std.specs.Vec.Iter.{into_iter_items, into_iter_steps}
+use Rattle.std.specs.declared.vec.IntoIter.{IntoIter}
+use Rattle.object_pool_cores.specs.Held.{Playing}
+use Rattle.object_pool_cores.specs.Replies.{Plays, Replies}
+
+-- what the iterator of a vector has given is a front of its items
+pub taken_front : {X A : Type 0} (first : IntoIter X A) (taken : List X) (last : IntoIter X A) → Yields into_iter_steps first taken last → into_iter_items first ≡ taken ++ into_iter_items last
+taken_front first [] last yields = ap into_iter_items yields
+taken_front first (x ∷ taken) last yields = yields.1.0 ∙ ap (λ rest. x ∷ rest) (taken_front yields.0 taken last yields.2)
+
+-- a list that goes on from another does so with one element more
+pub appended : {X : Type 0} (old more middle new : List X) (x : X) → middle ≡ old ++ more → new ≡ middle ++ x ∷ [] → new ≡ old ++ (more ++ x ∷ [])
+appended old more middle new x so_far last = last ∙ ap (λ items. items ++ x ∷ []) so_far ∙ append_assoc old more (x ∷ [])
+
+-- nothing is said of an Ok where there is an error
+pub no_Ok : {V E : Type 0} (result : Result V E) (P : Type 0) → IsErr result → OnOk result P
+no_Ok (Ok v) P err = elim (false≢true err) [ ]
+no_Ok (Err e) P err = tt
+
+module _ {P T : Type 0} (pulls : P → Result (Item T) PullError → P → Type 0) (gives : P → Item T → P → Type 0) (attaches : P → T → Result (Item T) (AttachError T) → P → Type 0) where
+  -- one command more, with its reply
+  pub Replies-append : (old middle new : Playing P T) (commands : List (Command T)) (replies : List (Reply T)) (command : Command T) (reply : Reply T) → Replies pulls gives attaches old commands replies middle → Plays pulls gives attaches middle command reply new → Replies pulls gives attaches old (commands ++ command ∷ []) (replies ++ reply ∷ []) new
+  Replies-append old middle new [] [] command reply done next =
+      (new, subst (λ (state : Playing P T). Plays pulls gives attaches state command reply new) done next, refl)
+  Replies-append old middle new (c ∷ commands) (r ∷ replies) command reply done next =
+      (done.0, done.1, Replies-append done.0 middle new commands replies command reply done.2 next)
+  Replies-append old middle new [] (r ∷ replies) command reply done next = absurd done
+  Replies-append old middle new (c ∷ commands) [] command reply done next = absurd done

@@ -1,0 +1,33 @@
+-- What the pools of one owner have in common: a bag of kept values.
+use Rattle.std.specs.Prelude.{◌≡◌, Option, Some, List, [], ◌∷◌, ◌++◌, All, Result, Ok, Err, ◌⊎◌}
+use Rattle.lockfree_object_pool.specs.declared.pull_error.PullError.{PullError}
+use Rattle.object_pool_cores.specs.declared.sequential.item.Item.{Item}
+use Rattle.object_pool_cores.specs.Item.{item_value}
+
+module _ {T : Type 0} where
+  -- the value of the item that a pull gave, or why it gave none
+  abbrev pub pulled_value : Result (Item T) PullError → Result T PullError
+  pulled_value (Ok item) = Ok (item_value item)
+  pulled_value (Err cause) = Err cause
+
+  -- the large bag is the small one with this value put in somewhere
+  pub record IsPutIn (v : T) (small large : List T) : Type 0 where
+    pub front : List T
+    pub back : List T
+    pub without : small ≡ front ++ back
+    pub within : large ≡ front ++ v ∷ back
+
+  -- an answer of init is given only where no value is kept, and further answers may enter the bag
+  pub record IsFresh (answers : Option T → Type 0) (old : List T) (v : T) (new : List T) : Type 0 where
+    pub none : old ≡ []
+    pub answer : answers (Some v)
+    pub further : All (λ w. answers (Some w)) new
+
+  -- a pull takes some kept value, or where none is kept gives an answer of init or is refused
+  abbrev pub PullsFromBag : (Option T → Type 0) → List T → Result T PullError → List T → Type 0
+  PullsFromBag answers old (Ok v) new = IsPutIn v new old ⊎ IsFresh answers old v new
+  PullsFromBag answers old (Err cause) new = (old ≡ []) × (new ≡ [])
+
+  -- a return adds what reset left, or drops the item
+  abbrev pub ReturnsToBag : (T → T → Type 0) → List T → T → List T → Type 0
+  ReturnsToBag leaves old v new = ((kept : T) × leaves v kept × IsPutIn kept old new) ⊎ (new ≡ old)

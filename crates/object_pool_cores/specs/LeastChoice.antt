@@ -1,0 +1,48 @@
+-- A pull by least choice: the least free number; a page more only where no number is free, or a refusal in its place.
+use Rattle.std.specs.Prelude.{◌≡◌, ℕ, ◌+◌, ◌≤◌, Option, Some, None, List, All, Result, Ok, Err, ◌⊎◌}
+use Rattle.lockfree_object_pool.specs.declared.pull_error.PullError.{PullError}
+use Rattle.lockfree_object_pool.specs.declared.pull_error.PullError.TheVariants.{Memory, Init, Limit}
+use Rattle.object_pool_cores.specs.Pool.{Pool, IsFree, IsSame, AllowsPages}
+use Rattle.object_pool_cores.specs.Move.{Pull, Growth, IsLawful, after}
+
+module _ {T : Type 0} where
+  -- no number is free
+  abbrev pub IsExhausted : Pool T → Type 0
+  IsExhausted pool = (n : ℕ) (v : T) → IsFree pool n v → ⊥
+
+  -- the number is free with this value, and no lesser number is free
+  pub record IsLeastFree (pool : Pool T) (n : ℕ) (v : T) : Type 0 where
+    pub free : IsFree pool n v
+    pub least : (m : ℕ) (w : T) → IsFree pool m w → n ≤ m
+
+  -- the least free number is pulled
+  pub record TakesLeast (old : Pool T) (n : ℕ) (v : T) (new : Pool T) : Type 0 where
+    pub least : IsLeastFree old n v
+    pub taken : IsSame new (after old (Pull n v))
+
+-- From here on, `answers` says what `init` may answer.
+module _ {T : Type 0} (limit : Option ℕ) (answers : Option T → Type 0) where
+  -- where no number is free, a growth by answers of init comes first, and then the least number is pulled
+  pub record GrowsFirst (old : Pool T) (n : ℕ) (v : T) (new : Pool T) : Type 0 where
+    pub exhausted : IsExhausted old
+    pub values : List T
+    pub answered : All (λ w. answers (Some w)) values
+    pub lawful : IsLawful limit old (Growth values)
+    pub takes : TakesLeast (after old (Growth values)) n v new
+
+  -- the limit is the cause where the pool has as many pages as it may; the others come only where it may have more
+  abbrev pub IsCause : Pool T → PullError → Type 0
+  IsCause pool Limit = limit ≡ Some pool.pages
+  IsCause pool Memory = AllowsPages limit (pool.pages + 1)
+  IsCause pool Init = AllowsPages limit (pool.pages + 1) × answers None
+
+  -- a refusal comes only where no number is free, and changes nothing
+  pub record IsRefused (old : Pool T) (cause : PullError) (new : Pool T) : Type 0 where
+    pub exhausted : IsExhausted old
+    pub because : IsCause old cause
+    pub same : IsSame new old
+
+  -- a pull by least choice, which gives a number with its value or is refused
+  abbrev pub PullsLeast : Pool T → Result (ℕ × T) PullError → Pool T → Type 0
+  PullsLeast old (Ok pulled) new = TakesLeast old pulled.0 pulled.1 new ⊎ GrowsFirst old pulled.0 pulled.1 new
+  PullsLeast old (Err cause) new = IsRefused old cause new

@@ -1,0 +1,16 @@
+//! Pools that one owner uses, and a player of commands on them.
+
+mod attach_error;
+mod command;
+mod item;
+mod player;
+mod reply;
+mod sequential_pool;
+
+pub use crate::run_error::RunError;
+pub use attach_error::AttachError;
+pub use command::Command;
+pub use item::Item;
+pub use player::Player;
+pub use reply::Reply;
+pub use sequential_pool::SequentialPool;

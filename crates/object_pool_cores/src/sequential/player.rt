@@ -1,0 +1,179 @@
+//! A player of commands on a pool of one owner.
+ghost use Rattle.std.specs.Prelude.{◌≡◌, ◌≢◌, ◌↔◌, ◌<◌, Option, Some, None, List, IfOk, OnErr, OnOk, IsOk, IsTrue, IsSome, IsErr, OnSome, IfNone, length, slice_set, vec_len, vec_capacity, [], ◌∷◌, ◌++◌};
+ghost use Rattle.std.specs.Option.{option_copied};
+ghost use Rattle.object_pool_cores.specs.Held.{held_at, value_of, IsReplaced};
+ghost use Rattle.object_pool_cores.specs.Replies.{Plays, Ran, NeedsRoom, AfterWrite, AfterReturn, AfterForget};
+
+use crate::sequential::{Command, Item, Reply, RunError, SequentialPool};
+use std::alloc::Global;
+use std::marker::Model;
+
+/// A pool with the table of the items that are held of it.
+#[derive(Drop)]
+pub struct Player<T, P: SequentialPool<T>> {
+    pool: P,
+    held: Vec<Option<Item<T>>>,
+}
+
+impl<T, P: SequentialPool<T>> Model for Player<T, P> {
+    ghost use Rattle.std.specs.Prelude.{◌≡◌, Option, List};
+    ghost use Rattle.object_pool_cores.specs.Held.{Playing};
+
+    ghost Value = { Playing P T };
+
+    ghost view = { λ player. record { pool = player.pool; held = player.held.items } };
+
+    ghost invariant = { λ player. P.together player.pool player.held.items };
+}
+
+impl<T: Drop, P: SequentialPool<T>> Player<T, P> {
+    /// A player that holds nothing yet.
+    pub fn new(alloc: Global, pool: P) -> Player<T, P>
+        ensures pool { result.pool ≡ pool }
+        ensures held { result.held ≡ [] }
+    {
+        Player {
+            pool,
+            held: Vec::new(alloc),
+        }
+    }
+
+    /// The value that is held at an index.
+    pub fn held(&self, index: usize) -> Option<&T>
+        ensures { option_copied result ≡ value_of (held_at self.now.held index) }
+    {
+        let item = self.held.get(index)?.as_ref()?;
+        Some(item)
+    }
+
+    /// Does one command.
+    pub fn play(&mut self, command: Command<T>) -> Result<Reply<T>, RunError>
+        ensures ok { IfOk result (λ reply. Plays P.pulls P.gives P.attaches self.old command reply self.new) }
+        ensures err { OnErr result (self.new ≡ self.old) }
+        ensures needs_room { IsErr result → NeedsRoom command }
+    {
+        match command {
+            Command::Pull => self.pull(),
+            Command::Write(index, value) => Ok(self.write(index, value)),
+            Command::Return(index) => Ok(self.give(index)),
+            Command::Forget(index) => Ok(self.forget(index)),
+            Command::Attach(value) => self.attach(value),
+        }
+    }
+
+    /// Does the commands in order, and puts each reply behind those that are there. After an error the commands that
+    /// were done stay done, with their replies, and the others are dropped.
+    pub fn run(
+        &mut self,
+        commands: Vec<Command<T>>,
+        replies: &mut Vec<Reply<T>>,
+    ) -> Result<(), RunError>
+        ensures { Ran P.pulls P.gives P.attaches self.old commands.items replies.old.items result replies.new.items self.new }
+    {
+        for command in commands {
+            replies.reserve(1)?;
+            let reply = self.play(command)?;
+            if replies.push(reply).is_err() {
+                unreachable!()
+            }
+        }
+        Ok(())
+    }
+
+    fn pull(&mut self) -> Result<Reply<T>, RunError>
+        ensures ok { IfOk result (λ reply. Plays P.pulls P.gives P.attaches self.old Command.Pull reply self.new) }
+        ensures err { OnErr result (self.new ≡ self.old) }
+    {
+        self.held.reserve(1)?;
+        match self.pool.pull() {
+            Ok(item) => {
+                let number = item.number();
+                Ok(Reply::Pulled(hold(&mut self.held, item), number))
+            }
+            Err(cause) => Ok(Reply::Refused(cause)),
+        }
+    }
+
+    fn attach(&mut self, value: T) -> Result<Reply<T>, RunError>
+        ensures ok { IfOk result (λ reply. Plays P.pulls P.gives P.attaches self.old (Command.Attach value) reply self.new) }
+        ensures err { OnErr result (self.new ≡ self.old) }
+    {
+        self.held.reserve(1)?;
+        match self.pool.attach(value) {
+            Ok(item) => Ok(Reply::Attached(hold(&mut self.held, item))),
+            Err(error) => Ok(Reply::AttachRefused(error)),
+        }
+    }
+
+    fn write(&mut self, index: usize, value: T) -> Reply<T>
+        ensures { Plays P.pulls P.gives P.attaches self.old (Command.Write index value) result self.new }
+    {
+        if replace(&mut self.held, index, value) {
+            Reply::Written
+        } else {
+            Reply::NoSuchHolder
+        }
+    }
+
+    fn give(&mut self, index: usize) -> Reply<T>
+        ensures { Plays P.pulls P.gives P.attaches self.old (Command.Return index) result self.new }
+    {
+        match let_go(&mut self.held, index) {
+            Some(item) => {
+                self.pool.give(item);
+                Reply::Returned
+            }
+            None => Reply::NoSuchHolder,
+        }
+    }
+
+    fn forget(&mut self, index: usize) -> Reply<T>
+        ensures { Plays P.pulls P.gives P.attaches self.old (Command.Forget index) result self.new }
+    {
+        match let_go(&mut self.held, index) {
+            Some(_) => Reply::Forgotten,
+            None => Reply::NoSuchHolder,
+        }
+    }
+}
+
+/// Holds an item at the next index, which it answers.
+fn hold<T: Drop>(held: &mut Vec<Option<Item<T>>>, item: Item<T>) -> usize
+    requires { vec_len held.old < vec_capacity held.old }
+    ensures held { held.new.items ≡ held.old.items ++ Some item ∷ [] }
+    ensures index { result ≡ length held.old.items }
+{
+    let index = held.len();
+    if held.push(Some(item)).is_err() {
+        unreachable!()
+    }
+    index
+}
+
+/// Takes the item at an index out of the table.
+fn let_go<T>(held: &mut [Option<Item<T>>], index: usize) -> Option<Item<T>>
+    ensures item { result ≡ held_at held.old index }
+    ensures held { OnSome result (held.new ≡ slice_set held.old index None) }
+    ensures none { IfNone result (held.new ≡ held.old) }
+{
+    if index >= held.len() {
+        return None;
+    }
+    held[index].take()
+}
+
+/// Replaces the value that is held at an index, and answers whether there is one.
+fn replace<T: Drop>(held: &mut [Option<Item<T>>], index: usize, value: T) -> bool
+    ensures { IsReplaced held.old index value (held_at held.old index) result held.new }
+{
+    if index >= held.len() {
+        return false;
+    }
+    match &mut held[index] {
+        Some(item) => {
+            **item = value;
+            true
+        }
+        None => false,
+    }
+}

@@ -1,0 +1,19 @@
+//! What a player replies.
+use crate::sequential::AttachError;
+use lockfree_object_pool::PullError;
+
+/// The reply to one command.
+#[derive(Debug, PartialEq, Eq, Drop)]
+pub enum Reply<T> {
+    /// The index of the new holder, and the number of its item where the pool numbers its items.
+    Pulled(usize, Option<u128>),
+    Refused(PullError),
+    Written,
+    Returned,
+    Forgotten,
+    /// The index of the new holder.
+    Attached(usize),
+    AttachRefused(AttachError<T>),
+    /// The command names an index that nothing is held at. Nothing changed.
+    NoSuchHolder,
+}
