@@ -1,2 +1,2 @@
+pub mod LeastChoiceSteps
 pub mod ReplyRuns
-pub mod HeldItems

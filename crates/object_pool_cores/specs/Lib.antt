@@ -6,3 +6,7 @@ pub mod Item
 pub mod Held
 pub mod Replies
 pub mod Attach
+pub mod Numbered
+pub mod MadePage
+pub mod Linear
+pub mod Laws

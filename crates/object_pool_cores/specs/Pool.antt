@@ -1,5 +1,5 @@
 -- A pool of items that are known by their numbers.
-use Rattle.std.specs.Prelude.{◌≡◌, ℕ, ◌+◌, ◌*◌, ◌≤◌, ◌==◌, if◌then◌else◌, Option, Some, None, List, slice_get, ⊤}
+use Rattle.std.specs.Prelude.{◌≡◌, ◌≢◌, ℕ, ◌<◌, ◌+◌, ◌*◌, ◌≤◌, ◌==◌, if◌then◌else◌, Option, Some, None, List, slice_get, ⊤}
 
 -- the number of an item, by its page and its place there
 abbrev pub number : ℕ → ℕ → ℕ
@@ -29,6 +29,12 @@ module _ {T : Type 0} where
   -- the number is out
   abbrev pub IsOut : Pool T → ℕ → Type 0
   IsOut pool n = pool.at n ≡ Out
+
+  -- there is a place at exactly the numbers below 32 times the pages, and there may be so many pages
+  pub record IsPool (limit : Option ℕ) (pool : Pool T) : Type 0 where
+    pub inside : (n : ℕ) → n < 32 * pool.pages → pool.at n ≢ Absent
+    pub past : (n : ℕ) → 32 * pool.pages ≤ n → pool.at n ≡ Absent
+    pub allowed : AllowsPages limit pool.pages
 
   -- two pools have as many pages, and the same at each number
   pub record IsSame (a b : Pool T) : Type 0 where

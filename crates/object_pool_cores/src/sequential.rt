@@ -3,6 +3,8 @@
 mod attach_error;
 mod command;
 mod item;
+mod linear_core;
+mod numbered_items;
 mod player;
 mod reply;
 mod sequential_pool;
@@ -11,6 +13,7 @@ pub use crate::run_error::RunError;
 pub use attach_error::AttachError;
 pub use command::Command;
 pub use item::Item;
+pub use linear_core::LinearCore;
 pub use player::Player;
 pub use reply::Reply;
 pub use sequential_pool::SequentialPool;

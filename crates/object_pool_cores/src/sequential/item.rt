@@ -23,6 +23,12 @@ impl<T> Item<T> {
         }
     }
 
+    pub(crate) fn into_value(self) -> T
+        ensures { result ≡ item_value self }
+    {
+        self.value
+    }
+
     /// The item's number, where its pool numbers its items: 32 times its page, and its place there.
     pub fn number(&self) -> Option<u128>
         ensures { result ≡ item_number self.now }

@@ -1,6 +1,6 @@
 use Rattle.std.proofs.lemmas.List.{set-get_or}
 use Rattle.std.proofs.Common.{refl}
-use Rattle.object_pool_cores.proofs.HeldItems.{held_at-empty}
+use Rattle.object_pool_cores.specs.Laws.HeldItems.{held_at-empty}
 use Rattle.object_pool_cores.proofs.sequential.player.replace.Goals as goal
 
 pub returns-in-None : goal.returns-in-None

@@ -1,0 +1,28 @@
+use Rattle.std.proofs.Common.{◌≡◌, ℕ, Some, refl, sym, ◌∙◌, ap, subst}
+use Rattle.object_pool_cores.specs.Pool.{IsOut}
+use Rattle.object_pool_cores.specs.Numbered.{pool_of}
+use Rattle.object_pool_cores.proofs.sequential.linear_core.LinearCoreSequentialPool.give.Goals as goal
+
+pub unreachable-requires : goal.unreachable-requires
+unreachable-requires g c = c.in_default.not-Some c.requires.0 (c.number.ensures ∙ c.requires.1)
+
+pub put-requires-clause-out : goal.put-requires-clause-out
+put-requires-clause-out g c =
+    let same : Some c.requires.0 ≡ Some c.in-Some.number = sym c.requires.1 ∙ sym c.in-Some.ensures in
+    let number : c.requires.0 ≡ c.in-Some.number = cc in
+    subst (λ (n : ℕ). IsOut (pool_of c.args.self.now.items) n) number c.requires.2
+
+pub returns : goal.returns
+returns g c =
+    record {
+      step = record { before = c.put.ensures.before; after = c.put.ensures.after; limit = c.put.ensures.limit; init = refl; reset = refl };
+      n = c.in-Some.number;
+      kept = c.reset.new.value;
+      number = sym c.in-Some.ensures;
+      left = rw (← c.into_value-value.ensures) c.reset.ensures.leaves;
+      lawful =
+          let same : Some c.requires.0 ≡ Some c.in-Some.number = sym c.requires.1 ∙ sym c.in-Some.ensures in
+          let number : c.requires.0 ≡ c.in-Some.number = cc in
+          subst (λ (n : ℕ). IsOut (pool_of c.args.self.now.items) n) number c.requires.2;
+      returned = c.put.ensures.returned;
+    }

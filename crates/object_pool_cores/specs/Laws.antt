@@ -1,0 +1,7 @@
+-- Proofs of the laws of a pool of one owner. An impl names them, so they stand here and not below proofs/.
+pub mod PoolSteps
+pub mod NumberedPlaces
+pub mod FreeValues
+pub mod HeldItems
+pub mod LinearBag
+pub mod LinearTogether

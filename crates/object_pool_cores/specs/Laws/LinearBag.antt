@@ -1,0 +1,75 @@
+-- Each step of the linear core is a case of the common relation.
+use Rattle.std.proofs.Common.{◌≡◌, ◌≢◌, ℕ, ◌-◌, ◌*◌, ◌<◌, ◌≤◌, Option, Some, None, List, [], ◌∷◌, length, Result, Ok, Err, slice_set, refl, sym, ap, subst, ◌∙◌, arith, inl, inr, ◌⊎◌}
+use Rattle.std.specs.List.{slice_get}
+use Rattle.std.specs.Prelude.{All}
+use Rattle.std.proofs.lemmas.Option.{get_or_from_slice_get, slice_get_within}
+use Rattle.lockfree_object_pool.specs.declared.pull_error.PullError.{PullError}
+use Rattle.object_pool_cores.specs.declared.sequential.item.Item.{Item}
+use Rattle.object_pool_cores.specs.declared.sequential.linear_core.LinearCore.{LinearCore}
+use Rattle.object_pool_cores.specs.Item.{item_value, item_number}
+use Rattle.object_pool_cores.specs.Pool.{Pool, Place, Free, Out, IsFree, IsOut, IsSame, with_place}
+use Rattle.object_pool_cores.specs.Move.{Pull, Return, Growth, after, grown}
+use Rattle.object_pool_cores.specs.LeastChoice.{IsExhausted, TakesLeast, GrowsFirst, PullsLeast}
+use Rattle.object_pool_cores.specs.Bag.{IsPutIn, IsFresh, PullsFromBag, ReturnsToBag, pulled_value}
+use Rattle.object_pool_cores.specs.Numbered.{Numbered, pool_of, place_of, free_values}
+use Rattle.object_pool_cores.specs.Linear.{Pulls, Gives, IsAnswer}
+use Rattle.object_pool_cores.specs.Laws.PoolSteps.{at-with_place, free-grown}
+use Rattle.object_pool_cores.specs.Laws.NumberedPlaces.{place_of-free, place_of-out, pool_of-set}
+use Rattle.object_pool_cores.specs.Laws.FreeValues.{same_places, free_values-taken, free_values-put, free_values-none, free_values-All}
+
+module _ {T : Type 0} where
+  -- the list of a pool that has another place at one number
+  pub list_of-with_place : (old new : Numbered T) (n : ℕ) (place : Option T) → n < length old.places → IsSame (pool_of new) (with_place (pool_of old) n (place_of (Some place))) → new.places ≡ slice_set old.places n place
+  list_of-with_place old new n place within same =
+      let set = pool_of-set old n place within in
+      same_places new.places (slice_set old.places n place) (λ m. same.places m ∙ sym (set.places m))
+
+  within_places : (items : Numbered T) (n : ℕ) (place : Option T) → slice_get items.places n ≡ Some place → n < length items.places
+  within_places items n place e = slice_get_within items.places n place e
+
+  -- where no number is free, no value is kept
+  pub free_values-exhausted : (items : Numbered T) → IsExhausted (pool_of items) → free_values items.places ≡ []
+  free_values-exhausted items exhausted = free_values-none items.places (λ n v e. exhausted n v (ap place_of e))
+
+  -- the least number was pulled
+  pub IsPutIn-taken : (old new : Numbered T) (n : ℕ) (v : T) → TakesLeast (pool_of old) n v (pool_of new) → IsPutIn v (free_values new.places) (free_values old.places)
+  IsPutIn-taken old new n v takes =
+      let here = place_of-free (slice_get old.places n) v takes.least.free in
+      let list = list_of-with_place old new n None (within_places old n (Some v) here) takes.taken in
+      rw list (free_values-taken old.places n v here)
+
+  -- a page more was pulled from
+  pub IsFresh-grown : (limit : Option ℕ) (answers : Option T → Type 0) (old new : Numbered T) (n : ℕ) (v : T) → GrowsFirst limit answers (pool_of old) n v (pool_of new) → IsFresh answers (free_values old.places) v (free_values new.places)
+  IsFresh-grown limit answers old new n v grows = record {
+    none = free_values-exhausted old grows.exhausted;
+    answer = answered n v grows.takes.least.free;
+    further = free_values-All (λ w. answers (Some w)) new.places (λ m w e.
+        elim (at-with_place (grown (pool_of old) grows.values) n m Out (Free w) (sym (grows.takes.taken.places m) ∙ ap place_of e)) [
+          | inl here ↦ let out : Out ≡ Free w = here.1 in absurd cc
+          | inr other ↦ answered m w other.1
+        ]);
+  }
+    where
+      answered : (m : ℕ) (w : T) → IsFree (grown (pool_of old) grows.values) m w → answers (Some w)
+      answered m w free =
+          let there = free-grown (pool_of old) grows.values m w grows.exhausted free in
+          let k = m - 32 * (pool_of old).pages in
+          subst (λ (x : T). answers (Some x)) (get_or_from_slice_get grows.values k w w there.1) (grows.answered k w (slice_get_within grows.values k w there.1))
+
+  pulls_from_bag : (limit : Option ℕ) (answers : Option T → Type 0) (old new : Numbered T) (answer : Result (Item T) PullError) (pulled : Result (ℕ × T) PullError) → IsAnswer answer pulled → PullsLeast limit answers (pool_of old) pulled (pool_of new) → PullsFromBag answers (free_values old.places) (pulled_value answer) (free_values new.places)
+  pulls_from_bag limit answers old new (Ok item) (Ok pulled) same (inl takes) = rw same.1 (inl (IsPutIn-taken old new pulled.0 pulled.1 takes))
+  pulls_from_bag limit answers old new (Ok item) (Ok pulled) same (inr grows) = rw same.1 (inr (IsFresh-grown limit answers old new pulled.0 pulled.1 grows))
+  pulls_from_bag limit answers old new (Err cause) (Err reason) same refused =
+      (free_values-exhausted old refused.exhausted, free_values-exhausted new (λ n v e. refused.exhausted n v (sym (refused.same.places n) ∙ e)))
+  pulls_from_bag limit answers old new (Ok item) (Err reason) same refused = absurd same
+  pulls_from_bag limit answers old new (Err cause) (Ok pulled) same refused = absurd same
+
+module _ {T I R K : Type 0} where
+  pub Pulls-from_bag : (answers : Option T → Type 0) (old new : LinearCore T I R K) (answer : Result (Item T) PullError) → Pulls answers old answer new → PullsFromBag answers (free_values old.items.places) (pulled_value answer) (free_values new.items.places)
+  Pulls-from_bag answers old new answer pulls = pulls_from_bag old.items.limit answers old.items new.items answer pulls.pulled pulls.answered pulls.least
+
+  pub Gives-to_bag : (leaves : T → T → Type 0) (old new : LinearCore T I R K) (item : Item T) → Gives leaves old item new → ReturnsToBag leaves (free_values old.items.places) (item_value item) (free_values new.items.places)
+  Gives-to_bag leaves old new item gives =
+      let here = place_of-out (slice_get old.items.places gives.n) gives.lawful in
+      let list = list_of-with_place old.items new.items gives.n (Some gives.kept) (within_places old.items gives.n None here) gives.returned in
+      inl (gives.kept, gives.left, rw list (free_values-put old.items.places gives.n gives.kept here))

@@ -1,0 +1,76 @@
+-- What the moves of a pool make of its places.
+use Rattle.std.proofs.Common.{◌≡◌, ◌≢◌, ℕ, ◌+◌, ◌-◌, ◌*◌, ◌<◌, ◌≤◌, Option, Some, None, List, length, refl, sym, ap, subst, ◌∙◌, arith, inl, inr, ⊎_elim, true, false, nat_lt, ◌==◌, ◌⊎◌, suc}
+use Rattle.std.specs.List.{slice_get}
+use Rattle.std.specs.Prelude.{All}
+use Rattle.std.proofs.lemmas.Bool.Decides.{eqb_tells, leb_tells}
+use Rattle.std.proofs.lemmas.Bool.{cases_lt, cases_eq}
+use Rattle.std.proofs.lemmas.Option.{get_or_from_slice_get, slice_get_within, slice_get_past}
+use Rattle.object_pool_cores.specs.Pool.{Pool, Place, Absent, Free, Out, IsFree, IsOut, IsPool, IsSame, AllowsPages, free_with, with_place}
+use Rattle.object_pool_cores.specs.Move.{Pull, Return, Growth, IsLawful, after, grown}
+use Rattle.object_pool_cores.specs.LeastChoice.{IsExhausted, IsLeastFree, TakesLeast, GrowsFirst}
+
+module _ {T : Type 0} where
+  pub with_place-same : (pool : Pool T) (n : ℕ) (place : Place T) → (with_place pool n place).at n ≡ place
+  with_place-same pool n place = elim (eqb_tells n n) [
+    | inl same ↦ rw same.0 refl
+    | inr other ↦ absurd (other.1 refl)
+  ]
+
+  pub with_place-other : (pool : Pool T) (n m : ℕ) (place : Place T) → m ≢ n → (with_place pool n place).at m ≡ pool.at m
+  with_place-other pool n m place differ = elim (eqb_tells m n) [
+    | inl same ↦ absurd (differ same.1)
+    | inr other ↦ rw other.0 refl
+  ]
+
+  -- the places of a pool that has another place at one number
+  pub at-with_place : (pool : Pool T) (n m : ℕ) (place other : Place T) → (with_place pool n place).at m ≡ other → ((m ≡ n) × (place ≡ other)) ⊎ ((m ≢ n) × (pool.at m ≡ other))
+  at-with_place pool n m place other e = elim (cases_eq m n) [
+    | inl same ↦ inl (same, sym (with_place-same pool n place) ∙ ap (with_place pool n place).at (sym same) ∙ e)
+    | inr differ ↦ inr (differ, sym (with_place-other pool n m place differ) ∙ e)
+  ]
+
+  -- the old numbers of a pool with a page more
+  pub grown-old : (pool : Pool T) (values : List T) (n : ℕ) → n < 32 * pool.pages → (grown pool values).at n ≡ pool.at n
+  grown-old pool values n old = elim (leb_tells (suc n) (32 * pool.pages)) [
+    | inl below ↦ rw below.0 refl
+    | inr past ↦ absurd (omega arith)
+  ]
+
+  -- its new numbers
+  pub grown-new : (pool : Pool T) (values : List T) (n : ℕ) → 32 * pool.pages ≤ n → (grown pool values).at n ≡ free_with (slice_get values (n - 32 * pool.pages))
+  grown-new pool values n new = elim (leb_tells (suc n) (32 * pool.pages)) [
+    | inl below ↦ absurd (omega arith)
+    | inr past ↦ rw past.0 refl
+  ]
+
+  pub IsSame-trans : (a b c : Pool T) → IsSame a b → IsSame b c → IsSame a c
+  IsSame-trans a b c ab bc = record { pages = ab.pages ∙ bc.pages; places = λ n. ab.places n ∙ bc.places n }
+
+  -- pools that are the same stay so when a place changes in both
+  pub IsSame-with_place : (a b : Pool T) (n : ℕ) (place : Place T) → IsSame a b → IsSame (with_place a n place) (with_place b n place)
+  IsSame-with_place a b n place ab = record {
+    pages = ab.pages;
+    places = λ m. elim (cases_eq m n) [
+      | inl same ↦ subst (λ (k : ℕ). (with_place a n place).at k ≡ (with_place b n place).at k) (sym same) (with_place-same a n place ∙ sym (with_place-same b n place))
+      | inr differ ↦ with_place-other a n m place differ ∙ ab.places m ∙ sym (with_place-other b n m place differ)
+    ];
+  }
+
+  -- a number that is free is free with one value
+  pub one_value : (pool : Pool T) (n : ℕ) (v w : T) → IsFree pool n v → IsFree pool n w → v ≡ w
+  one_value pool n v w free also = let same : Free v ≡ Free w = sym free ∙ also in cc
+
+  -- what is free in a page more is one of its values, where nothing was free before
+  pub free-grown : (pool : Pool T) (values : List T) (n : ℕ) (v : T) → IsExhausted pool → IsFree (grown pool values) n v → (32 * pool.pages ≤ n) × (slice_get values (n - 32 * pool.pages) ≡ Some v)
+  free-grown pool values n v exhausted free = elim (cases_lt n (32 * pool.pages)) [
+    | inl old ↦ absurd (exhausted n v (sym (grown-old pool values n old) ∙ free))
+    | inr new ↦ (new, free_with-value (slice_get values (n - 32 * pool.pages)) v (sym (grown-new pool values n new) ∙ free))
+  ]
+    where
+      free_with-value : (o : Option T) (w : T) → free_with o ≡ Free w → o ≡ Some w
+      free_with-value None w e = cc
+      free_with-value (Some u) w e = cc
+
+  -- the first number of a page more is the least that is free, where none was free before
+  pub IsLeastFree-grown : (pool : Pool T) (values : List T) (v : T) → IsExhausted pool → IsFree (grown pool values) (32 * pool.pages) v → IsLeastFree (grown pool values) (32 * pool.pages) v
+  IsLeastFree-grown pool values v exhausted free = record { free = free; least = λ m w e. (free-grown pool values m w exhausted e).0 }

@@ -1,0 +1,75 @@
+-- The steps of the linear core: a pull by least choice, and a return.
+use Rattle.std.specs.Prelude.{◌≡◌, ℕ, Option, Some, List, Result, Ok, Err, slice_get, length, All}
+use Rattle.lockfree_object_pool.specs.declared.pull_error.PullError.{PullError}
+use Rattle.object_pool_cores.specs.declared.sequential.item.Item.{Item}
+use Rattle.object_pool_cores.specs.declared.sequential.linear_core.LinearCore.{LinearCore}
+use Rattle.object_pool_cores.specs.Item.{item_value, item_number}
+use Rattle.object_pool_cores.specs.Pool.{Pool, IsOut, IsPool, IsSame, opening}
+use Rattle.object_pool_cores.specs.Move.{Return, IsLawful, after}
+use Rattle.object_pool_cores.specs.LeastChoice.{PullsLeast}
+use Rattle.object_pool_cores.specs.Numbered as numbered
+
+module _ {T : Type 0} where
+  -- a number and its value make this answer to a pull
+  abbrev pub IsAnswer : Result (Item T) PullError → Result (ℕ × T) PullError → Type 0
+  IsAnswer (Ok item) (Ok pulled) = (item_number item ≡ Some pulled.0) × (item_value item ≡ pulled.1)
+  IsAnswer (Err cause) (Err reason) = cause ≡ reason
+  IsAnswer (Ok item) (Err reason) = ⊥
+  IsAnswer (Err cause) (Ok pulled) = ⊥
+
+module _ {T I R K : Type 0} where
+  -- the pool that a core is
+  abbrev pub pool_of : LinearCore T I R K → Pool T
+  pool_of core = numbered.pool_of core.items
+
+  -- how many pages a core may have
+  abbrev pub limit_of : LinearCore T I R K → Option ℕ
+  limit_of core = core.items.limit
+
+  abbrev pub init_of : LinearCore T I R K → I
+  init_of core = core.init
+
+  abbrev pub reset_of : LinearCore T I R K → R
+  reset_of core = core.reset
+
+  -- both are pools within the limit, and what makes and resets their values stays
+  pub record IsStep (old new : LinearCore T I R K) : Type 0 where
+    pub before : IsPool (limit_of old) (pool_of old)
+    pub after : IsPool (limit_of new) (pool_of new)
+    pub limit : limit_of new ≡ limit_of old
+    pub init : init_of new ≡ init_of old
+    pub reset : reset_of new ≡ reset_of old
+
+  -- the number of an item is out
+  abbrev pub IsOutOf : LinearCore T I R K → Item T → Type 0
+  IsOutOf core item = (n : ℕ) × (item_number item ≡ Some n) × IsOut (pool_of core) n
+
+  -- a pull is by least choice
+  pub record Pulls (answers : Option T → Type 0) (old : LinearCore T I R K) (answer : Result (Item T) PullError) (new : LinearCore T I R K) : Type 0 where
+    pub step : IsStep old new
+    pub pulled : Result (ℕ × T) PullError
+    pub answered : IsAnswer answer pulled
+    pub least : PullsLeast (limit_of old) answers (pool_of old) pulled (pool_of new)
+
+  -- a return leaves at the item's number what reset may make of its value
+  pub record Gives (leaves : T → T → Type 0) (old : LinearCore T I R K) (item : Item T) (new : LinearCore T I R K) : Type 0 where
+    pub step : IsStep old new
+    pub n : ℕ
+    pub kept : T
+    pub number : item_number item ≡ Some n
+    pub left : leaves (item_value item) kept
+    pub lawful : IsLawful (limit_of old) (pool_of old) (Return n kept)
+    pub returned : IsSame (pool_of new) (after (pool_of old) (Return n kept))
+
+  -- items that are held together are all out, and have different numbers
+  pub record HeldTogether (core : LinearCore T I R K) (held : List (Option (Item T))) : Type 0 where
+    pub out : (index : ℕ) (item : Item T) → slice_get held index ≡ Some (Some item) → IsOutOf core item
+    pub different : (index other : ℕ) (item same : Item T) → slice_get held index ≡ Some (Some item) → slice_get held other ≡ Some (Some same) → item_number item ≡ item_number same → index ≡ other
+
+  -- a new core is the opening pool of 32 answers of init, and may have so many pages
+  pub record IsOpening (answers : Option T → Type 0) (limit : Option ℕ) (core : LinearCore T I R K) : Type 0 where
+    pub values : List T
+    pub count : length values ≡ 32
+    pub answered : All (λ v. answers (Some v)) values
+    pub pool : IsSame (pool_of core) (opening values)
+    pub most : limit_of core ≡ limit

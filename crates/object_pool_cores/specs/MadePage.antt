@@ -1,0 +1,10 @@
+-- The items of a new page.
+use Rattle.std.specs.Prelude.{◌≡◌, Option, Some, List, All, length, map}
+
+-- 32 answers of init that meet the condition, each free
+pub record IsMadePage {T : Type 0} (answers : Option T → Type 0) (meets : T → Type 0) (page : List (Option T)) : Type 0 where
+  pub values : List T
+  pub count : length values ≡ 32
+  pub answered : All (λ v. answers (Some v)) values
+  pub clean : All meets values
+  pub free : page ≡ map Some values

@@ -1,0 +1,167 @@
+//! A linear pool of one owner: the least free number first, and a page more where none is free.
+ghost use Rattle.std.specs.Prelude.{◌≡◌, ◌≢◌, ◌≤◌, ◌↔◌, ◌/◌, ℕ, Option, Some, None, List, Result, Ok, Err, IfOk, OnErr, [], IsTrue, IsErrOf, IsErr};
+ghost use Rattle.object_pool_cores.specs.Item.{item_value};
+ghost use Rattle.object_pool_cores.specs.Attach.{RefusesAttach};
+ghost use Rattle.object_pool_cores.specs.Linear.{pool_of, limit_of, init_of, reset_of, IsOpening, Pulls, Gives, HeldTogether, IsOutOf};
+
+use crate::sequential::numbered_items::NumberedItems;
+use crate::sequential::{AttachError, Item, SequentialPool};
+use lockfree_object_pool::PullError;
+use lockfree_object_pool::clean::Clean;
+use lockfree_object_pool::closures::{Init, Reset};
+use std::alloc::Global;
+
+/// A pool of pages of 32 items each, which are known by their numbers. A pull gives the least free number.
+#[derive(Drop)]
+pub struct LinearCore<T, I: Init<T, K>, R: Reset<T, K>, K: Clean<T>> {
+    init: I,
+    reset: R,
+    items: NumberedItems<T, K>,
+}
+
+impl<T: Drop, I: Init<T, K>, R: Reset<T, K>, K: Clean<T>> LinearCore<T, I, R, K> {
+    /// A pool of one page. It may have any number of pages.
+    pub fn new(alloc: Global, init: I, reset: R) -> Result<LinearCore<T, I, R, K>, PullError>
+        ensures opening { IfOk result (λ core. IsOpening (I.answers init) None core) }
+        ensures init { IfOk result (λ core. init_of core ≡ init) }
+        ensures reset { IfOk result (λ core. reset_of core ≡ reset) }
+        ensures refused { result ≡ Err PullError.Init → I.answers init None }
+        ensures unlimited { result ≢ Err PullError.Limit }
+    {
+        LinearCore::opened(NumberedItems::new(alloc, None), init, reset)
+    }
+
+    /// A pool of one page, which never has more pages than this.
+    pub fn with_limit(
+        alloc: Global,
+        init: I,
+        reset: R,
+        pages: usize,
+    ) -> Result<LinearCore<T, I, R, K>, PullError>
+        requires { 1 ≤ pages }
+        ensures opening { IfOk result (λ core. IsOpening (I.answers init) (Some pages) core) }
+        ensures init { IfOk result (λ core. init_of core ≡ init) }
+        ensures reset { IfOk result (λ core. reset_of core ≡ reset) }
+        ensures refused { result ≡ Err PullError.Init → I.answers init None }
+        ensures within { result ≢ Err PullError.Limit }
+    {
+        LinearCore::opened(NumberedItems::new(alloc, Some(pages)), init, reset)
+    }
+
+    fn opened(
+        mut items: NumberedItems<T, K>,
+        init: I,
+        reset: R,
+    ) -> Result<LinearCore<T, I, R, K>, PullError>
+        requires empty { items.places ≡ [] }
+        requires allowed { items.limit ≢ Some 0 }
+        ensures opening { IfOk result (λ core. IsOpening (I.answers init) items.limit core) }
+        ensures init { IfOk result (λ core. init_of core ≡ init) }
+        ensures reset { IfOk result (λ core. reset_of core ≡ reset) }
+        ensures refused { result ≡ Err PullError.Init → I.answers init None }
+        ensures within { result ≢ Err PullError.Limit }
+    {
+        items.grow(&init)?;
+        Ok(LinearCore { init, reset, items })
+    }
+
+    /// How many pages the pool may have, where there is a limit.
+    pub fn limit(&self) -> Option<usize>
+        ensures { result ≡ limit_of self.now }
+    {
+        self.items.limit()
+    }
+
+    /// How many pages the pool has.
+    pub fn pages(&self) -> usize
+        ensures { result ≡ (pool_of self.now).pages }
+    {
+        self.items.pages()
+    }
+}
+
+impl<T: Drop, I: Init<T, K>, R: Reset<T, K>, K: Clean<T>> SequentialPool<T>
+    for LinearCore<T, I, R, K> {
+    ghost use Rattle.object_pool_cores.specs.Numbered.{free_values};
+
+    ghost pulls = { λ old answer new. Pulls (I.answers (init_of old)) old answer new };
+
+    ghost gives = { λ old item new. Gives (R.leaves (reset_of old)) old item new };
+
+    ghost attaches = { λ old value answer new. RefusesAttach old value answer new };
+
+    ghost owns = { λ core item. IsOutOf core item };
+
+    ghost together = { λ core held. HeldTogether core held };
+
+    ghost kept = { λ core. free_values core.items.places };
+
+    ghost answers = { λ core answer. I.answers (init_of core) answer };
+
+    ghost leaves = { λ core old new. R.leaves (reset_of core) old new };
+
+    fn pull(&mut self) -> Result<Item<T>, PullError>
+        ensures step { Pulls (I.answers (init_of self.old)) self.old result self.new }
+        ensures meets { IfOk result (λ item. K.meets (item_value item)) }
+    {
+        match self.items.least_free() {
+            Some(number) => Ok(self.items.take(number)),
+            None => {
+                let number = self.items.count();
+                self.items.grow(&self.init)?;
+                Ok(self.items.take(number))
+            }
+        }
+    }
+
+    fn give(&mut self, item: Item<T>)
+        requires { IsOutOf self.old item }
+        ensures { Gives (R.leaves (reset_of self.old)) self.old item self.new }
+    {
+        let Some(number) = item.number() else {
+            unreachable!()
+        };
+        let mut value = item.into_value();
+        self.reset.reset(&mut value);
+        self.items.put(number, value);
+    }
+
+    fn attach(&mut self, value: T) -> Result<Item<T>, AttachError<T>>
+        ensures { RefusesAttach self.old value result self.new }
+    {
+        Err(AttachError::NotOffered(value))
+    }
+
+    fn is_mine(&self, item: &Item<T>) -> bool {
+        match item.number() {
+            Some(number) => self.items.is_out(number),
+            None => false,
+        }
+    }
+
+    ghost use Rattle.object_pool_cores.specs.Laws.LinearBag.{Pulls-from_bag, Gives-to_bag};
+    ghost use Rattle.object_pool_cores.specs.Laws.LinearTogether.{HeldTogether-none, HeldTogether-pulled, HeldTogether-refused, HeldTogether-attached, HeldTogether-given, HeldTogether-forgotten, HeldTogether-written};
+    ghost use Rattle.std.proofs.Common.{ap};
+
+    ghost pull_from_bag = { λ old new answer pulls. Pulls-from_bag (I.answers (init_of old)) old new answer pulls };
+
+    ghost return_to_bag = { λ old new item owned gives. Gives-to_bag (R.leaves (reset_of old)) old new item gives };
+
+    ghost attach_beside_bag = { λ old new value answer refused. ap (λ core. free_values core.items.places) refused.1 };
+
+    ghost together_at_first = { λ core. HeldTogether-none core };
+
+    ghost together_is_owned = { λ core held index item together here. together.out index item here };
+
+    ghost together_after_pull = { λ old new held item together pulls. HeldTogether-pulled (I.answers (init_of old)) old new held item together pulls };
+
+    ghost together_after_refusal = { λ old new held cause together pulls. HeldTogether-refused (I.answers (init_of old)) old new held cause together pulls };
+
+    ghost together_after_attach = { λ old new held value item together refused. HeldTogether-attached old new held value item refused };
+
+    ghost together_after_give = { λ old new held index item together here gives. HeldTogether-given (R.leaves (reset_of old)) old new held index item together here gives };
+
+    ghost together_after_forget = { λ core held index together. HeldTogether-forgotten core held index together };
+
+    ghost together_after_write = { λ core held index item value together here. HeldTogether-written core held index item value together here };
+}
