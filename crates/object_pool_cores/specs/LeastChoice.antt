@@ -2,8 +2,10 @@
 use Rattle.std.specs.Prelude.{◌≡◌, ℕ, ◌+◌, ◌≤◌, Option, Some, None, List, All, Result, Ok, Err, ◌⊎◌}
 use Rattle.lockfree_object_pool.specs.declared.pull_error.PullError.{PullError}
 use Rattle.lockfree_object_pool.specs.declared.pull_error.PullError.TheVariants.{Memory, Init, Limit}
-use Rattle.object_pool_cores.specs.Pool.{Pool, IsFree, IsSame, AllowsPages}
-use Rattle.object_pool_cores.specs.Move.{Pull, Growth, IsLawful, after}
+use Rattle.object_pool_cores.specs.declared.sequential.item.Item.{Item}
+use Rattle.object_pool_cores.specs.Item.{item_value, item_number}
+use Rattle.object_pool_cores.specs.Pool.{Pool, IsFree, IsOut, IsSame, AllowsPages}
+use Rattle.object_pool_cores.specs.Move.{Pull, Return, Growth, IsLawful, after}
 
 module _ {T : Type 0} where
   -- no number is free
@@ -46,3 +48,17 @@ module _ {T : Type 0} (limit : Option ℕ) (answers : Option T → Type 0) where
   abbrev pub PullsLeast : Pool T → Result (ℕ × T) PullError → Pool T → Type 0
   PullsLeast old (Ok pulled) new = TakesLeast old pulled.0 pulled.1 new ⊎ GrowsFirst old pulled.0 pulled.1 new
   PullsLeast old (Err cause) new = IsRefused old cause new
+
+  -- a pull answers with an item of the number and the value that least choice gives, or is refused
+  abbrev pub PullsItem : Pool T → Result (Item T) PullError → Pool T → Type 0
+  PullsItem old (Ok item) new = (n : ℕ) × (item_number item ≡ Some n) × PullsLeast old (Ok (n, item_value item)) new
+  PullsItem old (Err cause) new = PullsLeast old (Err cause) new
+
+-- a return leaves at the item's number, which was out, what reset may make of its value; `leaves` says what that is
+pub record ReturnsItem {T : Type 0} (leaves : T → T → Type 0) (old : Pool T) (item : Item T) (new : Pool T) : Type 0 where
+  pub n : ℕ
+  pub kept : T
+  pub number : item_number item ≡ Some n
+  pub left : leaves (item_value item) kept
+  pub was_out : IsOut old n
+  pub returned : IsSame new (after old (Return n kept))

@@ -1,21 +1,12 @@
 -- The steps of the linear core: a pull by least choice, and a return.
-use Rattle.std.specs.Prelude.{◌≡◌, ℕ, Option, Some, List, Result, Ok, Err, slice_get, length, All}
+use Rattle.std.specs.Prelude.{◌≡◌, ℕ, Option, Some, List, Result, slice_get, length, All}
 use Rattle.lockfree_object_pool.specs.declared.pull_error.PullError.{PullError}
 use Rattle.object_pool_cores.specs.declared.sequential.item.Item.{Item}
 use Rattle.object_pool_cores.specs.declared.sequential.linear_core.LinearCore.{LinearCore}
-use Rattle.object_pool_cores.specs.Item.{item_value, item_number}
+use Rattle.object_pool_cores.specs.Item.{item_number}
 use Rattle.object_pool_cores.specs.Pool.{Pool, IsOut, IsPool, IsSame, opening}
-use Rattle.object_pool_cores.specs.Move.{Return, IsLawful, after}
-use Rattle.object_pool_cores.specs.LeastChoice.{PullsLeast}
+use Rattle.object_pool_cores.specs.LeastChoice.{PullsItem, ReturnsItem}
 use Rattle.object_pool_cores.specs.Numbered as numbered
-
-module _ {T : Type 0} where
-  -- a number and its value make this answer to a pull
-  abbrev pub IsAnswer : Result (Item T) PullError → Result (ℕ × T) PullError → Type 0
-  IsAnswer (Ok item) (Ok pulled) = (item_number item ≡ Some pulled.0) × (item_value item ≡ pulled.1)
-  IsAnswer (Err cause) (Err reason) = cause ≡ reason
-  IsAnswer (Ok item) (Err reason) = ⊥
-  IsAnswer (Err cause) (Ok pulled) = ⊥
 
 module _ {T I R K : Type 0} where
   -- the pool that a core is
@@ -47,19 +38,12 @@ module _ {T I R K : Type 0} where
   -- a pull is by least choice
   pub record Pulls (answers : Option T → Type 0) (old : LinearCore T I R K) (answer : Result (Item T) PullError) (new : LinearCore T I R K) : Type 0 where
     pub step : IsStep old new
-    pub pulled : Result (ℕ × T) PullError
-    pub answered : IsAnswer answer pulled
-    pub least : PullsLeast (limit_of old) answers (pool_of old) pulled (pool_of new)
+    pub pulled : PullsItem (limit_of old) answers (pool_of old) answer (pool_of new)
 
   -- a return leaves at the item's number what reset may make of its value
   pub record Gives (leaves : T → T → Type 0) (old : LinearCore T I R K) (item : Item T) (new : LinearCore T I R K) : Type 0 where
     pub step : IsStep old new
-    pub n : ℕ
-    pub kept : T
-    pub number : item_number item ≡ Some n
-    pub left : leaves (item_value item) kept
-    pub lawful : IsLawful (limit_of old) (pool_of old) (Return n kept)
-    pub returned : IsSame (pool_of new) (after (pool_of old) (Return n kept))
+    pub returned : ReturnsItem leaves (pool_of old) item (pool_of new)
 
   -- items that are held together are all out, and have different numbers
   pub record HeldTogether (core : LinearCore T I R K) (held : List (Option (Item T))) : Type 0 where

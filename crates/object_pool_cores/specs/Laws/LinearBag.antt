@@ -9,10 +9,10 @@ use Rattle.object_pool_cores.specs.declared.sequential.linear_core.LinearCore.{L
 use Rattle.object_pool_cores.specs.Item.{item_value, item_number}
 use Rattle.object_pool_cores.specs.Pool.{Pool, Place, Free, Out, IsFree, IsOut, IsSame, with_place}
 use Rattle.object_pool_cores.specs.Move.{Pull, Return, Growth, after, grown}
-use Rattle.object_pool_cores.specs.LeastChoice.{IsExhausted, TakesLeast, GrowsFirst, PullsLeast}
+use Rattle.object_pool_cores.specs.LeastChoice.{IsExhausted, TakesLeast, GrowsFirst, PullsLeast, PullsItem, ReturnsItem}
 use Rattle.object_pool_cores.specs.Bag.{IsPutIn, IsFresh, PullsFromBag, ReturnsToBag, pulled_value}
 use Rattle.object_pool_cores.specs.Numbered.{Numbered, pool_of, place_of, free_values}
-use Rattle.object_pool_cores.specs.Linear.{Pulls, Gives, IsAnswer}
+use Rattle.object_pool_cores.specs.Linear.{Pulls, Gives}
 use Rattle.object_pool_cores.specs.Laws.PoolSteps.{at-with_place, free-grown}
 use Rattle.object_pool_cores.specs.Laws.NumberedPlaces.{place_of-free, place_of-out, pool_of-set}
 use Rattle.object_pool_cores.specs.Laws.FreeValues.{same_places, free_values-taken, free_values-put, free_values-none, free_values-All}
@@ -56,20 +56,20 @@ module _ {T : Type 0} where
           let k = m - 32 * (pool_of old).pages in
           subst (λ (x : T). answers (Some x)) (get_or_from_slice_get grows.values k w w there.1) (grows.answered k w (slice_get_within grows.values k w there.1))
 
-  pulls_from_bag : (limit : Option ℕ) (answers : Option T → Type 0) (old new : Numbered T) (answer : Result (Item T) PullError) (pulled : Result (ℕ × T) PullError) → IsAnswer answer pulled → PullsLeast limit answers (pool_of old) pulled (pool_of new) → PullsFromBag answers (free_values old.places) (pulled_value answer) (free_values new.places)
-  pulls_from_bag limit answers old new (Ok item) (Ok pulled) same (inl takes) = rw same.1 (inl (IsPutIn-taken old new pulled.0 pulled.1 takes))
-  pulls_from_bag limit answers old new (Ok item) (Ok pulled) same (inr grows) = rw same.1 (inr (IsFresh-grown limit answers old new pulled.0 pulled.1 grows))
-  pulls_from_bag limit answers old new (Err cause) (Err reason) same refused =
+  pulls_from_bag : (limit : Option ℕ) (answers : Option T → Type 0) (old new : Numbered T) (answer : Result (Item T) PullError) → PullsItem limit answers (pool_of old) answer (pool_of new) → PullsFromBag answers (free_values old.places) (pulled_value answer) (free_values new.places)
+  pulls_from_bag limit answers old new (Ok item) pulled = by_choice pulled.2
+    where by_choice : PullsLeast limit answers (pool_of old) (Ok (pulled.0, item_value item)) (pool_of new) → PullsFromBag answers (free_values old.places) (Ok (item_value item)) (free_values new.places)
+          by_choice (inl takes) = inl (IsPutIn-taken old new pulled.0 (item_value item) takes)
+          by_choice (inr grows) = inr (IsFresh-grown limit answers old new pulled.0 (item_value item) grows)
+  pulls_from_bag limit answers old new (Err cause) refused =
       (free_values-exhausted old refused.exhausted, free_values-exhausted new (λ n v e. refused.exhausted n v (sym (refused.same.places n) ∙ e)))
-  pulls_from_bag limit answers old new (Ok item) (Err reason) same refused = absurd same
-  pulls_from_bag limit answers old new (Err cause) (Ok pulled) same refused = absurd same
 
 module _ {T I R K : Type 0} where
   pub Pulls-from_bag : (answers : Option T → Type 0) (old new : LinearCore T I R K) (answer : Result (Item T) PullError) → Pulls answers old answer new → PullsFromBag answers (free_values old.items.places) (pulled_value answer) (free_values new.items.places)
-  Pulls-from_bag answers old new answer pulls = pulls_from_bag old.items.limit answers old.items new.items answer pulls.pulled pulls.answered pulls.least
+  Pulls-from_bag answers old new answer pulls = pulls_from_bag old.items.limit answers old.items new.items answer pulls.pulled
 
   pub Gives-to_bag : (leaves : T → T → Type 0) (old new : LinearCore T I R K) (item : Item T) → Gives leaves old item new → ReturnsToBag leaves (free_values old.items.places) (item_value item) (free_values new.items.places)
   Gives-to_bag leaves old new item gives =
-      let here = place_of-out (slice_get old.items.places gives.n) gives.lawful in
-      let list = list_of-with_place old.items new.items gives.n (Some gives.kept) (within_places old.items gives.n None here) gives.returned in
-      inl (gives.kept, gives.left, rw list (free_values-put old.items.places gives.n gives.kept here))
+      let here = place_of-out (slice_get old.items.places gives.returned.n) gives.returned.was_out in
+      let list = list_of-with_place old.items new.items gives.returned.n (Some gives.returned.kept) (within_places old.items gives.returned.n None here) gives.returned.returned in
+      inl (gives.returned.kept, gives.returned.left, rw list (free_values-put old.items.places gives.returned.n gives.returned.kept here))

@@ -11,7 +11,7 @@ use Rattle.object_pool_cores.specs.Item.{item_value, item_number, with_value}
 use Rattle.object_pool_cores.specs.Pool.{Pool, Place, Absent, Free, Out, IsFree, IsOut, IsPool, IsSame, with_place}
 use Rattle.object_pool_cores.specs.Move.{grown}
 use Rattle.object_pool_cores.specs.LeastChoice.{TakesLeast, GrowsFirst, PullsLeast}
-use Rattle.object_pool_cores.specs.Linear.{pool_of, limit_of, Pulls, Gives, HeldTogether, IsOutOf, IsAnswer}
+use Rattle.object_pool_cores.specs.Linear.{pool_of, limit_of, Pulls, Gives, HeldTogether, IsOutOf}
 use Rattle.object_pool_cores.specs.Laws.PoolSteps.{with_place-same, with_place-other, grown-old, free-grown}
 use Rattle.object_pool_cores.specs.Laws.HeldItems.{slice_get-from_set, slice_get-from_push}
 
@@ -97,21 +97,14 @@ module _ {T I R K : Type 0} where
   }
 
   pub HeldTogether-pulled : (answers : Option T → Type 0) (old new : LinearCore T I R K) (held : List (Option (Item T))) (item : Item T) → HeldTogether old held → Pulls answers old (Ok item) new → HeldTogether new (held ++ Some item ∷ [])
-  HeldTogether-pulled answers old new held item together pulls = by_answer pulls.pulled pulls.answered pulls.least
-    where
-      by_answer : (pulled : Result (ℕ × T) PullError) → IsAnswer (Ok item) pulled → PullsLeast (limit_of old) answers (pool_of old) pulled (pool_of new) → HeldTogether new (held ++ Some item ∷ [])
-      by_answer (Ok pulled) same least =
-          HeldTogether-push old new held item pulled.0 together same.0 (LeavesOut-pulled (limit_of old) answers (pool_of old) pulled.0 pulled.1 (pool_of new) pulls.step.before least)
-      by_answer (Err cause) same least = absurd same
+  HeldTogether-pulled answers old new held item together pulls =
+      let pulled = pulls.pulled in
+      HeldTogether-push old new held item pulled.0 together pulled.1 (LeavesOut-pulled (limit_of old) answers (pool_of old) pulled.0 (item_value item) (pool_of new) pulls.step.before pulled.2)
 
   pub HeldTogether-refused : (answers : Option T → Type 0) (old new : LinearCore T I R K) (held : List (Option (Item T))) (cause : PullError) → HeldTogether old held → Pulls answers old (Err cause) new → HeldTogether new held
-  HeldTogether-refused answers old new held cause together pulls = by_answer pulls.pulled pulls.answered pulls.least
-    where
-      by_answer : (pulled : Result (ℕ × T) PullError) → IsAnswer (Err cause) pulled → PullsLeast (limit_of old) answers (pool_of old) pulled (pool_of new) → HeldTogether new held
-      by_answer (Ok pulled) same least = absurd same
-      by_answer (Err reason) same least =
-          HeldTogether-fewer old new held held together (λ index item e. (item, e, refl))
-          (λ index item e out. IsOutOf-kept old new item (λ n _ was. least.same.places n ∙ was) out)
+  HeldTogether-refused answers old new held cause together pulls =
+      HeldTogether-fewer old new held held together (λ index item e. (item, e, refl))
+      (λ index item e out. IsOutOf-kept old new item (λ n _ was. pulls.pulled.same.places n ∙ was) out)
 
   pub HeldTogether-attached : (old new : LinearCore T I R K) (held : List (Option (Item T))) (value : T) (item : Item T) → RefusesAttach old value (Ok item) new → HeldTogether new (held ++ Some item ∷ [])
   HeldTogether-attached old new held value item refused = let never = refused.0 in absurd cc
@@ -120,8 +113,8 @@ module _ {T I R K : Type 0} where
   HeldTogether-given leaves old new held index item together here gives =
       HeldTogether-fewer old new held (slice_set held index None) together (λ other one e. (one, (left other one e).1, refl))
       (λ other one e out. IsOutOf-kept old new one (λ n number was.
-      let differ : n ≢ gives.n = λ same. (left other one e).0 (together.different other index one item (left other one e).1 here (number ∙ ap Some same ∙ sym gives.number)) in
-      gives.returned.places n ∙ with_place-other (pool_of old) gives.n n (Free gives.kept) differ ∙ was) out)
+      let differ : n ≢ gives.returned.n = λ same. (left other one e).0 (together.different other index one item (left other one e).1 here (number ∙ ap Some same ∙ sym gives.returned.number)) in
+      gives.returned.returned.places n ∙ with_place-other (pool_of old) gives.returned.n n (Free gives.returned.kept) differ ∙ was) out)
     where
       left : (other : ℕ) (one : Item T) → slice_get (slice_set held index None) other ≡ Some (Some one) → (other ≢ index) × (slice_get held other ≡ Some (Some one))
       left other one e = elim (slice_get-from_set held index other None (Some one) e) [

@@ -16,13 +16,15 @@ pub returns : goal.returns
 returns g c =
     record {
       step = record { before = c.put.ensures.before; after = c.put.ensures.after; limit = c.put.ensures.limit; init = refl; reset = refl };
-      n = c.in-Some.number;
-      kept = c.reset.new.value;
-      number = sym c.in-Some.ensures;
-      left = rw (← c.into_value-value.ensures) c.reset.ensures.leaves;
-      lawful =
-          let same : Some c.requires.0 ≡ Some c.in-Some.number = sym c.requires.1 ∙ sym c.in-Some.ensures in
-          let number : c.requires.0 ≡ c.in-Some.number = cc in
-          subst (λ (n : ℕ). IsOut (pool_of c.args.self.now.items) n) number c.requires.2;
-      returned = c.put.ensures.returned;
+      returned = record {
+        n = c.in-Some.number;
+        kept = c.reset.new.value;
+        number = sym c.in-Some.ensures;
+        left = rw (← c.into_value-value.ensures) c.reset.ensures.leaves;
+        was_out =
+            let same : Some c.requires.0 ≡ Some c.in-Some.number = sym c.requires.1 ∙ sym c.in-Some.ensures in
+            let number : c.requires.0 ≡ c.in-Some.number = cc in
+            subst (λ (n : ℕ). IsOut (pool_of c.args.self.now.items) n) number c.requires.2;
+        returned = c.put.ensures.returned;
+      };
     }

@@ -1,8 +1,6 @@
 use Rattle.std.proofs.Common.{◌≡◌, refl, sym, ◌∙◌, ap}
-use Rattle.std.specs.Prelude.{Ok, Err}
+use Rattle.std.specs.Prelude.{Err}
 use Rattle.std.proofs.lemmas.Result.{err_from_is_err_and}
-use Rattle.object_pool_cores.specs.Item.{item_value}
-use Rattle.object_pool_cores.specs.Numbered.{pool_of}
 use Rattle.object_pool_cores.proofs.LeastChoiceSteps.{PullsLeast-free, IsFree-grown, PullsLeast-grown, PullsLeast-refused}
 use Rattle.object_pool_cores.proofs.sequential.linear_core.LinearCoreSequentialPool.pull.Goals as goal
 
@@ -11,9 +9,7 @@ returns-in-Some-clause-step g c =
     let taken = c.take.ensures in
     record {
       step = record { before = c.in-Some.ensures.pool; after = taken.pool; limit = taken.limit; init = refl; reset = refl };
-      pulled = Ok (c.in-Some.number, item_value c.take.result);
-      answered = (taken.number, refl);
-      least = PullsLeast-free _ _ _ _ _ _ c.in-Some.ensures.least taken.free taken.pulled;
+      pulled = (_, taken.number, PullsLeast-free _ _ _ _ _ _ c.in-Some.ensures.least taken.free taken.pulled);
     }
 
 pub returns-in_err-grow-in-None-clause-step : goal.returns-in_err-grow-in-None-clause-step
@@ -23,9 +19,7 @@ returns-in_err-grow-in-None-clause-step g c =
     rw (error.1, error.2, refused.err)
     (record {
       step = record { before = c.in-None.ensures.pool; after = c.in-None.ensures.pool; limit = refl; init = refl; reset = refl };
-      pulled = Err c.in_err-grow-in-None.field-0.0;
-      answered = refl;
-      least =
+      pulled =
           PullsLeast-refused _ _ _ _ c.in-None.ensures.pool c.in-None.ensures.least
           (λ e. refused.limit.0 (ap Err e))
           (λ e. let same = refused.limit.1 e in cc)
@@ -40,7 +34,5 @@ returns-in_ok-grow-in-None-clause-step g c =
     let taken = c.take-in-None.ensures in
     record {
       step = record { before = c.in-None.ensures.pool; after = taken.pool; limit = taken.limit ∙ c.in_ok-grow-in-None.ensures.kept; init = refl; reset = refl };
-      pulled = Ok (c.count-number.result, item_value c.take-in-None.result);
-      answered = (taken.number, refl);
-      least = PullsLeast-grown _ _ _ _ _ _ _ c.in-None.ensures.least c.in_ok-grow-in-None.ensures.ok c.count-number.ensures taken.free taken.pulled;
+      pulled = (_, taken.number, PullsLeast-grown _ _ _ _ _ _ _ c.in-None.ensures.least c.in_ok-grow-in-None.ensures.ok c.count-number.ensures taken.free taken.pulled);
     }
