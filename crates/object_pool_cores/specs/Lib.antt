@@ -10,3 +10,5 @@ pub mod Numbered
 pub mod MadePage
 pub mod Linear
 pub mod Laws
+pub mod CommandText
+pub mod ReplyText
