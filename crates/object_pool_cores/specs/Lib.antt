@@ -12,3 +12,7 @@ pub mod Linear
 pub mod Laws
 pub mod CommandText
 pub mod ReplyText
+pub mod Lines
+pub mod Transcript
+pub mod Served
+pub mod Buffered

@@ -1,0 +1,9 @@
+-- The line that a buffer stands for.
+use Rattle.std.specs.Prelude.{◌≡◌, ◌<◌, ℕ, List, length}
+use Rattle.object_pool_cores.specs.declared.engine.line_buffer.LineBuffer.{LineBuffer}
+use Rattle.object_pool_cores.specs.declared.engine.line_buffer.LineBuffer.TheVariants.{Short, Long}
+
+-- a short line is kept whole, and of a long one that it has more than 64 bytes
+abbrev pub IsBuffered : List ℕ → LineBuffer → Type 0
+IsBuffered line (Short bytes) = bytes.items ≡ line
+IsBuffered line Long = 64 < length line

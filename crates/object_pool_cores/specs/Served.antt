@@ -1,0 +1,57 @@
+-- What an engine wrote for the bytes that it read; the bytes that a writer holds are said where they are known.
+use Rattle.std.specs.Prelude.{◌≡◌, ◌<◌, ℕ, Option, List, ◌++◌, Result, length}
+use Rattle.std.specs.Io.KnownBytes.{Appends}
+use Rattle.lockfree_object_pool.specs.declared.pull_error.PullError.{PullError}
+use Rattle.object_pool_cores.specs.declared.sequential.item.Item.{Item}
+use Rattle.object_pool_cores.specs.declared.sequential.attach_error.AttachError.{AttachError}
+use Rattle.object_pool_cores.specs.Held.{Playing}
+use Rattle.object_pool_cores.specs.Lines.{IsLines, with_last_line}
+use Rattle.object_pool_cores.specs.Transcript.{Transcript}
+
+-- a beginning of the bytes was written
+pub record AppendsPart (before after : Option (List ℕ)) (bytes : List ℕ) : Type 0 where
+  pub front : List ℕ
+  pub back : List ℕ
+  pub cut : bytes ≡ front ++ back
+  pub written : Appends before after front
+
+module _ {P : Type 0} (pulls : P → Result (Item ℕ) PullError → P → Type 0) (gives : P → Item ℕ → P → Type 0) (attaches : P → ℕ → Result (Item ℕ) (AttachError ℕ) → P → Type 0) where
+  -- each line whose line feed is in the bytes was answered
+  pub record Serves (old : Playing P ℕ) (before : Option (List ℕ)) (bytes rest : List ℕ) (new : Playing P ℕ) (after : Option (List ℕ)) : Type 0 where
+    pub lines : List (List ℕ)
+    pub text : List ℕ
+    pub split : IsLines bytes lines rest
+    pub told : Transcript pulls gives attaches old lines text new
+    pub written : Appends before after text
+
+  -- each line of the bytes was answered, a last one without a line feed too
+  pub record ServesAll (old : Playing P ℕ) (before : Option (List ℕ)) (bytes : List ℕ) (after : Option (List ℕ)) : Type 0 where
+    pub lines : List (List ℕ)
+    pub rest : List ℕ
+    pub text : List ℕ
+    pub last : Playing P ℕ
+    pub split : IsLines bytes lines rest
+    pub told : Transcript pulls gives attaches old (with_last_line lines rest) text last
+    pub written : Appends before after text
+
+  -- the lines of a beginning of the bytes were answered
+  pub record ServesFront (old : Playing P ℕ) (before : Option (List ℕ)) (bytes : List ℕ) (after : Option (List ℕ)) : Type 0 where
+    pub front : List ℕ
+    pub back : List ℕ
+    pub rest : List ℕ
+    pub last : Playing P ℕ
+    pub cut : bytes ≡ front ++ back
+    pub served : Serves old before front rest last after
+
+  -- a beginning of the answers to the lines of a beginning of the bytes was written
+  pub record ServesPart (old : Playing P ℕ) (before : Option (List ℕ)) (bytes : List ℕ) (after : Option (List ℕ)) : Type 0 where
+    pub front : List ℕ
+    pub back : List ℕ
+    pub lines : List (List ℕ)
+    pub rest : List ℕ
+    pub text : List ℕ
+    pub last : Playing P ℕ
+    pub cut : bytes ≡ front ++ back
+    pub split : IsLines front lines rest
+    pub told : Transcript pulls gives attaches old (with_last_line lines rest) text last
+    pub written : AppendsPart before after text

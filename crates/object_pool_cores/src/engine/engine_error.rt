@@ -1,0 +1,16 @@
+//! Why an engine stopped before the end of its input.
+use thiserror::Error;
+
+/// Why an engine stopped. What was done stays done.
+#[derive(Clone, Copy, Debug, PartialEq, Eq, Hash, Error)]
+pub enum EngineError {
+    /// A read failed.
+    #[error("read failed")]
+    Read,
+    /// A write failed, or took nothing.
+    #[error("write failed")]
+    Write,
+    /// A table couldn't grow, or there was no memory for the pool.
+    #[error("out of memory")]
+    Memory,
+}
