@@ -1,3 +1,5 @@
 pub mod CommandWords
 pub mod LeastChoiceSteps
+pub mod LineSplits
 pub mod ReplyRuns
+pub mod TranscriptRuns

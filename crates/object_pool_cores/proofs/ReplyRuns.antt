@@ -35,3 +35,8 @@ module _ {P T : Type 0} (pulls : P → Result (Item T) PullError → P → Type 
       (done.0, done.1, Replies-append done.0 middle new commands replies command reply done.2 next)
   Replies-append old middle new [] (r ∷ replies) command reply done next = absurd done
   Replies-append old middle new (c ∷ commands) [] command reply done next = absurd done
+
+-- a fact of an Ok leads to another
+pub OnOk-map : {V E : Type 0} {P Q : Type 0} (result : Result V E) → (P → Q) → OnOk result P → OnOk result Q
+OnOk-map (Ok v) leads h = leads h
+OnOk-map (Err e) leads h = tt

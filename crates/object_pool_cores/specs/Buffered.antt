@@ -1,5 +1,6 @@
 -- The line that a buffer stands for.
 use Rattle.std.specs.Prelude.{◌≡◌, ◌<◌, ℕ, List, length}
+use Rattle.object_pool_cores.specs.Lines.{HasNoLineFeed}
 use Rattle.object_pool_cores.specs.declared.engine.line_buffer.LineBuffer.{LineBuffer}
 use Rattle.object_pool_cores.specs.declared.engine.line_buffer.LineBuffer.TheVariants.{Short, Long}
 
@@ -7,3 +8,7 @@ use Rattle.object_pool_cores.specs.declared.engine.line_buffer.LineBuffer.TheVar
 abbrev pub IsBuffered : List ℕ → LineBuffer → Type 0
 IsBuffered line (Short bytes) = bytes.items ≡ line
 IsBuffered line Long = 64 < length line
+
+-- the buffer stands for the bytes since the last line feed
+abbrev pub IsOpenLine : List ℕ → LineBuffer → Type 0
+IsOpenLine line buffer = IsBuffered line buffer × HasNoLineFeed line

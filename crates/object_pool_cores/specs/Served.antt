@@ -1,5 +1,5 @@
 -- What an engine wrote for the bytes that it read; the bytes that a writer holds are said where they are known.
-use Rattle.std.specs.Prelude.{◌≡◌, ◌<◌, ℕ, Option, List, ◌++◌, Result, length}
+use Rattle.std.specs.Prelude.{◌≡◌, ℕ, Option, List, ◌++◌, [], Result}
 use Rattle.std.specs.Io.KnownBytes.{Appends}
 use Rattle.lockfree_object_pool.specs.declared.pull_error.PullError.{PullError}
 use Rattle.object_pool_cores.specs.declared.sequential.item.Item.{Item}
@@ -54,4 +54,18 @@ module _ {P : Type 0} (pulls : P → Result (Item ℕ) PullError → P → Type 
     pub cut : bytes ≡ front ++ back
     pub split : IsLines front lines rest
     pub told : Transcript pulls gives attaches old (with_last_line lines rest) text last
+    pub written : AppendsPart before after text
+
+  -- what stands behind the last line feed was answered, where there is anything
+  pub record AnswersLast (old : Playing P ℕ) (before : Option (List ℕ)) (rest : List ℕ) (after : Option (List ℕ)) : Type 0 where
+    pub text : List ℕ
+    pub last : Playing P ℕ
+    pub told : Transcript pulls gives attaches old (with_last_line [] rest) text last
+    pub written : Appends before after text
+
+  -- a beginning of that answer was written
+  pub record AnswersLastInPart (old : Playing P ℕ) (before : Option (List ℕ)) (rest : List ℕ) (after : Option (List ℕ)) : Type 0 where
+    pub text : List ℕ
+    pub last : Playing P ℕ
+    pub told : Transcript pulls gives attaches old (with_last_line [] rest) text last
     pub written : AppendsPart before after text

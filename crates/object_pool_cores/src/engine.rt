@@ -5,5 +5,6 @@ mod engine_error;
 mod line_buffer;
 mod output;
 mod reply_text;
+mod session;
 
 pub use engine_error::EngineError;

@@ -1,0 +1,193 @@
+-- What was served goes on.
+use Rattle.std.proofs.Common.{◌≡◌, ◌≢◌, ℕ, Option, List, [], ◌∷◌, ◌++◌, Result, refl, sym, ap, subst, ◌∙◌, append_assoc, append-nil}
+use Rattle.std.specs.Prelude.{flat_map}
+use Rattle.std.specs.Io.KnownBytes.{Appends, Keeps}
+use Rattle.std.proofs.KnownBytes.{Appends-nil, Appends-trans, Appends-kept}
+use Rattle.lockfree_object_pool.specs.declared.pull_error.PullError.{PullError}
+use Rattle.object_pool_cores.specs.declared.sequential.item.Item.{Item}
+use Rattle.object_pool_cores.specs.declared.sequential.attach_error.AttachError.{AttachError}
+use Rattle.object_pool_cores.specs.Held.{Playing}
+use Rattle.object_pool_cores.specs.Lines.{ended, IsLines, HasNoLineFeed, with_last_line}
+use Rattle.object_pool_cores.specs.Transcript.{Answers, Transcript}
+use Rattle.object_pool_cores.specs.Served.{AppendsPart, Serves, ServesAll, ServesFront, ServesPart, AnswersLast, AnswersLastInPart}
+use Rattle.object_pool_cores.proofs.LineSplits.{IsLines-rest, IsLines-byte, IsLines-feed, IsLines-join, IsLines-front}
+
+-- a part of what comes behind a text
+pub AppendsPart-behind : (first before after : Option (List ℕ)) (text bytes : List ℕ) → Appends first before text → AppendsPart before after bytes → AppendsPart first after (text ++ bytes)
+AppendsPart-behind first before after text bytes written part = record {
+    front = text ++ part.front;
+    back = part.back;
+    cut = ap (λ all. text ++ all) part.cut ∙ sym (append_assoc text part.front part.back);
+    written = Appends-trans first before after text part.front written part.written;
+  }
+
+-- a last line joins the lines before it
+with_last_line-join : (lines others : List (List ℕ)) (rest : List ℕ) → with_last_line (lines ++ others) rest ≡ lines ++ with_last_line others rest
+with_last_line-join lines others [] = refl
+with_last_line-join lines others (byte ∷ rest) = append_assoc lines others ((byte ∷ rest) ∷ [])
+
+module _ {P : Type 0} (pulls : P → Result (Item ℕ) PullError → P → Type 0) (gives : P → Item ℕ → P → Type 0) (attaches : P → ℕ → Result (Item ℕ) (AttachError ℕ) → P → Type 0) where
+  -- two transcripts, one after the other
+  pub Transcript-join : (old middle new : Playing P ℕ) (lines others : List (List ℕ)) (text more : List ℕ) → Transcript pulls gives attaches old lines text middle → Transcript pulls gives attaches middle others more new → Transcript pulls gives attaches old (lines ++ others) (text ++ more) new
+  Transcript-join old middle new [] others text more first next =
+      rw first.0 (subst (λ (state : Playing P ℕ). Transcript pulls gives attaches state others more new) first.1 next)
+  Transcript-join old middle new (line ∷ lines) others text more first next =
+      (first.0, first.1 ++ more, first.2, ap (λ all. all ++ more) first.3 ∙ append_assoc first.0 first.1 more, first.4,
+        Transcript-join first.2 middle new lines others first.1 more first.5 next)
+
+  -- the transcript of one line
+  pub Transcript-line : (old new : Playing P ℕ) (line text : List ℕ) → Answers pulls gives attaches old line text new → Transcript pulls gives attaches old (line ∷ []) text new
+  Transcript-line old new line text answer = (text, [], new, sym (append-nil text), answer, (refl, refl))
+
+  module _ (old : Playing P ℕ) (before : Option (List ℕ)) where
+    pub Serves-byte : (bytes rest : List ℕ) (new : Playing P ℕ) (after : Option (List ℕ)) (byte : ℕ) → byte ≢ 10 → Serves pulls gives attaches old before bytes rest new after → Serves pulls gives attaches old before (bytes ++ byte ∷ []) (rest ++ byte ∷ []) new after
+    Serves-byte bytes rest new after byte other served = record {
+        lines = served.lines;
+        text = served.text;
+        split = IsLines-byte bytes served.lines rest byte served.split other;
+        told = served.told;
+        written = served.written;
+      }
+
+    pub Serves-line : (bytes rest text : List ℕ) (middle new : Playing P ℕ) (between after : Option (List ℕ)) → Serves pulls gives attaches old before bytes rest middle between → Answers pulls gives attaches middle rest text new → Appends between after text → Serves pulls gives attaches old before (bytes ++ 10 ∷ []) [] new after
+    Serves-line bytes rest text middle new between after served answer written = record {
+        lines = served.lines ++ rest ∷ [];
+        text = served.text ++ text;
+        split = IsLines-feed bytes served.lines rest served.split;
+        told = Transcript-join old middle new served.lines (rest ∷ []) served.text text served.told (Transcript-line middle new rest text answer);
+        written = Appends-trans before between after served.text text served.written written;
+      }
+
+    pub Serves-join : (bytes more rest last : List ℕ) (middle new : Playing P ℕ) (between after : Option (List ℕ)) → Serves pulls gives attaches old before bytes rest middle between → Serves pulls gives attaches middle between (rest ++ more) last new after → Serves pulls gives attaches old before (bytes ++ more) last new after
+    Serves-join bytes more rest last middle new between after served next = record {
+        lines = served.lines ++ next.lines;
+        text = served.text ++ next.text;
+        split = IsLines-join bytes more served.lines next.lines rest last served.split next.split;
+        told = Transcript-join old middle new served.lines next.lines served.text next.text served.told next.told;
+        written = Appends-trans before between after served.text next.text served.written next.written;
+      }
+
+    -- the answer to the line that a line feed ended was written in part
+    pub ServesPart-line : (bytes rest text all back : List ℕ) (middle last : Playing P ℕ) (between after : Option (List ℕ)) → Serves pulls gives attaches old before bytes rest middle between → Answers pulls gives attaches middle rest text last → AppendsPart between after text → all ≡ (bytes ++ 10 ∷ []) ++ back → ServesPart pulls gives attaches old before all after
+    ServesPart-line bytes rest text all back middle last between after served answer part cut = record {
+        front = bytes ++ 10 ∷ [];
+        back = back;
+        lines = served.lines ++ rest ∷ [];
+        rest = [];
+        text = served.text ++ text;
+        last = last;
+        cut = cut;
+        split = IsLines-feed bytes served.lines rest served.split;
+        told = Transcript-join old middle last served.lines (rest ∷ []) served.text text served.told (Transcript-line middle last rest text answer);
+        written = AppendsPart-behind before between after served.text text served.written part;
+      }
+
+    -- nothing more was written
+    pub ServesFront-kept : (bytes rest all back : List ℕ) (last : Playing P ℕ) (between after : Option (List ℕ)) → Serves pulls gives attaches old before bytes rest last between → Keeps between after → all ≡ bytes ++ back → ServesFront pulls gives attaches old before all after
+    ServesFront-kept bytes rest all back last between after served kept cut = record {
+        front = bytes;
+        back = back;
+        rest = rest;
+        last = last;
+        cut = cut;
+        served = record {
+          lines = served.lines;
+          text = served.text;
+          split = served.split;
+          told = served.told;
+          written = Appends-kept before between after served.text served.written kept;
+        };
+      }
+
+    pub ServesPart-join : (bytes more rest : List ℕ) (middle : Playing P ℕ) (between after : Option (List ℕ)) → Serves pulls gives attaches old before bytes rest middle between → ServesPart pulls gives attaches middle between (rest ++ more) after → ServesPart pulls gives attaches old before (bytes ++ more) after
+    ServesPart-join bytes more rest middle between after served part =
+        let behind = IsLines-front bytes more part.front part.back served.lines part.lines rest part.rest served.split part.cut part.split in
+        record {
+          front = flat_map ended served.lines ++ part.front;
+          back = part.back;
+          lines = served.lines ++ part.lines;
+          rest = part.rest;
+          text = served.text ++ part.text;
+          last = part.last;
+          cut = behind.1;
+          split = behind.0;
+          told =
+              rw with_last_line-join
+              (Transcript-join old middle part.last served.lines (with_last_line part.lines part.rest) served.text part.text served.told part.told);
+          written = AppendsPart-behind before between after served.text part.text served.written part.written;
+        }
+
+    pub ServesFront-join : (bytes more rest : List ℕ) (middle : Playing P ℕ) (between after : Option (List ℕ)) → Serves pulls gives attaches old before bytes rest middle between → ServesFront pulls gives attaches middle between (rest ++ more) after → ServesFront pulls gives attaches old before (bytes ++ more) after
+    ServesFront-join bytes more rest middle between after served part =
+        let behind = IsLines-front bytes more part.front part.back served.lines part.served.lines rest part.rest served.split part.cut part.served.split in
+        record {
+          front = flat_map ended served.lines ++ part.front;
+          back = part.back;
+          rest = part.rest;
+          last = part.last;
+          cut = behind.1;
+          served = record {
+            lines = served.lines ++ part.served.lines;
+            text = served.text ++ part.served.text;
+            split = behind.0;
+            told = Transcript-join old middle part.last served.lines part.served.lines served.text part.served.text served.told part.served.told;
+            written = Appends-trans before between after served.text part.served.text served.written part.served.written;
+          };
+        }
+
+    -- a last line joins the lines before it
+    last_line : (lines : List (List ℕ)) (rest : List ℕ) → with_last_line lines rest ≡ lines ++ with_last_line [] rest
+    last_line lines rest = ap (λ all. with_last_line all rest) (sym (append-nil lines)) ∙ with_last_line-join lines [] rest
+
+    pub ServesAll-last : (bytes rest : List ℕ) (middle : Playing P ℕ) (between after : Option (List ℕ)) → Serves pulls gives attaches old before bytes rest middle between → AnswersLast pulls gives attaches middle between rest after → ServesAll pulls gives attaches old before bytes after
+    ServesAll-last bytes rest middle between after served last = record {
+        lines = served.lines;
+        rest = rest;
+        text = served.text ++ last.text;
+        last = last.last;
+        split = served.split;
+        told =
+            subst (λ (lines : List (List ℕ)). Transcript pulls gives attaches old lines (served.text ++ last.text) last.last) (sym (last_line served.lines rest))
+            (Transcript-join old middle last.last served.lines (with_last_line [] rest) served.text last.text served.told last.told);
+        written = Appends-trans before between after served.text last.text served.written last.written;
+      }
+
+    pub ServesPart-last : (bytes rest : List ℕ) (middle : Playing P ℕ) (between after : Option (List ℕ)) → Serves pulls gives attaches old before bytes rest middle between → AnswersLastInPart pulls gives attaches middle between rest after → ServesPart pulls gives attaches old before bytes after
+    ServesPart-last bytes rest middle between after served last = record {
+        front = bytes;
+        back = [];
+        lines = served.lines;
+        rest = rest;
+        text = served.text ++ last.text;
+        last = last.last;
+        cut = sym (append-nil bytes);
+        split = served.split;
+        told =
+            subst (λ (lines : List (List ℕ)). Transcript pulls gives attaches old lines (served.text ++ last.text) last.last) (sym (last_line served.lines rest))
+            (Transcript-join old middle last.last served.lines (with_last_line [] rest) served.text last.text served.told last.told);
+        written = AppendsPart-behind before between after served.text last.text served.written last.written;
+      }
+
+    -- a last line that has no byte is none
+    pub AnswersLast-none : (rest : List ℕ) → rest ≡ [] → AnswersLast pulls gives attaches old before rest before
+    AnswersLast-none [] e = record { text = []; last = old; told = (refl, refl); written = Appends-nil before }
+    AnswersLast-none (byte ∷ rest) e = cc
+
+    -- a last line that has a byte was answered
+    pub AnswersLast-line : (rest text : List ℕ) (last : Playing P ℕ) (after : Option (List ℕ)) → rest ≢ [] → Answers pulls gives attaches old rest text last → Appends before after text → AnswersLast pulls gives attaches old before rest after
+    AnswersLast-line [] text last after some answer written = absurd (some refl)
+    AnswersLast-line (byte ∷ rest) text last after some answer written = record { text = text; last = last; told = Transcript-line old last (byte ∷ rest) text answer; written = written }
+
+    pub AnswersLastInPart-line : (rest text : List ℕ) (last : Playing P ℕ) (after : Option (List ℕ)) → rest ≢ [] → Answers pulls gives attaches old rest text last → AppendsPart before after text → AnswersLastInPart pulls gives attaches old before rest after
+    AnswersLastInPart-line [] text last after some answer written = absurd (some refl)
+    AnswersLastInPart-line (byte ∷ rest) text last after some answer written = record { text = text; last = last; told = Transcript-line old last (byte ∷ rest) text answer; written = written }
+
+    -- a rest without a line feed has no line to serve
+    pub Serves-none : (rest : List ℕ) → HasNoLineFeed rest → Serves pulls gives attaches old before (rest ++ []) rest old before
+    Serves-none rest clear = record {
+        lines = [];
+        text = [];
+        split = rw append-nil (IsLines-rest rest clear);
+        told = (refl, refl);
+        written = Appends-nil before;
+      }

@@ -1,0 +1,152 @@
+//! The engine on any pool of one owner: it reads lines, plays their commands and writes the replies.
+ghost use Rattle.std.specs.Prelude.{◌≡◌, ◌≢◌, ◌++◌, ℕ, List, Err, IfOk, OnOk, OnErr};
+ghost use Rattle.std.specs.Io.KnownBytes.{Appends, Consumes, IsAtEnd, Keeps};
+ghost use Rattle.object_pool_cores.specs.Buffered.{IsBuffered, IsOpenLine};
+ghost use Rattle.object_pool_cores.specs.Transcript.{Answers, named_index, pulled_value};
+ghost use Rattle.object_pool_cores.specs.Served.{AnswersLast, AnswersLastInPart, AppendsPart, Serves, ServesAll, ServesFront, ServesPart};
+
+use crate::engine::EngineError;
+use crate::engine::line_buffer::LineBuffer;
+use crate::engine::output::write_whole;
+use crate::engine::reply_text::{ReplyText, line_of, plain_line};
+use crate::sequential::{Command, Player, Reply, RunError, SequentialPool};
+use std::io::{Read, Write};
+use std::sync::Wait;
+
+/// How many bytes are read at most at a time.
+const CHUNK: usize = 1024;
+
+const LINE_FEED: u8 = b'\n';
+
+/// Plays the lines of all that there is to read, and writes a reply for each.
+pub(super) fn serve<H: Wait, P: SequentialPool<u32>, R: Read, W: Write>(
+    rt: &H,
+    player: &mut Player<u32, P>,
+    input: &mut R,
+    output: &mut W,
+) -> Result<(), EngineError>
+    ensures ok { OnOk result ((bytes : List ℕ) × Consumes (R.remaining input.old) (R.remaining input.new) bytes
+        × IsAtEnd (R.remaining input.new)
+        × ServesAll P.pulls P.gives P.attaches player.old (W.contents output.old) bytes (W.contents output.new)) }
+    ensures read { result ≡ Err EngineError.Read → (bytes rest : List ℕ) × (last : _)
+        × Consumes (R.remaining input.old) (R.remaining input.new) bytes
+        × Serves P.pulls P.gives P.attaches player.old (W.contents output.old) bytes rest last (W.contents output.new) }
+    ensures write { result ≡ Err EngineError.Write → (bytes : List ℕ) × Consumes (R.remaining input.old) (R.remaining input.new) bytes
+        × ServesPart P.pulls P.gives P.attaches player.old (W.contents output.old) bytes (W.contents output.new) }
+    ensures memory { result ≡ Err EngineError.Memory → (bytes : List ℕ) × Consumes (R.remaining input.old) (R.remaining input.new) bytes
+        × ServesFront P.pulls P.gives P.attaches player.old (W.contents output.old) bytes (W.contents output.new) }
+{
+    let mut line = LineBuffer::new();
+    let mut chunk = [0u8; CHUNK];
+    'reads: for _ in rt.forever() {
+        let count = match input.read(&mut chunk) {
+            Ok(count) => count,
+            Err(_) => return Err(EngineError::Read),
+        };
+        if count == 0 {
+            return serve_last(player, &line, output);
+        }
+        feed(player, &mut line, &chunk[..count], output)?;
+    }
+    unreachable!()
+}
+
+/// Takes more bytes, and answers each line that they end.
+fn feed<P: SequentialPool<u32>, W: Write>(
+    player: &mut Player<u32, P>,
+    line: &mut LineBuffer,
+    bytes: &[u8],
+    output: &mut W,
+) -> Result<(), EngineError>
+    ensures ok { OnOk result ((rest : List ℕ) → IsOpenLine rest line.old → (more : List ℕ) × IsOpenLine more line.new
+        × Serves P.pulls P.gives P.attaches player.old (W.contents output.old) (rest ++ bytes.now) more player.new (W.contents output.new)) }
+    ensures write { result ≡ Err EngineError.Write → (rest : List ℕ) → IsOpenLine rest line.old
+        → ServesPart P.pulls P.gives P.attaches player.old (W.contents output.old) (rest ++ bytes.now) (W.contents output.new) }
+    ensures memory { result ≡ Err EngineError.Memory → (rest : List ℕ) → IsOpenLine rest line.old
+        → ServesFront P.pulls P.gives P.attaches player.old (W.contents output.old) (rest ++ bytes.now) (W.contents output.new) }
+    ensures read { result ≢ Err EngineError.Read }
+{
+    for byte in bytes {
+        if *byte == LINE_FEED {
+            serve_line(player, line, output)?;
+            *line = LineBuffer::new();
+        } else {
+            line.push(*byte);
+        }
+    }
+    Ok(())
+}
+
+/// Answers what stands behind the last line feed, where there is anything.
+fn serve_last<P: SequentialPool<u32>, W: Write>(
+    player: &mut Player<u32, P>,
+    line: &LineBuffer,
+    output: &mut W,
+) -> Result<(), EngineError>
+    ensures ok { OnOk result ((rest : List ℕ) → IsBuffered rest line.now → AnswersLast P.pulls P.gives P.attaches player.old (W.contents output.old) rest (W.contents output.new)) }
+    ensures write { result ≡ Err EngineError.Write → (rest : List ℕ) → IsBuffered rest line.now → AnswersLastInPart P.pulls P.gives P.attaches player.old (W.contents output.old) rest (W.contents output.new) }
+    ensures memory { result ≡ Err EngineError.Memory → Keeps (W.contents output.old) (W.contents output.new) }
+    ensures read { result ≢ Err EngineError.Read }
+{
+    if line.is_empty() {
+        return Ok(());
+    }
+    serve_line(player, line, output)
+}
+
+/// Answers one line.
+fn serve_line<P: SequentialPool<u32>, W: Write>(
+    player: &mut Player<u32, P>,
+    line: &LineBuffer,
+    output: &mut W,
+) -> Result<(), EngineError>
+    ensures ok { OnOk result ((bytes : List ℕ) → IsBuffered bytes line.now → (text : List ℕ) × Answers P.pulls P.gives P.attaches player.old bytes text player.new × Appends (W.contents output.old) (W.contents output.new) text) }
+    ensures write { result ≡ Err EngineError.Write → (bytes : List ℕ) → IsBuffered bytes line.now → (text : List ℕ) × (last : _) × Answers P.pulls P.gives P.attaches player.old bytes text last × AppendsPart (W.contents output.old) (W.contents output.new) text }
+    ensures memory { result ≡ Err EngineError.Memory → Keeps (W.contents output.old) (W.contents output.new) }
+    ensures read { result ≢ Err EngineError.Read }
+{
+    match answer(player, line) {
+        Ok(text) => match write_whole(output, text.as_str().as_bytes()) {
+            Ok(()) => Ok(()),
+            Err(_) => Err(EngineError::Write),
+        },
+        Err(RunError::Memory) => Err(EngineError::Memory),
+    }
+}
+
+/// Plays the command of a line, and makes its reply's text.
+fn answer<P: SequentialPool<u32>>(
+    player: &mut Player<u32, P>,
+    line: &LineBuffer,
+) -> Result<ReplyText, RunError>
+    ensures ok { IfOk result (λ text. (bytes : List ℕ) → IsBuffered bytes line.now → Answers P.pulls P.gives P.attaches player.old bytes text.bytes player.new) }
+    ensures err { OnErr result (player.new ≡ player.old) }
+{
+    let Some(command) = line.command() else {
+        return Ok(plain_line("bad line"));
+    };
+    let index = index_of(&command);
+    let reply = player.play(command)?;
+    let value = value_of(player, &reply);
+    Ok(line_of(&reply, index, value))
+}
+
+/// The index that a command names.
+fn index_of(command: &Command<u32>) -> usize
+    ensures { result ≡ named_index command.now }
+{
+    match command {
+        Command::Write(index, _) | Command::Return(index) | Command::Forget(index) => *index,
+        Command::Pull | Command::Attach(_) => 0,
+    }
+}
+
+/// The value of a pulled item, right after the pull.
+fn value_of<P: SequentialPool<u32>>(player: &Player<u32, P>, reply: &Reply<u32>) -> u32
+    ensures { result ≡ pulled_value player.now.held reply.now }
+{
+    match reply {
+        Reply::Pulled(holder, _) => player.held(*holder).copied().unwrap_or(0),
+        _ => 0,
+    }
+}
