@@ -16,3 +16,5 @@ pub mod Lines
 pub mod Transcript
 pub mod Served
 pub mod Buffered
+pub mod Engine
+pub mod Opens
