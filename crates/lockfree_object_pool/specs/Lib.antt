@@ -1,1 +1,3 @@
+pub mod Kept
+pub mod LastIn
 pub mod Word

@@ -7,5 +7,6 @@ pub mod clean;
 pub mod closures;
 pub mod page;
 mod pull_error;
+pub mod stack;
 
 pub use pull_error::PullError;
