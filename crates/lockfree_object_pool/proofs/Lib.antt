@@ -1,2 +1,3 @@
 pub mod KeptPlaces
+pub mod LockSteps
 pub mod WordBits

@@ -1,19 +1,8 @@
 use super::*;
 use crate::clean::AnyValue;
+use crate::counted::Counted;
 use std::cell::Cell;
 use std::test::Fail;
-
-/// A value that counts its end.
-struct Counted<'a> {
-    drops: &'a Cell<u32>,
-}
-
-impl Drop for Counted<'_> {
-    fn drop(self) {
-        let Counted { drops } = self;
-        drops.set(drops.get().saturating_add(1));
-    }
-}
 
 #[test]
 fn takes_the_last_value_first(rt: HostRuntime) -> Result<(), Fail> {
@@ -61,9 +50,9 @@ fn a_room_is_made_or_refused_for_memory(rt: HostRuntime) {
 fn drops_each_value_once(rt: HostRuntime) -> Result<(), Fail> {
     let drops = Cell::new(0u32);
     let mut stack: Stack<Counted<'_>, AnyValue> = Stack::new();
-    stack.put(Room::new(rt.alloc())?, Counted { drops: &drops });
-    stack.put(Room::new(rt.alloc())?, Counted { drops: &drops });
-    stack.put(Room::new(rt.alloc())?, Counted { drops: &drops });
+    stack.put(Room::new(rt.alloc())?, Counted::new(&drops));
+    stack.put(Room::new(rt.alloc())?, Counted::new(&drops));
+    stack.put(Room::new(rt.alloc())?, Counted::new(&drops));
     let taken = stack.take().ok_or("a value is kept")?;
     assert_eq!(rt; drops.get(), 0);
     drop(taken);
@@ -78,7 +67,7 @@ fn ends_with_a_million_values(rt: HostRuntime) -> Result<(), Fail> {
     let drops = Cell::new(0u32);
     let mut stack: Stack<Counted<'_>, AnyValue> = Stack::new();
     for _ in 0..1_000_000 {
-        stack.put(Room::new(rt.alloc())?, Counted { drops: &drops });
+        stack.put(Room::new(rt.alloc())?, Counted::new(&drops));
     }
     assert_eq!(rt; stack.kept(), 1_000_000);
     drop(stack);
