@@ -139,4 +139,7 @@ impl<T> Drop for SpinLockGuard<'_, T> {
 }
 
 #[cfg(test)]
+mod sends;
+
+#[cfg(test)]
 mod tests;
