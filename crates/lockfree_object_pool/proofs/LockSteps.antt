@@ -1,16 +1,16 @@
 -- Each step on a lock's table keeps its rule.
-use Rattle.std.proofs.Common.{◌≡◌, ℕ, zero, suc, ◌⊎◌, List, [], ◌∷◌, ◌++◌, length, length-set, refl, sym, ◌∙◌, ap, subst, inl, inr, arith, Option, Some}
+use Rattle.std.proofs.Common.{◌≡◌, ℕ, zero, suc, ◌<◌, ◌⊎◌, List, [], ◌∷◌, ◌++◌, length, length-set, refl, sym, ◌∙◌, ap, subst, inl, inr, arith, Option, Some}
 use Rattle.std.specs.Prelude.{slice_index, slice_set}
 use Rattle.std.proofs.lemmas.Bool.{cases_lt}
 use Rattle.std.proofs.lemmas.List.{get_or-set_same}
 use mathlib.Core.Option as maybe
 use mathlib.Core.Option.{some, some-injective, some-ne-none}
 use lib.ListN.{get_elem?}
-use Rattle.atomic_table.specs.Table.{State, Me, step, keeps, takes, gives, opening, Arrives, Allows}
+use Rattle.atomic_table.specs.Table.{State, Me, step, keeps, takes, gives, opening, rest, Arrives, Allows}
 use Rattle.atomic_table.proofs.Lists.{at_set, set_here}
 use Rattle.lockfree_object_pool.specs.declared.spin_lock.rule.Visitor.{Visitor}
 use Rattle.lockfree_object_pool.specs.declared.spin_lock.rule.Visitor.TheVariants.{Passing, Holder}
-use Rattle.lockfree_object_pool.specs.Lock.{IsLock, Tries, Frees}
+use Rattle.lockfree_object_pool.specs.Lock.{IsLock, HasValue, Tries, Frees}
 
 -- what stands in a list with one more element at its end
 at_end : {A : Type 0} (l : List A) (last a : A) (j : ℕ) → get_elem? (l ++ last ∷ []) j ≡ some a → (get_elem? l j ≡ some a) ⊎ ((j ≡ length l) × (last ≡ a))
@@ -70,9 +70,8 @@ module _ {T : Type 0} where
     none_left : (id : ℕ) → get_elem? s.views id ≡ some Holder → (j : ℕ) → get_elem? (slice_set s.views id Passing) j ≡ some Holder → ⊥
     none_left id here j held = elim (at_set s.views id j Passing Holder held) [ inl same ↦ let unlike = same.1 in cc | inr other ↦ other.0 (lock.one_holder j id other.1 here) ]
 
-  -- an exchange takes the lock where it is free
-  pub tries : (slots : ℕ) → Arrives IsLock slots 0 (λ _. 1) (Tries {T = T} (step slots 0 1 0 maybe.none) (Passing, []))
-  tries slots s lock _ _ = elim (cases_lt 0 (slice_index s.words 0)) [
+  tried : (slots : ℕ) → Arrives IsLock slots 0 (λ _. 1) (Tries {T = T} (step slots 0 1 0 maybe.none) (Passing, []))
+  tried slots s lock _ _ = elim (cases_lt 0 (slice_index s.words 0)) [
     | inl is_taken ↦
         let still = taken s lock s.homes Passing lock.one_place (λ j k one other. lock.one_holder j k (was_there s lock j one) (was_there s lock k other)) in
         (Passing, keeps, tt, still, ((λ free. absurd (omega arith)), λ _. refl))
@@ -83,6 +82,14 @@ module _ {T : Type 0} where
         let now = taken s lock (slice_set s.homes 0 maybe.none) Holder (length-set s.homes 0 maybe.none ∙ lock.one_place) (λ j k one other. alone j one ∙ sym (alone k other)) in
         (Holder, takes 0 (Some home.0), home.1, now, ((λ _. (home.0, refl)), λ other. absurd (other free)))
   ]
+
+  -- an exchange takes the lock where it is free
+  pub tries : (words slots : ℕ) → words ≡ 1 → (0 < words) × Arrives IsLock slots 0 (λ _. 1) (Tries {T = T} (step slots 0 1 0 maybe.none) (Passing, []))
+  tries words slots one = (omega arith, tried slots)
+
+  -- what a holder has taken out of the place
+  pub has_place : (me : Me (Option T) Visitor) → HasValue me → (old : Option T) × (me.1 ≡ (0, old) ∷ rest me.1)
+  has_place me has = (Some has.0, ap (λ m. m.1) has.1 ∙ ap (λ m. (0, Some has.0) ∷ rest m.1) (sym has.1))
 
   freed : (slots id : ℕ) (value : T) → Allows IsLock slots id (Holder, (0, Some value) ∷ []) 0 (λ _. 0) (λ _. Frees (step slots 0 0 0 maybe.none) (Holder, (0, Some value) ∷ []) 0)
   freed slots id value s lock _ here _ =

@@ -1,10 +1,11 @@
 //! A lock that tries again until it has the value, and lets other threads run in between.
 ghost use Rattle.std.specs.Prelude.{◌≡◌, [], ◌∷◌, Some, IfErr, IfOk, IfSome};
 ghost use Rattle.lockfree_object_pool.specs.Guard.{lock_of, value_of, with_value};
+ghost use Rattle.lockfree_object_pool.specs.Lock.{HasValue};
 
 use crate::spin_lock::rule::{OneHolder, Take, Visitor};
 use crate::spin_lock::turn::Turn;
-use atomic_table::{Refused, Table};
+use atomic_table::{Refused, Seat, Table};
 use std::alloc::{AllocFailed, Global};
 use std::marker::Model;
 use std::ops::{Deref, DerefMut};
@@ -71,10 +72,7 @@ impl<T: Drop> SpinLock<T> {
     fn try_lock(&self) -> Option<SpinLockGuard<'_, T>>
         ensures { IfSome result (λ guard. lock_of guard ≡ self.now) }
     {
-        let (found, mut seat) = self.table.shared.swap_new_seat::<Take>(WORD, TAKEN);
-        if found != FREE {
-            return None;
-        }
+        let mut seat = self.take()?;
         match self.table.shared.exchange(&mut seat, PLACE, None) {
             Some(value) => Some(SpinLockGuard {
                 turn: Turn { lock: self, seat },
@@ -82,6 +80,15 @@ impl<T: Drop> SpinLock<T> {
             }),
             None => unreachable!(),
         }
+    }
+
+    /// One exchange. Who finds the lock free is its holder.
+    fn take(&self) -> Option<Seat<Option<T>, Visitor>>
+        ensures table { IfSome result (λ seat. seat.table_id ≡ self.now) }
+        ensures holder { IfSome result (λ seat. HasValue seat.me) }
+    {
+        let (found, seat) = self.table.shared.swap_new_seat::<Take>(WORD, TAKEN);
+        if found == FREE { Some(seat) } else { None }
     }
 }
 
@@ -140,6 +147,5 @@ impl<T> Drop for SpinLockGuard<'_, T> {
 
 #[cfg(test)]
 mod sends;
-
 #[cfg(test)]
 mod tests;

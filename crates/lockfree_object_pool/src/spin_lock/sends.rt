@@ -21,6 +21,8 @@ fn guard_sent<T: Send>(guard: SpinLockGuard<'_, T>) -> SpinLockGuard<'_, T> {
     sent(guard)
 }
 
-fn guard_shared<'a, 's, T: Send + Sync>(guard: &'a SpinLockGuard<'s, T>) -> &'a SpinLockGuard<'s, T> {
+fn guard_shared<'a, 's, T: Send + Sync>(
+    guard: &'a SpinLockGuard<'s, T>,
+) -> &'a SpinLockGuard<'s, T> {
     shared(guard)
 }
