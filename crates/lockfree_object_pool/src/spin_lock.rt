@@ -146,6 +146,8 @@ impl<T> Drop for SpinLockGuard<'_, T> {
 }
 
 #[cfg(test)]
+mod callers;
+#[cfg(test)]
 mod sends;
 #[cfg(test)]
 mod tests;

@@ -1,5 +1,7 @@
 //! Callers that need a lock and its guard to be sent and shared, each under the least that the element's type has to allow.
 use super::*;
+use crate::clean::Clean;
+use crate::stack::{Room, Stack};
 
 fn sent<X: Send>(value: X) -> X {
     value
@@ -25,4 +27,14 @@ fn guard_shared<'a, 's, T: Send + Sync>(
     guard: &'a SpinLockGuard<'s, T>,
 ) -> &'a SpinLockGuard<'s, T> {
     shared(guard)
+}
+
+fn stack_lock_shared<T: Send, K: Clean<T> + Send>(
+    lock: &SpinLock<Stack<T, K>>,
+) -> &SpinLock<Stack<T, K>> {
+    shared(lock)
+}
+
+fn room_sent<T: Send>(room: Room<T>) -> Room<T> {
+    sent(room)
 }
