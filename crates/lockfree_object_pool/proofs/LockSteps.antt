@@ -7,7 +7,7 @@ use mathlib.Core.Option as maybe
 use mathlib.Core.Option.{some, some-injective, some-ne-none}
 use lib.ListN.{get_elem?}
 use Rattle.atomic_table.specs.Table.{State, Me, step, keeps, takes, gives, opening, rest, Arrives, Allows}
-use Rattle.atomic_table.proofs.Lists.{at_set, set_here}
+use Rattle.atomic_table.proofs.Lists.{at_last, at_longer, at_set, set_here}
 use Rattle.lockfree_object_pool.specs.declared.spin_lock.rule.Visitor.{Visitor}
 use Rattle.lockfree_object_pool.specs.declared.spin_lock.rule.Visitor.TheVariants.{Passing, Holder}
 use Rattle.lockfree_object_pool.specs.Lock.{IsLock, HasValue, Tries, Frees}
@@ -30,6 +30,7 @@ module _ {T : Type 0} where
     one_place = refl;
     free_or_taken = omega arith;
     home_if_free = λ _. (value, refl);
+    held_if_taken = λ is_taken. absurd (omega arith);
     taken_if_held = λ j held. absurd (no_holder j held);
     one_holder = λ j k held _. absurd (no_holder j held);
   }
@@ -43,15 +44,16 @@ module _ {T : Type 0} where
     stored n = get_or-set_same s.words 0 n 0 (omega (arith, lock.one_word))
 
     -- the word is taken, and a visitor comes
-    taken : (homes : List (maybe.Option (Option T))) (visitor : Visitor) → length homes ≡ 1
+    taken : (homes : List (maybe.Option (Option T))) (visitor : Visitor) → length homes ≡ 1 → (j : ℕ) × (get_elem? (s.views ++ visitor ∷ []) j ≡ some Holder)
         → ((j k : ℕ) → get_elem? (s.views ++ visitor ∷ []) j ≡ some Holder → get_elem? (s.views ++ visitor ∷ []) k ≡ some Holder → j ≡ k)
         → IsLock record { words = slice_set s.words 0 1; homes = homes; views = s.views ++ visitor ∷ [] }
-    taken homes visitor one_place one_holder = record {
+    taken homes visitor one_place held one_holder = record {
       one_word = length-set s.words 0 1 ∙ lock.one_word;
       one_place = one_place;
       free_or_taken = omega (arith, stored 1);
       home_if_free = λ free. absurd (omega (arith, stored 1));
-      taken_if_held = λ j held. stored 1;
+      held_if_taken = λ _. held;
+      taken_if_held = λ j _. stored 1;
       one_holder = one_holder;
     }
 
@@ -62,7 +64,11 @@ module _ {T : Type 0} where
       | inr end ↦ end.0
     ]
 
-    -- who found the lock taken is no holder
+    -- who found the lock taken leaves it with its holder
+    still_held : slice_index s.words 0 ≡ 1 → (j : ℕ) × (get_elem? (s.views ++ Passing ∷ []) j ≡ some Holder)
+    still_held is_taken = let held = lock.held_if_taken is_taken in (held.0, at_longer s.views (Passing ∷ []) held.0 Holder held.1)
+
+    -- and is no holder
     was_there : (j : ℕ) → get_elem? (s.views ++ Passing ∷ []) j ≡ some Holder → get_elem? s.views j ≡ some Holder
     was_there j held = elim (at_end s.views Passing Holder j held) [ inl before ↦ before | inr end ↦ let unlike = end.1 in cc ]
 
@@ -73,13 +79,13 @@ module _ {T : Type 0} where
   tried : (slots : ℕ) → Arrives IsLock slots 0 (λ _. 1) (Tries {T = T} (step slots 0 1 0 maybe.none) (Passing, []))
   tried slots s lock _ _ = elim (cases_lt 0 (slice_index s.words 0)) [
     | inl is_taken ↦
-        let still = taken s lock s.homes Passing lock.one_place (λ j k one other. lock.one_holder j k (was_there s lock j one) (was_there s lock k other)) in
+        let still = taken s lock s.homes Passing lock.one_place (still_held s lock (omega (arith, lock.free_or_taken))) (λ j k one other. lock.one_holder j k (was_there s lock j one) (was_there s lock k other)) in
         (Passing, keeps, tt, still, ((λ free. absurd (omega arith)), λ _. refl))
     | inr le ↦
         let free : slice_index s.words 0 ≡ 0 = omega arith in
         let home = lock.home_if_free free in
         let alone = comes_alone s lock free in
-        let now = taken s lock (slice_set s.homes 0 maybe.none) Holder (length-set s.homes 0 maybe.none ∙ lock.one_place) (λ j k one other. alone j one ∙ sym (alone k other)) in
+        let now = taken s lock (slice_set s.homes 0 maybe.none) Holder (length-set s.homes 0 maybe.none ∙ lock.one_place) (length s.views, at_last s.views Holder (length s.views) refl) (λ j k one other. alone j one ∙ sym (alone k other)) in
         (Holder, takes 0 (Some home.0), home.1, now, ((λ _. (home.0, refl)), λ other. absurd (other free)))
   ]
 
@@ -99,6 +105,7 @@ module _ {T : Type 0} where
         one_place = length-set s.homes 0 (some (Some value)) ∙ lock.one_place;
         free_or_taken = omega (arith, stored s lock 0);
         home_if_free = λ _. (value, set_here s.homes 0 (some (Some value)) (omega (arith, lock.one_place)));
+        held_if_taken = λ is_taken. absurd (omega (arith, stored s lock 0));
         taken_if_held = λ j held. absurd (nobody j held);
         one_holder = λ j k held _. absurd (nobody j held);
       } in

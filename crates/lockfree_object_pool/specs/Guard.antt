@@ -4,7 +4,7 @@ use Rattle.lockfree_object_pool.specs.declared.spin_lock.SpinLockGuard.{SpinLock
 
 -- the lock whose guard it is
 abbrev pub lock_of : {T : Type 0} → SpinLockGuard T → TableId
-lock_of guard = guard.turn
+lock_of guard = guard.turn.0
 
 -- the value that it has
 abbrev pub value_of : {T : Type 0} → SpinLockGuard T → T

@@ -7,12 +7,13 @@ use Rattle.lockfree_object_pool.specs.declared.spin_lock.rule.Visitor.{Visitor}
 use Rattle.lockfree_object_pool.specs.declared.spin_lock.rule.Visitor.TheVariants.{Passing, Holder}
 
 module _ {T : Type 0} where
-  -- the value is at home where the lock is free; a holder has it taken, and there is one holder at most
+  -- the lock is taken just where a visitor holds it, one holds it at a time, and where it is free the value is at home
   pub record IsLock (s : State (Option T) Visitor) : Type 0 where
     pub one_word : length s.words ≡ 1
     pub one_place : length s.homes ≡ 1
     pub free_or_taken : slice_index s.words 0 < 2
     pub home_if_free : slice_index s.words 0 ≡ 0 → (value : T) × (get_elem? s.homes 0 ≡ some (some (Some value)))
+    pub held_if_taken : slice_index s.words 0 ≡ 1 → (j : ℕ) × (get_elem? s.views j ≡ some Holder)
     pub taken_if_held : (j : ℕ) → get_elem? s.views j ≡ some Holder → slice_index s.words 0 ≡ 1
     pub one_holder : (j k : ℕ) → get_elem? s.views j ≡ some Holder → get_elem? s.views k ≡ some Holder → j ≡ k
 

@@ -141,7 +141,7 @@ impl<T> DerefMut for SpinLockGuard<'_, T> {
 impl<T> Drop for SpinLockGuard<'_, T> {
     fn drop(self) {
         let Self { turn, value } = self;
-        turn.end(value);
+        drop(turn.end(value));
     }
 }
 

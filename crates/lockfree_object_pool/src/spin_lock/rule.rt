@@ -1,15 +1,15 @@
 //! The rule of a lock's table, and what each kind of step tells. No value of these types is made.
 use atomic_table::{Play, TableRule};
 
-/// What one who came to the lock knows of it.
+/// What one try to take the lock led to.
 pub enum Visitor {
-    /// The lock isn't his.
+    /// The lock was taken, or the turn is over.
     Passing,
-    /// He has the lock and its value.
+    /// The lock and its value were got, and aren't given back.
     Holder,
 }
 
-/// One holder at a time has the value.
+/// The lock is taken just where a visitor holds it, and one holds it at a time.
 pub struct OneHolder;
 
 impl<T> TableRule<Option<T>, Visitor, ()> for OneHolder {
