@@ -6,11 +6,11 @@ use Rattle.std.proofs.lemmas.List.{get_or-set_same}
 use mathlib.Core.Option as maybe
 use mathlib.Core.Option.{some, some-injective, some-ne-none}
 use lib.ListN.{get_elem?}
-use Rattle.atomic_table.specs.Table.{State, Me, step, keeps, takes, gives, opening, rest, Arrives, Allows}
+use Rattle.atomic_table.specs.Table.{State, Me, keeps, takes, gives, opening, rest, Arrives, Allows}
 use Rattle.atomic_table.proofs.Lists.{at_last, at_longer, at_set, set_here}
 use Rattle.lockfree_object_pool.specs.declared.spin_lock.rule.Visitor.{Visitor}
 use Rattle.lockfree_object_pool.specs.declared.spin_lock.rule.Visitor.TheVariants.{Passing, Holder}
-use Rattle.lockfree_object_pool.specs.Lock.{IsLock, HasValue, Tries, Frees}
+use Rattle.lockfree_object_pool.specs.Lock.{IsLock, HasValue, HasNothing, GivesIfFree}
 
 -- what stands in a list with one more element at its end
 at_end : {A : Type 0} (l : List A) (last a : A) (j : ℕ) → get_elem? (l ++ last ∷ []) j ≡ some a → (get_elem? l j ≡ some a) ⊎ ((j ≡ length l) × (last ≡ a))
@@ -76,7 +76,7 @@ module _ {T : Type 0} where
     none_left : (id : ℕ) → get_elem? s.views id ≡ some Holder → (j : ℕ) → get_elem? (slice_set s.views id Passing) j ≡ some Holder → ⊥
     none_left id here j held = elim (at_set s.views id j Passing Holder held) [ inl same ↦ let unlike = same.1 in cc | inr other ↦ other.0 (lock.one_holder j id other.1 here) ]
 
-  tried : (slots : ℕ) → Arrives IsLock slots 0 (λ _. 1) (Tries {T = T} (step slots 0 1 0 maybe.none) (Passing, []))
+  tried : (slots : ℕ) → Arrives IsLock slots 0 (λ _. 1) (GivesIfFree {T = T})
   tried slots s lock _ _ = elim (cases_lt 0 (slice_index s.words 0)) [
     | inl is_taken ↦
         let still = taken s lock s.homes Passing lock.one_place (still_held s lock (omega (arith, lock.free_or_taken))) (λ j k one other. lock.one_holder j k (was_there s lock j one) (was_there s lock k other)) in
@@ -90,14 +90,14 @@ module _ {T : Type 0} where
   ]
 
   -- an exchange takes the lock where it is free
-  pub tries : (words slots : ℕ) → words ≡ 1 → (0 < words) × Arrives IsLock slots 0 (λ _. 1) (Tries {T = T} (step slots 0 1 0 maybe.none) (Passing, []))
+  pub tries : (words slots : ℕ) → words ≡ 1 → (0 < words) × Arrives IsLock slots 0 (λ _. 1) (GivesIfFree {T = T})
   tries words slots one = (omega arith, tried slots)
 
   -- what a holder has taken out of the place
   pub has_place : (me : Me (Option T) Visitor) → HasValue me → (old : Option T) × (me.1 ≡ (0, old) ∷ rest me.1)
   has_place me has = (Some has.0, ap (λ m. m.1) has.1 ∙ ap (λ m. (0, Some has.0) ∷ rest m.1) (sym has.1))
 
-  freed : (slots id : ℕ) (value : T) → Allows IsLock slots id (Holder, (0, Some value) ∷ []) 0 (λ _. 0) (λ _. Frees (step slots 0 0 0 maybe.none) (Holder, (0, Some value) ∷ []) 0)
+  freed : (slots id : ℕ) (value : T) → Allows IsLock slots id (Holder, (0, Some value) ∷ []) 0 (λ _. 0) (λ _. HasNothing)
   freed slots id value s lock _ here _ =
       let nobody = none_left s lock id here in
       let now : IsLock record { words = slice_set s.words 0 0; homes = slice_set s.homes 0 (some (Some value)); views = slice_set s.views id Passing } = record {
@@ -112,5 +112,5 @@ module _ {T : Type 0} where
       (Passing, gives, tt, now, refl)
 
   -- a store of free by the holder brings the value home
-  pub frees : (slots id : ℕ) (me : Me (Option T) Visitor) (value : T) → me ≡ (Holder, (0, Some value) ∷ []) → Allows IsLock slots id me 0 (λ _. 0) (λ _. Frees (step slots 0 0 0 maybe.none) me 0)
-  frees slots id me value is = subst (λ m. Allows IsLock slots id m 0 (λ _. 0) (λ _. Frees (step slots 0 0 0 maybe.none) m 0)) (sym is) (freed slots id value)
+  pub frees : (slots id : ℕ) (me : Me (Option T) Visitor) (value : T) → me ≡ (Holder, (0, Some value) ∷ []) → Allows IsLock slots id me 0 (λ _. 0) (λ _. HasNothing)
+  frees slots id me value is = subst (λ m. Allows IsLock slots id m 0 (λ _. 0) (λ _. HasNothing)) (sym is) (freed slots id value)

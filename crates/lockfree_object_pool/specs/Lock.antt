@@ -2,7 +2,7 @@
 use Rattle.std.specs.Prelude.{◌≡◌, ◌≢◌, ℕ, ◌<◌, [], ◌∷◌, length, slice_index, Option, Some}
 use mathlib.Core.Option.{some}
 use lib.ListN.{get_elem?}
-use Rattle.atomic_table.specs.Table.{State, Me, Step}
+use Rattle.atomic_table.specs.Table.{State, Me}
 use Rattle.lockfree_object_pool.specs.declared.spin_lock.rule.Visitor.{Visitor}
 use Rattle.lockfree_object_pool.specs.declared.spin_lock.rule.Visitor.TheVariants.{Passing, Holder}
 
@@ -21,10 +21,10 @@ module _ {T : Type 0} where
   abbrev pub HasValue : Me (Option T) Visitor → Type 0
   HasValue me = (value : T) × (me ≡ (Holder, (0, Some value) ∷ []))
 
-  -- an exchange that found the lock free makes its visitor the holder, and one that found it taken gives nothing
-  abbrev pub Tries : Step (Option T) → Me (Option T) Visitor → ℕ → Me (Option T) Visitor → Type 0
-  Tries step before found after = (found ≡ 0 → HasValue after) × (found ≢ 0 → after ≡ (Passing, []))
+  -- a visitor has nothing of the lock
+  abbrev pub HasNothing : Me (Option T) Visitor → Type 0
+  HasNothing me = me ≡ (Passing, [])
 
-  -- a store of free ends the holder's turn
-  abbrev pub Frees : Step (Option T) → Me (Option T) Visitor → ℕ → Me (Option T) Visitor → Type 0
-  Frees step before stored after = after ≡ (Passing, [])
+  -- an exchange that found the word free gives the value, and one that found it taken gives nothing
+  abbrev pub GivesIfFree : ℕ → Me (Option T) Visitor → Type 0
+  GivesIfFree found me = (found ≡ 0 → HasValue me) × (found ≢ 0 → HasNothing me)

@@ -25,16 +25,16 @@ impl<T> TableRule<Option<T>, Visitor, ()> for OneHolder {
 pub struct Take;
 
 impl<T> Play<Option<T>, Visitor> for Take {
-    ghost use Rattle.lockfree_object_pool.specs.Lock.{Tries};
+    ghost use Rattle.lockfree_object_pool.specs.Lock.{GivesIfFree};
 
-    ghost then = { Tries };
+    ghost then = { λ _ _ found after. GivesIfFree found after };
 }
 
 /// A store of free.
 pub struct Free;
 
 impl<T> Play<Option<T>, Visitor> for Free {
-    ghost use Rattle.lockfree_object_pool.specs.Lock.{Frees};
+    ghost use Rattle.lockfree_object_pool.specs.Lock.{HasNothing};
 
-    ghost then = { Frees };
+    ghost then = { λ _ _ _ after. HasNothing after };
 }

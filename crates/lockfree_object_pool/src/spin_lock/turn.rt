@@ -1,6 +1,6 @@
 //! The turn of a lock's one holder, while the value is out.
-ghost use Rattle.std.specs.Prelude.{◌≡◌, []};
-ghost use Rattle.lockfree_object_pool.specs.declared.spin_lock.rule.Visitor.TheVariants.{Passing};
+ghost use Rattle.std.specs.Prelude.{◌≡◌};
+ghost use Rattle.lockfree_object_pool.specs.Lock.{HasNothing};
 
 use crate::spin_lock::rule::{Free, Visitor};
 use crate::spin_lock::{FREE, PLACE, SpinLock, WORD};
@@ -30,7 +30,7 @@ impl<'s, T> Turn<'s, T> {
     /// The value goes home, and then the lock is free.
     pub(super) fn end(self, value: T) -> Seat<Option<T>, Visitor>
         ensures same { (result.table_id ≡ self.entry.0) × (result.id ≡ self.entry.1) }
-        ensures over { result.me ≡ (Passing, []) }
+        ensures over { HasNothing result.me }
     {
         let Turn { lock, mut seat } = self;
         let shared = &lock.table.shared;
