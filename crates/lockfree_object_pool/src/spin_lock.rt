@@ -1,4 +1,7 @@
 //! A lock that tries again until it has the value, and lets other threads run in between.
+//!
+//! Its word changes in two ways: one exchange takes it, and one store frees it. The guard has the value itself, and its
+//! drop brings the value home before it frees the word. A holder that stops keeps all others waiting.
 ghost use Rattle.std.specs.Prelude.{◌≡◌, [], ◌∷◌, Some, IfErr, IfOk, IfSome};
 ghost use Rattle.lockfree_object_pool.specs.Guard.{lock_of, value_of, with_value};
 ghost use Rattle.lockfree_object_pool.specs.Lock.{HasValue};
