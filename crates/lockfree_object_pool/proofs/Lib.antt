@@ -1,1 +1,4 @@
+pub mod GuardShared
+pub mod KeptPlaces
+pub mod LockSteps
 pub mod WordBits

@@ -5,7 +5,11 @@
 
 pub mod clean;
 pub mod closures;
+#[cfg(test)]
+mod counted;
 pub mod page;
 mod pull_error;
+pub mod spin_lock;
+pub mod stack;
 
 pub use pull_error::PullError;

@@ -1,0 +1,156 @@
+//! A lock that tries again until it has the value, and lets other threads run in between.
+//!
+//! Its word changes in two ways: one exchange takes it, and one store frees it. The guard has the value itself, and its
+//! drop brings the value home before it frees the word. A holder that stops keeps all others waiting.
+ghost use Rattle.std.specs.Prelude.{◌≡◌, [], ◌∷◌, Some, IfErr, IfOk, IfSome};
+ghost use Rattle.lockfree_object_pool.specs.Guard.{lock_of, value_of, with_value};
+ghost use Rattle.lockfree_object_pool.specs.Lock.{HasValue};
+
+use crate::spin_lock::rule::{OneHolder, Take, Visitor};
+use crate::spin_lock::turn::Turn;
+use atomic_table::{Refused, Seat, Table};
+use std::alloc::{AllocFailed, Global};
+use std::marker::Model;
+use std::ops::{Deref, DerefMut};
+use std::sync::Wait;
+use std::thread;
+
+mod rule;
+mod turn;
+
+// The lock's one word and its one place, by their numbers in the table.
+const WORD: usize = 0;
+
+const PLACE: usize = 0;
+
+const FREE: u64 = 0;
+
+const TAKEN: u64 = 1;
+
+/// A value that one guard at a time has. In a clause it is the table in which the value lies.
+#[derive(Drop)]
+pub struct SpinLock<T> {
+    table: Table<Option<T>, Visitor, (), OneHolder, Global>,
+}
+
+impl<T> Model for SpinLock<T> {
+    ghost use Rattle.std.specs.Prelude.{◌≡◌};
+    ghost use Rattle.atomic_table.specs.Seated.{TableId};
+
+    ghost Value = { TableId };
+
+    ghost view = { λ lock. lock.table.shared.table_id };
+
+    ghost invariant = { λ lock. (lock.table.shared.table_id.words ≡ 1) × (lock.table.shared.table_id.slots ≡ 1) };
+}
+
+impl<T: Drop> SpinLock<T> {
+    /// The value comes back where there is no memory.
+    pub fn new(alloc: Global, value: T) -> Result<SpinLock<T>, T>
+        ensures refused { IfErr result (λ back. back ≡ value) }
+    {
+        let places = one_place(alloc, value)?;
+        match Table::new(alloc, &[FREE], places, &()) {
+            Ok((table, _seat)) => Ok(SpinLock { table }),
+            Err(Refused { slots: mut places }) => match places.pop() {
+                Some(Some(value)) => Err(value),
+                _ => unreachable!(),
+            },
+        }
+    }
+
+    /// Waits for its turn. A guard that is forgotten leaves the lock taken for good.
+    pub fn lock<W: Wait>(&self, rt: &W) -> SpinLockGuard<'_, T>
+        ensures { lock_of result ≡ self.now }
+    {
+        for _ in rt.forever() {
+            if let Some(guard) = self.try_lock() {
+                return guard;
+            }
+            thread::yield_now();
+        }
+        unreachable!()
+    }
+
+    fn try_lock(&self) -> Option<SpinLockGuard<'_, T>>
+        ensures { IfSome result (λ guard. lock_of guard ≡ self.now) }
+    {
+        let mut seat = self.take()?;
+        match self.table.shared.exchange(&mut seat, PLACE, None) {
+            Some(value) => Some(SpinLockGuard {
+                turn: Turn { lock: self, seat },
+                value,
+            }),
+            None => unreachable!(),
+        }
+    }
+
+    /// One exchange. Who finds the lock free is its holder.
+    fn take(&self) -> Option<Seat<Option<T>, Visitor>>
+        ensures table { IfSome result (λ seat. seat.table_id ≡ self.now) }
+        ensures holder { IfSome result (λ seat. HasValue seat.me) }
+    {
+        let (found, seat) = self.table.shared.swap_new_seat::<Take>(WORD, TAKEN);
+        if found == FREE { Some(seat) } else { None }
+    }
+}
+
+/// A row of one place, with the value in it.
+fn one_place<T: Drop>(alloc: Global, value: T) -> Result<Vec<Option<T>>, T>
+    ensures row { IfOk result (λ places. places.items ≡ Some value ∷ []) }
+    ensures refused { IfErr result (λ back. back ≡ value) }
+{
+    let mut places = Vec::new(alloc);
+    match places.push(Some(value)) {
+        Ok(()) => Ok(places),
+        Err(AllocFailed { value: Some(value) }) => Err(value),
+        Err(AllocFailed { value: None }) => unreachable!(),
+    }
+}
+
+/// The value of a lock, until the guard is dropped.
+pub struct SpinLockGuard<'s, T> {
+    turn: Turn<'s, T>,
+    value: T,
+}
+
+impl<T> Deref for SpinLockGuard<'_, T> {
+    type Target = T;
+
+    ghost deref_gives = { λ guard shown. shown ≡ value_of guard };
+
+    fn deref(&self) -> &T {
+        &self.value
+    }
+}
+
+impl<T> DerefMut for SpinLockGuard<'_, T> {
+    ghost use Rattle.std.specs.Prelude.{◌≡◌, ◌<◌, []};
+    ghost use Rattle.std.specs.Borrow.{Lends, sem};
+    ghost use mir.Syntax.{named};
+    ghost use Rattle.lockfree_object_pool.specs.Guard.{value_of, with_value};
+    ghost use Rattle.lockfree_object_pool.specs.contracts.spin_lock.SpinLockGuard.{the_row};
+
+    ghost deref_mut_gives = { λ guard shown. shown ≡ value_of guard };
+
+    fn deref_mut(&mut self) -> &mut T
+        ensures* writes_back { sem 𝓛 (Lends (the_row (record { mir = named 1; lft = [] }) T.row) T.row self.entry result (with_value self.old)) }
+        ensures shows { result.now ≡ value_of self.old }
+    {
+        &mut self.value
+    }
+}
+
+impl<T> Drop for SpinLockGuard<'_, T> {
+    fn drop(self) {
+        let Self { turn, value } = self;
+        drop(turn.end(value));
+    }
+}
+
+#[cfg(test)]
+mod callers;
+#[cfg(test)]
+mod sends;
+#[cfg(test)]
+mod tests;

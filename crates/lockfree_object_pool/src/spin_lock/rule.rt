@@ -1,0 +1,40 @@
+//! The rule of a lock's table, and what each kind of step tells. No value of these types is made.
+use atomic_table::{Play, TableRule};
+
+/// What one try to take the lock led to.
+pub enum Visitor {
+    /// The lock was taken, or the turn is over.
+    Passing,
+    /// The lock and its value were got, and aren't given back.
+    Holder,
+}
+
+/// The lock is taken just where a visitor holds it, and one holds it at a time.
+pub struct OneHolder;
+
+impl<T> TableRule<Option<T>, Visitor, ()> for OneHolder {
+    ghost use Rattle.lockfree_object_pool.specs.Lock.{IsLock};
+    ghost use Rattle.lockfree_object_pool.specs.declared.spin_lock.rule.Visitor.TheVariants.{Passing};
+
+    ghost holds = { λ _. IsLock };
+
+    ghost first = { λ _. Passing };
+}
+
+/// An exchange by which the word is taken.
+pub struct Take;
+
+impl<T> Play<Option<T>, Visitor> for Take {
+    ghost use Rattle.lockfree_object_pool.specs.Lock.{GivesIfFree};
+
+    ghost then = { λ _ _ found after. GivesIfFree found after };
+}
+
+/// A store of free.
+pub struct Free;
+
+impl<T> Play<Option<T>, Visitor> for Free {
+    ghost use Rattle.lockfree_object_pool.specs.Lock.{HasNothing};
+
+    ghost then = { λ _ _ _ after. HasNothing after };
+}
