@@ -1,1 +1,2 @@
+pub mod PageKeeps
 pub mod WordBits

@@ -1,1 +1,5 @@
+pub mod OneProof
+pub mod Page
+pub mod Refusal
+pub mod Slot
 pub mod Word

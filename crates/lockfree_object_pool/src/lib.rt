@@ -5,6 +5,7 @@
 
 pub mod clean;
 pub mod closures;
+mod lender;
 pub mod page;
 mod pull_error;
 
