@@ -1,2 +1,3 @@
 pub mod PageKeeps
+pub mod SlotShared
 pub mod WordBits
