@@ -18,3 +18,5 @@ fn sets_and_clears_one_bit(rt: HostRuntime) {
 
 mod rows;
 mod sharing;
+mod slots;
+mod values;

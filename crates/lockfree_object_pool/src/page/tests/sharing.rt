@@ -1,5 +1,5 @@
 //! What may be sent to another thread, and what may be shared with one.
-use crate::clean::{AnyValue, Clean};
+use crate::clean::Clean;
 use crate::page::{FullSeen, OwnedSlot, Page, PageSlot};
 
 /// Takes a value that may be sent.
