@@ -11,15 +11,15 @@ use mathlib.Core.Logic.{dite}
 use Rattle.std.proofs.lemmas.Nat.{and_le_l, or_lt}
 use Rattle.std.proofs.lemmas.Nat.Bits.{bit_at-lt, bit_at_not, bit_at_ones}
 use Rattle.std.specs.Int.{w32, bit_at, bit_not}
-use Rattle.atomic_table.specs.Table.{keeps, takes, gives, homes_after, opening, Allows, Enters}
+use Rattle.atomic_table.specs.Table.{keeps, takes, gives, homes_after, opening, rest, Allows, Enters}
 use Rattle.atomic_table.proofs.Lists.{at_set, at_snoc, at_map, set_here, set_else}
 use Rattle.lockfree_object_pool.specs.declared.page.user_view.UserView.{UserView}
-use Rattle.lockfree_object_pool.specs.Word.{SetsBit, ClearsBit}
+use Rattle.lockfree_object_pool.specs.Word.{all_bits, SetsBit, ClearsBit}
 use Rattle.lockfree_object_pool.specs.Page.{PageState, User, view, IsFree, IsOut, word_of, Holds, IsPage, IsFilled, Takes, Misses, Looks, Clears, Gives}
 use Rattle.lockfree_object_pool.proofs.WordBits.{and_clears, or_sets, sets_bit}
 
 -- a word that lacks one bit alone tells which
-lacks_one : (operand id other : ℕ) → other < 32 → ClearsBit 4294967295 id operand → ClearsBit 4294967295 other operand → id ≡ other
+lacks_one : (operand id other : ℕ) → other < 32 → ClearsBit all_bits id operand → ClearsBit all_bits other operand → id ≡ other
 lacks_one operand id other within one two = dite (ℕ_discrete id other) (λ same. same)
     (λ differ. let set = one.others other (λ same. differ (sym same)) in let clear = two.clear in let all = bit_at_ones 32 other within in absurd (omega arith))
 
@@ -68,7 +68,7 @@ module _ {T : Type 0} (meets : T → Type 0) where
       )
 
   -- a bit is cleared that was set: the item goes out with the user
-  takes_item : (page : PageState T) (user operand id : ℕ) (me : User T) → IsPage meets page → id < 32 → ClearsBit 4294967295 id operand → IsFree (word_of page) id
+  takes_item : (page : PageState T) (user operand id : ℕ) (me : User T) → IsPage meets page → id < 32 → ClearsBit all_bits id operand → IsFree (word_of page) id
       → IsPage meets (changed page (bit_and (word_of page) operand) (set page.homes id none) (set page.views user (view (Some id) me.0.found)))
   takes_item page user operand id me is within lacks free =
       let word : ℕ = word_of page in
@@ -105,7 +105,7 @@ module _ {T : Type 0} (meets : T → Type 0) where
       }
 
   -- a bit is cleared that was clear: the user has found it out
-  misses_item : (page : PageState T) (user operand id found : ℕ) (me : User T) → IsPage meets page → ClearsBit 4294967295 id operand → get_elem? page.views user ≡ some me.0 → IsOut (word_of page) id
+  misses_item : (page : PageState T) (user operand id found : ℕ) (me : User T) → IsPage meets page → ClearsBit all_bits id operand → get_elem? page.views user ≡ some me.0 → IsOut (word_of page) id
       → IsPage meets (changed page (bit_and (word_of page) operand) page.homes (set page.views user (view me.0.held found)))
   misses_item page user operand id found me is lacks at out =
       let word : ℕ = word_of page in
@@ -128,7 +128,7 @@ module _ {T : Type 0} (meets : T → Type 0) where
         one_holder = λ one two i holds_one holds_two. is.one_holder one two i (held one i holds_one) (held two i holds_two);
       }
 
-  pub clears : (slots user operand id : ℕ) (me : User T) → id < 32 → ClearsBit 4294967295 id operand
+  pub clears : (slots user operand id : ℕ) (me : User T) → id < 32 → ClearsBit all_bits id operand
       → Allows (IsPage meets) slots user me 0 (λ word. bit_and word operand) (Clears meets operand me)
   clears slots user operand id me within lacks page is places at fits =
       let word : ℕ = word_of page in
@@ -163,7 +163,7 @@ module _ {T : Type 0} (meets : T → Type 0) where
       ]
 
   -- a bit is set that its holder's value is home for: the item is free again
-  gives_item : (page : PageState T) (user operand id : ℕ) (me : User T) (value : T) → IsPage meets page → id < 32 → operand < 4294967296 → SetsBit 0 id operand → get_elem? page.views user ≡ some me.0 → me.0.held ≡ Some id → meets value
+  gives_item : (page : PageState T) (user operand id : ℕ) (me : User T) (value : T) → IsPage meets page → id < 32 → operand < 2 ^ 32 → SetsBit 0 id operand → get_elem? page.views user ≡ some me.0 → me.0.held ≡ Some id → meets value
       → IsPage meets (changed page (bit_or (word_of page) operand) (set page.homes id (some (Some value))) (set page.views user (view None me.0.found)))
   gives_item page user operand id me value is within small has at holds met =
       let word : ℕ = word_of page in
@@ -191,15 +191,17 @@ module _ {T : Type 0} (meets : T → Type 0) where
         one_holder = λ one two i holds_one holds_two. is.one_holder one two i (after one i holds_one).1 (after two i holds_two).1;
       }
 
-  pub gives_back : (slots user operand id : ℕ) (me : User T) (value : T) → id < 32 → operand < 4294967296 → SetsBit 0 id operand → me.0.held ≡ Some id → me.1 ≡ (id, Some value) ∷ [] → meets value
+  pub gives_back : (slots user operand id : ℕ) (out me : User T) (value : T) → id < 32 → operand < 2 ^ 32 → SetsBit 0 id operand → out.0.held ≡ Some id → out.1 ≡ (id, None) ∷ [] → me ≡ (out.0, (id, Some value) ∷ rest out.1) → meets value
       → Allows (IsPage meets) slots user me 0 (λ word. bit_or word operand) (λ _. Gives me)
-  gives_back slots user operand id me value within small has holds carries met page is places at fits = (
-    view None me.0.found,
-    gives,
-    tt,
-    subst (λ carried. IsPage meets (changed page (bit_or (word_of page) operand) (homes_after page.homes carried gives) (set page.views user (view None me.0.found)))) (sym carries) (gives_item page user operand id me value is within small has at holds met),
-    record { knows = refl; carries = refl },
-  )
+  gives_back slots user operand id out me value within small has holds carries moved met page is places at fits =
+      let holds_now : me.0.held ≡ Some id = ap (λ (user : User T). user.0.held) moved ∙ holds in
+      let carries_now : me.1 ≡ (id, Some value) ∷ [] = ap (λ (user : User T). user.1) moved ∙ ap (λ (carried : List (ℕ × Option T)). (id, Some value) ∷ rest carried) carries in (
+        view None me.0.found,
+        gives,
+        tt,
+        subst (λ carried. IsPage meets (changed page (bit_or (word_of page) operand) (homes_after page.homes carried gives) (set page.views user (view None me.0.found)))) (sym carries_now) (gives_item page user operand id me value is within small has at holds_now met),
+        record { knows = refl; carries = refl },
+      )
 
   -- what lies at a place of a filled list
   filled_at : (items : List (Option T)) (id : ℕ) → id < length items → All (λ item. IsSomeAnd item meets) items → (value : T) × (get_elem? items id ≡ some (Some value)) × meets value
@@ -209,7 +211,7 @@ module _ {T : Type 0} (meets : T → Type 0) where
   filled_at (Some value ∷ items) (suc id) within each = filled_at items id (omega arith) (λ k default below. each (suc k) default (omega arith))
 
   -- a page at its start: each item is free and at home
-  pub opens : (items : List (Option T)) → IsFilled meets items → IsPage meets (opening (4294967295 ∷ []) items (view None 0))
+  pub opens : (items : List (Option T)) → IsFilled meets items → IsPage meets (opening (all_bits ∷ []) items (view None 0))
   opens items filled = record {
     one_word = refl;
     all_places = length-map items some ∙ filled.all;

@@ -1,6 +1,4 @@
 -- A slot may be shared among threads where its value may.
-use mir.Syntax.{named}
-use base.Fml.{Lft}
 use denote.RattleType.{RattleType}
 use denote.Ref.{NamedLft}
 use denote.Param.Send.{IsSend, IsSync, part_keyless, struct_sync, shr_sync, sendable}
@@ -28,10 +26,8 @@ module _ (T K : RattleType) (clean : Ghosts K.Denot T.Denot) where
   taken_sync : (κ : NamedLft) → IsSend T → IsSync (TakenId.the_field κ T K clean).row
   taken_sync κ sent = struct_sync (shape (TakenId.the_type κ T K clean)) (shr_sync _ _ _ (page.the_sync T K clean sent), (record { shared = (seat_sync T sent).shared }, (search sendable, tt)))
 
-  -- a `&` to a slot says the same whatever its lifetime is called
-  pub slot_sync : (lifetime : Lft) → IsSend T → IsSync T → IsSync (PageSlot.the_row (record { mir = named 0; lft = lifetime }) T K clean)
-  slot_sync lifetime sent shared =
-      let κ : NamedLft = record { mir = named 0; lft = lifetime } in
+  pub slot_sync : (κ : NamedLft) → IsSend T → IsSync T → IsSync (PageSlot.the_row κ T K clean)
+  slot_sync κ sent shared =
       let type = PageSlot.the_type κ T K clean in
       record { shared = λ slot. (struct_sync (shape type) (search sendable, (taken_sync κ sent, (record { shared = shared.shared }, tt)))).shared (type.to slot) }
 

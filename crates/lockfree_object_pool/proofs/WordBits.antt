@@ -3,7 +3,7 @@ use Rattle.std.proofs.Common.{◌≡◌, ℕ, ◌-◌, ◌*◌, ◌/◌, ◌%◌
 use Rattle.std.specs.Int.{bit_at, bit_not, w32}
 use Rattle.std.proofs.lemmas.Bool.{cases_lt}
 use Rattle.std.proofs.lemmas.Nat.Bits.{bit_at_lowest, bit_at-suc, bit_at_and, bit_at_set_same, bit_at_set_other, bit_at_clear_same, bit_at_clear_other, bit_at_above, bit_at-lt, bit_at_ones, bit_at_or, bit_at-zero}
-use Rattle.lockfree_object_pool.specs.Word.{SetsBit, ClearsBit}
+use Rattle.lockfree_object_pool.specs.Word.{all_bits, SetsBit, ClearsBit}
 
 -- one less turns the lowest set bit off, the bits below it on, and leaves those above it
 pub bit_at-less_one : (k word : ℕ) → bit_at word k ≡ 1 → ((i : ℕ) → i < k → bit_at word i ≡ 0) → (i : ℕ) → (i ≡ k → bit_at (word - 1) i ≡ 0) × (k < i → bit_at (word - 1) i ≡ bit_at word i)
@@ -57,7 +57,7 @@ clears_bit word id fits within = record {
 }
 
 -- an and with a word that lacks one bit alone clears that bit
-pub and_clears : (word operand id : ℕ) → word < 4294967296 → ClearsBit 4294967295 id operand → ClearsBit word id (bit_and word operand)
+pub and_clears : (word operand id : ℕ) → word < 2 ^ 32 → ClearsBit all_bits id operand → ClearsBit word id (bit_and word operand)
 and_clears word operand id fits lacks = record {
   clear = bit_at_and word operand id ∙ (let zero = lacks.clear in let low = bit_at-lt word id in omega arith);
   others = λ i other.

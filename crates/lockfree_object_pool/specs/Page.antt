@@ -1,11 +1,11 @@
 -- A page: what holds between any two steps on it, and what each kind of step tells its user.
-use Rattle.std.specs.Prelude.{◌≡◌, ℕ, ◌<◌, ◌↔◌, List, ◌∷◌, length, slice_index, Option, Some, None, All, IsSomeAnd}
+use Rattle.std.specs.Prelude.{◌≡◌, ℕ, ◌^◌, ◌<◌, ◌↔◌, List, ◌∷◌, length, slice_index, Option, Some, None, All, IsSomeAnd}
 use mathlib.Core.Option.{some}
 use lib.ListN.{get_elem?}
 use Rattle.std.specs.Int.{bit_at}
 use Rattle.atomic_table.specs.Table.{State, Me, rest}
 use Rattle.lockfree_object_pool.specs.declared.page.user_view.UserView.{UserView}
-use Rattle.lockfree_object_pool.specs.Word.{SetsBit, ClearsBit}
+use Rattle.lockfree_object_pool.specs.Word.{all_bits, SetsBit, ClearsBit}
 
 -- a page as plain data: one word, 32 places, and what each user knows
 abbrev pub PageState : Type 0 → Type 0
@@ -47,7 +47,7 @@ module _ {T : Type 0} where
     pub record IsPage (page : PageState T) : Type 0 where
       pub one_word : length page.words ≡ 1
       pub all_places : length page.homes ≡ 32
-      pub word_fits : word_of page < 4294967296
+      pub word_fits : word_of page < 2 ^ 32
       pub free_is_home : (id : ℕ) → id < 32 → IsFree (word_of page) id → (value : T) × IsHome page id value × meets value
       pub held_is_out : (user id : ℕ) → Holds page user id → (id < 32) × IsOut (word_of page) id
       pub one_holder : (user other id : ℕ) → Holds page user id → Holds page other id → user ≡ other
@@ -65,15 +65,20 @@ module _ {T : Type 0} where
 
   -- a load by a new user: it has found out the ids that are clear in the word
   pub record Looks (word : ℕ) (new : User T) : Type 0 where
-    pub word_fits : word < 4294967296
+    pub word_fits : word < 2 ^ 32
     pub holds_none : new.0.held ≡ None
     pub found : (id : ℕ) → id < 32 → bit_at new.0.found id ≡ 1 ↔ IsOut word id
 
   -- a clearing of the one bit that the operand leaves out
   pub record Clears (meets : T → Type 0) (operand : ℕ) (old : User T) (word : ℕ) (new : User T) : Type 0 where
-    pub word_fits : word < 4294967296
-    pub took : (id : ℕ) → id < 32 → ClearsBit 4294967295 id operand → IsFree word id → Takes meets id old new
-    pub missed : (id : ℕ) → id < 32 → ClearsBit 4294967295 id operand → IsOut word id → Misses id old new
+    pub word_fits : word < 2 ^ 32
+    pub took : (id : ℕ) → id < 32 → ClearsBit all_bits id operand → IsFree word id → Takes meets id old new
+    pub missed : (id : ℕ) → id < 32 → ClearsBit all_bits id operand → IsOut word id → Misses id old new
+
+  -- the user has taken the id, and the value that lay there has moved out
+  pub record MovesOut (id : ℕ) (old new : User T) : Type 0 where
+    pub knows : new.0 ≡ view (Some id) old.0.found
+    pub carries : new.1 ≡ (id, None) ∷ old.1
 
   -- a return: the user holds nothing any more, and the value that it had taken last is home
   pub record Gives (old new : User T) : Type 0 where

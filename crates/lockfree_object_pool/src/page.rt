@@ -1,4 +1,10 @@
-//! A page of 32 items. Its word has a bit for each item, which is set where the item is free.
+//! A page of 32 items that threads share without a lock. Its word has a bit for each item, set where the item is free.
+//!
+//! This file has the pure steps of a word, and a page with its calls. Below it: what holds of a page between any two
+//! steps and the kinds of step (`rule`), the steps themselves (`steps`), what a user knows (`user_view`), an item that
+//! is out, under a borrow or an owner of its page (`slot`, `owned_slot`), and the answer of a full page (`full_seen`).
+//!
+//! No call waits for another thread or tries again: a page reads its word once, and then clears single bits.
 ghost use Rattle.std.specs.Prelude.{◌≡◌, ◌-◌, ◌^◌, ◌<◌, ◌↔◌, IsTrue, IsNone, IfSome, IsOk, IfOk, IfErr, Option, None, bit_and, bit_or};
 ghost use Rattle.std.specs.Int.{w32, bit_at, bit_not};
 ghost use Rattle.lockfree_object_pool.specs.Word.{IsLeastBit, SetsBit, ClearsBit};

@@ -6,7 +6,7 @@ use super::user_view::UserSeat;
 use crate::clean::Clean;
 
 /// One pull, from page to page. It has no bytes.
-#[derive(Drop)]
+#[derive(Default, Drop)]
 pub struct PullPass;
 
 impl PullPass {

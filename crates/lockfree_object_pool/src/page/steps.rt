@@ -7,7 +7,7 @@ use super::{Page, PageId, has_bit, with_bit, without_bit};
 use crate::clean::Clean;
 
 impl<T, K: Clean<T>> Page<T, K> {
-    ghost use Rattle.lockfree_object_pool.specs.Page.{Looks, Misses, view};
+    ghost use Rattle.lockfree_object_pool.specs.Page.{Looks, Misses, MovesOut};
     ghost use Rattle.lockfree_object_pool.specs.Slot.{page_identity};
 
     /// The word at this moment, and a new user that has found out the ids that are clear in it.
@@ -25,7 +25,7 @@ impl<T, K: Clean<T>> Page<T, K> {
         requires page { seat.old.table_id ≡ page_identity self.now }
         requires in_page { id < 32 }
         ensures page { seat.new.table_id ≡ seat.old.table_id }
-        ensures missed { MatchOption result (Misses id seat.old.me seat.new.me) (λ value. K.meets value × (seat.new.me ≡ (view (Some id) seat.old.me.0.found, (id, None) ∷ seat.old.me.1))) }
+        ensures outcome { MatchOption result (Misses id seat.old.me seat.new.me) (λ value. K.meets value × MovesOut id seat.old.me seat.new.me) }
     {
         let words = &self.table.shared;
         let word = words.fetch_and::<ClearBit<K>>(seat, 0, without_bit(u32::MAX, id) as u64);
