@@ -15,7 +15,8 @@ use Rattle.atomic_table.specs.Table.{keeps, takes, gives, homes_after, opening, 
 use Rattle.atomic_table.proofs.Lists.{at_set, at_snoc, at_map, set_here, set_else}
 use Rattle.lockfree_object_pool.specs.declared.page.user_view.UserView.{UserView}
 use Rattle.lockfree_object_pool.specs.Word.{all_bits, SetsBit, ClearsBit}
-use Rattle.lockfree_object_pool.specs.Page.{PageState, User, view, IsFree, IsOut, word_of, Holds, IsPage, IsFilled, Takes, Misses, Looks, Clears, Gives}
+use Rattle.lockfree_object_pool.specs.Page.{IsFilled}
+use Rattle.lockfree_object_pool.specs.PageRule.{PageState, User, view, IsFree, IsOut, word_of, Holds, IsPage, Takes, Misses, Looks, Clears, Gives}
 use Rattle.lockfree_object_pool.proofs.WordBits.{and_clears, or_sets, sets_bit}
 
 -- a word that lacks one bit alone tells which

@@ -23,7 +23,7 @@ seat_sync T sent =
     record { shared = λ seat block offset lifetime share. part_keyless (Seat.the_row (OptionRow.the_row T) UserView.the_row) (the_send (OptionRow.the_row T) UserView.the_row item) share seat block offset }
 
 module _ (T K : RattleType) (clean : Ghosts K.Denot T.Denot) where
-  taken_sync : (κ : NamedLft) → IsSend T → IsSync (TakenId.the_field κ T K clean).row
+  pub taken_sync : (κ : NamedLft) → IsSend T → IsSync (TakenId.the_field κ T K clean).row
   taken_sync κ sent = struct_sync (shape (TakenId.the_type κ T K clean)) (shr_sync _ _ _ (page.the_sync T K clean sent), (record { shared = (seat_sync T sent).shared }, (search sendable, tt)))
 
   pub slot_sync : (κ : NamedLft) → IsSend T → IsSync T → IsSync (PageSlot.the_row κ T K clean)
@@ -31,7 +31,7 @@ module _ (T K : RattleType) (clean : Ghosts K.Denot T.Denot) where
       let type = PageSlot.the_type κ T K clean in
       record { shared = λ slot. (struct_sync (shape type) (search sendable, (taken_sync κ sent, (record { shared = shared.shared }, tt)))).shared (type.to slot) }
 
-  owned_taken_sync : IsSend T → IsSync (OwnedTakenId.the_field T K clean).row
+  pub owned_taken_sync : IsSend T → IsSync (OwnedTakenId.the_field T K clean).row
   owned_taken_sync sent =
       let page = Arc-sync (Page.the_row T K clean) (page.the_send T K clean sent) (page.the_sync T K clean sent) in
       struct_sync (shape (OwnedTakenId.the_type T K clean)) (record { shared = page.shared }, (record { shared = (seat_sync T sent).shared }, (search sendable, tt)))

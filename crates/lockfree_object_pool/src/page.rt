@@ -82,9 +82,10 @@ pub struct Page<T, K: Clean<T>> {
 }
 
 impl<T, K: Clean<T>> Page<T, K> {
-    ghost use Rattle.lockfree_object_pool.specs.Slot.{page_identity, slot_value, IsItemOf, IsAnswerOf};
-    ghost use Rattle.lockfree_object_pool.specs.Page.{IsFilled};
+    ghost use Rattle.lockfree_object_pool.specs.FullSeen.{IsAnswerOf};
+    ghost use Rattle.lockfree_object_pool.specs.Page.{page_identity, IsFilled};
     ghost use Rattle.lockfree_object_pool.specs.Refusal.{RefusesMaking};
+    ghost use Rattle.lockfree_object_pool.specs.Slot.{slot_value, IsItemOf};
 
     /// A page of 32 free items: item `i` is the answer of call `i` of `init`, counted from 0.
     ///

@@ -1,5 +1,5 @@
 //! What a pull has when each id of a page was found out.
-ghost use Rattle.lockfree_object_pool.specs.Page.{FoundAll};
+ghost use Rattle.lockfree_object_pool.specs.PageRule.{FoundAll};
 
 use super::PageSlot;
 use super::user_view::UserSeat;
@@ -22,6 +22,7 @@ impl PullPass {
 #[derive(Drop)]
 pub struct FullSeen<'p, T> {
     pub(super) seat: UserSeat<T>,
+    /// Kept for its lifetime alone.
     pub(super) pass: &'p PullPass,
     ghost found_all: { FoundAll seat.me.0.found },
 }

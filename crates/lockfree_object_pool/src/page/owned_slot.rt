@@ -2,6 +2,7 @@
 ghost use Rattle.std.specs.Prelude.{◌≡◌, ◌<◌, [], ◌∷◌, Some, None};
 ghost use Rattle.std.specs.Arc.{arc_value};
 ghost use Rattle.lockfree_object_pool.specs.OneProof.{same_page, same_holding, same_carrying};
+ghost use Rattle.lockfree_object_pool.specs.Page.{page_identity};
 
 use super::user_view::UserSeat;
 use super::{Page, PageId};
@@ -15,14 +16,14 @@ pub(crate) struct OwnedTakenId<T, K: Clean<T>> {
     pub(super) page: Arc<Page<T, K>>,
     pub(super) seat: UserSeat<T>,
     pub(super) id: PageId,
-    ghost of_page: { seat.table_id ≡ (arc_value page).table.shared.table_id } by { same_page _ _ },
+    ghost of_page: { seat.table_id ≡ page_identity (arc_value page) } by { same_page _ _ },
     ghost in_page: { id < 32 },
     ghost holds: { seat.me.0.held ≡ Some id } by { same_holding _ _ },
     ghost carries: { seat.me.1 ≡ (id, None) ∷ [] } by { same_carrying T.code _ _ },
 }
 
 impl<T, K: Clean<T>> OwnedTakenId<T, K> {
-    ghost use Rattle.lockfree_object_pool.specs.Slot.{owned_taken_id};
+    ghost use Rattle.lockfree_object_pool.specs.OwnedSlot.{owned_taken_id};
 
     pub(crate) fn id(&self) -> PageId
         ensures value { result ≡ owned_taken_id self.now }
@@ -52,7 +53,7 @@ pub struct OwnedSlot<T, K: Clean<T>> {
 }
 
 impl<T, K: Clean<T>> OwnedSlot<T, K> {
-    ghost use Rattle.lockfree_object_pool.specs.Slot.{owned_slot_page, owned_slot_id, owned_slot_value, owned_taken_page, owned_taken_id};
+    ghost use Rattle.lockfree_object_pool.specs.OwnedSlot.{owned_slot_page, owned_slot_id, owned_slot_value, owned_taken_page, owned_taken_id};
 
     pub(super) fn new(taken: OwnedTakenId<T, K>, value: T) -> OwnedSlot<T, K>
         ensures page { owned_slot_page result ≡ owned_taken_page taken }
@@ -94,8 +95,7 @@ impl<T, K: Clean<T>> OwnedSlot<T, K> {
 impl<T, K: Clean<T>> Deref for OwnedSlot<T, K> {
     type Target = T;
 
-    ghost use Rattle.std.specs.Prelude.{◌≡◌};
-    ghost use Rattle.lockfree_object_pool.specs.Slot.{owned_slot_value};
+    ghost use Rattle.lockfree_object_pool.specs.OwnedSlot.{owned_slot_value};
 
     ghost deref_gives = { λ slot value. value ≡ owned_slot_value slot };
 
@@ -105,10 +105,9 @@ impl<T, K: Clean<T>> Deref for OwnedSlot<T, K> {
 }
 
 impl<T, K: Clean<T>> DerefMut for OwnedSlot<T, K> {
-    ghost use Rattle.std.specs.Prelude.{◌≡◌};
     ghost use Rattle.std.specs.Borrow.{Lends, sem};
     ghost use Rattle.lockfree_object_pool.specs.contracts.page.owned_slot.OwnedSlot.{the_row};
-    ghost use Rattle.lockfree_object_pool.specs.Slot.{owned_slot_value, owned_slot_with};
+    ghost use Rattle.lockfree_object_pool.specs.OwnedSlot.{owned_slot_value, owned_slot_with};
 
     ghost deref_mut_gives = { λ slot value. value ≡ owned_slot_value slot };
 

@@ -14,7 +14,7 @@ pub struct PageRule<K> {
 }
 
 impl<T, K: Clean<T>> TableRule<Option<T>, UserView, ()> for PageRule<K> {
-    ghost use Rattle.lockfree_object_pool.specs.Page.{IsPage, view};
+    ghost use Rattle.lockfree_object_pool.specs.PageRule.{IsPage, view};
 
     ghost holds = { λ _. IsPage K.meets };
 
@@ -25,7 +25,7 @@ impl<T, K: Clean<T>> TableRule<Option<T>, UserView, ()> for PageRule<K> {
 pub struct Look;
 
 impl<T> Play<Option<T>, UserView> for Look {
-    ghost use Rattle.lockfree_object_pool.specs.Page.{Looks};
+    ghost use Rattle.lockfree_object_pool.specs.PageRule.{Looks};
 
     ghost then = { λ _ _ word new. Looks word new };
 }
@@ -36,7 +36,7 @@ pub struct ClearBit<K> {
 }
 
 impl<T, K: Clean<T>> Play<Option<T>, UserView> for ClearBit<K> {
-    ghost use Rattle.lockfree_object_pool.specs.Page.{Clears};
+    ghost use Rattle.lockfree_object_pool.specs.PageRule.{Clears};
 
     ghost then = { λ step old word new. Clears K.meets step.first old word new };
 }
@@ -45,7 +45,7 @@ impl<T, K: Clean<T>> Play<Option<T>, UserView> for ClearBit<K> {
 pub struct SetBit;
 
 impl<T> Play<Option<T>, UserView> for SetBit {
-    ghost use Rattle.lockfree_object_pool.specs.Page.{Gives};
+    ghost use Rattle.lockfree_object_pool.specs.PageRule.{Gives};
 
     ghost then = { λ _ old _ new. Gives old new };
 }

@@ -1,8 +1,8 @@
 //! A slot: an item that is out of its page.
 ghost use Rattle.std.specs.Prelude.{◌≡◌, ◌<◌, [], ◌∷◌, Some, None};
-ghost use Rattle.std.specs.Borrow.{Lends, sem};
-ghost use mir.Syntax.{named};
+ghost use Rattle.std.specs.Arc.{arc_value};
 ghost use Rattle.lockfree_object_pool.specs.OneProof.{same_page, same_holding, same_carrying};
+ghost use Rattle.lockfree_object_pool.specs.Page.{page_identity};
 
 use super::user_view::UserSeat;
 use super::{OwnedSlot, OwnedTakenId, Page, PageId};
@@ -17,7 +17,7 @@ pub(crate) struct TakenId<'s, T, K: Clean<T>> {
     pub(super) page: &'s Page<T, K>,
     pub(super) seat: UserSeat<T>,
     pub(super) id: PageId,
-    ghost of_page: { seat.table_id ≡ page.now.table.shared.table_id } by { same_page _ _ },
+    ghost of_page: { seat.table_id ≡ page_identity page.now } by { same_page _ _ },
     ghost in_page: { id < 32 },
     ghost holds: { seat.me.0.held ≡ Some id } by { same_holding _ _ },
     ghost carries: { seat.me.1 ≡ (id, None) ∷ [] } by { same_carrying T.code _ _ },
@@ -53,8 +53,8 @@ pub struct PageSlot<'s, T, K: Clean<T>> {
 }
 
 impl<'s, T, K: Clean<T>> PageSlot<'s, T, K> {
-    ghost use Rattle.lockfree_object_pool.specs.Slot.{slot_page, slot_id, slot_value, taken_page, taken_id, owned_slot_page, owned_slot_id, owned_slot_value, page_identity};
-    ghost use Rattle.std.specs.Arc.{arc_value};
+    ghost use Rattle.lockfree_object_pool.specs.OwnedSlot.{owned_slot_page, owned_slot_id, owned_slot_value};
+    ghost use Rattle.lockfree_object_pool.specs.Slot.{slot_page, slot_id, slot_value, taken_page, taken_id};
 
     pub(super) fn new(taken: TakenId<'s, T, K>, value: T) -> PageSlot<'s, T, K>
         ensures page { slot_page result ≡ taken_page taken.entry }
@@ -105,7 +105,6 @@ impl<'s, T, K: Clean<T>> PageSlot<'s, T, K> {
 impl<T, K: Clean<T>> Deref for PageSlot<'_, T, K> {
     type Target = T;
 
-    ghost use Rattle.std.specs.Prelude.{◌≡◌};
     ghost use Rattle.lockfree_object_pool.specs.Slot.{slot_value};
 
     ghost deref_gives = { λ slot value. value ≡ slot_value slot };
@@ -116,7 +115,6 @@ impl<T, K: Clean<T>> Deref for PageSlot<'_, T, K> {
 }
 
 impl<T, K: Clean<T>> DerefMut for PageSlot<'_, T, K> {
-    ghost use Rattle.std.specs.Prelude.{◌≡◌, []};
     ghost use Rattle.std.specs.Borrow.{Lends, sem};
     ghost use mir.Syntax.{named};
     ghost use Rattle.lockfree_object_pool.specs.contracts.page.slot.PageSlot.{the_row};

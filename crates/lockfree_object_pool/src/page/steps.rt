@@ -7,8 +7,8 @@ use super::{Page, PageId, has_bit, with_bit, without_bit};
 use crate::clean::Clean;
 
 impl<T, K: Clean<T>> Page<T, K> {
-    ghost use Rattle.lockfree_object_pool.specs.Page.{Looks, Misses, MovesOut};
-    ghost use Rattle.lockfree_object_pool.specs.Slot.{page_identity};
+    ghost use Rattle.lockfree_object_pool.specs.PageRule.{Looks, Misses, MovesOut};
+    ghost use Rattle.lockfree_object_pool.specs.Page.{page_identity};
 
     /// The word at this moment, and a new user that has found out the ids that are clear in it.
     pub(super) fn look(&self) -> (u32, UserSeat<T>)

@@ -1,7 +1,9 @@
 //! What a caller knows of a slot by public contracts alone.
 ghost use Rattle.std.specs.Prelude.{◌≡◌, IfOk, IfSome};
-ghost use Rattle.lockfree_object_pool.specs.Page.{FoundAll};
-ghost use Rattle.lockfree_object_pool.specs.Slot.{page_identity, slot_id, slot_page, slot_value, slot_with, owned_slot_id, owned_slot_page, owned_slot_with, full_page, full_found};
+ghost use Rattle.lockfree_object_pool.specs.FullSeen.{IsFullOf};
+ghost use Rattle.lockfree_object_pool.specs.OwnedSlot.{owned_slot_with};
+ghost use Rattle.lockfree_object_pool.specs.Page.{page_identity};
+ghost use Rattle.lockfree_object_pool.specs.Slot.{slot_id, slot_with};
 
 use crate::clean::{AnyValue, Clean};
 use crate::page::{Allocated, FullSeen, OwnedSlot, Page, PageSlot, PullPass};
@@ -75,8 +77,7 @@ fn own_first(page: Arc<Page<u32, Zero>>) -> Option<u32>
 
 /// What tells a pull that a page is full is of that page, and has all of its ids.
 fn full_of<'p>(page: &Page<u32, Zero>, pass: &'p PullPass) -> Option<FullSeen<'p, u32>>
-    ensures page { IfSome result (λ seen. full_page seen ≡ page_identity page.now) }
-    ensures found { IfSome result (λ seen. FoundAll (full_found seen)) }
+    ensures { IfSome result (IsFullOf (page_identity page.now)) }
 {
     match page.try_alloc(pass) {
         Ok(Allocated::Full(seen)) => Some(seen),
