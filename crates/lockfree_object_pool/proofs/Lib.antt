@@ -1,4 +1,6 @@
 pub mod GuardShared
 pub mod KeptPlaces
 pub mod LockSteps
+pub mod PageKeeps
+pub mod SlotShared
 pub mod WordBits

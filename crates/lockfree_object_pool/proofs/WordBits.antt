@@ -2,8 +2,8 @@
 use Rattle.std.proofs.Common.{◌≡◌, ℕ, ◌-◌, ◌*◌, ◌/◌, ◌%◌, ◌^◌, ◌<◌, suc, zero, min, bit_and, bit_or, refl, sym, ◌∙◌, ap, arith, inl, inr}
 use Rattle.std.specs.Int.{bit_at, bit_not, w32}
 use Rattle.std.proofs.lemmas.Bool.{cases_lt}
-use Rattle.std.proofs.lemmas.Nat.Bits.{bit_at_lowest, bit_at-suc, bit_at_and, bit_at_set_same, bit_at_set_other, bit_at_clear_same, bit_at_clear_other, bit_at_above}
-use Rattle.lockfree_object_pool.specs.Word.{SetsBit, ClearsBit}
+use Rattle.std.proofs.lemmas.Nat.Bits.{bit_at_lowest, bit_at-suc, bit_at_and, bit_at_set_same, bit_at_set_other, bit_at_clear_same, bit_at_clear_other, bit_at_above, bit_at-lt, bit_at_ones, bit_at_or, bit_at-zero}
+use Rattle.lockfree_object_pool.specs.Word.{all_bits, SetsBit, ClearsBit}
 
 -- one less turns the lowest set bit off, the bits below it on, and leaves those above it
 pub bit_at-less_one : (k word : ℕ) → bit_at word k ≡ 1 → ((i : ℕ) → i < k → bit_at word i ≡ 0) → (i : ℕ) → (i ≡ k → bit_at (word - 1) i ≡ 0) × (k < i → bit_at (word - 1) i ≡ bit_at word i)
@@ -54,4 +54,29 @@ clears_bit word id fits within = record {
         let zero = bit_at_above word 32 i fits past in
         let both = bit_at_and word (bit_not w32 (1 * 2 ^ id % 2 ^ 32)) i in omega arith
   ];
+}
+
+-- an and with a word that lacks one bit alone clears that bit
+pub and_clears : (word operand id : ℕ) → word < 2 ^ 32 → ClearsBit all_bits id operand → ClearsBit word id (bit_and word operand)
+and_clears word operand id fits lacks = record {
+  clear = bit_at_and word operand id ∙ (let zero = lacks.clear in let low = bit_at-lt word id in omega arith);
+  others = λ i other.
+      let both = bit_at_and word operand i in
+      let same = lacks.others i other in
+      let low = bit_at-lt word i in
+      elim (cases_lt i 32) [
+        | inl inside ↦ let one = bit_at_ones 32 i inside in omega arith
+        | inr past ↦ let zero = bit_at_above word 32 i fits past in omega arith
+      ];
+}
+
+-- an or with a word that has one bit alone sets that bit
+pub or_sets : (word operand id : ℕ) → SetsBit 0 id operand → SetsBit word id (bit_or word operand)
+or_sets word operand id has = record {
+  set = bit_at_or word operand id ∙ (let one = has.set in let low = bit_at-lt word id in omega arith);
+  others = λ i other.
+      let both = bit_at_or word operand i in
+      let same = has.others i other in
+      let zero = bit_at-zero i in
+      omega arith;
 }

@@ -1,5 +1,12 @@
+pub mod FullSeen
 pub mod Guard
 pub mod Kept
 pub mod LastIn
 pub mod Lock
+pub mod OneProof
+pub mod OwnedSlot
+pub mod Page
+pub mod PageRule
+pub mod Refusal
+pub mod Slot
 pub mod Word

@@ -7,6 +7,7 @@ pub mod clean;
 pub mod closures;
 #[cfg(test)]
 mod counted;
+mod lender;
 pub mod page;
 mod pull_error;
 pub mod spin_lock;

@@ -15,3 +15,8 @@ fn sets_and_clears_one_bit(rt: HostRuntime) {
     assert_eq!(rt; without_bit(40, 3), 32);
     assert_eq!(rt; without_bit(32, 3), 32);
 }
+
+mod ids;
+mod sharing;
+mod slots;
+mod values;

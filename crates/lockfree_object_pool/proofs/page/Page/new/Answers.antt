@@ -1,0 +1,5 @@
+use Rattle.lockfree_object_pool.proofs.PageKeeps.{opens}
+use Rattle.lockfree_object_pool.proofs.page.Page.new.Goals as goal
+
+pub new-requires : goal.new-requires
+new-requires g c = opens _ _ c.in_ok-items.ensures.all

@@ -1,0 +1,37 @@
+//! What a pull has when each id of a page was found out.
+ghost use Rattle.lockfree_object_pool.specs.PageRule.{FoundAll};
+
+use super::PageSlot;
+use super::user_view::UserSeat;
+use crate::clean::Clean;
+
+/// One pull, from page to page. It has no bytes.
+#[derive(Default, Drop)]
+pub struct PullPass;
+
+impl PullPass {
+    /// Opens a pull.
+    pub fn new() -> PullPass {
+        PullPass
+    }
+}
+
+/// Each id of one page was found out since the pass was made: by the word that was read, or by a step of its own.
+///
+/// It borrows its pass, so it can't be kept past the pull.
+#[derive(Drop)]
+pub struct FullSeen<'p, T> {
+    pub(super) seat: UserSeat<T>,
+    /// Kept for its lifetime alone.
+    pub(super) pass: &'p PullPass,
+    ghost found_all: { FoundAll seat.me.0.found },
+}
+
+/// What a page answers to a pull.
+#[derive(Drop)]
+pub enum Allocated<'s, 'p, T, K: Clean<T>> {
+    /// An item of the page.
+    Slot(PageSlot<'s, T, K>),
+    /// No item: each id was found out.
+    Full(FullSeen<'p, T>),
+}
