@@ -139,8 +139,13 @@ fn ids_of(slots: &[ZeroSlot<'_>]) -> u32 {
     ids
 }
 
-/// The id that a page gives to a pull, 32 where it is full.
-fn try_id(page: &Zeros) -> u8 {
+/// Whether a page tells a pull that it is full.
+fn is_full_for_pull(page: &Zeros) -> bool {
+    matches!(page.try_alloc(&PullPass::new()), Ok(Allocated::Full(_)))
+}
+
+/// The id that a page gives to a pull, 32 where it gives none.
+fn id_for_pull(page: &Zeros) -> u8 {
     match page.try_alloc(&PullPass::new()) {
         Ok(Allocated::Slot(slot)) => slot.id(),
         _ => 32,
@@ -155,13 +160,13 @@ fn two_threads_share_the_ids_of_a_page(rt: HostRuntime) -> Result<(), Fail> {
     };
     assert_eq!(rt; (one.len(), two.len()), (16, 16));
     assert_eq!(rt; ids_of(&one) | ids_of(&two), 4294967295);
-    assert_eq!(rt; try_id(&page), 32);
+    assert!(rt; is_full_for_pull(&page));
     let Some(slot) = one.pop() else {
         panic!(rt; "16 slots are held")
     };
     let id = slot.id();
     Page::free(slot);
-    assert_eq!(rt; try_id(&page), id);
+    assert_eq!(rt; id_for_pull(&page), id);
     Ok(())
 }
 
