@@ -14,9 +14,10 @@ HasNoSpace-number text n number = All-weaker IsAsciiDigit (λ byte. byte ≢ 32)
 -- two numbers have a space between them
 pub AreNumbers-space : (text : List ℕ) (first second : ℕ) → HasNoSpace text → AreNumbers text first second → ⊥
 AreNumbers-space text first second none numbers = with_space numbers.0 numbers.1 (subst HasNoSpace numbers.2 none)
-  where with_space : (a b : List ℕ) → HasNoSpace (a ++ 32 ∷ b) → ⊥
-        with_space [] b clear = All-head (λ byte. byte ≢ 32) 32 b clear refl
-        with_space (x ∷ a) b clear = with_space a b (All-tail (λ byte. byte ≢ 32) x (a ++ 32 ∷ b) clear)
+  where
+    with_space : (a b : List ℕ) → HasNoSpace (a ++ 32 ∷ b) → ⊥
+    with_space [] b clear = All-head (λ byte. byte ≢ 32) 32 b clear refl
+    with_space (x ∷ a) b clear = with_space a b (All-tail (λ byte. byte ≢ 32) x (a ++ 32 ∷ b) clear)
 
 -- the first space cuts a text in one way
 same_parts : (a b c d : List ℕ) → HasNoSpace a → HasNoSpace c → a ++ 32 ∷ b ≡ c ++ 32 ∷ d → (a ≡ c) × (b ≡ d)

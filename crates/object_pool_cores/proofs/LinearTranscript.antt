@@ -62,18 +62,22 @@ module _ {I R K : Type 0} (answers : I → Option ℕ → Type 0) (leaves : R �
         → AfterReturn (PullsItem limit (answers init)) (ReturnsItem (leaves reset)) RefusesAttach (shown old) index held reply (shown new) × IsSet new.pool
     return_shown old new index None reply set played = ((played.0, ap shown played.1), subst (λ (state : Playing (LinearCore ℕ I R K) ℕ). IsSet state.pool) (sym played.1) set)
     return_shown old new index (Some item) reply set played =
-        let gave = played.1 in
-        ((played.0, subst (λ (by : R). ReturnsItem (leaves by) (pool_of old.pool) item (pool_of new.pool)) set.kept gave.returned, played.2),
-          record { limited = gave.step.limit ∙ set.limited; made = gave.step.init ∙ set.made; kept = gave.step.reset ∙ set.kept })
+        let gave = played.1 in (
+          (played.0, subst (λ (by : R). ReturnsItem (leaves by) (pool_of old.pool) item (pool_of new.pool)) set.kept gave.returned, played.2),
+          record { limited = gave.step.limit ∙ set.limited; made = gave.step.init ∙ set.made; kept = gave.step.reset ∙ set.kept },
+        )
 
     plays_shown : (old new : Playing (LinearCore ℕ I R K) ℕ) (command : Command ℕ) (reply : Reply ℕ) → IsSet old.pool → Plays pulls gives attaches old command reply new → PlaysShown old command reply new
     plays_shown old new Pull reply set played =
-        let pulled = played.1 in
-        ((played.0,
+        let pulled = played.1 in (
+          (
+            played.0,
             subst (λ (by : I). PullsItem limit (answers by) (pool_of old.pool) played.0 (pool_of new.pool)) set.made
-            (subst (λ (most : Option ℕ). PullsItem most (answers (init_of old.pool)) (pool_of old.pool) played.0 (pool_of new.pool)) set.limited pulled.pulled),
-            played.2),
-          record { limited = pulled.step.limit ∙ set.limited; made = pulled.step.init ∙ set.made; kept = pulled.step.reset ∙ set.kept })
+                (subst (λ (most : Option ℕ). PullsItem most (answers (init_of old.pool)) (pool_of old.pool) played.0 (pool_of new.pool)) set.limited pulled.pulled),
+            played.2,
+          ),
+          record { limited = pulled.step.limit ∙ set.limited; made = pulled.step.init ∙ set.made; kept = pulled.step.reset ∙ set.kept },
+        )
     plays_shown old new (Write index value) reply set played = write_shown old new index value (held_at old.held index) reply set played
     plays_shown old new (Return index) reply set played = return_shown old new index (held_at old.held index) reply set played
     plays_shown old new (Forget index) reply set played = forget_shown old new index (held_at old.held index) reply set played
@@ -112,9 +116,9 @@ module _ {R K : Type 0} (leaves : R → ℕ → ℕ → Type 0) (limit : Option 
 
   first_shown : IsFirst (shown by_copy leaves old)
   first_shown = record {
-      pool = subst (λ (values : List ℕ). IsSame (pool_of old.pool) (opening values)) (zeros opens.opening.values 32 opens.opening.count opens.opening.answered) opens.opening.pool;
-      held = none;
-    }
+    pool = subst (λ (values : List ℕ). IsSame (pool_of old.pool) (opening values)) (zeros opens.opening.values 32 opens.opening.count opens.opening.answered) opens.opening.pool;
+    held = none;
+  }
 
   set : IsSet by_copy leaves limit 0 reset old.pool
   set = record { limited = opens.opening.most; made = opens.init; kept = opens.kept }
@@ -124,7 +128,10 @@ module _ {R K : Type 0} (leaves : R → ℕ → ℕ → Type 0) (limit : Option 
   told_shown lines text last told = transcript_shown by_copy leaves limit 0 reset old last lines text set told
 
   pub WroteAll-shown : ServesAll (pulls by_copy leaves) (gives by_copy leaves) (attaches by_copy leaves) old before bytes after → WroteAll limit (leaves reset) before bytes after
-  WroteAll-shown served = (shown by_copy leaves old, first_shown, record {
+  WroteAll-shown served = (
+    shown by_copy leaves old,
+    first_shown,
+    record {
       lines = served.lines;
       rest = served.rest;
       text = served.text;
@@ -132,33 +139,41 @@ module _ {R K : Type 0} (leaves : R → ℕ → ℕ → Type 0) (limit : Option 
       split = served.split;
       told = told_shown (with_last_line served.lines served.rest) served.text served.last served.told;
       written = served.written;
-    })
+    },
+  )
 
   serves_shown : (bytes' rest : List ℕ) (last : Playing (LinearCore ℕ ℕ R K) ℕ) → Serves (pulls by_copy leaves) (gives by_copy leaves) (attaches by_copy leaves) old before bytes' rest last after
       → Serves (PullsItem limit makes_zero) (ReturnsItem (leaves reset)) RefusesAttach (shown by_copy leaves old) before bytes' rest (shown by_copy leaves last) after
   serves_shown bytes' rest last served = record {
-      lines = served.lines;
-      text = served.text;
-      split = served.split;
-      told = told_shown served.lines served.text last served.told;
-      written = served.written;
-    }
+    lines = served.lines;
+    text = served.text;
+    split = served.split;
+    told = told_shown served.lines served.text last served.told;
+    written = served.written;
+  }
 
   pub WroteLines-shown : (rest : List ℕ) (last : Playing (LinearCore ℕ ℕ R K) ℕ) → Serves (pulls by_copy leaves) (gives by_copy leaves) (attaches by_copy leaves) old before bytes rest last after → WroteLines limit (leaves reset) before bytes after
   WroteLines-shown rest last served = (shown by_copy leaves old, first_shown, (rest, shown by_copy leaves last, serves_shown bytes rest last served))
 
   pub WroteFront-shown : ServesFront (pulls by_copy leaves) (gives by_copy leaves) (attaches by_copy leaves) old before bytes after → WroteFront limit (leaves reset) before bytes after
-  WroteFront-shown served = (shown by_copy leaves old, first_shown, record {
+  WroteFront-shown served = (
+    shown by_copy leaves old,
+    first_shown,
+    record {
       front = served.front;
       back = served.back;
       rest = served.rest;
       last = shown by_copy leaves served.last;
       cut = served.cut;
       served = serves_shown served.front served.rest served.last served.served;
-    })
+    },
+  )
 
   pub WrotePart-shown : ServesPart (pulls by_copy leaves) (gives by_copy leaves) (attaches by_copy leaves) old before bytes after → WrotePart limit (leaves reset) before bytes after
-  WrotePart-shown served = (shown by_copy leaves old, first_shown, record {
+  WrotePart-shown served = (
+    shown by_copy leaves old,
+    first_shown,
+    record {
       front = served.front;
       back = served.back;
       lines = served.lines;
@@ -169,15 +184,20 @@ module _ {R K : Type 0} (leaves : R → ℕ → ℕ → Type 0) (limit : Option 
       split = served.split;
       told = told_shown (with_last_line served.lines served.rest) served.text served.last served.told;
       written = served.written;
-    })
+    },
+  )
 
 -- nothing was read, and nothing written
 pub WroteFront-none : (limit : Option ℕ) (leaves : ℕ → ℕ → Type 0) (before : Option (List ℕ)) → WroteFront limit leaves before [] before
-WroteFront-none limit leaves before = (record { pool = opening (replicate 32 0); held = [] }, record { pool = record { pages = refl; places = λ n. refl }; held = refl }, record {
+WroteFront-none limit leaves before = (
+  record { pool = opening (replicate 32 0); held = [] },
+  record { pool = record { pages = refl; places = λ n. refl }; held = refl },
+  record {
     front = [];
     back = [];
     rest = [];
     last = record { pool = opening (replicate 32 0); held = [] };
     cut = refl;
     served = record { lines = []; text = []; split = IsLines-none; told = (refl, refl); written = Appends-nil before };
-  })
+  },
+)

@@ -15,11 +15,11 @@ use Rattle.object_pool_cores.proofs.LineSplits.{IsLines-rest, IsLines-byte, IsLi
 -- a part of what comes behind a text
 pub AppendsPart-behind : (first before after : Option (List ℕ)) (text bytes : List ℕ) → Appends first before text → AppendsPart before after bytes → AppendsPart first after (text ++ bytes)
 AppendsPart-behind first before after text bytes written part = record {
-    front = text ++ part.front;
-    back = part.back;
-    cut = ap (λ all. text ++ all) part.cut ∙ sym (append_assoc text part.front part.back);
-    written = Appends-trans first before after text part.front written part.written;
-  }
+  front = text ++ part.front;
+  back = part.back;
+  cut = ap (λ all. text ++ all) part.cut ∙ sym (append_assoc text part.front part.back);
+  written = Appends-trans first before after text part.front written part.written;
+}
 
 -- a last line joins the lines before it
 with_last_line-join : (lines others : List (List ℕ)) (rest : List ℕ) → with_last_line (lines ++ others) rest ≡ lines ++ with_last_line others rest
@@ -31,9 +31,14 @@ module _ {P : Type 0} (pulls : P → Result (Item ℕ) PullError → P → Type 
   pub Transcript-join : (old middle new : Playing P ℕ) (lines others : List (List ℕ)) (text more : List ℕ) → Transcript pulls gives attaches old lines text middle → Transcript pulls gives attaches middle others more new → Transcript pulls gives attaches old (lines ++ others) (text ++ more) new
   Transcript-join old middle new [] others text more first next =
       rw first.0 (subst (λ (state : Playing P ℕ). Transcript pulls gives attaches state others more new) first.1 next)
-  Transcript-join old middle new (line ∷ lines) others text more first next =
-      (first.0, first.1 ++ more, first.2, ap (λ all. all ++ more) first.3 ∙ append_assoc first.0 first.1 more, first.4,
-        Transcript-join first.2 middle new lines others first.1 more first.5 next)
+  Transcript-join old middle new (line ∷ lines) others text more first next = (
+    first.0,
+    first.1 ++ more,
+    first.2,
+    ap (λ all. all ++ more) first.3 ∙ append_assoc first.0 first.1 more,
+    first.4,
+    Transcript-join first.2 middle new lines others first.1 more first.5 next,
+  )
 
   -- the transcript of one line
   pub Transcript-line : (old new : Playing P ℕ) (line text : List ℕ) → Answers pulls gives attaches old line text new → Transcript pulls gives attaches old (line ∷ []) text new
@@ -42,62 +47,62 @@ module _ {P : Type 0} (pulls : P → Result (Item ℕ) PullError → P → Type 
   module _ (old : Playing P ℕ) (before : Option (List ℕ)) where
     pub Serves-byte : (bytes rest : List ℕ) (new : Playing P ℕ) (after : Option (List ℕ)) (byte : ℕ) → byte ≢ 10 → Serves pulls gives attaches old before bytes rest new after → Serves pulls gives attaches old before (bytes ++ byte ∷ []) (rest ++ byte ∷ []) new after
     Serves-byte bytes rest new after byte other served = record {
-        lines = served.lines;
-        text = served.text;
-        split = IsLines-byte bytes served.lines rest byte served.split other;
-        told = served.told;
-        written = served.written;
-      }
+      lines = served.lines;
+      text = served.text;
+      split = IsLines-byte bytes served.lines rest byte served.split other;
+      told = served.told;
+      written = served.written;
+    }
 
     pub Serves-line : (bytes rest text : List ℕ) (middle new : Playing P ℕ) (between after : Option (List ℕ)) → Serves pulls gives attaches old before bytes rest middle between → Answers pulls gives attaches middle rest text new → Appends between after text → Serves pulls gives attaches old before (bytes ++ 10 ∷ []) [] new after
     Serves-line bytes rest text middle new between after served answer written = record {
-        lines = served.lines ++ rest ∷ [];
-        text = served.text ++ text;
-        split = IsLines-feed bytes served.lines rest served.split;
-        told = Transcript-join old middle new served.lines (rest ∷ []) served.text text served.told (Transcript-line middle new rest text answer);
-        written = Appends-trans before between after served.text text served.written written;
-      }
+      lines = served.lines ++ rest ∷ [];
+      text = served.text ++ text;
+      split = IsLines-feed bytes served.lines rest served.split;
+      told = Transcript-join old middle new served.lines (rest ∷ []) served.text text served.told (Transcript-line middle new rest text answer);
+      written = Appends-trans before between after served.text text served.written written;
+    }
 
     pub Serves-join : (bytes more rest last : List ℕ) (middle new : Playing P ℕ) (between after : Option (List ℕ)) → Serves pulls gives attaches old before bytes rest middle between → Serves pulls gives attaches middle between (rest ++ more) last new after → Serves pulls gives attaches old before (bytes ++ more) last new after
     Serves-join bytes more rest last middle new between after served next = record {
-        lines = served.lines ++ next.lines;
-        text = served.text ++ next.text;
-        split = IsLines-join bytes more served.lines next.lines rest last served.split next.split;
-        told = Transcript-join old middle new served.lines next.lines served.text next.text served.told next.told;
-        written = Appends-trans before between after served.text next.text served.written next.written;
-      }
+      lines = served.lines ++ next.lines;
+      text = served.text ++ next.text;
+      split = IsLines-join bytes more served.lines next.lines rest last served.split next.split;
+      told = Transcript-join old middle new served.lines next.lines served.text next.text served.told next.told;
+      written = Appends-trans before between after served.text next.text served.written next.written;
+    }
 
     -- the answer to the line that a line feed ended was written in part
     pub ServesPart-line : (bytes rest text all back : List ℕ) (middle last : Playing P ℕ) (between after : Option (List ℕ)) → Serves pulls gives attaches old before bytes rest middle between → Answers pulls gives attaches middle rest text last → AppendsPart between after text → all ≡ (bytes ++ 10 ∷ []) ++ back → ServesPart pulls gives attaches old before all after
     ServesPart-line bytes rest text all back middle last between after served answer part cut = record {
-        front = bytes ++ 10 ∷ [];
-        back = back;
-        lines = served.lines ++ rest ∷ [];
-        rest = [];
-        text = served.text ++ text;
-        last = last;
-        cut = cut;
-        split = IsLines-feed bytes served.lines rest served.split;
-        told = Transcript-join old middle last served.lines (rest ∷ []) served.text text served.told (Transcript-line middle last rest text answer);
-        written = AppendsPart-behind before between after served.text text served.written part;
-      }
+      front = bytes ++ 10 ∷ [];
+      back = back;
+      lines = served.lines ++ rest ∷ [];
+      rest = [];
+      text = served.text ++ text;
+      last = last;
+      cut = cut;
+      split = IsLines-feed bytes served.lines rest served.split;
+      told = Transcript-join old middle last served.lines (rest ∷ []) served.text text served.told (Transcript-line middle last rest text answer);
+      written = AppendsPart-behind before between after served.text text served.written part;
+    }
 
     -- nothing more was written
     pub ServesFront-kept : (bytes rest all back : List ℕ) (last : Playing P ℕ) (between after : Option (List ℕ)) → Serves pulls gives attaches old before bytes rest last between → Keeps between after → all ≡ bytes ++ back → ServesFront pulls gives attaches old before all after
     ServesFront-kept bytes rest all back last between after served kept cut = record {
-        front = bytes;
-        back = back;
-        rest = rest;
-        last = last;
-        cut = cut;
-        served = record {
-          lines = served.lines;
-          text = served.text;
-          split = served.split;
-          told = served.told;
-          written = Appends-kept before between after served.text served.written kept;
-        };
-      }
+      front = bytes;
+      back = back;
+      rest = rest;
+      last = last;
+      cut = cut;
+      served = record {
+        lines = served.lines;
+        text = served.text;
+        split = served.split;
+        told = served.told;
+        written = Appends-kept before between after served.text served.written kept;
+      };
+    }
 
     pub ServesPart-join : (bytes more rest : List ℕ) (middle : Playing P ℕ) (between after : Option (List ℕ)) → Serves pulls gives attaches old before bytes rest middle between → ServesPart pulls gives attaches middle between (rest ++ more) after → ServesPart pulls gives attaches old before (bytes ++ more) after
     ServesPart-join bytes more rest middle between after served part =
@@ -141,32 +146,32 @@ module _ {P : Type 0} (pulls : P → Result (Item ℕ) PullError → P → Type 
 
     pub ServesAll-last : (bytes rest : List ℕ) (middle : Playing P ℕ) (between after : Option (List ℕ)) → Serves pulls gives attaches old before bytes rest middle between → AnswersLast pulls gives attaches middle between rest after → ServesAll pulls gives attaches old before bytes after
     ServesAll-last bytes rest middle between after served last = record {
-        lines = served.lines;
-        rest = rest;
-        text = served.text ++ last.text;
-        last = last.last;
-        split = served.split;
-        told =
-            subst (λ (lines : List (List ℕ)). Transcript pulls gives attaches old lines (served.text ++ last.text) last.last) (sym (last_line served.lines rest))
-            (Transcript-join old middle last.last served.lines (with_last_line [] rest) served.text last.text served.told last.told);
-        written = Appends-trans before between after served.text last.text served.written last.written;
-      }
+      lines = served.lines;
+      rest = rest;
+      text = served.text ++ last.text;
+      last = last.last;
+      split = served.split;
+      told =
+          subst (λ (lines : List (List ℕ)). Transcript pulls gives attaches old lines (served.text ++ last.text) last.last) (sym (last_line served.lines rest))
+          (Transcript-join old middle last.last served.lines (with_last_line [] rest) served.text last.text served.told last.told);
+      written = Appends-trans before between after served.text last.text served.written last.written;
+    }
 
     pub ServesPart-last : (bytes rest : List ℕ) (middle : Playing P ℕ) (between after : Option (List ℕ)) → Serves pulls gives attaches old before bytes rest middle between → AnswersLastInPart pulls gives attaches middle between rest after → ServesPart pulls gives attaches old before bytes after
     ServesPart-last bytes rest middle between after served last = record {
-        front = bytes;
-        back = [];
-        lines = served.lines;
-        rest = rest;
-        text = served.text ++ last.text;
-        last = last.last;
-        cut = sym (append-nil bytes);
-        split = served.split;
-        told =
-            subst (λ (lines : List (List ℕ)). Transcript pulls gives attaches old lines (served.text ++ last.text) last.last) (sym (last_line served.lines rest))
-            (Transcript-join old middle last.last served.lines (with_last_line [] rest) served.text last.text served.told last.told);
-        written = AppendsPart-behind before between after served.text last.text served.written last.written;
-      }
+      front = bytes;
+      back = [];
+      lines = served.lines;
+      rest = rest;
+      text = served.text ++ last.text;
+      last = last.last;
+      cut = sym (append-nil bytes);
+      split = served.split;
+      told =
+          subst (λ (lines : List (List ℕ)). Transcript pulls gives attaches old lines (served.text ++ last.text) last.last) (sym (last_line served.lines rest))
+          (Transcript-join old middle last.last served.lines (with_last_line [] rest) served.text last.text served.told last.told);
+      written = AppendsPart-behind before between after served.text last.text served.written last.written;
+    }
 
     -- a last line that has no byte is none
     pub AnswersLast-none : (rest : List ℕ) → rest ≡ [] → AnswersLast pulls gives attaches old before rest before
@@ -185,9 +190,9 @@ module _ {P : Type 0} (pulls : P → Result (Item ℕ) PullError → P → Type 
     -- a rest without a line feed has no line to serve
     pub Serves-none : (rest : List ℕ) → HasNoLineFeed rest → Serves pulls gives attaches old before (rest ++ []) rest old before
     Serves-none rest clear = record {
-        lines = [];
-        text = [];
-        split = rw append-nil (IsLines-rest rest clear);
-        told = (refl, refl);
-        written = Appends-nil before;
-      }
+      lines = [];
+      text = [];
+      split = rw append-nil (IsLines-rest rest clear);
+      told = (refl, refl);
+      written = Appends-nil before;
+    }

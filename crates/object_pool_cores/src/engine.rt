@@ -12,10 +12,9 @@ mod output;
 mod reply_text;
 mod session;
 
+use crate::sequential::{LinearCore, Player};
 pub use engine_error::EngineError;
 pub use kind::{Kind, Reset};
-
-use crate::sequential::{LinearCore, Player};
 use lockfree_object_pool::PullError;
 use lockfree_object_pool::clean::AnyValue;
 use lockfree_object_pool::closures::{Copied, Keep};
@@ -54,12 +53,7 @@ pub fn run<H: Wait, R: Read, W: Write>(
 }
 
 /// Plays on a linear pool whose items are reset so.
-fn run_linear<
-    H: Wait,
-    S: lockfree_object_pool::closures::Reset<u32, AnyValue>,
-    R: Read,
-    W: Write,
->(
+fn run_linear<H: Wait, S: lockfree_object_pool::closures::Reset<u32, AnyValue>, R: Read, W: Write>(
     rt: &H,
     alloc: Global,
     kind: Kind,
@@ -105,3 +99,6 @@ fn player_of<S: lockfree_object_pool::closures::Reset<u32, AnyValue>>(
         Err(PullError::Init | PullError::Limit) => unreachable!(),
     }
 }
+
+#[cfg(test)]
+mod tests;

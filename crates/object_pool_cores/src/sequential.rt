@@ -17,3 +17,6 @@ pub use linear_core::LinearCore;
 pub use player::Player;
 pub use reply::Reply;
 pub use sequential_pool::SequentialPool;
+
+#[cfg(test)]
+mod tests;

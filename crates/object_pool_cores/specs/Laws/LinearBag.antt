@@ -58,9 +58,10 @@ module _ {T : Type 0} where
 
   pulls_from_bag : (limit : Option ℕ) (answers : Option T → Type 0) (old new : Numbered T) (answer : Result (Item T) PullError) → PullsItem limit answers (pool_of old) answer (pool_of new) → PullsFromBag answers (free_values old.places) (pulled_value answer) (free_values new.places)
   pulls_from_bag limit answers old new (Ok item) pulled = by_choice pulled.2
-    where by_choice : PullsLeast limit answers (pool_of old) (Ok (pulled.0, item_value item)) (pool_of new) → PullsFromBag answers (free_values old.places) (Ok (item_value item)) (free_values new.places)
-          by_choice (inl takes) = inl (IsPutIn-taken old new pulled.0 (item_value item) takes)
-          by_choice (inr grows) = inr (IsFresh-grown limit answers old new pulled.0 (item_value item) grows)
+    where
+      by_choice : PullsLeast limit answers (pool_of old) (Ok (pulled.0, item_value item)) (pool_of new) → PullsFromBag answers (free_values old.places) (Ok (item_value item)) (free_values new.places)
+      by_choice (inl takes) = inl (IsPutIn-taken old new pulled.0 (item_value item) takes)
+      by_choice (inr grows) = inr (IsFresh-grown limit answers old new pulled.0 (item_value item) grows)
   pulls_from_bag limit answers old new (Err cause) refused =
       (free_values-exhausted old refused.exhausted, free_values-exhausted new (λ n v e. refused.exhausted n v (sym (refused.same.places n) ∙ e)))
 

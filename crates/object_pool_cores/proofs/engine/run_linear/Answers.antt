@@ -9,7 +9,7 @@ returns-in_default-clause-memory g c = λ _. ([], Consumes-nil _, WroteFront-non
 
 pub returns-clause-ok : goal.returns-clause-ok
 returns-clause-ok g c = OnOk-map c.serve.result (λ served.
-      (served.0, served.1, served.2, WroteAll-shown g.S.Reset.leaves _ c.args.reset _ c.in-Some.ensures.opens c.in-Some.ensures.held _ served.0 _ served.3)) c.serve.ensures.ok
+    (served.0, served.1, served.2, WroteAll-shown g.S.Reset.leaves _ c.args.reset _ c.in-Some.ensures.opens c.in-Some.ensures.held _ served.0 _ served.3)) c.serve.ensures.ok
 
 pub returns-clause-read : goal.returns-clause-read
 returns-clause-read g c = λ e.

@@ -30,17 +30,21 @@ pub loop-byte-preserved : goal.loop-byte-preserved
 loop-byte-preserved g c = λ rest opens.
     let served = c.loop-byte.invariant rest opens in
     elim c.if-byte-eq-LINE_FEED.branch [
-      then-byte-eq-LINE_FEED+in_ok-serve_line w ↦
-        let answer = w.in_ok-serve_line.ensures.ok served.0 served.1.0 in
-        let behind = take_behind rest c.args.bytes.now c.loop-byte.byte-index 10 c.loop-byte-test.true w.if-byte-eq-LINE_FEED.true in
-        ([], (rw w.line-is w.new.ensures, All-nil _),
-          rw (w.player-is, w.output-is, behind) (Serves-line _ _ _ _ _ _ served.0 answer.0 _ _ _ _ served.2 answer.1 answer.2))
-    | else-byte-eq-LINE_FEED w ↦
-        let byte = get_or c.args.bytes.now c.loop-byte.byte-index 0 in
-        let behind = take_behind rest c.args.bytes.now c.loop-byte.byte-index byte c.loop-byte-test.true refl in
-        (served.0 ++ byte ∷ [],
-          (rw w.line-is (w.push.ensures served.0 served.1.0), All-push (λ b. b ≢ 10) served.0 byte served.1.1 w.if-byte-eq-LINE_FEED.false),
-          rw (w.player-is, w.output-is, behind) (Serves-byte _ _ _ _ _ _ served.0 _ _ byte w.if-byte-eq-LINE_FEED.false served.2)) ]
+      | then-byte-eq-LINE_FEED+in_ok-serve_line w ↦
+          let answer = w.in_ok-serve_line.ensures.ok served.0 served.1.0 in
+          let behind = take_behind rest c.args.bytes.now c.loop-byte.byte-index 10 c.loop-byte-test.true w.if-byte-eq-LINE_FEED.true in (
+            [],
+            (rw w.line-is w.new.ensures, All-nil _),
+            rw (w.player-is, w.output-is, behind) (Serves-line _ _ _ _ _ _ served.0 answer.0 _ _ _ _ served.2 answer.1 answer.2),
+          )
+      | else-byte-eq-LINE_FEED w ↦
+          let byte = get_or c.args.bytes.now c.loop-byte.byte-index 0 in
+          let behind = take_behind rest c.args.bytes.now c.loop-byte.byte-index byte c.loop-byte-test.true refl in (
+            served.0 ++ byte ∷ [],
+            (rw w.line-is (w.push.ensures served.0 served.1.0), All-push (λ b. b ≢ 10) served.0 byte served.1.1 w.if-byte-eq-LINE_FEED.false),
+            rw (w.player-is, w.output-is, behind) (Serves-byte _ _ _ _ _ _ served.0 _ _ byte w.if-byte-eq-LINE_FEED.false served.2),
+          )
+    ]
 
 pub returns-clause-ok : goal.returns-clause-ok
 returns-clause-ok g c = λ rest opens.

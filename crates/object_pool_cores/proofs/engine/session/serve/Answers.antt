@@ -19,9 +19,12 @@ pub returns-then-count-eq0-clause-ok : goal.returns-then-count-eq0-clause-ok
 returns-then-count-eq0-clause-ok g c =
     let so_far = c.reads.invariant in
     let consumed = rw (c.if-count-eq0.true, append-nil) at (Consumes-trans _ _ _ _ _ so_far.2 c.in-Ok.ensures.bytes.0) in
-    OnOk-map c.serve_last.result (λ served.
-      (so_far.0, consumed, c.in-Ok.ensures.bytes.1 c.if-count-eq0.true (search rules),
-        ServesAll-last _ _ _ _ _ so_far.0 so_far.1 _ _ _ so_far.4 (served so_far.1 so_far.3.0))) c.serve_last.ensures.ok
+    OnOk-map c.serve_last.result (λ served. (
+      so_far.0,
+      consumed,
+      c.in-Ok.ensures.bytes.1 c.if-count-eq0.true (search rules),
+      ServesAll-last _ _ _ _ _ so_far.0 so_far.1 _ _ _ so_far.4 (served so_far.1 so_far.3.0),
+    )) c.serve_last.ensures.ok
 
 pub returns-then-count-eq0-clause-write : goal.returns-then-count-eq0-clause-write
 returns-then-count-eq0-clause-write g c = λ e.

@@ -10,9 +10,9 @@ returns-then-is_empty-clause-ok g c = λ rest buffered.
 
 pub returns-clause-ok : goal.returns-clause-ok
 returns-clause-ok g c = OnOk-map c.serve_line.result (λ served rest buffered.
-      let some : rest ≢ [] = λ none. false≢true (sym c.if-is_empty.false ∙ (c.is_empty.ensures rest buffered).1 none) in
-      let answer = served rest buffered in
-      AnswersLast-line _ _ _ _ _ rest answer.0 _ _ some answer.1 answer.2) c.serve_line.ensures.ok
+    let some : rest ≢ [] = λ none. false≢true (sym c.if-is_empty.false ∙ (c.is_empty.ensures rest buffered).1 none) in
+    let answer = served rest buffered in
+    AnswersLast-line _ _ _ _ _ rest answer.0 _ _ some answer.1 answer.2) c.serve_line.ensures.ok
 
 pub returns-clause-write : goal.returns-clause-write
 returns-clause-write g c = λ e rest buffered.

@@ -1,0 +1,71 @@
+//! Devices that fail.
+use arrayvec::ArrayVec;
+use std::io;
+use std::io::{ErrorKind, Read, Write};
+
+/// Gives its bytes one a call, and fails after them.
+#[derive(Drop)]
+pub(super) struct Source<'a> {
+    bytes: &'a [u8],
+}
+
+impl<'a> Source<'a> {
+    pub(super) fn new(bytes: &'a [u8]) -> Source<'a> {
+        Source { bytes }
+    }
+}
+
+impl Read for Source<'_> {
+    fn read(&mut self, buf: &mut [u8]) -> io::Result<usize> {
+        let Some((first, rest)) = self.bytes.split_first() else {
+            return Err(io::Error::from(ErrorKind::Other));
+        };
+        match buf.first_mut() {
+            Some(place) => *place = *first,
+            None => return Ok(0),
+        }
+        self.bytes = rest;
+        Ok(1)
+    }
+}
+
+/// Takes at most so many bytes a call, and fails where its room is used up.
+#[derive(Drop)]
+pub(super) struct Device {
+    bytes: ArrayVec<u8, 1024>,
+    room: usize,
+    most: usize,
+}
+
+impl Device {
+    pub(super) fn new(room: usize, most: usize) -> Device {
+        Device {
+            bytes: ArrayVec::new(),
+            room,
+            most,
+        }
+    }
+
+    pub(super) fn bytes(&self) -> &[u8] {
+        &self.bytes
+    }
+}
+
+impl Write for Device {
+    fn write(&mut self, buf: &[u8]) -> io::Result<usize> {
+        if self.room <= self.bytes.len() {
+            return Err(io::Error::from(ErrorKind::Other));
+        }
+        let count = buf.len().min(self.most).min(self.room - self.bytes.len());
+        for byte in &buf[..count] {
+            if self.bytes.try_push(*byte).is_err() {
+                return Err(io::Error::from(ErrorKind::Other));
+            }
+        }
+        Ok(count)
+    }
+
+    fn flush(&mut self) -> io::Result<()> {
+        Ok(())
+    }
+}
