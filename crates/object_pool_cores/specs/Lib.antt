@@ -1,2 +1,3 @@
 pub mod Pool
 pub mod Move
+pub mod World

@@ -1,0 +1,3 @@
+pub mod PreparedValues
+pub mod LowestBit
+pub mod LinkRoom
