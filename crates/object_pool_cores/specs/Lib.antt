@@ -1,3 +1,4 @@
 pub mod Pool
 pub mod Move
+pub mod Run
 pub mod World

@@ -5,3 +5,6 @@ pub mod Room
 pub mod Machine
 pub mod Reading
 pub mod Shown
+pub mod Visible
+pub mod Headline
+pub mod Invariant

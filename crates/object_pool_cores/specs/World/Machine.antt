@@ -188,6 +188,11 @@ module _ {T : Type 0} where
   MayGrow (event.MakePage a (Ok values)) (Some (Making k)) = ⊤
   MayGrow _ _ = ⊥
 
+  -- a page that is linked has 32 values
+  abbrev pub LinksWhole : Seen → Option (List T) → Type 0
+  LinksWhole (seen.Linked a) (Some values) = length values ≡ 32
+  LinksWhole _ _ = ⊤
+
   -- the agent that an event names
   abbrev pub agent_of : Event T → Option ℕ
   agent_of event.Begin = None
@@ -218,7 +223,7 @@ module _ {T : Type 0} (Leaves : T → T → Type 0) where
   Row old (event.ClearBit a) answer new = Gives (clear_bit old a (slice_get old.agents a)) answer new
   Row old (event.ReadNext a) answer new = Gives (read_next old a (slice_get old.agents a)) answer new
   Row old (event.MakePage a made) answer new = Gives (make_page old a made (slice_get old.agents a)) answer new
-  Row old (event.ExchangeNext a) answer new = Gives (exchange_next old a (slice_get old.agents a)) answer new
+  Row old (event.ExchangeNext a) answer new = Gives (exchange_next old a (slice_get old.agents a)) answer new × LinksWhole answer (prepared_by (slice_get old.agents a))
   Row old (event.MoveOut a) answer new = Gives (move_out old a (slice_get old.agents a)) answer new
   Row old (event.Write a value) answer new = Gives (write old a value (slice_get old.agents a)) answer new
   Row old (event.MoveHome a) answer new = MovesHome old a (slice_get old.agents a) answer new

@@ -1,5 +1,5 @@
 //! A page of a world: a word, and 32 places.
-ghost use Rattle.std.specs.Prelude.{◌≡◌, Option, Some, None, List, map, option_map, option_copied, option_and_then, slice_get, slice_set, length, ◌<◌, ◌==◌, ◌<◌};
+ghost use Rattle.std.specs.Prelude.{length, ◌≡◌, Option, Some, None, List, map, option_map, option_copied, option_and_then, slice_get, slice_set, ◌<◌, ◌==◌, ◌<◌};
 ghost use Rattle.object_pool_cores.specs.World.PageState.{PageState};
 ghost use Rattle.object_pool_cores.specs.World.Machine.{linked_page, word_of, with_word, with_value, value_at};
 ghost use Rattle.std.specs.Int.{bit_at};
@@ -27,7 +27,8 @@ impl<T> Model for Page<T> {
 impl<T: Drop> Page<T> {
     /// The page of these values, all of whose items are free.
     pub fn new(values: Prepared<T>) -> Page<T>
-        ensures { result ≡ linked_page values }
+        ensures value { result ≡ linked_page values }
+        ensures whole { length values ≡ 32 }
     {
         Page {
             word: u32::MAX,

@@ -50,16 +50,9 @@ impl<T: Drop> Prepared<T> {
 
     /// The values, each at its place.
     pub(super) fn into_places(self) -> Vec<Option<T>>
-        ensures { result.items ≡ map Some self }
+        ensures places { result.items ≡ map Some self }
+        ensures count { length self ≡ 32 }
     {
         self.places
-    }
-
-    /// How many values there are: 32.
-    pub(super) fn count(&self) -> usize
-        ensures value { result ≡ length self.now }
-        ensures full { length self.now ≡ 32 }
-    {
-        self.places.len()
     }
 }

@@ -2,7 +2,7 @@
 ghost use Rattle.std.specs.Prelude.{slice_set, vec_len, vec_capacity, ◌++◌, ◌∷◌, [], ◌≡◌, ◌+◌, ◌<◌, ◌≤◌, ◌↔◌, ◌==◌, ◌⊎◌, Option, Some, None, option_map, option_copied, slice_get, length, IfOk, IsTrue, bit_and};
 ghost use Rattle.object_pool_cores.specs.World.PageState.{PageState};
 ghost use Rattle.object_pool_cores.specs.World.Room.{NeedsNoRoom};
-ghost use Rattle.object_pool_cores.specs.World.Machine.{prepared_by, at_point, linked_page, lowest, without_lowest, has_bit, is_limit, word_of, value_at, with_word, with_value, opening_world, tries, read_mask, clear_bit, held_by, read_next, make_page, exchange_next, move_out, write, or_mask, begin, Gives, MayGrow, MovesHome, Steps};
+ghost use Rattle.object_pool_cores.specs.World.Machine.{prepared_by, at_point, linked_page, lowest, without_lowest, has_bit, is_limit, word_of, value_at, with_word, with_value, opening_world, tries, read_mask, clear_bit, held_by, read_next, make_page, exchange_next, move_out, write, or_mask, begin, Gives, MayGrow, LinksWhole, MovesHome, Steps};
 ghost use Rattle.object_pool_cores.specs.Pool.{number};
 ghost use Rattle.object_pool_cores.specs.declared.interleave.point.Point.TheVariants.{Reading};
 ghost use Rattle.object_pool_cores.specs.declared.interleave.event.Seen.TheVariants.{NoMemory};
@@ -11,10 +11,10 @@ ghost use Rattle.object_pool_cores.specs.declared.interleave.event.Event.TheVari
 use crate::interleave::page::Page;
 use crate::interleave::point::Point;
 use crate::interleave::{Event, Prepared, Seen};
+use lockfree_object_pool::PullError;
 use lockfree_object_pool::clean::AnyValue;
 use lockfree_object_pool::closures::Reset;
 use lockfree_object_pool::page::{PageId, take_least, with_bit, without_bit};
-use lockfree_object_pool::PullError;
 use std::alloc::{AllocError, Global};
 use std::marker::Model;
 use std::mem;
@@ -168,6 +168,7 @@ fn link_last<T: Drop>(pages: &mut Vec<Page<T>>, values: Prepared<T>)
     requires { vec_len pages.old < vec_capacity pages.old }
     ensures pages { pages.new.items ≡ pages.old.items ++ linked_page values ∷ [] }
     ensures room { vec_capacity pages.old ≤ vec_capacity pages.new }
+    ensures whole { length values ≡ 32 }
 {
     let _ = pages.push(Page::new(values));
 }
@@ -182,7 +183,11 @@ fn reset_of<T: Drop, R: Reset<T, AnyValue>>(reset: &R, mut value: T) -> T
 
 impl<T: Drop> Table<T> {
     /// One page of these values, and no agent.
-    pub fn new(alloc: Global, first: Prepared<T>, limit: Option<usize>) -> Result<Table<T>, AllocError>
+    pub fn new(
+        alloc: Global,
+        first: Prepared<T>,
+        limit: Option<usize>,
+    ) -> Result<Table<T>, AllocError>
         ensures { IfOk result (λ table. table ≡ opening_world first limit) }
     {
         let mut pages = Vec::new(alloc);
@@ -353,7 +358,8 @@ impl<T: Drop> Table<T> {
     }
 
     fn exchange_next(&mut self, agent: usize) -> Seen
-        ensures { Gives (exchange_next self.old agent (slice_get self.old.agents agent)) result self.new }
+        ensures step { Gives (exchange_next self.old agent (slice_get self.old.agents agent)) result self.new }
+        ensures whole { LinksWhole result (prepared_by (slice_get self.old.agents agent)) }
     {
         let page = match self.agents.get(agent) {
             Some(Point::Linking(page, _)) => *page,

@@ -7,10 +7,10 @@ ghost use Rattle.object_pool_cores.specs.World.Shown.{world_reset, world_state};
 
 use crate::interleave::table::Table;
 use crate::interleave::{Event, Prepared, Seen};
+use lockfree_object_pool::PullError;
 use lockfree_object_pool::clean::AnyValue;
 use lockfree_object_pool::closures::Reset;
 use lockfree_object_pool::page::PageId;
-use lockfree_object_pool::PullError;
 use std::alloc::Global;
 
 /// The linear core with any number of agents. What an agent returns is reset by `R`.

@@ -6,8 +6,8 @@ use Rattle.object_pool_cores.specs.declared.interleave.point.Point.TheVariants.{
 use Rattle.object_pool_cores.specs.World.Machine.{prepared_by, if_linked}
 use Rattle.object_pool_cores.proofs.interleave.table.Table.exchange_next.Goals as goal
 
-pub returns-in-Some : goal.returns-in-Some
-returns-in-Some g c =
+pub returns-in-Some-clause-step : goal.returns-in-Some-clause-step
+returns-in-Some-clause-step g c =
     let at : slice_get c.self.inside.agents.items c.args.agent ≡ Some (Linking c.in-Some-Linking.page c.in-Some-Linking.field-0-1) = grind (arith, common_steps, gets, c.in-Some-Linking.ensures.lookup) in
     let values : Some c.in-Some.values ≡ Some c.in-Some-Linking.field-0-1 = rw at at c.in-Some.ensures.values in
     let linked : nat_lt c.in-Some-Linking.page (length c.self.inside.pages.items) ≡ true = grind (arith, nat_tests) in
