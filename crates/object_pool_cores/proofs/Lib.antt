@@ -1,3 +1,5 @@
 pub mod PreparedValues
 pub mod LowestBit
 pub mod LinkRoom
+pub mod Runs
+pub mod Holders
