@@ -3,3 +3,5 @@ pub mod LowestBit
 pub mod LinkRoom
 pub mod Runs
 pub mod Holders
+pub mod Bits
+pub mod Readings
