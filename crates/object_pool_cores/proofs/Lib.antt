@@ -5,3 +5,5 @@ pub mod Runs
 pub mod Holders
 pub mod Bits
 pub mod Readings
+pub mod Carried
+pub mod WordSteps

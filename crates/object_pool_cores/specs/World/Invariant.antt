@@ -10,7 +10,7 @@ use Rattle.object_pool_cores.specs.World.Machine.{has_bit, value_at, opening_wor
 use Rattle.object_pool_cores.specs.World.Reading.{reading}
 use Rattle.object_pool_cores.specs.World.Visible.{Log, last_made, Reads}
 
-module _ {T : Type 0} (Leaves : T → T → Type 0) (first : List T) where
+module _ {T : Type 0} (first : List T) where
   -- an agent looks on page k, and found each number of the pages before it out
   pub record LooksOn (acts : List (Act T)) (world : State T) (a k : ℕ) : Type 0 where
     pub looking : stage_of acts a ≡ Looking
@@ -35,19 +35,21 @@ module _ {T : Type 0} (Leaves : T → T → Type 0) (first : List T) where
     pub in_word : mask < 2 ^ 32
     pub others : (id : ℕ) → id < 32 → has_bit mask id ≡ false → FoundOut first acts a (number k id)
 
+module _ {T : Type 0} where
   -- an agent holds the number at a place with this value
   pub record HoldsAt (acts : List (Act T)) (world : State T) (a k id : ℕ) (value : T) : Type 0 where
     pub linked : k < length world.pages
     pub in_page : id < 32
     pub stage : stage_of acts a ≡ Holds (number k id) value
 
+module _ {T : Type 0} (Leaves : T → T → Type 0) (first : List T) where
   -- what is known of an agent at its point
   abbrev pub Knows : Log T → List (Act T) → State T → ℕ → Point T → Type 0
-  Knows log acts world a (Reading k) = LooksOn acts world a k
-  Knows log acts world a (Clearing k mask) = LooksOn acts world a k × TriesBits acts a k mask
-  Knows log acts world a (AtLink k) = IsPast acts world a k
-  Knows log acts world a (Making k) = IsAtEnd acts world a k
-  Knows log acts world a (Linking k values) = IsAtEnd acts world a k × (last_made log a ≡ Some values)
+  Knows log acts world a (Reading k) = LooksOn first acts world a k
+  Knows log acts world a (Clearing k mask) = LooksOn first acts world a k × TriesBits first acts a k mask
+  Knows log acts world a (AtLink k) = IsPast first acts world a k
+  Knows log acts world a (Making k) = IsAtEnd first acts world a k
+  Knows log acts world a (Linking k values) = IsAtEnd first acts world a k × (last_made log a ≡ Some values)
   Knows log acts world a (Taken k id) = (value : T) × HoldsAt acts world a k id value × (value_at world.pages k id ≡ Some value)
   Knows log acts world a (Holding k id value) = HoldsAt acts world a k id value
   Knows log acts world a (Home k id) =
