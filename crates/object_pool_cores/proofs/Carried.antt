@@ -85,7 +85,7 @@ module _ {T : Type 0} (Leaves : T → T → Type 0) (first : List T) where
 
 module _ {T : Type 0} (first : List T) where
   -- there is a page from the first on
-  pages-some : (acts : List (Act T)) → 0 < (pool_of first acts).pages
+  pub pages-some : (acts : List (Act T)) → 0 < (pool_of first acts).pages
   pages-some [] = omega arith
   pages-some (Opens a ∷ acts) = pages-some acts
   pages-some (Writes a value ∷ acts) = pages-some acts

@@ -7,3 +7,6 @@ pub mod Bits
 pub mod Readings
 pub mod Carried
 pub mod WordSteps
+pub mod ValueSteps
+pub mod LinkSteps
+pub mod Headline

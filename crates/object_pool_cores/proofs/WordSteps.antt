@@ -95,3 +95,111 @@ module _ {T : Type 0} (Leaves : T → T → Type 0) (first : List T) (log : Log 
       })
       gives
   read_mask-goes a _ at answer new gives = disabled (event.ReadMask a) (λ b. refl) answer new gives
+
+  -- the pages after another word was put on one of them
+  worded : (more : List (Act T)) (a k word : ℕ) (page : PageState T) → slice_get old.pages k ≡ Some page → word < 2 ^ 32 → IsSame (pool_of first more) (reading (record { pages = with_word old.pages k word; agents = old.agents; limit = old.limit })) → StepsPages Leaves first acts more old (with_word old.pages k word) a
+  worded more a k word page at fits same =
+      let f : PageState T → PageState T = λ p. record { word = word; places = p.places } in
+      let count : length (with_word old.pages k word) ≡ length old.pages = length-changed f old.pages k page at in
+      record {
+        count = omega arith;
+        same = same;
+        words = changed-all (λ p. p.word < 2 ^ 32) f old.pages k page at fits agrees.words;
+        places = changed-all (λ p. length p.places ≡ 32) f old.pages k page at (agrees.places k page at) agrees.places;
+        allowed = allows-fewer old.limit (length (with_word old.pages k word)) (length old.pages) (omega arith) agrees.allowed;
+        values = λ b j i value other linked within holds. value-word old.pages k word page at j i;
+      }
+
+  linked-worded : (k j word : ℕ) (page : PageState T) → slice_get old.pages k ≡ Some page → j < length old.pages → j < length (with_word old.pages k word)
+  linked-worded k j word page at linked =
+      let count : length (with_word old.pages k word) ≡ length old.pages = length-changed (λ p. record { word = word; places = p.places }) old.pages k page at in
+      omega arith
+
+  -- the bit is set in the word: the agent pulls its number
+  won : length first ≡ 32 → (a k mask : ℕ) → slice_get old.agents a ≡ Some (Clearing k mask) → has_bit (word_of old.pages k) (lowest mask) ≡ true → GoesOn Leaves first log (event.ClearBit a) (seen.Pulled a (number k (lowest mask))) (moved Leaves first old (with_word old.pages k (without_bit (word_of old.pages k) (lowest mask))) a (Taken k (lowest mask)))
+  won full a k mask at set =
+      let (looks, bits) = known a (Clearing k mask) at in
+      let id = lowest mask in
+      let within : id < 32 = lowest-lt mask bits.some bits.in_word in
+      let (page, here) = get-some old.pages k looks.linked in
+      let word_is : word_of old.pages k ≡ page.word = ap word_in here in
+      let fits = agrees.words k page here in
+      let word = without_bit (word_of old.pages k) id in
+      let pages = with_word old.pages k word in
+      let (value, lies, free) = free-at full k id page within here looks.linked (ap (λ w. has_bit w id) (sym word_is) ∙ set) in
+      let act : Act T = Moves a (Pull (number k id) value) in
+      record {
+        acts = act ∷ acts;
+        agrees = shown-step Leaves first log acts old (event.ClearBit a) (seen.Pulled a (number k id)) a (Clearing k mask) (Taken k id) pages act agrees at (value, refl) (free, looks.looking) tt refl (λ b other. refl)
+        (worded (act ∷ acts) a k word page here (without_bit-lt (word_of old.pages k) id (omega arith))
+        (same-cleared (pool_of first acts) old (record { pages = pages; agents = old.agents; limit = old.limit }) k id page within here agrees.same (ap (λ w. with_word old.pages k (without_bit w id)) word_is)))
+        (value,
+        record { linked = linked-worded k k word page here looks.linked; in_page = within; stage = stage_of-own act acts a refl },
+        value-word old.pages k word page here k id ∙ lies);
+      }
+
+  -- the bit isn't set in the word: the agent goes on with the rest
+  lost : (a k mask : ℕ) → slice_get old.agents a ≡ Some (Clearing k mask) → has_bit (word_of old.pages k) (lowest mask) ≡ false → GoesOn Leaves first log (event.ClearBit a) (seen.Found a (word_of old.pages k)) (moved Leaves first old old.pages a (tries k (without_lowest mask)))
+  lost a k mask at clear =
+      let (looks, bits) = known a (Clearing k mask) at in
+      let (page, here) = get-some old.pages k looks.linked in
+      let word_is : word_of old.pages k ≡ page.word = ap word_in here in
+      let answer = seen.Found a (word_of old.pages k) in
+      record {
+        acts = acts;
+        agrees = hidden-step Leaves first log acts old (event.ClearBit a) answer a (Clearing k mask) (tries k (without_lowest mask)) old.pages agrees at tt (λ b other. refl)
+        (pages-stay Leaves first log acts acts old a agrees refl)
+        (tries-known Leaves first ((event.ClearBit a, answer) ∷ log) acts (moved Leaves first old old.pages a (tries k (without_lowest mask))) a k (without_lowest mask)
+        (record { looking = looks.looking; linked = looks.linked; found = looks.found })
+        (without_lowest-lt mask bits.in_word)
+        (λ id within gone. elim (cases_eq id (lowest mask)) [
+          | inl tried ↦ since-now first acts a (λ pool. IsOut pool (number k id)) looks.looking (out-at k id page within here (ap (λ i. has_bit page.word i) tried ∙ ap (λ w. has_bit w (lowest mask)) (sym word_is) ∙ clear))
+          | inr other ↦ bits.others id within (sym (has_bit-without_lowest mask id bits.some bits.in_word other) ∙ gone)
+        ]));
+      }
+
+  pub clear_bit-goes : length first ≡ 32 → (a : ℕ) (found : Option (Point T)) → slice_get old.agents a ≡ found → (answer : Seen) (new : State T) → Gives (clear_bit old a found) answer new → GoesOn Leaves first log (event.ClearBit a) answer new
+  clear_bit-goes full a (Some (Clearing k mask)) at answer new gives =
+      let e : Event T = event.ClearBit a in
+      let id = lowest mask in
+      let word = word_of old.pages k in
+      let yes : Outcome T = (seen.Pulled a (number k id), moved Leaves first old (with_word old.pages k (without_bit word id)) a (Taken k id)) in
+      let not : Outcome T = (seen.Found a word, moved Leaves first old old.pages a (tries k (without_lowest mask))) in
+      from-if Leaves first log e (mask == 0) (not_enabled old) (clears old a k mask word) answer new
+      (λ none given. disabled e (λ b. refl) answer new given)
+      (λ some given. from-if Leaves first log e (has_bit word id) yes not answer new
+      (λ set gave. from-gives Leaves first log e yes answer new (won full a k mask at set) gave)
+      (λ clear gave. from-gives Leaves first log e not answer new (lost a k mask at clear) gave)
+      given)
+      gives
+  clear_bit-goes full a _ at answer new gives = disabled (event.ClearBit a) (λ b. refl) answer new gives
+
+  -- the bit is set again: the agent returns its number
+  returned : length first ≡ 32 → (a k id : ℕ) → slice_get old.agents a ≡ Some (Home k id) → GoesOn Leaves first log (event.OrMask a) (seen.Returned a (number k id)) (moved Leaves first old (with_word old.pages k (with_bit (word_of old.pages k) id)) a Ended)
+  returned full a k id at =
+      let (value, kept, holds, leaves, lies) = known a (Home k id) at in
+      let sound = sound-of Leaves first log acts old full agrees in
+      let (page, here) = get-some old.pages k holds.linked in
+      let word_is : word_of old.pages k ≡ page.word = ap word_in here in
+      let fits = agrees.words k page here in
+      let word = with_bit (word_of old.pages k) id in
+      let pages = with_word old.pages k word in
+      let act : Act T = Moves a (Return (number k id) kept) in
+      record {
+        acts = act ∷ acts;
+        agrees = shown-step Leaves first log acts old (event.OrMask a) (seen.Returned a (number k id)) a (Home k id) Ended pages act agrees at (kept, refl)
+        (sound.holders.out (number k id) a value holds.stage, (value, holds.stage, leaves)) tt refl (λ b other. refl)
+        (worded (act ∷ acts) a k word page here (with_bit-lt (word_of old.pages k) id holds.in_page (omega arith))
+        (same-set (pool_of first acts) old (record { pages = pages; agents = old.agents; limit = old.limit }) k id page kept holds.in_page here lies agrees.same (ap (λ w. with_word old.pages k (with_bit w id)) word_is)))
+        tt;
+      }
+
+  pub or_mask-goes : length first ≡ 32 → (a : ℕ) (found : Option (Point T)) → slice_get old.agents a ≡ found → (answer : Seen) (new : State T) → Gives (or_mask old a found) answer new → GoesOn Leaves first log (event.OrMask a) answer new
+  or_mask-goes full a (Some (Home k id)) at answer new gives =
+      let e : Event T = event.OrMask a in
+      let yes : Outcome T = (seen.Returned a (number k id), moved Leaves first old (with_word old.pages k (with_bit (word_of old.pages k) id)) a Ended) in
+      from-if Leaves first log e (nat_lt id 32) yes (not_enabled old) answer new
+      (λ within gave. from-gives Leaves first log e yes answer new (returned full a k id at) gave)
+      (λ past gave. disabled e (λ b. refl) answer new gave)
+      gives
+  or_mask-goes full a _ at answer new gives = disabled (event.OrMask a) (λ b. refl) answer new gives
