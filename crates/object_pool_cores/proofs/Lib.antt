@@ -10,3 +10,4 @@ pub mod WordSteps
 pub mod ValueSteps
 pub mod LinkSteps
 pub mod Headline
+pub mod Replayed

@@ -1,12 +1,13 @@
 //! The world of agents.
 ghost use Rattle.std.specs.Prelude.{◌≡◌, ◌≤◌, Some, None, option_map, option_copied, slice_get, IfOk, IfErr};
 ghost use Rattle.lockfree_object_pool.specs.declared.pull_error.PullError.TheVariants.{Memory};
+ghost use Rattle.object_pool_cores.specs.World.Headline.{Played};
 ghost use Rattle.object_pool_cores.specs.World.Machine.{held_by, opening_world, value_at, Steps};
 ghost use Rattle.object_pool_cores.specs.World.Reading.{reading};
 ghost use Rattle.object_pool_cores.specs.World.Shown.{world_reset, world_state};
 
 use crate::interleave::table::Table;
-use crate::interleave::{Event, Prepared, Seen};
+use crate::interleave::{Event, Prepared, RunError, Seen};
 use lockfree_object_pool::PullError;
 use lockfree_object_pool::clean::AnyValue;
 use lockfree_object_pool::closures::Reset;
@@ -92,5 +93,20 @@ impl<T: Drop, R: Reset<T, AnyValue>> World<T, R> {
         ensures reset { world_reset self.new ≡ world_reset self.old }
     {
         self.table.step(&self.reset, event)
+    }
+
+    /// The events, one after another, each with its answer at the end of `seen`. An error leaves the answers of the
+    /// events that were done, and the world after them; the others are dropped.
+    pub fn run(&mut self, mut events: Vec<Event<T>>, seen: &mut Vec<Seen>) -> Result<(), RunError>
+        ensures played { Played (R.leaves (world_reset self.old)) (world_state self.old) events.items seen.old.items result seen.new.items (world_state self.new) }
+        ensures reset { world_reset self.new ≡ world_reset self.old }
+    {
+        events.reverse();
+        while let Some(event) = events.pop() {
+            seen.reserve(1)?;
+            let answer = self.step(event);
+            seen.push(answer)?;
+        }
+        Ok(())
     }
 }
