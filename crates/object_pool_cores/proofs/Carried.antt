@@ -151,16 +151,16 @@ module _ {T : Type 0} (Leaves : T → T → Type 0) (first : List T) where
     places = left.places;
     allowed = left.allowed;
     agents = agents-moved log ((e, answer) ∷ log) acts acts world (moved world pages a point) a from point at own
-    (λ b other. record {
-      stage = refl;
-      out = λ n found. found;
-      had = λ count found. found;
-      pages = left.count;
-      limit = refl;
-      made = ap (λ found. or_else found (last_made log b)) (made b other);
-      values = λ k id value linked within holds. left.values b k id value other linked within holds;
-    })
-    agrees.agents;
+        (λ b other. record {
+          stage = refl;
+          out = λ n found. found;
+          had = λ count found. found;
+          pages = left.count;
+          limit = refl;
+          made = ap (λ found. or_else found (last_made log b)) (made b other);
+          values = λ k id value linked within holds. left.values b k id value other linked within holds;
+        })
+        agrees.agents;
   }
 
   -- a step whose answer shows an act
@@ -174,18 +174,18 @@ module _ {T : Type 0} (Leaves : T → T → Type 0) (first : List T) where
     places = left.places;
     allowed = left.allowed;
     agents = agents-moved log ((e, answer) ∷ log) acts (act ∷ acts) world (moved world pages a point) a from point at own
-    (λ b other.
-    let apart : agent_of act ≢ b = λ is. other (sym agent ∙ is) in
-    record {
-      stage = stage_of-other act acts b apart;
-      out = λ n out. since-later first act acts b (λ pool. IsOut pool n) (other-opens act b apart) out;
-      had = λ count had. since-later first act acts b (λ pool. pool.pages ≡ count) (other-opens act b apart) had;
-      pages = left.count;
-      limit = refl;
-      made = ap (λ found. or_else found (last_made log b)) (made b other);
-      values = λ k id value linked within holds. left.values b k id value other linked within holds;
-    })
-    agrees.agents;
+        (λ b other.
+        let apart : agent_of act ≢ b = λ is. other (sym agent ∙ is) in
+        record {
+          stage = stage_of-other act acts b apart;
+          out = λ n out. since-later first act acts b (λ pool. IsOut pool n) (other-opens act b apart) out;
+          had = λ count had. since-later first act acts b (λ pool. pool.pages ≡ count) (other-opens act b apart) had;
+          pages = left.count;
+          limit = refl;
+          made = ap (λ found. or_else found (last_made log b)) (made b other);
+          values = λ k id value linked within holds. left.values b k id value other linked within holds;
+        })
+        agrees.agents;
   }
 
   -- the acts go on with what a step shows
@@ -217,15 +217,15 @@ module _ {T : Type 0} (Leaves : T → T → Type 0) (first : List T) where
       places = agrees.places;
       allowed = agrees.allowed;
       agents = λ b. known-carried Leaves first log ((e, answer) ∷ log) acts acts world world b
-      (record {
-        stage = refl;
-        out = λ n found. found;
-        had = λ count found. found;
-        pages = omega arith;
-        limit = refl;
-        made = ap (λ found. or_else found (last_made log b)) (made b);
-        values = λ k id value linked within holds. refl;
-      })
-      (slice_get world.agents b) (agrees.agents b);
+          (record {
+            stage = refl;
+            out = λ n found. found;
+            had = λ count found. found;
+            pages = omega arith;
+            limit = refl;
+            made = ap (λ found. or_else found (last_made log b)) (made b);
+            values = λ k id value linked within holds. refl;
+          })
+          (slice_get world.agents b) (agrees.agents b);
     };
   }

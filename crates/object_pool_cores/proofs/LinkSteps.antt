@@ -46,8 +46,8 @@ module _ {T : Type 0} (Leaves : T → T → Type 0) (first : List T) (log : Log 
       record {
         acts = act ∷ acts;
         agrees = shown-step Leaves first log acts old e (seen.Refused a cause) a from Ended old.pages act agrees at refl may (k + 1, omega arith, found, had) refl (λ b other. made b)
-        (pages-stay Leaves first log acts (act ∷ acts) old a agrees refl)
-        tt;
+            (pages-stay Leaves first log acts (act ∷ acts) old a agrees refl)
+            tt;
       }
 
   at-limit : (a k : ℕ) → slice_get old.agents a ≡ Some (AtLink k) → is_limit old.limit (k + 1) ≡ true → GoesOn Leaves first log (event.ReadNext a) (seen.Refused a Limit) (moved Leaves first old old.pages a Ended)
@@ -70,12 +70,12 @@ module _ {T : Type 0} (Leaves : T → T → Type 0) (first : List T) (log : Log 
       record {
         acts = acts;
         agrees = hidden-step Leaves first log acts old (event.ReadNext a) (seen.Next a false) a (AtLink k) (Making k) old.pages agrees at tt (λ b other. refl)
-        (pages-stay Leaves first log acts acts old a agrees refl)
-        (record {
-          past = record { looking = past.looking; linked = past.linked; found = past.found };
-          last = had-now a (k + 1) past.looking count;
-          allowed = allows-next old.limit (k + 1) not (subst P count agrees.allowed);
-        });
+            (pages-stay Leaves first log acts acts old a agrees refl)
+            (record {
+              past = record { looking = past.looking; linked = past.linked; found = past.found };
+              last = had-now a (k + 1) past.looking count;
+              allowed = allows-next old.limit (k + 1) not (subst P count agrees.allowed);
+            });
       }
 
   -- the agent goes to the next page, which is linked
@@ -85,8 +85,8 @@ module _ {T : Type 0} (Leaves : T → T → Type 0) (first : List T) (log : Log 
       record {
         acts = acts;
         agrees = hidden-step Leaves first log acts old e answer a from (Reading (k + 1)) old.pages agrees at hidden.0 (λ b other. hidden.1 b)
-        (pages-stay Leaves first log acts acts old a agrees refl)
-        (record { looking = past.looking; linked = omega arith; found = past.found });
+            (pages-stay Leaves first log acts acts old a agrees refl)
+            (record { looking = past.looking; linked = omega arith; found = past.found });
       }
 
   pub read_next-goes : (a : ℕ) (found : Option (Point T)) → slice_get old.agents a ≡ found → (answer : Seen) (new : State T) → Gives (read_next old a found) answer new → GoesOn Leaves first log (event.ReadNext a) answer new
@@ -118,12 +118,14 @@ module _ {T : Type 0} (Leaves : T → T → Type 0) (first : List T) (log : Log 
       record {
         acts = acts;
         agrees = hidden-step Leaves first log acts old e (seen.Made a) a (Making k) (Linking k values) old.pages agrees at tt (λ b other. rw (ne_eqb a b other) refl)
-        (pages-stay Leaves first log acts acts old a agrees refl)
-        (record {
-          past = record { looking = end.past.looking; linked = end.past.linked; found = end.past.found };
-          last = end.last;
-          allowed = end.allowed;
-        }, ap (λ found. or_else found (last_made log a)) own);
+            (pages-stay Leaves first log acts acts old a agrees refl) (
+              record {
+                past = record { looking = end.past.looking; linked = end.past.linked; found = end.past.found };
+                last = end.last;
+                allowed = end.allowed;
+              },
+              ap (λ found. or_else found (last_made log a)) own,
+            );
       }
 
   pub make_page-goes : (a : ℕ) (made_is : Result (List T) PullError) (found : Option (Point T)) → slice_get old.agents a ≡ found → (answer : Seen) (new : State T) → Gives (make_page old a made_is found) answer new → GoesOn Leaves first log (event.MakePage a made_is) answer new
@@ -161,21 +163,21 @@ module _ {T : Type 0} (Leaves : T → T → Type 0) (first : List T) (log : Log 
       record {
         acts = act ∷ acts;
         agrees = shown-step Leaves first log acts old (event.ExchangeNext a) (seen.Linked a) a (Linking k values) (Reading (k + 1)) pages act agrees at (values, last, refl)
-        ((full, allows-fewer old.limit ((pool_of first acts).pages + 1) (k + 1 + 1) (omega arith) end.allowed), looking)
-        (subst Q (sym pool_pages) end.past.found) refl (λ b other. refl)
-        (record {
-          count = omega arith;
-          same = same-grown (pool_of first acts) old (record { pages = pages; agents = old.agents; limit = old.limit }) values full agrees.same refl;
-          words = pushed-all (λ p. p.word < 2 ^ 32) old.pages (linked_page values) (lit< tt) agrees.words;
-          places = pushed-all (λ p. length p.places ≡ 32) old.pages (linked_page values) (length-map values Some ∙ full) agrees.places;
-          allowed = allows-fewer old.limit (length pages) (k + 1 + 1) (omega arith) end.allowed;
-          values = λ b j i value other below within holds. ap (λ found. value_in found i) (get-push_old old.pages (linked_page values) j below);
-        })
-        (record {
-          looking = stage_of-own act acts a refl ∙ looking;
-          linked = omega arith;
-          found = λ n below. since-later first act acts a (λ pool. IsOut pool n) not_opens (end.past.found n below);
-        });
+            ((full, allows-fewer old.limit ((pool_of first acts).pages + 1) (k + 1 + 1) (omega arith) end.allowed), looking)
+            (subst Q (sym pool_pages) end.past.found) refl (λ b other. refl)
+            (record {
+              count = omega arith;
+              same = same-grown (pool_of first acts) old (record { pages = pages; agents = old.agents; limit = old.limit }) values full agrees.same refl;
+              words = pushed-all (λ p. p.word < 2 ^ 32) old.pages (linked_page values) (lit< tt) agrees.words;
+              places = pushed-all (λ p. length p.places ≡ 32) old.pages (linked_page values) (length-map values Some ∙ full) agrees.places;
+              allowed = allows-fewer old.limit (length pages) (k + 1 + 1) (omega arith) end.allowed;
+              values = λ b j i value other below within holds. ap (λ found. value_in found i) (get-push_old old.pages (linked_page values) j below);
+            })
+            (record {
+              looking = stage_of-own act acts a refl ∙ looking;
+              linked = omega arith;
+              found = λ n below. since-later first act acts a (λ pool. IsOut pool n) not_opens (end.past.found n below);
+            });
       }
 
   pub exchange_next-goes : (a : ℕ) (found : Option (Point T)) → slice_get old.agents a ≡ found → (answer : Seen) (new : State T) → Gives (exchange_next old a found) answer new → LinksWhole answer (prepared_by found) → GoesOn Leaves first log (event.ExchangeNext a) answer new

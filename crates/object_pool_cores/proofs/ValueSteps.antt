@@ -49,10 +49,10 @@ module _ {T : Type 0} (Leaves : T → T → Type 0) (first : List T) (log : Log 
         allowed = allows-fewer old.limit (length pages) (length old.pages) (omega arith) agrees.allowed;
         values = λ b j i other apart linked within theirs.
             let different : (j ≢ k) ⊎ (i ≢ id) =
-                elim (cases_eq j k) [
-                  | inl same ↦ inr (λ too. apart (sound.holders.one (number k id) a b held other holds.stage (theirs ∙ ap (λ n. Holds n other) (ap (λ m. number m i) same ∙ ap (λ m. number k m) too))))
-                  | inr page ↦ inl page
-                ] in
+            elim (cases_eq j k) [
+              | inl same ↦ inr (λ too. apart (sound.holders.one (number k id) a b held other holds.stage (theirs ∙ ap (λ n. Holds n other) (ap (λ m. number m i) same ∙ ap (λ m. number k m) too))))
+              | inr page ↦ inl page
+            ] in
             value-put_other old.pages k id value page here j i different;
       }
 
@@ -73,8 +73,8 @@ module _ {T : Type 0} (Leaves : T → T → Type 0) (first : List T) (log : Log 
       (record {
         acts = acts;
         agrees = hidden-step Leaves first log acts old (event.MoveOut a) (seen.MovedOut a) a (Taken k id) (Holding k id taken) (with_value old.pages k id None) agrees at tt (λ b other. refl)
-        (placed full a k id value None page holds here)
-        (record { linked = linked-placed k id None page here holds.linked; in_page = holds.in_page; stage = holds.stage ∙ ap (λ v. Holds (number k id) v) is });
+            (placed full a k id value None page holds here)
+            (record { linked = linked-placed k id None page here holds.linked; in_page = holds.in_page; stage = holds.stage ∙ ap (λ v. Holds (number k id) v) is });
       })
       gives
 
@@ -90,8 +90,8 @@ module _ {T : Type 0} (Leaves : T → T → Type 0) (first : List T) (log : Log 
       (record {
         acts = act ∷ acts;
         agrees = shown-step Leaves first log acts old (event.Write a value) (seen.Wrote a) a (Holding k id before) (Holding k id value) old.pages act agrees at refl (number k id, before, holds.stage) tt refl (λ b other. refl)
-        (pages-stay Leaves first log acts (act ∷ acts) old a agrees refl)
-        (record { linked = holds.linked; in_page = holds.in_page; stage = stage_of-own act acts a refl ∙ ap (λ stage. after_write stage value) holds.stage });
+            (pages-stay Leaves first log acts (act ∷ acts) old a agrees refl)
+            (record { linked = holds.linked; in_page = holds.in_page; stage = stage_of-own act acts a refl ∙ ap (λ stage. after_write stage value) holds.stage });
       })
       gives
   write-goes a value _ at answer new gives = disabled Leaves first log acts old agrees (event.Write a value) (λ b. refl) answer new gives
@@ -105,11 +105,13 @@ module _ {T : Type 0} (Leaves : T → T → Type 0) (first : List T) (log : Log 
       (record {
         acts = acts;
         agrees = hidden-step Leaves first log acts old (event.MoveHome a) (seen.MovedHome a) a (Holding k id value) (Home k id) (with_value old.pages k id (Some kept)) agrees at tt (λ b other. refl)
-        (placed full a k id value (Some kept) page holds here)
-        (value, kept,
-        record { linked = linked-placed k id (Some kept) page here holds.linked; in_page = holds.in_page; stage = holds.stage },
-        leaves,
-        value-put_same old.pages k id (Some kept) page here (let many = agrees.places k page here in let below = holds.in_page in omega arith));
+            (placed full a k id value (Some kept) page holds here) (
+              value,
+              kept,
+              record { linked = linked-placed k id (Some kept) page here holds.linked; in_page = holds.in_page; stage = holds.stage },
+              leaves,
+              value-put_same old.pages k id (Some kept) page here (let many = agrees.places k page here in let below = holds.in_page in omega arith),
+            );
       })
       gives
   move_home-goes full a None at answer new gives = disabled Leaves first log acts old agrees (event.MoveHome a) (λ b. refl) answer new gives
@@ -124,8 +126,8 @@ module _ {T : Type 0} (Leaves : T → T → Type 0) (first : List T) (log : Log 
       let later : Log T = (event.Begin, seen_now) ∷ log in
       let world : State T = record { pages = old.pages; agents = old.agents ++ Reading 0 ∷ []; limit = old.limit } in
       let unknown : (b : ℕ) → length old.agents ≤ b → stage_of acts b ≡ NotBegun = λ b past.
-          let P : Option (Point T) → Type 0 = KnowsIf Leaves first log acts old b in
-          subst P (slice_get_past old.agents b past) (agrees.agents b) in
+      let P : Option (Point T) → Type 0 = KnowsIf Leaves first log acts old b in
+      subst P (slice_get_past old.agents b past) (agrees.agents b) in
       let some = pages-some first acts in
       let pages = agrees.same.pages in
       let carries : (b : ℕ) → a ≢ b → Carries first log later acts (act ∷ acts) old world b = λ b other. record {

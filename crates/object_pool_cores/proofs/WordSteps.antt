@@ -87,11 +87,11 @@ module _ {T : Type 0} (Leaves : T → T → Type 0) (first : List T) (log : Log 
       (record {
         acts = acts;
         agrees = hidden-step Leaves first log acts old (event.ReadMask a) (seen.Word a (word_of old.pages k)) a (Reading k) (tries k (word_of old.pages k)) old.pages agrees at tt (λ b other. refl)
-        (pages-stay Leaves first log acts acts old a agrees refl)
-        (tries-known Leaves first ((event.ReadMask a, seen.Word a (word_of old.pages k)) ∷ log) acts (moved Leaves first old old.pages a (tries k (word_of old.pages k))) a k (word_of old.pages k)
-        (record { looking = looks.looking; linked = looks.linked; found = looks.found })
-        (omega arith)
-        (λ id within clear. since-now first acts a (λ pool. IsOut pool (number k id)) looks.looking (out-at k id page within here (ap (λ w. has_bit w id) (sym word_is) ∙ clear))));
+            (pages-stay Leaves first log acts acts old a agrees refl)
+            (tries-known Leaves first ((event.ReadMask a, seen.Word a (word_of old.pages k)) ∷ log) acts (moved Leaves first old old.pages a (tries k (word_of old.pages k))) a k (word_of old.pages k)
+            (record { looking = looks.looking; linked = looks.linked; found = looks.found })
+            (omega arith)
+            (λ id within clear. since-now first acts a (λ pool. IsOut pool (number k id)) looks.looking (out-at k id page within here (ap (λ w. has_bit w id) (sym word_is) ∙ clear))));
       })
       gives
   read_mask-goes a _ at answer new gives = disabled (event.ReadMask a) (λ b. refl) answer new gives
@@ -131,11 +131,12 @@ module _ {T : Type 0} (Leaves : T → T → Type 0) (first : List T) (log : Log 
       record {
         acts = act ∷ acts;
         agrees = shown-step Leaves first log acts old (event.ClearBit a) (seen.Pulled a (number k id)) a (Clearing k mask) (Taken k id) pages act agrees at (value, refl) (free, looks.looking) tt refl (λ b other. refl)
-        (worded (act ∷ acts) a k word page here (without_bit-lt (word_of old.pages k) id (omega arith))
-        (same-cleared (pool_of first acts) old (record { pages = pages; agents = old.agents; limit = old.limit }) k id page within here agrees.same (ap (λ w. with_word old.pages k (without_bit w id)) word_is)))
-        (value,
-        record { linked = linked-worded k k word page here looks.linked; in_page = within; stage = stage_of-own act acts a refl },
-        value-word old.pages k word page here k id ∙ lies);
+            (worded (act ∷ acts) a k word page here (without_bit-lt (word_of old.pages k) id (omega arith))
+            (same-cleared (pool_of first acts) old (record { pages = pages; agents = old.agents; limit = old.limit }) k id page within here agrees.same (ap (λ w. with_word old.pages k (without_bit w id)) word_is))) (
+              value,
+              record { linked = linked-worded k k word page here looks.linked; in_page = within; stage = stage_of-own act acts a refl },
+              value-word old.pages k word page here k id ∙ lies,
+            );
       }
 
   -- the bit isn't set in the word: the agent goes on with the rest
@@ -148,14 +149,14 @@ module _ {T : Type 0} (Leaves : T → T → Type 0) (first : List T) (log : Log 
       record {
         acts = acts;
         agrees = hidden-step Leaves first log acts old (event.ClearBit a) answer a (Clearing k mask) (tries k (without_lowest mask)) old.pages agrees at tt (λ b other. refl)
-        (pages-stay Leaves first log acts acts old a agrees refl)
-        (tries-known Leaves first ((event.ClearBit a, answer) ∷ log) acts (moved Leaves first old old.pages a (tries k (without_lowest mask))) a k (without_lowest mask)
-        (record { looking = looks.looking; linked = looks.linked; found = looks.found })
-        (without_lowest-lt mask bits.in_word)
-        (λ id within gone. elim (cases_eq id (lowest mask)) [
-          | inl tried ↦ since-now first acts a (λ pool. IsOut pool (number k id)) looks.looking (out-at k id page within here (ap (λ i. has_bit page.word i) tried ∙ ap (λ w. has_bit w (lowest mask)) (sym word_is) ∙ clear))
-          | inr other ↦ bits.others id within (sym (has_bit-without_lowest mask id bits.some bits.in_word other) ∙ gone)
-        ]));
+            (pages-stay Leaves first log acts acts old a agrees refl)
+            (tries-known Leaves first ((event.ClearBit a, answer) ∷ log) acts (moved Leaves first old old.pages a (tries k (without_lowest mask))) a k (without_lowest mask)
+            (record { looking = looks.looking; linked = looks.linked; found = looks.found })
+            (without_lowest-lt mask bits.in_word)
+            (λ id within gone. elim (cases_eq id (lowest mask)) [
+              | inl tried ↦ since-now first acts a (λ pool. IsOut pool (number k id)) looks.looking (out-at k id page within here (ap (λ i. has_bit page.word i) tried ∙ ap (λ w. has_bit w (lowest mask)) (sym word_is) ∙ clear))
+              | inr other ↦ bits.others id within (sym (has_bit-without_lowest mask id bits.some bits.in_word other) ∙ gone)
+            ]));
       }
 
   pub clear_bit-goes : length first ≡ 32 → (a : ℕ) (found : Option (Point T)) → slice_get old.agents a ≡ found → (answer : Seen) (new : State T) → Gives (clear_bit old a found) answer new → GoesOn Leaves first log (event.ClearBit a) answer new
@@ -188,10 +189,10 @@ module _ {T : Type 0} (Leaves : T → T → Type 0) (first : List T) (log : Log 
       record {
         acts = act ∷ acts;
         agrees = shown-step Leaves first log acts old (event.OrMask a) (seen.Returned a (number k id)) a (Home k id) Ended pages act agrees at (kept, refl)
-        (sound.holders.out (number k id) a value holds.stage, (value, holds.stage, leaves)) tt refl (λ b other. refl)
-        (worded (act ∷ acts) a k word page here (with_bit-lt (word_of old.pages k) id holds.in_page (omega arith))
-        (same-set (pool_of first acts) old (record { pages = pages; agents = old.agents; limit = old.limit }) k id page kept holds.in_page here lies agrees.same (ap (λ w. with_word old.pages k (with_bit w id)) word_is)))
-        tt;
+            (sound.holders.out (number k id) a value holds.stage, (value, holds.stage, leaves)) tt refl (λ b other. refl)
+            (worded (act ∷ acts) a k word page here (with_bit-lt (word_of old.pages k) id holds.in_page (omega arith))
+            (same-set (pool_of first acts) old (record { pages = pages; agents = old.agents; limit = old.limit }) k id page kept holds.in_page here lies agrees.same (ap (λ w. with_word old.pages k (with_bit w id)) word_is)))
+            tt;
       }
 
   pub or_mask-goes : length first ≡ 32 → (a : ℕ) (found : Option (Point T)) → slice_get old.agents a ≡ found → (answer : Seen) (new : State T) → Gives (or_mask old a found) answer new → GoesOn Leaves first log (event.OrMask a) answer new

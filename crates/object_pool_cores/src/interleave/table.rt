@@ -368,11 +368,12 @@ impl<T: Drop> Table<T> {
         if page >= self.pages.len() {
             return Seen::NotEnabled;
         }
+        let next = page + 1;
         if !is_last(self.pages.len(), page) {
-            self.go(agent, Point::Reading(page + 1));
+            self.go(agent, Point::Reading(next));
             return Seen::Lost(agent);
         }
-        match pass_link(&mut self.agents, agent, page + 1) {
+        match pass_link(&mut self.agents, agent, next) {
             Some(values) => {
                 link_last(&mut self.pages, values);
                 Seen::Linked(agent)
