@@ -11,3 +11,4 @@ pub mod ValueSteps
 pub mod LinkSteps
 pub mod Headline
 pub mod Replayed
+pub mod Enabled

@@ -7,4 +7,6 @@ pub mod Reading
 pub mod Shown
 pub mod Visible
 pub mod Headline
+pub mod Rows
+pub mod Reached
 pub mod Invariant

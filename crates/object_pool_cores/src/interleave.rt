@@ -8,6 +8,7 @@ mod event;
 mod page;
 mod point;
 mod prepared;
+mod reached;
 mod table;
 mod world;
 

@@ -1,5 +1,5 @@
 //! A world's pages and agents, and what each event does to them.
-ghost use Rattle.std.specs.Prelude.{slice_set, vec_len, vec_capacity, ◌++◌, ◌∷◌, [], ◌≡◌, ◌+◌, ◌<◌, ◌≤◌, ◌↔◌, ◌==◌, ◌⊎◌, Option, Some, None, option_map, option_copied, slice_get, length, IfOk, IsTrue, bit_and};
+ghost use Rattle.std.specs.Prelude.{slice_set, vec_len, vec_capacity, ◌++◌, ◌∷◌, [], ◌≡◌, ◌+◌, ◌<◌, ◌≤◌, ◌↔◌, ◌==◌, ◌⊎◌, Option, Some, None, option_map, option_copied, slice_get, length, IfOk, OnOk, IsTrue, bit_and};
 ghost use Rattle.object_pool_cores.specs.World.PageState.{PageState};
 ghost use Rattle.object_pool_cores.specs.World.Room.{NeedsNoRoom};
 ghost use Rattle.object_pool_cores.specs.World.Machine.{prepared_by, at_point, linked_page, lowest, without_lowest, has_bit, is_limit, word_of, value_at, with_word, with_value, opening_world, tries, read_mask, clear_bit, held_by, read_next, make_page, exchange_next, move_out, write, or_mask, begin, Gives, MayGrow, LinksWhole, MovesHome, Steps};
@@ -188,7 +188,8 @@ impl<T: Drop> Table<T> {
         first: Prepared<T>,
         limit: Option<usize>,
     ) -> Result<Table<T>, AllocError>
-        ensures { IfOk result (λ table. table ≡ opening_world first limit) }
+        ensures opening { IfOk result (λ table. table ≡ opening_world first limit) }
+        ensures whole { OnOk result (length first ≡ 32) }
     {
         let mut pages = Vec::new(alloc);
         pages.push(Page::new(first))?;
