@@ -119,6 +119,7 @@ module _ {T : Type 0} (Leaves : T → T → Type 0) (first : List T) (full : len
         visible = agrees.reads;
         run = agrees.run;
         ends = agrees.same;
+        allowed = agrees.allowed;
         whole = whole-run Leaves world.limit first full allowed acts agrees.run;
         holders = holders-run Leaves world.limit first full allowed acts agrees.run;
         held = λ a value has. held-is log acts world agrees a value (slice_get world.agents a) refl has;

@@ -12,3 +12,4 @@ pub mod LinkSteps
 pub mod Headline
 pub mod Replayed
 pub mod Enabled
+pub mod Progress

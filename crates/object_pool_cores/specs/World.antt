@@ -6,6 +6,7 @@ pub mod Machine
 pub mod Reading
 pub mod Shown
 pub mod Visible
+pub mod OwnSteps
 pub mod Headline
 pub mod Rows
 pub mod Reached

@@ -1,7 +1,8 @@
 -- The headline: what agents do in a world, in any order of their steps, is a run of one pool.
-use Rattle.std.specs.Prelude.{◌≡◌, ℕ, Option, Some, List, [], ◌∷◌, ◌++◌, map, reverse, length, slice_get, Result, OnOk, ⊤}
+use Rattle.std.specs.Prelude.{◌≡◌, ℕ, ◌-◌, ◌*◌, ◌<◌, Option, Some, None, List, [], ◌∷◌, ◌++◌, map, reverse, length, slice_get, Result, OnOk, ⊤}
 use Rattle.object_pool_cores.specs.declared.interleave.event.Event.{Event}
 use Rattle.object_pool_cores.specs.declared.interleave.event.Seen.{Seen}
+use Rattle.object_pool_cores.specs.declared.interleave.point.Point.TheVariants.{Reading}
 use Rattle.object_pool_cores.specs.declared.run_error.RunError.{RunError}
 use Rattle.object_pool_cores.specs.Pool.{IsSame, AllowsPages}
 use Rattle.object_pool_cores.specs.Run.{Act, Holds, stage_of, pool_of, Run, Found, HasHolders, IsWhole, AtEachPlace}
@@ -9,6 +10,7 @@ use Rattle.object_pool_cores.specs.World.State.{State}
 use Rattle.object_pool_cores.specs.World.Machine.{Steps, held_by, opening_world}
 use Rattle.object_pool_cores.specs.World.Reading.{reading}
 use Rattle.object_pool_cores.specs.World.Visible.{Log, Reads}
+use Rattle.object_pool_cores.specs.World.OwnSteps.{own_steps, IsOnPage, IsLooking}
 
 -- what the events did, from a world of these first values in which no agent had begun, is a run of one pool
 pub record IsRun {T : Type 0} (Leaves : T → T → Type 0) (first : List T) (log : Log T) (world : State T) : Type 0 where
@@ -18,6 +20,8 @@ pub record IsRun {T : Type 0} (Leaves : T → T → Type 0) (first : List T) (lo
   -- they are a run from the opening pool, and the world reads as the pool in which it ends
   pub run : Run Leaves world.limit first acts
   pub ends : IsSame (pool_of first acts) (reading world)
+  -- no more pages are linked than are allowed
+  pub allowed : AllowsPages world.limit (length world.pages)
   -- at each place of the run the pool has the numbers of its pages, as many as are allowed
   pub whole : AtEachPlace (IsWhole first world.limit) acts
   -- at each place of the run each number that is out has one holder, and each other number none
@@ -54,3 +58,7 @@ module _ {T : Type 0} (Leaves : T → T → Type 0) where
     pub answers : before ++ map (λ entry. entry.1) (reverse log) ≡ after
     -- each is a step of the machine
     pub steps : Ran old log new
+    -- an agent that reads page k is off it by its 33rd own step: while it is on the page it took fewer
+    pub per_page : (a k : ℕ) → slice_get old.agents a ≡ Some (Reading k) → IsOnPage k (slice_get new.agents a) → own_steps log a < 33
+    -- under a limit an agent that begins is pulled or refused by its step 36 * limit - 2: while it looks it took fewer
+    pub bounded : (a limit : ℕ) → new.limit ≡ Some limit → slice_get old.agents a ≡ None → IsLooking (slice_get new.agents a) → own_steps log a < 36 * limit - 2

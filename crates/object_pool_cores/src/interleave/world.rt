@@ -3,7 +3,7 @@ ghost use Rattle.std.specs.Prelude.{◌≡◌, ◌≤◌, Some, None, option_map
 ghost use Rattle.lockfree_object_pool.specs.declared.pull_error.PullError.TheVariants.{Memory};
 ghost use Rattle.object_pool_cores.specs.World.Headline.{IsNew, Played};
 ghost use Rattle.object_pool_cores.specs.World.Machine.{held_by, opening_world, value_at, Steps};
-ghost use Rattle.object_pool_cores.specs.World.Reached.{IsExact};
+ghost use Rattle.object_pool_cores.specs.World.Reached.{IsExact, IsReached};
 ghost use Rattle.object_pool_cores.specs.World.Reading.{reading};
 ghost use Rattle.object_pool_cores.specs.World.Shown.{world_reset, world_state};
 
@@ -94,6 +94,7 @@ impl<T: Drop, R: Reset<T, AnyValue>> World<T, R> {
     pub fn step(&mut self, event: Event<T>) -> Seen
         ensures step { Steps (R.leaves (world_reset self.old)) (world_state self.old) event result (world_state self.new) }
         ensures exact { IsExact (world_state self.old) event result (world_state self.new) }
+        ensures reached { IsReached (world_state self.old) }
         ensures reset { world_reset self.new ≡ world_reset self.old }
     {
         self.reached.step(&self.reset, event)

@@ -1,8 +1,14 @@
-use Rattle.std.proofs.Common.{◌≡◌, ◌∙◌, ◌∷◌, [], ◌++◌, ap, length, subst, arith}
+use Rattle.std.proofs.Common.{◌≡◌, ◌∙◌, ◌∷◌, [], ◌++◌, ap, refl, reverse, rules, length, subst, arith}
+use Rattle.std.proofs.lemmas.List.{reverse-reverse}
 use Rattle.object_pool_cores.specs.World.Machine.{Steps}
 use Rattle.object_pool_cores.specs.World.Shown.{world_state}
-use Rattle.object_pool_cores.proofs.Replayed.{replayed-next, played-from, on-err, no-elements}
+use Rattle.object_pool_cores.proofs.Replayed.{replayed-none, replayed-next, played-from, on-err, no-elements}
 use Rattle.object_pool_cores.proofs.interleave.world.World.run.Goals as goal
+
+pub loop-event-init : goal.loop-event-init
+loop-event-init g c =
+    let turned : reverse c.reverse.new.self.items ≡ c.args.events.items = search (rules, reverse-reverse) in
+    record { replayed = rw turned (replayed-none _ _ _ _); reset = refl }
 
 pub returns-in_err-reserve-clause-played : goal.returns-in_err-reserve-clause-played
 returns-in_err-reserve-clause-played g c =
@@ -15,7 +21,7 @@ loop-event-preserved g c =
     let P : g.row.R.Denot → Type 0 = λ reset. Steps (g.R.Reset.leaves reset) (world_state c.loop-event.self) c.in-Some.event c.step-answer.result (world_state c.step-answer.new.self) in
     let answered : c.push.new.self.items ≡ c.loop-event.seen.items ++ c.step-answer.result ∷ [] = c.in_ok-push.ensures.items ∙ ap (λ all. all ++ c.step-answer.result ∷ []) c.in_ok-reserve.ensures.items in
     record {
-      replayed = replayed-next _ _ _ _ _ _ _ _ _ c.in-Some.event c.step-answer.result _ c.in-Some.ensures.items answered kept.replayed (subst P kept.reset c.step-answer.ensures.step);
+      replayed = replayed-next _ _ _ _ _ _ _ _ _ c.in-Some.event c.step-answer.result _ c.in-Some.ensures.items answered kept.replayed c.step-answer.ensures.reached (subst P kept.reset c.step-answer.ensures.step);
       reset = c.step-answer.ensures.reset ∙ kept.reset;
     }
 
