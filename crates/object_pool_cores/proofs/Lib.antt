@@ -13,3 +13,4 @@ pub mod Headline
 pub mod Replayed
 pub mod Enabled
 pub mod Progress
+pub mod Alone

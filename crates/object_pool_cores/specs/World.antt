@@ -7,6 +7,7 @@ pub mod Reading
 pub mod Shown
 pub mod Visible
 pub mod OwnSteps
+pub mod Alone
 pub mod Headline
 pub mod Rows
 pub mod Reached
