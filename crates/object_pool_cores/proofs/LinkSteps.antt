@@ -25,7 +25,11 @@ use Rattle.object_pool_cores.proofs.Carried.{GoesOn, StepsPages, moved, pages-st
 use Rattle.object_pool_cores.proofs.WordSteps.{known, disabled}
 
 -- there is this limit
-limit-is : (limit : Option ℕ) (count : ℕ) → is_limit limit count ≡ true → limit ≡ Some count
+pub is-limit : (limit : Option ℕ) (count : ℕ) → limit ≡ Some count → is_limit limit count ≡ true
+is-limit None count is = cc
+is-limit (Some limit) count is = let same : limit ≡ count = cc in eq-eqb limit count same
+
+pub limit-is : (limit : Option ℕ) (count : ℕ) → is_limit limit count ≡ true → limit ≡ Some count
 limit-is None count is = cc
 limit-is (Some limit) count is = ap Some (eqb-true limit count is)
 

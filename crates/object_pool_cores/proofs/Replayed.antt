@@ -19,6 +19,8 @@ use Rattle.object_pool_cores.proofs.Bits.{lowest-lt}
 use Rattle.object_pool_cores.proofs.WordSteps.{known}
 use Rattle.object_pool_cores.proofs.Headline.{ran-is_run}
 use Rattle.object_pool_cores.proofs.Enabled.{any-step, reached-step, reached-agrees}
+use Rattle.object_pool_cores.specs.World.Alone.{IsAlone}
+use Rattle.object_pool_cores.proofs.Alone.{Stands, stands-first, stands-next, stands-alone}
 use Rattle.object_pool_cores.proofs.Progress.{progress, start_of, AdvancedTo, effect-advances, none-advanced, step-does}
 
 -- an error isn't Ok
@@ -120,6 +122,7 @@ module _ {T : Type 0} (Leaves : T → T → Type 0) (old : State T) (events : Li
     pub steps : Ran Leaves old log new
     pub reached : ((log ≡ []) × (new ≡ old)) ⊎ IsReached new
     pub advanced : (a : ℕ) → AdvancedTo (slice_get old.agents a) (own_steps log a) (slice_get new.agents a)
+    pub stands : (a : ℕ) → slice_get old.agents a ≡ Some (Reading 0) → IsAlone a log → Stands old log new a
 
   pub replayed-none : Replayed events before old
   replayed-none = record {
@@ -129,6 +132,7 @@ module _ {T : Type 0} (Leaves : T → T → Type 0) (old : State T) (events : Li
     steps = refl;
     reached = inl (refl, refl);
     advanced = λ a. none-advanced (slice_get old.agents a);
+    stands = λ a at alone. stands-first old a at;
   }
 
   -- one event more
@@ -158,6 +162,9 @@ module _ {T : Type 0} (Leaves : T → T → Type 0) (old : State T) (events : Li
             effect-advances (slice_get old.agents a) (slice_get between.agents a) (slice_get new.agents a) (own_steps log a) (is_step_of e answer a)
             (step-does (λ before kept. ⊤) reached.is_new.first reached.log shown.acts between shown.agrees answer new e (any-step Leaves between e answer new step) a)
             (replayed.advanced a);
+        stands = λ a at alone.
+            stands-next (λ before kept. ⊤) reached.is_new.first reached.log shown.acts old between shown.agrees log a e answer new alone.0 (any-step Leaves between e answer new step)
+            (replayed.stands a at alone.1);
       }
 
   -- the same, of a list whose last event is done next
@@ -186,5 +193,6 @@ module _ {T : Type 0} (Leaves : T → T → Type 0) (old : State T) (events : Li
     answers = replayed.answers;
     steps = replayed.steps;
     per_page = λ a k start here. page-steps (slice_get old.agents a) new replayed.log a k (or-empty replayed.reached) start (replayed.advanced a) here;
+    alone = λ a at only. stands-alone old replayed.log new a (replayed.stands a at only);
     bounded = λ a limit is none looks. limit-steps (slice_get old.agents a) new replayed.log a limit (or-same a replayed.reached) is none (replayed.advanced a) looks;
   }

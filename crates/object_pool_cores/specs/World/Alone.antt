@@ -36,9 +36,10 @@ module _ {T : Type 0} where
     pub full : (j : ℕ) → j < k → word_of pages j ≡ 0
     pub free : 0 < word_of pages k
 
-  -- no page has a free number
-  abbrev pub AllFull : List (PageState T) → Type 0
-  AllFull pages = (j : ℕ) → j < length pages → word_of pages j ≡ 0
+  -- there are pages, and none has a free number
+  pub record AllFull (pages : List (PageState T)) : Type 0 where
+    pub some : 0 < length pages
+    pub full : (j : ℕ) → j < length pages → word_of pages j ≡ 0
 
   -- the agent has moved the value of a number out
   abbrev pub HasMovedOut : Option (Point T) → Type 0

@@ -10,6 +10,7 @@ use Rattle.object_pool_cores.specs.World.State.{State}
 use Rattle.object_pool_cores.specs.World.Machine.{Steps, held_by, opening_world}
 use Rattle.object_pool_cores.specs.World.Reading.{reading}
 use Rattle.object_pool_cores.specs.World.Visible.{Log, Reads}
+use Rattle.object_pool_cores.specs.World.Alone.{IsAlone, StepsAlone}
 use Rattle.object_pool_cores.specs.World.OwnSteps.{own_steps, IsOnPage, IsLooking}
 
 -- what the events did, from a world of these first values in which no agent had begun, is a run of one pool
@@ -62,3 +63,5 @@ module _ {T : Type 0} (Leaves : T → T → Type 0) where
     pub per_page : (a k : ℕ) → slice_get old.agents a ≡ Some (Reading k) → IsOnPage k (slice_get new.agents a) → own_steps log a < 33
     -- under a limit an agent that begins is pulled or refused by its step 36 * limit - 2: while it looks it took fewer
     pub bounded : (a limit : ℕ) → new.limit ≡ Some limit → slice_get old.agents a ≡ None → IsLooking (slice_get new.agents a) → own_steps log a < 36 * limit - 2
+    -- an agent that begins, and alone steps, has an item or is refused after so many steps
+    pub alone : (a : ℕ) → slice_get old.agents a ≡ Some (Reading 0) → IsAlone a log → StepsAlone old log new a
