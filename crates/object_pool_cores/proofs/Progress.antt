@@ -283,9 +283,9 @@ module _ {T : Type 0} where
       let Q : Bool → Type 0 = λ b. AdvancedTo start (if b then n + 1 else n) new in
       let there : AdvancedTo start n (Some from) = subst P was before in
       let at : AdvancedTo start (n + 1) (Some point) = λ later found.
-          let (middle, from_is, less) = further later found in
-          let (sooner, start_is, few) = there middle from_is in
-          (sooner, start_is, omega arith) in
+      let (middle, from_is, less) = further later found in
+      let (sooner, start_is, few) = there middle from_is in
+      (sooner, start_is, omega arith) in
       subst Q (sym mine) (subst R (sym is) at)
 
   pub none-advanced : (start : Option (Point T)) → AdvancedTo start 0 start

@@ -32,7 +32,11 @@ impl<T> Model for Reached<T> {
 
 impl<T: Drop> Reached<T> {
     /// One page of these values, and no agent.
-    pub fn new(alloc: Global, first: Prepared<T>, limit: Option<usize>) -> Result<Reached<T>, AllocError>
+    pub fn new(
+        alloc: Global,
+        first: Prepared<T>,
+        limit: Option<usize>,
+    ) -> Result<Reached<T>, AllocError>
         requires { AllowsPages limit 1 }
         ensures opening { IfOk result (λ reached. reached ≡ opening_world first limit) }
         ensures is_new { IfOk result IsNew }

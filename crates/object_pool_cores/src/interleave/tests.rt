@@ -8,6 +8,9 @@ use std::cell::Cell;
 use std::process::Abort;
 use std::test::Fail;
 
+mod refusals;
+mod schedules;
+
 /// The word of a page all of whose items are free.
 const FULL: u32 = 4294967295;
 
