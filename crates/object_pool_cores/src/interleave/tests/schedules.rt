@@ -105,7 +105,7 @@ impl Plain {
     }
 
     /// What the event leaves in the pages.
-    fn change(&mut self, seen: Seen, at: At, next: At) -> Result<(), AllocError> {
+    fn change(&mut self, seen: Seen, at: At) -> Result<(), AllocError> {
         match (seen, at) {
             (Seen::Pulled(_, _), At::Clear(page, mask)) => {
                 if let Some(word) = self.words.get_mut(page) {
@@ -130,7 +130,6 @@ impl Plain {
             }
             _ => {}
         }
-        let _ = next;
         Ok(())
     }
 
@@ -147,7 +146,7 @@ impl Plain {
         let Some((seen, next)) = self.row(kind, agent, at, value) else {
             return Ok(Seen::NotEnabled);
         };
-        self.change(seen, at, next)?;
+        self.change(seen, at)?;
         if let Some(point) = self.agents.get_mut(agent) {
             *point = next;
         }
