@@ -1,18 +1,17 @@
 -- Where an agent is that steps alone, after each of its steps.
 use Rattle.std.specs.Bool.{⊤}
-use Rattle.std.proofs.Common.{◌≡◌, ◌≢◌, ◌⊎◌, inl, inr, ℕ, ◌+◌, ◌-◌, ◌*◌, ◌^◌, ◌<◌, ◌≤◌, ◌==◌, nat_lt, Bool, true, false, if◌then◌else◌, Option, Some, None, List, [], ◌∷◌, ◌++◌, length, slice_get, slice_set, Result, Ok, Err, refl, ap, sym, ◌∙◌, subst, arith, length-append}
-use Rattle.std.proofs.lemmas.Bool.{eq-eqb, ne_eqb, eqb-true, eqb-false, ltb-false, lt-ltb, false≢true, cases_eq, cases_lt, cases_Bool}
-use Rattle.lockfree_object_pool.specs.declared.pull_error.PullError.{PullError}
+use Rattle.std.proofs.Common.{◌≡◌, inl, inr, ℕ, ◌+◌, ◌*◌, ◌<◌, ◌≤◌, ◌==◌, nat_lt, Bool, true, false, if◌then◌else◌, Option, Some, None, List, [], ◌∷◌, ◌++◌, length, slice_get, slice_set, Ok, Err, refl, ap, sym, ◌∙◌, subst, arith, length-append}
+use Rattle.std.proofs.lemmas.Bool.{eq-eqb, ne_eqb, lt-ltb, false≢true, cases_eq, cases_Bool}
 use Rattle.lockfree_object_pool.specs.declared.pull_error.PullError.TheVariants.{Memory, Init, Limit}
 use Rattle.object_pool_cores.specs.declared.interleave.event.Event.{Event}
 use Rattle.object_pool_cores.specs.declared.interleave.event.Event.TheVariants as event
 use Rattle.object_pool_cores.specs.declared.interleave.event.Seen.{Seen}
 use Rattle.object_pool_cores.specs.declared.interleave.event.Seen.TheVariants as seen
 use Rattle.object_pool_cores.specs.declared.interleave.point.Point.{Point}
-use Rattle.object_pool_cores.specs.declared.interleave.point.Point.TheVariants.{Reading, Clearing, AtLink, Making, Linking, Taken, Holding, Home, Ended}
+use Rattle.object_pool_cores.specs.declared.interleave.point.Point.TheVariants.{Reading, Clearing, AtLink, Making, Linking, Taken, Holding, Ended}
 use Rattle.object_pool_cores.specs.World.PageState.{PageState}
 use Rattle.object_pool_cores.specs.World.State.{State}
-use Rattle.object_pool_cores.specs.World.Machine.{Outcome, Gives, not_enabled, at_point, with_pages, linked_page, tries, clears, takes, read_mask, clear_bit, read_next, make_page, exchange_next, move_out, write, or_mask, MovesHome, Row, Steps, MayGrow, point_of, agent_of, word_of, word_in, is_limit, lowest, has_bit, without_lowest, without_bit, with_word, value_at}
+use Rattle.object_pool_cores.specs.World.Machine.{Outcome, Gives, not_enabled, at_point, with_pages, linked_page, tries, clears, takes, read_mask, clear_bit, read_next, make_page, exchange_next, move_out, write, or_mask, MovesHome, Row, Steps, agent_of, word_of, word_in, is_limit, lowest, has_bit, without_lowest, without_bit, with_word, value_at}
 use Rattle.object_pool_cores.specs.Pool.{AllowsPages, number}
 use Rattle.object_pool_cores.specs.Run.{Act}
 use Rattle.object_pool_cores.specs.World.Visible.{Log}
@@ -22,7 +21,7 @@ use Rattle.object_pool_cores.proofs.Readings.{get-set_same, get-push_old, get-pu
 use Rattle.object_pool_cores.proofs.WordSteps.{known}
 use Rattle.object_pool_cores.proofs.LinkSteps.{limit-is, is-limit}
 use Rattle.object_pool_cores.specs.World.OwnSteps.{is_idle}
-use Rattle.object_pool_cores.specs.World.Alone.{BringsPage, IsStepAlone, IsAlone, IsFirstFree, AllFull, HasMovedOut, EndsRefused, StepsAlone}
+use Rattle.object_pool_cores.specs.World.Alone.{BringsPage, IsStepAlone, IsFirstFree, AllFull, HasMovedOut, EndsRefused, StepsAlone}
 
 module _ {T : Type 0} (Leaves : T → T → Type 0) (old : State T) (a : ℕ) (answer : Seen) (new : State T) where
   -- the row of an event, for an agent at this point

@@ -1,21 +1,20 @@
 -- What is known of an agent stays known while others step.
-use Rattle.std.proofs.Common.{◌≡◌, ◌≢◌, ◌⊎◌, inl, inr, ℕ, ◌+◌, ◌*◌, ◌^◌, ◌<◌, ◌≤◌, ◌==◌, Bool, true, false, if◌then◌else◌, Option, Some, None, List, [], ◌∷◌, ◌++◌, length, slice_get, slice_set, refl, ap, sym, ◌∙◌, subst, arith}
+use Rattle.std.proofs.Common.{◌≡◌, ◌≢◌, inl, inr, ℕ, ◌+◌, ◌^◌, ◌<◌, ◌≤◌, Bool, true, false, if◌then◌else◌, Option, Some, None, List, [], ◌∷◌, length, slice_get, slice_set, refl, ap, sym, ◌∙◌, subst, arith}
 use Rattle.std.proofs.lemmas.Bool.{cases_eq}
 use Rattle.object_pool_cores.specs.declared.interleave.event.Event.{Event}
 use Rattle.object_pool_cores.specs.declared.interleave.event.Seen.{Seen}
-use Rattle.object_pool_cores.specs.declared.interleave.event.Seen.TheVariants as seen
 use Rattle.object_pool_cores.specs.declared.interleave.point.Point.{Point}
 use Rattle.object_pool_cores.specs.declared.interleave.point.Point.TheVariants.{Reading, Clearing, AtLink, Making, Linking, Taken, Holding, Home, Ended}
 use Rattle.object_pool_cores.specs.Pool.{Pool, IsSame, IsOut, AllowsPages, number}
 use Rattle.object_pool_cores.specs.Move.{Pull, Return, Growth, Refusal}
-use Rattle.object_pool_cores.specs.Run.{Act, Opens, Writes, Moves, Holds, Looking, NotBegun, agent_of, stage_of, pool_of, FoundOut, FoundPages, HadPages, MayCome, FoundBefore}
+use Rattle.object_pool_cores.specs.Run.{Act, Opens, Writes, Moves, Holds, agent_of, stage_of, pool_of, FoundOut, HadPages, MayCome, FoundBefore}
 use Rattle.object_pool_cores.specs.World.PageState.{PageState}
 use Rattle.object_pool_cores.specs.World.State.{State}
-use Rattle.object_pool_cores.specs.World.Machine.{Outcome, Gives, not_enabled, value_at}
+use Rattle.object_pool_cores.specs.World.Machine.{Outcome, Gives, value_at}
 use Rattle.object_pool_cores.specs.World.Reading.{reading}
 use Rattle.object_pool_cores.specs.World.Visible.{Log, IsHidden, made_by, or_else, last_made, Shows}
-use Rattle.object_pool_cores.specs.World.Invariant.{LooksOn, IsPast, IsAtEnd, TriesBits, HoldsAt, Knows, KnowsIf, Agrees}
-use Rattle.object_pool_cores.proofs.Runs.{since-now, since-later, other-opens, stage_of-own, stage_of-other}
+use Rattle.object_pool_cores.specs.World.Invariant.{LooksOn, IsPast, IsAtEnd, HoldsAt, Knows, KnowsIf, Agrees}
+use Rattle.object_pool_cores.proofs.Runs.{since-later, other-opens, stage_of-other}
 use Rattle.object_pool_cores.proofs.Holders.{IsSound, sound-run}
 use Rattle.object_pool_cores.proofs.Readings.{get-set_same, get-set_other}
 

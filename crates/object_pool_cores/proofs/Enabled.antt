@@ -1,5 +1,5 @@
 -- In each world that can be reached a step answers NotEnabled exactly where the table has no row.
-use Rattle.std.proofs.Common.{◌≡◌, ◌≢◌, ◌⊎◌, ◌↔◌, inl, inr, ℕ, ◌+◌, ◌<◌, ◌==◌, nat_lt, Bool, true, false, if◌then◌else◌, Option, Some, None, List, [], ◌∷◌, ◌++◌, length, slice_get, Result, Ok, Err, refl, ap, sym, ◌∙◌, subst, arith}
+use Rattle.std.proofs.Common.{◌≡◌, ◌≢◌, inl, inr, ℕ, ◌+◌, ◌==◌, Bool, true, false, if◌then◌else◌, Option, Some, None, List, [], ◌∷◌, ◌++◌, length, slice_get, Result, Ok, Err, refl, subst, arith}
 use Rattle.std.specs.Bool.{⊤}
 use Rattle.std.proofs.lemmas.Bool.{eqb-true, ltb-false}
 use Rattle.lockfree_object_pool.specs.declared.pull_error.PullError.TheVariants.{Memory, Init, Limit}
@@ -17,7 +17,7 @@ use Rattle.object_pool_cores.specs.World.Visible.{Log}
 use Rattle.object_pool_cores.specs.World.Rows.{HasRow}
 use Rattle.object_pool_cores.specs.World.Reached.{IsReached, IsExact}
 use Rattle.object_pool_cores.specs.World.Headline.{IsNew, Ran}
-use Rattle.object_pool_cores.specs.World.Invariant.{LooksOn, IsPast, IsAtEnd, HoldsAt, Knows, Agrees}
+use Rattle.object_pool_cores.specs.World.Invariant.{IsPast, IsAtEnd, Agrees}
 use Rattle.object_pool_cores.proofs.WordSteps.{known}
 use Rattle.object_pool_cores.proofs.Headline.{ran-agrees, Shown}
 

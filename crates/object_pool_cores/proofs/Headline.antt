@@ -1,23 +1,21 @@
 -- The steps of a world, one after another, are a run of one pool.
-use Rattle.std.proofs.Common.{◌≡◌, ◌⊎◌, inl, inr, ℕ, ◌+◌, ◌-◌, ◌*◌, ◌/◌, ◌%◌, ◌^◌, ◌<◌, ◌≤◌, Option, Some, None, List, [], ◌∷◌, map, length, slice_get, Result, Ok, Err, refl, ap, sym, ◌∙◌, subst, arith, lit<}
+use Rattle.std.proofs.Common.{◌≡◌, inl, inr, ℕ, ◌-◌, ◌^◌, ◌<◌, Option, Some, None, List, [], ◌∷◌, length, slice_get, Ok, Err, refl, ap, sym, ◌∙◌, subst, arith, lit<}
 use Rattle.std.proofs.lemmas.List.{length-map}
-use Rattle.lockfree_object_pool.specs.declared.pull_error.PullError.{PullError}
 use Rattle.object_pool_cores.specs.declared.interleave.event.Event.{Event}
 use Rattle.object_pool_cores.specs.declared.interleave.event.Event.TheVariants as event
 use Rattle.object_pool_cores.specs.declared.interleave.event.Seen.{Seen}
 use Rattle.object_pool_cores.specs.declared.interleave.event.Seen.TheVariants as seen
 use Rattle.object_pool_cores.specs.declared.interleave.point.Point.{Point}
-use Rattle.object_pool_cores.specs.declared.interleave.point.Point.TheVariants.{Reading, Clearing, AtLink, Making, Linking, Taken, Holding, Home, Ended}
-use Rattle.object_pool_cores.specs.Pool.{Place, Pool, Absent, IsSame, AllowsPages, free_with, opening, number}
+use Rattle.object_pool_cores.specs.declared.interleave.point.Point.TheVariants.{Holding}
+use Rattle.object_pool_cores.specs.Pool.{Pool, Absent, IsSame, AllowsPages, free_with, opening, number}
 use Rattle.object_pool_cores.specs.Move.{grown}
-use Rattle.object_pool_cores.specs.Run.{Act, Holds, stage_of, pool_of}
-use Rattle.object_pool_cores.specs.World.PageState.{PageState}
+use Rattle.object_pool_cores.specs.Run.{Act, Holds, stage_of}
 use Rattle.object_pool_cores.specs.World.State.{State}
 use Rattle.object_pool_cores.specs.World.Machine.{Row, Steps, held_by, linked_page, opening_world}
 use Rattle.object_pool_cores.specs.World.Reading.{reading}
 use Rattle.object_pool_cores.specs.World.Visible.{Log, made_by}
 use Rattle.object_pool_cores.specs.World.Headline.{IsRun, Ran, IsNew}
-use Rattle.object_pool_cores.specs.World.Invariant.{HoldsAt, Knows, KnowsIf, Agrees}
+use Rattle.object_pool_cores.specs.World.Invariant.{HoldsAt, Agrees}
 use Rattle.object_pool_cores.proofs.Runs.{grown-new}
 use Rattle.object_pool_cores.proofs.Holders.{holders-run, whole-run}
 use Rattle.object_pool_cores.proofs.Readings.{same-grown, pushed-all}

@@ -1,11 +1,11 @@
 -- In each run each number that is out has one holder, and the numbers are those of the pages.
-use Rattle.std.proofs.Common.{◌≡◌, ◌≢◌, ◌⊎◌, inl, inr, ℕ, ◌+◌, ◌-◌, ◌*◌, ◌<◌, ◌≤◌, Option, Some, None, List, [], ◌∷◌, length, slice_get, refl, ap, sym, ◌∙◌, subst, arith}
+use Rattle.std.proofs.Common.{◌≡◌, ◌≢◌, ◌⊎◌, inl, inr, ℕ, ◌+◌, ◌-◌, ◌*◌, ◌<◌, ◌≤◌, Option, Some, List, [], ◌∷◌, length, slice_get, refl, ap, sym, ◌∙◌, subst, arith}
 use Rattle.std.proofs.lemmas.Bool.{cases_eq, cases_lt}
 use Rattle.std.proofs.lemmas.Option.{slice_get_past, slice_get_cases}
 use Rattle.lockfree_object_pool.specs.declared.pull_error.PullError.TheVariants.{Memory, Init, Limit}
-use Rattle.object_pool_cores.specs.Pool.{Place, Pool, Absent, Free, Out, IsFree, IsOut, AllowsPages, free_with, opening, with_place}
-use Rattle.object_pool_cores.specs.Move.{Move, Pull, Return, Growth, Refusal, IsLawful, after, grown}
-use Rattle.object_pool_cores.specs.Run.{Act, Opens, Writes, Moves, Stage, NotBegun, Looking, Holds, Done, agent_of, after_act, after_write, stage_of, pool_of, MayMove, MayCome, Run, HasHolders, IsWhole, AtEachPlace}
+use Rattle.object_pool_cores.specs.Pool.{Place, Pool, Absent, Free, Out, IsFree, IsOut, AllowsPages, free_with, with_place}
+use Rattle.object_pool_cores.specs.Move.{Move, Pull, Return, Growth, Refusal, IsLawful, after}
+use Rattle.object_pool_cores.specs.Run.{Act, Opens, Writes, Moves, Stage, NotBegun, Looking, Holds, agent_of, after_act, after_write, stage_of, pool_of, MayMove, MayCome, Run, HasHolders, IsWhole, AtEachPlace}
 use Rattle.object_pool_cores.proofs.Runs.{stage_of-own, stage_of-other, free_with-in, with_place-same, with_place-other, grown-old, grown-new}
 
 module _ {T : Type 0} where

@@ -1,6 +1,6 @@
 -- The steps at a page's link keep the invariant: the read, the page that is made, and the exchange.
-use Rattle.std.proofs.Common.{◌≡◌, ◌≢◌, ◌⊎◌, inl, inr, ℕ, ◌+◌, ◌*◌, ◌^◌, ◌<◌, ◌≤◌, ◌==◌, nat_lt, Bool, true, false, if◌then◌else◌, Option, Some, None, List, [], ◌∷◌, ◌++◌, map, length, slice_get, Result, Ok, Err, refl, ap, sym, ◌∙◌, subst, arith, length-append, lit<}
-use Rattle.std.proofs.lemmas.Bool.{eq-eqb, ne_eqb, eqb-true, eqb-false, ltb-true}
+use Rattle.std.proofs.Common.{◌≡◌, ◌≢◌, ℕ, ◌+◌, ◌^◌, ◌<◌, ◌≤◌, ◌==◌, nat_lt, true, false, if◌then◌else◌, Option, Some, None, List, [], ◌∷◌, ◌++◌, length, slice_get, Result, Ok, Err, refl, ap, sym, ◌∙◌, subst, arith, length-append, lit<}
+use Rattle.std.proofs.lemmas.Bool.{eq-eqb, ne_eqb, eqb-true, eqb-false}
 use Rattle.std.proofs.lemmas.List.{length-map}
 use Rattle.lockfree_object_pool.specs.declared.pull_error.PullError.{PullError}
 use Rattle.lockfree_object_pool.specs.declared.pull_error.PullError.TheVariants.{Memory, Init, Limit}
@@ -9,19 +9,18 @@ use Rattle.object_pool_cores.specs.declared.interleave.event.Event.TheVariants a
 use Rattle.object_pool_cores.specs.declared.interleave.event.Seen.{Seen}
 use Rattle.object_pool_cores.specs.declared.interleave.event.Seen.TheVariants as seen
 use Rattle.object_pool_cores.specs.declared.interleave.point.Point.{Point}
-use Rattle.object_pool_cores.specs.declared.interleave.point.Point.TheVariants.{Reading, Clearing, AtLink, Making, Linking, Taken, Holding, Home, Ended}
-use Rattle.object_pool_cores.specs.Pool.{Pool, IsSame, IsOut, AllowsPages, number}
+use Rattle.object_pool_cores.specs.declared.interleave.point.Point.TheVariants.{Reading, AtLink, Making, Linking, Ended}
+use Rattle.object_pool_cores.specs.Pool.{IsOut, AllowsPages}
 use Rattle.object_pool_cores.specs.Move.{Growth, Refusal}
-use Rattle.object_pool_cores.specs.Run.{Act, Opens, Moves, Holds, Looking, stage_of, pool_of, FoundOut, FoundPages, HadPages, MayMove, MayCome}
+use Rattle.object_pool_cores.specs.Run.{Act, Opens, Moves, Looking, stage_of, pool_of, FoundPages, HadPages, MayCome}
 use Rattle.object_pool_cores.specs.World.PageState.{PageState}
 use Rattle.object_pool_cores.specs.World.State.{State}
-use Rattle.object_pool_cores.specs.World.Machine.{Outcome, Gives, not_enabled, is_limit, if_linked, linked_page, value_in, value_at, prepared_by, read_next, make_page, exchange_next, LinksWhole}
-use Rattle.object_pool_cores.specs.World.Reading.{reading}
+use Rattle.object_pool_cores.specs.World.Machine.{Outcome, Gives, not_enabled, is_limit, linked_page, value_in, prepared_by, read_next, make_page, exchange_next, LinksWhole}
 use Rattle.object_pool_cores.specs.World.Visible.{Log, IsHidden, made_by, or_else, last_made}
-use Rattle.object_pool_cores.specs.World.Invariant.{LooksOn, IsPast, IsAtEnd, Knows, Agrees}
+use Rattle.object_pool_cores.specs.World.Invariant.{IsPast, IsAtEnd, Agrees}
 use Rattle.object_pool_cores.proofs.Runs.{since-now, since-later, stage_of-own}
 use Rattle.object_pool_cores.proofs.Readings.{get-push_old, pushed-all, same-grown}
-use Rattle.object_pool_cores.proofs.Carried.{GoesOn, StepsPages, moved, pages-stay, hidden-step, shown-step, from-gives, from-if, allows-fewer}
+use Rattle.object_pool_cores.proofs.Carried.{GoesOn, moved, pages-stay, hidden-step, shown-step, from-gives, from-if, allows-fewer}
 use Rattle.object_pool_cores.proofs.WordSteps.{known, disabled}
 
 -- there is this limit

@@ -1,6 +1,6 @@
 -- The lowest set bit of a mask.
 use Rattle.std.proofs.Common.{◌≡◌, ℕ, ◌<◌, ◌^◌, arith}
-use Rattle.std.specs.Int.{w32, bit_at}
+use Rattle.std.specs.Int.{w32}
 use Rattle.std.proofs.lemmas.Bool.{cases_lt}
 use Rattle.std.proofs.Common.{inl, inr}
 use Rattle.std.proofs.lemmas.Nat.Bits.{bit_at-trailing_zeros}

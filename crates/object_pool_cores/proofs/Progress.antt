@@ -1,7 +1,6 @@
 -- An agent that looks goes on with each of its own steps.
-use Rattle.std.specs.Bool.{⊤}
-use Rattle.std.proofs.Common.{◌≡◌, ◌≢◌, ◌⊎◌, inl, inr, ℕ, ◌+◌, ◌-◌, ◌*◌, ◌^◌, ◌<◌, ◌≤◌, ◌==◌, nat_lt, Bool, true, false, if◌then◌else◌, Option, Some, None, List, [], ◌∷◌, ◌++◌, length, slice_get, slice_set, Result, Ok, Err, refl, ap, sym, ◌∙◌, subst, arith, length-append}
-use Rattle.std.specs.Int.{w32, bit_at, trailing_zeros}
+use Rattle.std.proofs.Common.{◌≡◌, inl, inr, ℕ, ◌+◌, ◌*◌, ◌^◌, ◌<◌, ◌≤◌, ◌==◌, nat_lt, Bool, true, false, if◌then◌else◌, Option, Some, None, List, [], ◌∷◌, ◌++◌, length, slice_get, slice_set, Result, Ok, Err, refl, ap, sym, ◌∙◌, subst, arith, length-append}
+use Rattle.std.specs.Int.{w32, bit_at}
 use Rattle.std.proofs.lemmas.Bool.{eq-eqb, ne_eqb, cases_eq, cases_lt}
 use Rattle.std.proofs.lemmas.Nat.Bits.{bit_at-trailing_zeros}
 use Rattle.std.proofs.lemmas.Option.{slice_get_past}
@@ -16,10 +15,10 @@ use Rattle.object_pool_cores.specs.declared.interleave.point.Point.TheVariants.{
 use Rattle.object_pool_cores.specs.Pool.{number}
 use Rattle.object_pool_cores.specs.Run.{Act}
 use Rattle.object_pool_cores.specs.World.State.{State}
-use Rattle.object_pool_cores.specs.World.Machine.{Outcome, Gives, not_enabled, lowest, without_lowest, has_bit, without_bit, with_bit, with_word, word_of, with_value, value_at, linked_page, with_pages, at_point, tries, takes, clears, puts, read_mask, clear_bit, read_next, make_page, exchange_next, move_out, write, or_mask, begin, is_limit, Row, Steps, MovesHome, agent_of}
+use Rattle.object_pool_cores.specs.World.Machine.{Outcome, Gives, not_enabled, lowest, without_lowest, has_bit, without_bit, with_bit, with_word, word_of, value_at, linked_page, with_pages, at_point, tries, takes, clears, puts, read_mask, clear_bit, read_next, make_page, exchange_next, move_out, write, or_mask, begin, is_limit, Row, Steps, MovesHome, agent_of}
 use Rattle.object_pool_cores.specs.World.Visible.{Log}
-use Rattle.object_pool_cores.specs.World.OwnSteps.{is_idle, names, is_step_of, own_steps}
-use Rattle.object_pool_cores.specs.World.Invariant.{Knows, Agrees}
+use Rattle.object_pool_cores.specs.World.OwnSteps.{is_idle, names, is_step_of}
+use Rattle.object_pool_cores.specs.World.Invariant.{Agrees}
 use Rattle.object_pool_cores.proofs.Readings.{get-set_same, get-set_other, get-push_old, get-push_new}
 use Rattle.object_pool_cores.proofs.Bits.{lowest-lt, without_lowest-lt}
 use Rattle.object_pool_cores.proofs.WordSteps.{known}

@@ -1,16 +1,16 @@
 -- What a world reads as, as its pages change.
-use Rattle.std.proofs.Common.{◌≡◌, ◌≢◌, ◌⊎◌, inl, inr, ℕ, suc, zero, ◌+◌, ◌-◌, ◌*◌, ◌/◌, ◌%◌, ◌^◌, ◌<◌, ◌≤◌, ◌==◌, Bool, true, false, Option, Some, None, option_map, option_and_then, List, [], ◌∷◌, ◌++◌, map, length, slice_get, slice_set, refl, ap, sym, ◌∙◌, subst, arith, length-append}
+use Rattle.std.proofs.Common.{◌≡◌, ◌≢◌, ◌⊎◌, inl, inr, ℕ, suc, zero, ◌+◌, ◌-◌, ◌*◌, ◌/◌, ◌%◌, ◌<◌, false, Option, Some, None, option_map, option_and_then, List, [], ◌∷◌, ◌++◌, map, length, slice_get, slice_set, refl, ap, sym, ◌∙◌, subst, arith, length-append}
 use Rattle.std.proofs.lemmas.Bool.{cases_eq, cases_lt}
 use Rattle.std.proofs.lemmas.List.{length-set}
-use Rattle.std.proofs.lemmas.Option.{slice_get_past, slice_get_cases, slice_get_within, slice_get-map}
-use Rattle.object_pool_cores.specs.Pool.{Place, Pool, Absent, Free, Out, IsSame, free_with, number, with_place}
+use Rattle.std.proofs.lemmas.Option.{slice_get_past, slice_get_cases, slice_get-map}
+use Rattle.object_pool_cores.specs.Pool.{Place, Pool, Free, Out, IsSame, free_with, number, with_place}
 use Rattle.object_pool_cores.specs.Move.{grown}
 use Rattle.object_pool_cores.proofs.Runs.{with_place-same, with_place-other, grown-old, grown-new}
 use Rattle.object_pool_cores.specs.World.PageState.{PageState}
 use Rattle.object_pool_cores.specs.World.State.{State}
-use Rattle.object_pool_cores.specs.World.Machine.{has_bit, with_bit, without_bit, word_of, word_in, value_in, value_at, with_page, with_word, with_value, linked_page}
+use Rattle.object_pool_cores.specs.World.Machine.{has_bit, with_bit, without_bit, value_in, value_at, with_page, with_word, with_value, linked_page}
 use Rattle.object_pool_cores.specs.World.Reading.{place_of, place_on, reading}
-use Rattle.object_pool_cores.proofs.Bits.{has_bit-none, has_bit-all, has_bit-set_same, has_bit-set_other, has_bit-clear_same, has_bit-clear_other}
+use Rattle.object_pool_cores.proofs.Bits.{has_bit-all, has_bit-set_same, has_bit-set_other, has_bit-clear_same, has_bit-clear_other}
 
 -- ---- lists by index
 module _ {X : Type 0} where

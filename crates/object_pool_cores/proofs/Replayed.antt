@@ -21,7 +21,7 @@ use Rattle.object_pool_cores.proofs.Headline.{ran-is_run}
 use Rattle.object_pool_cores.proofs.Enabled.{any-step, reached-step, reached-agrees}
 use Rattle.object_pool_cores.specs.World.Alone.{IsAlone}
 use Rattle.object_pool_cores.proofs.Alone.{Stands, stands-first, stands-next, stands-alone}
-use Rattle.object_pool_cores.proofs.Progress.{progress, start_of, AdvancedTo, effect-advances, none-advanced, step-does}
+use Rattle.object_pool_cores.proofs.Progress.{start_of, AdvancedTo, effect-advances, none-advanced, step-does}
 
 -- an error isn't Ok
 pub on-err : {A E : Type 0} (result : Result A E) (P : Type 0) → IsErr result → OnOk result P

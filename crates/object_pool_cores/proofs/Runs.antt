@@ -1,11 +1,9 @@
 -- Facts of runs: what was true stays found, who holds what, and which numbers there are.
-use Rattle.std.proofs.Common.{◌≡◌, ◌≢◌, ◌⊎◌, inl, inr, ℕ, ◌+◌, ◌-◌, ◌*◌, ◌<◌, ◌≤◌, ◌==◌, Bool, true, false, if◌then◌else◌, Option, Some, None, List, [], ◌∷◌, length, slice_get, refl, ap, sym, ◌∙◌, subst, arith}
-use Rattle.std.proofs.lemmas.Bool.{eq-eqb, ne_eqb, lt-ltb, le-ltb, cases_eq, cases_lt}
-use Rattle.std.proofs.lemmas.Option.{slice_get_past, slice_get-get_or}
-use Rattle.lockfree_object_pool.specs.declared.pull_error.PullError.TheVariants.{Memory, Init, Limit}
-use Rattle.object_pool_cores.specs.Pool.{Place, Pool, Absent, Free, Out, IsFree, IsOut, AllowsPages, free_with, opening, with_place}
-use Rattle.object_pool_cores.specs.Move.{Move, Pull, Return, Growth, Refusal, IsLawful, after, grown}
-use Rattle.object_pool_cores.specs.Run.{Act, Opens, Writes, Moves, Stage, NotBegun, Looking, Holds, Done, agent_of, after_act, stage_of, pool_of, Since, FoundOut, FoundPages, HadPages, MayMove, MayCome, Run, HasHolders, IsWhole, AtEachPlace}
+use Rattle.std.proofs.Common.{◌≡◌, ◌≢◌, inl, inr, ℕ, ◌-◌, ◌*◌, ◌<◌, ◌≤◌, Option, Some, None, List, [], ◌∷◌, slice_get, refl, ap}
+use Rattle.std.proofs.lemmas.Bool.{eq-eqb, ne_eqb, lt-ltb, le-ltb}
+use Rattle.object_pool_cores.specs.Pool.{Place, Pool, Out, free_with, with_place}
+use Rattle.object_pool_cores.specs.Move.{grown}
+use Rattle.object_pool_cores.specs.Run.{Act, Opens, Looking, agent_of, after_act, stage_of, pool_of, Since}
 
 module _ {T : Type 0} where
   -- an agent that looks has begun, so what is true of the pool now was true since then

@@ -1,26 +1,24 @@
 -- The moves of values keep the invariant: out of a place, written, and home again; and a new agent.
-use Rattle.std.proofs.Common.{◌≡◌, ◌≢◌, ◌⊎◌, inl, inr, ℕ, ◌+◌, ◌*◌, ◌^◌, ◌<◌, ◌≤◌, Bool, true, false, Option, Some, None, List, [], ◌∷◌, ◌++◌, length, slice_get, slice_set, refl, ap, sym, ◌∙◌, subst, arith, length-append}
+use Rattle.std.proofs.Common.{◌≡◌, ◌≢◌, ◌⊎◌, inl, inr, ℕ, ◌^◌, ◌<◌, ◌≤◌, false, Option, Some, None, List, [], ◌∷◌, ◌++◌, length, slice_get, slice_set, refl, ap, sym, ◌∙◌, subst, arith, length-append}
 use Rattle.std.proofs.lemmas.Bool.{cases_eq, cases_lt, cases_Bool}
 use Rattle.std.proofs.lemmas.List.{length-set}
 use Rattle.std.proofs.lemmas.Option.{slice_get_past}
-use Rattle.object_pool_cores.specs.declared.interleave.event.Event.{Event}
 use Rattle.object_pool_cores.specs.declared.interleave.event.Event.TheVariants as event
 use Rattle.object_pool_cores.specs.declared.interleave.event.Seen.{Seen}
 use Rattle.object_pool_cores.specs.declared.interleave.event.Seen.TheVariants as seen
 use Rattle.object_pool_cores.specs.declared.interleave.point.Point.{Point}
-use Rattle.object_pool_cores.specs.declared.interleave.point.Point.TheVariants.{Reading, Clearing, AtLink, Making, Linking, Taken, Holding, Home, Ended}
-use Rattle.object_pool_cores.specs.Pool.{Place, Pool, Absent, Free, Out, IsSame, IsFree, IsOut, number, free_with}
-use Rattle.object_pool_cores.specs.Run.{Act, Opens, Writes, Moves, NotBegun, Holds, Looking, agent_of, after_write, stage_of, pool_of, FoundOut}
+use Rattle.object_pool_cores.specs.declared.interleave.point.Point.TheVariants.{Reading, Taken, Holding, Home}
+use Rattle.object_pool_cores.specs.Pool.{IsOut, number}
+use Rattle.object_pool_cores.specs.Run.{Act, Opens, Writes, NotBegun, Holds, after_write, stage_of, pool_of}
 use Rattle.object_pool_cores.specs.World.PageState.{PageState}
 use Rattle.object_pool_cores.specs.World.State.{State}
-use Rattle.object_pool_cores.specs.World.Machine.{Outcome, Gives, not_enabled, has_bit, value_in, value_at, with_value, takes, move_out, write, puts, begin, MovesHome}
-use Rattle.object_pool_cores.specs.World.Reading.{place_of, reading}
-use Rattle.object_pool_cores.specs.World.Visible.{Log, made_by, or_else, last_made}
-use Rattle.object_pool_cores.specs.World.Invariant.{LooksOn, HoldsAt, Knows, KnowsIf, Agrees}
+use Rattle.object_pool_cores.specs.World.Machine.{Gives, has_bit, value_at, with_value, takes, move_out, write, puts, begin, MovesHome}
+use Rattle.object_pool_cores.specs.World.Reading.{place_of}
+use Rattle.object_pool_cores.specs.World.Visible.{Log}
+use Rattle.object_pool_cores.specs.World.Invariant.{HoldsAt, KnowsIf, Agrees}
 use Rattle.object_pool_cores.proofs.Runs.{stage_of-own, stage_of-other, since-later, other-opens, free_with-in}
-use Rattle.object_pool_cores.proofs.Holders.{IsSound}
-use Rattle.object_pool_cores.proofs.Readings.{get-some, get-push_old, get-push_new, changed, length-changed, changed-all, value-put_same, value-put_other, same-moved}
-use Rattle.object_pool_cores.proofs.Carried.{GoesOn, StepsPages, moved, pages-stay, hidden-step, shown-step, from-gives, idle, sound-of, allows-fewer, pages-some, Carries, known-carried}
+use Rattle.object_pool_cores.proofs.Readings.{get-some, get-push_old, get-push_new, length-changed, changed-all, value-put_same, value-put_other, same-moved}
+use Rattle.object_pool_cores.proofs.Carried.{GoesOn, StepsPages, pages-stay, hidden-step, shown-step, from-gives, sound-of, allows-fewer, pages-some, Carries, known-carried}
 use Rattle.object_pool_cores.proofs.WordSteps.{known, lies-at, disabled}
 
 module _ {T : Type 0} (Leaves : T → T → Type 0) (first : List T) (log : Log T) (acts : List (Act T)) (old : State T) (agrees : Agrees Leaves first log acts old) where

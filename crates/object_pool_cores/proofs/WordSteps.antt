@@ -1,25 +1,24 @@
 -- The steps on a page's word keep the invariant: a read, a clearing, and the bit that is set again.
-use Rattle.std.proofs.Common.{◌≡◌, ◌≢◌, ◌⊎◌, inl, inr, ℕ, ◌+◌, ◌-◌, ◌*◌, ◌^◌, ◌<◌, ◌≤◌, ◌==◌, nat_lt, Bool, true, false, if◌then◌else◌, Option, Some, None, List, [], ◌∷◌, length, slice_get, refl, ap, sym, ◌∙◌, subst, arith}
-use Rattle.std.proofs.lemmas.Bool.{eq-eqb, ne_eqb, eqb-false, cases_eq, cases_lt, cases_Bool, le-ltb, ltb-false}
+use Rattle.std.proofs.Common.{◌≡◌, inl, inr, ℕ, ◌-◌, ◌*◌, ◌^◌, ◌<◌, ◌==◌, nat_lt, true, false, Option, Some, None, List, ◌∷◌, length, slice_get, refl, ap, sym, ◌∙◌, subst, arith}
+use Rattle.std.proofs.lemmas.Bool.{eq-eqb, ne_eqb, cases_eq, cases_lt}
 use Rattle.object_pool_cores.specs.declared.interleave.event.Event.{Event}
 use Rattle.object_pool_cores.specs.declared.interleave.event.Event.TheVariants as event
 use Rattle.object_pool_cores.specs.declared.interleave.event.Seen.{Seen}
 use Rattle.object_pool_cores.specs.declared.interleave.event.Seen.TheVariants as seen
 use Rattle.object_pool_cores.specs.declared.interleave.point.Point.{Point}
-use Rattle.object_pool_cores.specs.declared.interleave.point.Point.TheVariants.{Reading, Clearing, AtLink, Making, Linking, Taken, Holding, Home, Ended}
-use Rattle.object_pool_cores.specs.Pool.{Place, Pool, Absent, Free, Out, IsSame, IsFree, IsOut, number}
+use Rattle.object_pool_cores.specs.declared.interleave.point.Point.TheVariants.{Reading, Clearing, AtLink, Taken, Home, Ended}
+use Rattle.object_pool_cores.specs.Pool.{IsSame, IsFree, IsOut, number}
 use Rattle.object_pool_cores.specs.Move.{Pull, Return}
-use Rattle.object_pool_cores.specs.Run.{Act, Moves, Holds, Looking, stage_of, pool_of, FoundOut}
+use Rattle.object_pool_cores.specs.Run.{Act, Moves, pool_of, FoundOut}
 use Rattle.object_pool_cores.specs.World.PageState.{PageState}
 use Rattle.object_pool_cores.specs.World.State.{State}
-use Rattle.object_pool_cores.specs.World.Machine.{Outcome, Gives, not_enabled, has_bit, with_bit, without_bit, lowest, without_lowest, word_in, word_of, value_in, value_at, with_word, tries, clears, read_mask, clear_bit, or_mask}
+use Rattle.object_pool_cores.specs.World.Machine.{Outcome, Gives, not_enabled, has_bit, with_bit, without_bit, lowest, without_lowest, word_in, word_of, value_at, with_word, tries, clears, read_mask, clear_bit, or_mask}
 use Rattle.object_pool_cores.specs.World.Reading.{place_of, reading}
 use Rattle.object_pool_cores.specs.World.Visible.{Log, made_by}
-use Rattle.object_pool_cores.specs.World.Invariant.{LooksOn, IsPast, TriesBits, HoldsAt, Knows, KnowsIf, Agrees}
+use Rattle.object_pool_cores.specs.World.Invariant.{LooksOn, IsPast, Knows, KnowsIf, Agrees}
 use Rattle.object_pool_cores.proofs.Runs.{since-now, stage_of-own}
-use Rattle.object_pool_cores.proofs.Holders.{IsSound}
 use Rattle.object_pool_cores.proofs.Bits.{has_bit-none, has_bit-without_lowest, lowest-lt, with_bit-lt, without_bit-lt, without_lowest-lt}
-use Rattle.object_pool_cores.proofs.Readings.{get-some, changed, length-changed, changed-all, reads-number, value-word, same-cleared, same-set}
+use Rattle.object_pool_cores.proofs.Readings.{get-some, length-changed, changed-all, reads-number, value-word, same-cleared, same-set}
 use Rattle.object_pool_cores.proofs.Carried.{GoesOn, StepsPages, moved, pages-stay, hidden-step, shown-step, from-gives, from-if, idle, sound-of, allows-fewer}
 
 module _ {T : Type 0} (Leaves : T → T → Type 0) (first : List T) where

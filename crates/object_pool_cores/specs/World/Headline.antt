@@ -1,5 +1,5 @@
 -- The headline: what agents do in a world, in any order of their steps, is a run of one pool.
-use Rattle.std.specs.Prelude.{◌≡◌, ℕ, ◌-◌, ◌*◌, ◌<◌, Option, Some, None, List, [], ◌∷◌, ◌++◌, map, reverse, length, slice_get, Result, OnOk, ⊤}
+use Rattle.std.specs.Prelude.{◌≡◌, ℕ, ◌-◌, ◌*◌, ◌<◌, Some, None, List, [], ◌∷◌, ◌++◌, map, reverse, length, slice_get, Result, OnOk}
 use Rattle.object_pool_cores.specs.declared.interleave.event.Event.{Event}
 use Rattle.object_pool_cores.specs.declared.interleave.event.Seen.{Seen}
 use Rattle.object_pool_cores.specs.declared.interleave.point.Point.TheVariants.{Reading}

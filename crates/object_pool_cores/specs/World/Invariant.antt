@@ -1,12 +1,12 @@
 -- The invariant: how the acts that were seen, the words, the places and the points of the agents belong together.
-use Rattle.std.specs.Prelude.{◌≡◌, ℕ, ◌+◌, ◌*◌, ◌^◌, ◌<◌, ◌≤◌, Bool, false, Option, Some, None, List, length, slice_get, ⊤}
+use Rattle.std.specs.Prelude.{◌≡◌, ℕ, ◌+◌, ◌^◌, ◌<◌, false, Option, Some, None, List, length, slice_get, ⊤}
 use Rattle.object_pool_cores.specs.declared.interleave.point.Point.{Point}
 use Rattle.object_pool_cores.specs.declared.interleave.point.Point.TheVariants.{Reading, Clearing, AtLink, Making, Linking, Taken, Holding, Home, Ended}
 use Rattle.object_pool_cores.specs.Pool.{IsSame, AllowsPages, number}
-use Rattle.object_pool_cores.specs.Run.{Act, Stage, NotBegun, Looking, Holds, stage_of, pool_of, FoundOut, FoundPages, HadPages, Run, Found}
+use Rattle.object_pool_cores.specs.Run.{Act, NotBegun, Looking, Holds, stage_of, pool_of, FoundOut, FoundPages, HadPages, Run, Found}
 use Rattle.object_pool_cores.specs.World.PageState.{PageState}
 use Rattle.object_pool_cores.specs.World.State.{State}
-use Rattle.object_pool_cores.specs.World.Machine.{has_bit, value_at, opening_world}
+use Rattle.object_pool_cores.specs.World.Machine.{has_bit, value_at}
 use Rattle.object_pool_cores.specs.World.Reading.{reading}
 use Rattle.object_pool_cores.specs.World.Visible.{Log, last_made, Reads}
 

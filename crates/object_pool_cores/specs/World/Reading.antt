@@ -1,6 +1,6 @@
 -- A world read as a pool.
-use Rattle.std.specs.Prelude.{ℕ, ◌/◌, ◌%◌, Bool, true, false, Option, Some, None, List, slice_get, length, option_and_then}
-use Rattle.object_pool_cores.specs.Pool.{Place, Free, Out, Absent, Pool, free_with}
+use Rattle.std.specs.Prelude.{ℕ, ◌/◌, ◌%◌, Bool, true, false, Option, Some, None, slice_get, length}
+use Rattle.object_pool_cores.specs.Pool.{Place, Out, Absent, Pool, free_with}
 use Rattle.object_pool_cores.specs.World.PageState.{PageState}
 use Rattle.object_pool_cores.specs.World.State.{State}
 use Rattle.object_pool_cores.specs.World.Machine.{has_bit, value_in}

@@ -1,11 +1,10 @@
 -- Which events the table has a row for.
-use Rattle.std.specs.Prelude.{Option, Some, None, Result, Ok, Err, ⊤}
-use Rattle.lockfree_object_pool.specs.declared.pull_error.PullError.{PullError}
-use Rattle.lockfree_object_pool.specs.declared.pull_error.PullError.TheVariants.{Memory, Init, Limit}
+use Rattle.std.specs.Prelude.{Option, Some, Ok, Err, ⊤}
+use Rattle.lockfree_object_pool.specs.declared.pull_error.PullError.TheVariants.{Memory, Init}
 use Rattle.object_pool_cores.specs.declared.interleave.event.Event.{Event}
 use Rattle.object_pool_cores.specs.declared.interleave.event.Event.TheVariants as event
 use Rattle.object_pool_cores.specs.declared.interleave.point.Point.{Point}
-use Rattle.object_pool_cores.specs.declared.interleave.point.Point.TheVariants.{Reading, Clearing, AtLink, Making, Linking, Taken, Holding, Home, Ended}
+use Rattle.object_pool_cores.specs.declared.interleave.point.Point.TheVariants.{Reading, Clearing, AtLink, Making, Linking, Taken, Holding, Home}
 
 module _ {T : Type 0} where
   -- the table has a row for the event, of an agent at this point

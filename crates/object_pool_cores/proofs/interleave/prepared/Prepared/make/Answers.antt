@@ -1,4 +1,4 @@
-use Rattle.std.proofs.Common.{◌≡◌, Some, List, [], ◌∷◌, ◌++◌, length, All, rules, ◌∙◌, ap, length-append, arith}
+use Rattle.std.proofs.Common.{◌≡◌, Some, [], ◌∷◌, ◌++◌, All, rules, length-append, arith}
 use Rattle.std.proofs.lemmas.List.Elements.{All-append}
 use Rattle.object_pool_cores.specs.World.Prepared.{values_of}
 use Rattle.object_pool_cores.proofs.PreparedValues.{values_of-push, full-push}

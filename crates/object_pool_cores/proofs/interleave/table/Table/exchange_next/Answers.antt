@@ -1,9 +1,8 @@
-use Rattle.std.proofs.Common.{◌≡◌, Some, None, slice_get, arith, nat_lt, ◌==◌, ◌+◌, ◌<◌, length, true, refl, eq-eqb}
+use Rattle.std.proofs.Common.{◌≡◌, Some, None, slice_get, arith, nat_lt, ◌==◌, ◌+◌, length, true, refl}
 use Rattle.std.proofs.lemmas.Bool.Decides.{nat_tests}
 use Rattle.std.proofs.lemmas.Grind.{common_steps}
 use Rattle.std.proofs.lemmas.Option.{gets}
 use Rattle.object_pool_cores.specs.declared.interleave.point.Point.TheVariants.{Linking}
-use Rattle.object_pool_cores.specs.World.Machine.{prepared_by, if_linked}
 use Rattle.object_pool_cores.proofs.interleave.table.Table.exchange_next.Goals as goal
 
 pub returns-in-Some-clause-step : goal.returns-in-Some-clause-step
