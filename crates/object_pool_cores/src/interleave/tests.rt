@@ -351,3 +351,24 @@ fn an_agent_alone_is_refused_after_two_events_a_page(rt: HostRuntime) -> Result<
     )?;
     Ok(())
 }
+
+#[test]
+fn a_page_is_made_whole_or_not_at_all(rt: HostRuntime) -> Result<(), Fail> {
+    for last in 1..33u32 {
+        let (calls, ends) = (Cell::new(0u32), Cell::new(0u32));
+        let made = Prepared::make(
+            rt.alloc(),
+            &|| {
+                calls.set(calls.get().saturating_add(1));
+                if calls.get() == last {
+                    None
+                } else {
+                    Some(Counted { ends: &ends })
+                }
+            },
+        );
+        assert!(rt; matches!(made, Err(PullError::Init)));
+        assert_eq!(rt; (calls.get(), ends.get().saturating_add(1)), (last, last));
+    }
+    Ok(())
+}

@@ -55,27 +55,6 @@ fn a_step_again_answers_as_with_memory(rt: HostRuntime) -> Result<(), Fail> {
     Ok(())
 }
 
-#[test]
-fn a_page_is_made_whole_or_not_at_all(rt: HostRuntime) -> Result<(), Fail> {
-    for last in 1..33u32 {
-        let (calls, ends) = (Cell::new(0u32), Cell::new(0u32));
-        let made = Prepared::make(
-            rt.alloc(),
-            &|| {
-                calls.set(calls.get().saturating_add(1));
-                if calls.get() == last {
-                    None
-                } else {
-                    Some(Counted { ends: &ends })
-                }
-            },
-        );
-        assert!(rt; matches!(made, Err(PullError::Init)));
-        assert_eq!(rt; (calls.get(), ends.get().saturating_add(1)), (last, last));
-    }
-    Ok(())
-}
-
 /// The events of an agent that writes 5, and of one that sees it.
 fn event_at(index: usize) -> Event<u32> {
     match index {
