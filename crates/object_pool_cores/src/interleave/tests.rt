@@ -2,7 +2,7 @@
 use super::*;
 use lockfree_object_pool::PullError;
 use lockfree_object_pool::clean::AnyValue;
-use lockfree_object_pool::closures::{Keep, Reset};
+use lockfree_object_pool::closures::{Copied, Keep, Reset, ResetBy, Resets};
 use std::alloc::{AllocError, Global};
 use std::cell::Cell;
 use std::process::Abort;
@@ -370,5 +370,33 @@ fn a_page_is_made_whole_or_not_at_all(rt: HostRuntime) -> Result<(), Fail> {
         assert!(rt; matches!(made, Err(PullError::Init)));
         assert_eq!(rt; (calls.get(), ends.get().saturating_add(1)), (last, last));
     }
+    Ok(())
+}
+
+/// What lies at the first place after an agent wrote 9 there and returned it.
+fn left_of_nine<R: Reset<u32, AnyValue>>(
+    alloc: Global,
+    reset: R,
+) -> Result<Option<u32>, PullError> {
+    let mut world = World::new(alloc, zeros(alloc)?, reset)?;
+    hold(&mut world, 1);
+    let _ = world.step(Event::Write(0, 9));
+    give_back(&mut world, 0);
+    Ok(world.place(0, 0).copied())
+}
+
+/// The same, of a closure that resets.
+fn left_by_closure<F: ResetBy<u32>>(alloc: Global, reset: F) -> Result<Option<u32>, PullError>
+    requires { F.may_reset reset }
+{
+    left_of_nine(alloc, Resets::<u32, F, AnyValue>::new(reset))
+}
+
+#[test]
+fn a_return_stores_what_reset_left(rt: HostRuntime) -> Result<(), Fail> {
+    let kept = left_of_nine(rt.alloc(), Keep)?;
+    let copied = left_of_nine(rt.alloc(), Copied::<u32, AnyValue>::new(3))?;
+    let halved = left_by_closure(rt.alloc(), |value: &mut u32| *value /= 2)?;
+    assert_eq!(rt; (kept, copied, halved), (Some(9), Some(3), Some(4)));
     Ok(())
 }
