@@ -1,0 +1,326 @@
+-- Where an agent is that steps alone, after each of its steps.
+use Rattle.std.specs.Bool.{⊤}
+use Rattle.std.proofs.Common.{◌≡◌, inl, inr, ℕ, ◌+◌, ◌*◌, ◌<◌, ◌≤◌, ◌==◌, nat_lt, Bool, true, false, if◌then◌else◌, Option, Some, None, List, [], ◌∷◌, ◌++◌, length, slice_get, slice_set, Ok, Err, refl, ap, sym, ◌∙◌, subst, arith, length-append}
+use Rattle.std.proofs.lemmas.Bool.{eq-eqb, ne_eqb, lt-ltb, false≢true, cases_eq, cases_Bool}
+use Rattle.lockfree_object_pool.specs.declared.pull_error.PullError.TheVariants.{Memory, Init, Limit}
+use Rattle.object_pool_cores.specs.declared.interleave.event.Event.{Event}
+use Rattle.object_pool_cores.specs.declared.interleave.event.Event.TheVariants as event
+use Rattle.object_pool_cores.specs.declared.interleave.event.Seen.{Seen}
+use Rattle.object_pool_cores.specs.declared.interleave.event.Seen.TheVariants as seen
+use Rattle.object_pool_cores.specs.declared.interleave.point.Point.{Point}
+use Rattle.object_pool_cores.specs.declared.interleave.point.Point.TheVariants.{Reading, Clearing, AtLink, Making, Linking, Taken, Holding, Ended}
+use Rattle.object_pool_cores.specs.World.PageState.{PageState}
+use Rattle.object_pool_cores.specs.World.State.{State}
+use Rattle.object_pool_cores.specs.World.Machine.{Outcome, Gives, not_enabled, at_point, with_pages, linked_page, tries, clears, takes, read_mask, clear_bit, read_next, make_page, exchange_next, move_out, write, or_mask, MovesHome, Row, Steps, agent_of, word_of, word_in, is_limit, lowest, has_bit, without_lowest, without_bit, with_word, value_at}
+use Rattle.object_pool_cores.specs.Pool.{AllowsPages, number}
+use Rattle.object_pool_cores.specs.Run.{Act}
+use Rattle.object_pool_cores.specs.World.Visible.{Log}
+use Rattle.object_pool_cores.specs.World.Invariant.{Agrees}
+use Rattle.object_pool_cores.proofs.Bits.{has_bit-lowest}
+use Rattle.object_pool_cores.proofs.Readings.{get-set_same, get-push_old, get-push_new}
+use Rattle.object_pool_cores.proofs.WordSteps.{known}
+use Rattle.object_pool_cores.proofs.LinkSteps.{limit-is, is-limit}
+use Rattle.object_pool_cores.specs.World.OwnSteps.{is_idle}
+use Rattle.object_pool_cores.specs.World.Alone.{BringsPage, IsStepAlone, IsFirstFree, AllFull, HasMovedOut, EndsRefused, StepsAlone}
+
+module _ {T : Type 0} (Leaves : T → T → Type 0) (old : State T) (a : ℕ) (answer : Seen) (new : State T) where
+  -- the row of an event, for an agent at this point
+  abbrev pub RowAt : Option (Point T) → Event T → Type 0
+  RowAt found event.Begin = ⊤
+  RowAt found (event.ReadMask b) = Gives (read_mask old a found) answer new
+  RowAt found (event.ClearBit b) = Gives (clear_bit old a found) answer new
+  RowAt found (event.ReadNext b) = Gives (read_next old a found) answer new
+  RowAt found (event.MakePage b made) = Gives (make_page old a made found) answer new
+  RowAt found (event.ExchangeNext b) = Gives (exchange_next old a found) answer new
+  RowAt found (event.MoveOut b) = Gives (move_out old a found) answer new
+  RowAt found (event.Write b value) = Gives (write old a value found) answer new
+  RowAt found (event.MoveHome b) = MovesHome Leaves old a found answer new
+  RowAt found (event.OrMask b) = Gives (or_mask old a found) answer new
+
+  named : (b : ℕ) → ◌≡◌ {A = Option ℕ} (Some b) (Some a) → b ≡ a
+  named b same = cc
+
+  -- a step of the agent is the row for its point
+  row-at : (found : Option (Point T)) (e : Event T) → agent_of e ≡ Some a → slice_get old.agents a ≡ found → Row Leaves old e answer new → RowAt found e
+  row-at found event.Begin who at row = tt
+  row-at found (event.ReadMask b) who at row = let P : ℕ → Type 0 = λ c. Gives (read_mask old c (slice_get old.agents c)) answer new in let Q : Option (Point T) → Type 0 = λ f. Gives (read_mask old a f) answer new in subst Q at (subst P (named b who) row)
+  row-at found (event.ClearBit b) who at row = let P : ℕ → Type 0 = λ c. Gives (clear_bit old c (slice_get old.agents c)) answer new in let Q : Option (Point T) → Type 0 = λ f. Gives (clear_bit old a f) answer new in subst Q at (subst P (named b who) row)
+  row-at found (event.ReadNext b) who at row = let P : ℕ → Type 0 = λ c. Gives (read_next old c (slice_get old.agents c)) answer new in let Q : Option (Point T) → Type 0 = λ f. Gives (read_next old a f) answer new in subst Q at (subst P (named b who) row)
+  row-at found (event.MakePage b made) who at row = let P : ℕ → Type 0 = λ c. Gives (make_page old c made (slice_get old.agents c)) answer new in let Q : Option (Point T) → Type 0 = λ f. Gives (make_page old a made f) answer new in subst Q at (subst P (named b who) row)
+  row-at found (event.ExchangeNext b) who at row = let P : ℕ → Type 0 = λ c. Gives (exchange_next old c (slice_get old.agents c)) answer new in let Q : Option (Point T) → Type 0 = λ f. Gives (exchange_next old a f) answer new in subst Q at (subst P (named b who) row.0)
+  row-at found (event.MoveOut b) who at row = let P : ℕ → Type 0 = λ c. Gives (move_out old c (slice_get old.agents c)) answer new in let Q : Option (Point T) → Type 0 = λ f. Gives (move_out old a f) answer new in subst Q at (subst P (named b who) row)
+  row-at found (event.Write b value) who at row = let P : ℕ → Type 0 = λ c. Gives (write old c value (slice_get old.agents c)) answer new in let Q : Option (Point T) → Type 0 = λ f. Gives (write old a value f) answer new in subst Q at (subst P (named b who) row)
+  row-at found (event.MoveHome b) who at row = let P : ℕ → Type 0 = λ c. MovesHome Leaves old c (slice_get old.agents c) answer new in let Q : Option (Point T) → Type 0 = λ f. MovesHome Leaves old a f answer new in subst Q at (subst P (named b who) row)
+  row-at found (event.OrMask b) who at row = let P : ℕ → Type 0 = λ c. Gives (or_mask old c (slice_get old.agents c)) answer new in let Q : Option (Point T) → Type 0 = λ f. Gives (or_mask old a f) answer new in subst Q at (subst P (named b who) row)
+
+  -- a busy step isn't one that isn't enabled
+  busy-not : {R : Type 0} → is_idle answer ≡ false → Gives (not_enabled old) answer new → R
+  busy-not busy gives = absurd (let idle : is_idle answer ≡ true = ap is_idle gives.0 in cc)
+
+  -- what the only busy step of an agent does, by its point
+  reading-row : (k : ℕ) (e : Event T) → is_idle answer ≡ false → agent_of e ≡ Some a → RowAt (Some (Reading k)) e → Gives (read_mask old a (Some (Reading k))) answer new
+  reading-row k (event.ReadMask b) busy who row = row
+  reading-row k event.Begin busy who row = absurd (cc)
+  reading-row k (event.MakePage b (Ok values)) busy who row = busy-not busy row
+  reading-row k (event.MakePage b (Err Memory)) busy who row = busy-not busy row
+  reading-row k (event.MakePage b (Err Init)) busy who row = busy-not busy row
+  reading-row k (event.MakePage b (Err Limit)) busy who row = busy-not busy row
+  reading-row k _ busy who row = busy-not busy row
+
+  link-row : (k : ℕ) (e : Event T) → is_idle answer ≡ false → agent_of e ≡ Some a → RowAt (Some (AtLink k)) e → Gives (read_next old a (Some (AtLink k))) answer new
+  link-row k (event.ReadNext b) busy who row = row
+  link-row k event.Begin busy who row = absurd (cc)
+  link-row k (event.MakePage b (Ok values)) busy who row = busy-not busy row
+  link-row k (event.MakePage b (Err Memory)) busy who row = busy-not busy row
+  link-row k (event.MakePage b (Err Init)) busy who row = busy-not busy row
+  link-row k (event.MakePage b (Err Limit)) busy who row = busy-not busy row
+  link-row k _ busy who row = busy-not busy row
+
+  clearing-row : (k mask : ℕ) (e : Event T) → is_idle answer ≡ false → agent_of e ≡ Some a → RowAt (Some (Clearing k mask)) e → Gives (clear_bit old a (Some (Clearing k mask))) answer new
+  clearing-row k mask (event.ClearBit b) busy who row = row
+  clearing-row k mask event.Begin busy who row = absurd (cc)
+  clearing-row k mask (event.MakePage b (Ok values)) busy who row = busy-not busy row
+  clearing-row k mask (event.MakePage b (Err Memory)) busy who row = busy-not busy row
+  clearing-row k mask (event.MakePage b (Err Init)) busy who row = busy-not busy row
+  clearing-row k mask (event.MakePage b (Err Limit)) busy who row = busy-not busy row
+  clearing-row k mask _ busy who row = busy-not busy row
+
+  taken-row : (k id : ℕ) (e : Event T) → is_idle answer ≡ false → agent_of e ≡ Some a → RowAt (Some (Taken k id)) e → Gives (move_out old a (Some (Taken k id))) answer new
+  taken-row k id (event.MoveOut b) busy who row = row
+  taken-row k id event.Begin busy who row = absurd (cc)
+  taken-row k id (event.MakePage b (Ok values)) busy who row = busy-not busy row
+  taken-row k id (event.MakePage b (Err Memory)) busy who row = busy-not busy row
+  taken-row k id (event.MakePage b (Err Init)) busy who row = busy-not busy row
+  taken-row k id (event.MakePage b (Err Limit)) busy who row = busy-not busy row
+  taken-row k id _ busy who row = busy-not busy row
+
+  linking-row : (k : ℕ) (values : List T) (e : Event T) → is_idle answer ≡ false → agent_of e ≡ Some a → RowAt (Some (Linking k values)) e → Gives (exchange_next old a (Some (Linking k values))) answer new
+  linking-row k values (event.ExchangeNext b) busy who row = row
+  linking-row k values event.Begin busy who row = absurd (cc)
+  linking-row k values (event.MakePage b (Ok other)) busy who row = busy-not busy row
+  linking-row k values (event.MakePage b (Err Memory)) busy who row = busy-not busy row
+  linking-row k values (event.MakePage b (Err Init)) busy who row = busy-not busy row
+  linking-row k values (event.MakePage b (Err Limit)) busy who row = busy-not busy row
+  linking-row k values _ busy who row = busy-not busy row
+
+  making-row : (k : ℕ) (e : Event T) → is_idle answer ≡ false → agent_of e ≡ Some a → BringsPage e → RowAt (Some (Making k)) e → (values : List T) × Gives (make_page old a (Ok values) (Some (Making k))) answer new
+  making-row k (event.MakePage b (Ok values)) busy who brings row = (values, row)
+  making-row k event.Begin busy who brings row = absurd (cc)
+  making-row k (event.MakePage b (Err cause)) busy who brings row = absurd brings
+  making-row k _ busy who brings row = busy-not busy row
+
+  -- a busy step is a row, since it didn't lack memory
+  pub alone-row : (e : Event T) → IsStepAlone a e answer → (found : Option (Point T)) → slice_get old.agents a ≡ found → Steps Leaves old e answer new → RowAt found e
+  alone-row e alone found at (inl row) = row-at found e alone.own at row
+  alone-row e alone found at (inr (may, lacks, same)) = absurd (let idle : is_idle answer ≡ true = ap is_idle lacks in let busy = alone.busy in cc)
+
+-- there is no limit below the pages that there are
+no-limit : (limit : Option ℕ) (pages count : ℕ) → count < pages → AllowsPages limit pages → is_limit limit count ≡ false
+no-limit None pages count less allowed = refl
+no-limit (Some limit) pages count less allowed = ne_eqb limit count (λ is. absurd (omega arith))
+
+module _ {T : Type 0} where
+  -- where an agent is that has page k as the first with a free number, after n steps from its step c on
+  pub data Walk (pages : List (PageState T)) (k c n : ℕ) (world : State T) (found : Option (Point T)) : Type 0 where
+    AtWord : (j : ℕ) → j ≤ k → n ≡ c + 2 * j → found ≡ Some (Reading j) → world.pages ≡ pages → Walk pages k c n world found
+    AtChain : (j : ℕ) → j < k → n ≡ c + 2 * j + 1 → found ≡ Some (AtLink j) → world.pages ≡ pages → Walk pages k c n world found
+    AtBits : n ≡ c + 2 * k + 1 → found ≡ Some (Clearing k (word_of pages k)) → world.pages ≡ pages → Walk pages k c n world found
+    HasTaken : (id : ℕ) → n ≡ c + 2 * k + 2 → found ≡ Some (Taken k id) → Walk pages k c n world found
+    HasMoved : c + 2 * k + 3 ≤ n → (n ≡ c + 2 * k + 3 → HasMovedOut found) → Walk pages k c n world found
+
+  -- where an agent is that found all pages full, after the steps of the log
+  pub data Chain (pages : List (PageState T)) (limit : Option ℕ) (a : ℕ) (log : Log T) (n : ℕ) (world : State T) (found : Option (Point T)) : Type 0 where
+    FullWord : (j : ℕ) → j < length pages → n ≡ 2 * j → found ≡ Some (Reading j) → world.pages ≡ pages → world.limit ≡ limit → Chain pages limit a log n world found
+    FullLink : (j : ℕ) → j < length pages → n ≡ 2 * j + 1 → found ≡ Some (AtLink j) → world.pages ≡ pages → world.limit ≡ limit → Chain pages limit a log n world found
+    FullMake : (k : ℕ) → length pages ≡ k + 1 → n ≡ 2 * length pages → found ≡ Some (Making k) → world.pages ≡ pages → (limit ≡ Some (length pages) → ⊥) → Chain pages limit a log n world found
+    FullMade : (k : ℕ) (values : List T) → length pages ≡ k + 1 → n ≡ 2 * length pages + 1 → found ≡ Some (Linking k values) → world.pages ≡ pages → Chain pages limit a log n world found
+    FullLinked : (values : List T) → 2 * length pages + 2 ≤ n → Walk (pages ++ linked_page values ∷ []) (length pages) 2 n world found → Chain pages limit a log n world found
+    FullRefused : limit ≡ Some (length pages) → 2 * length pages ≤ n → (n ≡ 2 * length pages → EndsRefused a log) → Chain pages limit a log n world found
+
+  -- a test that is known
+  known-test : (test : Bool) (one other : Outcome T) (answer : Seen) (new : State T) → test ≡ true → Gives (if test then one else other) answer new → Gives one answer new
+  known-test true one other answer new is gives = gives
+  known-test false one other answer new is gives = absurd (cc)
+
+  failed-test : (test : Bool) (one other : Outcome T) (answer : Seen) (new : State T) → test ≡ false → Gives (if test then one else other) answer new → Gives other answer new
+  failed-test false one other answer new is gives = gives
+  failed-test true one other answer new is gives = absurd (cc)
+
+  -- where an agent is after it moved
+  moved-to : (old new : State T) (a : ℕ) (from point : Point T) → slice_get old.agents a ≡ Some from → new.agents ≡ slice_set old.agents a point → slice_get new.agents a ≡ Some point
+  moved-to old new a from point at moved = ap (λ all. slice_get all a) moved ∙ get-set_same old.agents a from point at
+
+module _ {T : Type 0} (Leaves : T → T → Type 0) (first : List T) (log : Log T) (acts : List (Act T)) (old : State T) (agrees : Agrees Leaves first log acts old) (a : ℕ) (e : Event T) (answer : Seen) (new : State T) (alone : IsStepAlone a e answer) (step : Steps Leaves old e answer new) where
+  -- an agent reads a word
+  read-word : (j word : ℕ) → slice_get old.agents a ≡ Some (Reading j) → word_of old.pages j ≡ word → (slice_get new.agents a ≡ Some (tries j word)) × (new.pages ≡ old.pages) × (new.limit ≡ old.limit)
+  read-word j word at is =
+      let gives = reading-row Leaves old a answer new j e alone.busy alone.own (alone-row Leaves old a answer new e alone (Some (Reading j)) at step) in
+      let there = moved-to old new a (Reading j) (tries j (word_of old.pages j)) at (ap (λ w. w.agents) gives.1) in
+      (there ∙ ap (λ w. Some (tries j w)) is, ap (λ w. w.pages) gives.1, ap (λ w. w.limit) gives.1)
+
+  -- an agent goes on to a page that is linked
+  go-on : (j : ℕ) → slice_get old.agents a ≡ Some (AtLink j) → j + 1 < length old.pages → (slice_get new.agents a ≡ Some (Reading (j + 1))) × (new.pages ≡ old.pages) × (new.limit ≡ old.limit)
+  go-on j at more =
+      let one : Outcome T = (seen.Refused a Limit, at_point old a Ended) in
+      let two : Outcome T = (seen.Next a false, at_point old a (Making j)) in
+      let three : Outcome T = (seen.Next a true, at_point old a (Reading (j + 1))) in
+      let rest : Outcome T = if length old.pages == j + 1 then two else three in
+      let gives = link-row Leaves old a answer new j e alone.busy alone.own (alone-row Leaves old a answer new e alone (Some (AtLink j)) at step) in
+      let there = known-test (nat_lt j (length old.pages)) (if is_limit old.limit (j + 1) then one else rest) (not_enabled old) answer new (lt-ltb j (length old.pages) (omega arith)) gives in
+      let below = failed-test (is_limit old.limit (j + 1)) one rest answer new (no-limit old.limit (length old.pages) (j + 1) more agrees.allowed) there in
+      let last = failed-test (length old.pages == j + 1) two three answer new (ne_eqb (length old.pages) (j + 1) (λ is. absurd (omega arith))) below in
+      (moved-to old new a (AtLink j) (Reading (j + 1)) at (ap (λ w. w.agents) last.1), ap (λ w. w.pages) last.1, ap (λ w. w.limit) last.1)
+
+  tries-none : (j word : ℕ) → word ≡ 0 → tries {T = T} j word ≡ AtLink j
+  tries-none j word none = rw (eq-eqb word 0 none) refl
+
+  tries-some : (j word : ℕ) → 0 < word → tries {T = T} j word ≡ Clearing j word
+  tries-some j word some = rw (ne_eqb word 0 (λ is. absurd (omega arith))) refl
+
+  taken-step : (k id : ℕ) → slice_get old.agents a ≡ Some (Taken k id) → (found : Option T) → Gives (takes old a k id found) answer new → HasMovedOut (slice_get new.agents a)
+  taken-step k id at None gives = busy-not Leaves old a answer new alone.busy gives
+  taken-step k id at (Some value) gives =
+      let P : Option (Point T) → Type 0 = HasMovedOut in
+      subst P (sym (moved-to old new a (Taken k id) (Holding k id value) at (ap (λ w. w.agents) gives.1))) tt
+
+  pub walk-step : (pages : List (PageState T)) (k c n : ℕ) → IsFirstFree pages k → Walk pages k c n old (slice_get old.agents a) → Walk pages k c (n + 1) new (slice_get new.agents a)
+  walk-step pages k c n free (AtWord j below is at same) =
+      let (there, kept, limit) = read-word j (word_of pages j) at (ap (λ all. word_of all j) same) in
+      elim (cases_eq j k) [
+        | inl here ↦
+            let word : word_of pages j ≡ word_of pages k = ap (word_of pages) here in
+            let point : tries {T = T} j (word_of pages j) ≡ Clearing k (word_of pages k) = ap (tries j) word ∙ ap (λ i. tries i (word_of pages k)) here ∙ tries-some k (word_of pages k) free.free in
+            AtBits (omega arith) (there ∙ ap Some point) (kept ∙ same)
+        | inr other ↦
+            AtChain j (omega arith) (omega arith) (there ∙ ap Some (tries-none j (word_of pages j) (free.full j (omega arith)))) (kept ∙ same)
+      ]
+  walk-step pages k c n free (AtChain j below is at same) =
+      let linked = free.linked in
+      let count : length old.pages ≡ length pages = ap length same in
+      let (there, kept, limit) = go-on j at (omega arith) in
+      AtWord (j + 1) (omega arith) (omega arith) there (kept ∙ same)
+  walk-step pages k c n free (AtBits is at same) =
+      let word = word_of pages k in
+      let bits = (known Leaves first log acts old agrees a (Clearing k word) at).1 in
+      let some = bits.some in
+      let id = lowest word in
+      let now : word_of old.pages k ≡ word = ap (λ all. word_of all k) same in
+      let one : Outcome T = (seen.Pulled a (number k id), at_point (with_pages old (with_word old.pages k (without_bit (word_of old.pages k) id))) a (Taken k id)) in
+      let two : Outcome T = (seen.Found a (word_of old.pages k), at_point old a (tries k (without_lowest word))) in
+      let gives = clearing-row Leaves old a answer new k word e alone.busy alone.own (alone-row Leaves old a answer new e alone (Some (Clearing k word)) at step) in
+      let more = failed-test (word == 0) (not_enabled old) (clears old a k word (word_of old.pages k)) answer new (ne_eqb word 0 (λ none. absurd (omega arith))) gives in
+      let set = known-test (has_bit (word_of old.pages k) id) one two answer new (ap (λ w. has_bit w id) now ∙ has_bit-lowest word some bits.in_word) more in
+      HasTaken id (omega arith) (moved-to old new a (Clearing k word) (Taken k id) at (ap (λ w. w.agents) set.1))
+  walk-step pages k c n free (HasTaken id is at) =
+      let gives = taken-row Leaves old a answer new k id e alone.busy alone.own (alone-row Leaves old a answer new e alone (Some (Taken k id)) at step) in
+      HasMoved (omega arith) (λ now. taken-step k id at (value_at old.pages k id) gives)
+  walk-step pages k c n free (HasMoved past holds) = HasMoved (omega arith) (λ now. absurd (omega arith))
+
+  -- the page that was linked is the first with a free number
+  linked-free : (pages : List (PageState T)) (values : List T) → AllFull pages → IsFirstFree (pages ++ linked_page values ∷ []) (length pages)
+  linked-free pages values all = record {
+    linked = omega (arith, length-append pages (linked_page values ∷ []));
+    full = λ j below. ap word_in (get-push_old pages (linked_page values) j below) ∙ all.full j below;
+    free = let word : word_of (pages ++ linked_page values ∷ []) (length pages) ≡ 4294967295 = ap word_in (get-push_new pages (linked_page values)) in omega arith;
+  }
+
+  pub chain-step : (pages : List (PageState T)) (limit : Option ℕ) (so_far : Log T) (n : ℕ) → AllFull pages → Chain pages limit a so_far n old (slice_get old.agents a) → Chain pages limit a ((e, answer) ∷ so_far) (n + 1) new (slice_get new.agents a)
+  chain-step pages limit so_far n all (FullWord j below is at same bound) =
+      let (there, kept, limit_kept) = read-word j (word_of pages j) at (ap (λ every. word_of every j) same) in
+      FullLink j below (omega arith) (there ∙ ap Some (tries-none j (word_of pages j) (all.full j below))) (kept ∙ same) (limit_kept ∙ bound)
+  chain-step pages limit so_far n all (FullLink j below is at same bound) =
+      let count : length old.pages ≡ length pages = ap length same in
+      let one : Outcome T = (seen.Refused a Limit, at_point old a Ended) in
+      let two : Outcome T = (seen.Next a false, at_point old a (Making j)) in
+      let three : Outcome T = (seen.Next a true, at_point old a (Reading (j + 1))) in
+      let rest : Outcome T = if length old.pages == j + 1 then two else three in
+      let gives = link-row Leaves old a answer new j e alone.busy alone.own (alone-row Leaves old a answer new e alone (Some (AtLink j)) at step) in
+      let there = known-test (nat_lt j (length old.pages)) (if is_limit old.limit (j + 1) then one else rest) (not_enabled old) answer new (lt-ltb j (length old.pages) (omega arith)) gives in
+      elim (cases_eq (length pages) (j + 1)) [
+        | inl last ↦ elim (cases_Bool (is_limit old.limit (j + 1))) [
+          | inl at_limit ↦
+              let refused = known-test (is_limit old.limit (j + 1)) one rest answer new at_limit there in
+              FullRefused (sym bound ∙ limit-is old.limit (j + 1) at_limit ∙ ap Some (sym last)) (omega arith) (λ now. refused.0)
+          | inr below_limit ↦
+              let next = failed-test (is_limit old.limit (j + 1)) one rest answer new below_limit there in
+              let makes = known-test (length old.pages == j + 1) two three answer new (eq-eqb (length old.pages) (j + 1) (omega arith)) next in
+              FullMake j last (omega arith) (moved-to old new a (AtLink j) (Making j) at (ap (λ w. w.agents) makes.1)) (ap (λ w. w.pages) makes.1 ∙ same)
+              (λ limited. absurd (false≢true (sym below_limit ∙ is-limit old.limit (j + 1) (bound ∙ limited ∙ ap Some last))))
+        ]
+        | inr more ↦
+            let (gone, kept, limit_kept) = go-on j at (omega arith) in
+            FullWord (j + 1) (omega arith) (omega arith) gone (kept ∙ same) (limit_kept ∙ bound)
+      ]
+  chain-step pages limit so_far n all (FullMake k last is at same unlimited) =
+      let count : length old.pages ≡ length pages = ap length same in
+      let (values, gives) = making-row Leaves old a answer new k e alone.busy alone.own alone.brings (alone-row Leaves old a answer new e alone (Some (Making k)) at step) in
+      let one : Outcome T = (seen.Made a, at_point old a (Linking k values)) in
+      let made = known-test (nat_lt k (length old.pages)) one (not_enabled old) answer new (lt-ltb k (length old.pages) (omega arith)) gives in
+      FullMade k values last (omega arith) (moved-to old new a (Making k) (Linking k values) at (ap (λ w. w.agents) made.1)) (ap (λ w. w.pages) made.1 ∙ same)
+  chain-step pages limit so_far n all (FullMade k values last is at same) =
+      let count : length old.pages ≡ length pages = ap length same in
+      let one : Outcome T = (seen.Linked a, at_point (with_pages old (old.pages ++ linked_page values ∷ [])) a (Reading (k + 1))) in
+      let two : Outcome T = (seen.Lost a, at_point old a (Reading (k + 1))) in
+      let gives = linking-row Leaves old a answer new k values e alone.busy alone.own (alone-row Leaves old a answer new e alone (Some (Linking k values)) at step) in
+      let there = known-test (nat_lt k (length old.pages)) (if length old.pages == k + 1 then one else two) (not_enabled old) answer new (lt-ltb k (length old.pages) (omega arith)) gives in
+      let linked = known-test (length old.pages == k + 1) one two answer new (eq-eqb (length old.pages) (k + 1) (omega arith)) there in
+      FullLinked values (omega arith)
+      (AtWord (k + 1) (omega arith) (omega arith) (moved-to old new a (Linking k values) (Reading (k + 1)) at (ap (λ w. w.agents) linked.1)) (ap (λ w. w.pages) linked.1 ∙ ap (λ every. every ++ linked_page values ∷ []) same))
+  chain-step pages limit so_far n all (FullLinked values past walk) =
+      FullLinked values (omega arith) (walk-step (pages ++ linked_page values ∷ []) (length pages) 2 n (linked-free pages values all) walk)
+  chain-step pages limit so_far n all (FullRefused limited past ends) = FullRefused limited (omega arith) (λ now. absurd (omega arith))
+
+-- ---- what an agent alone comes to
+module _ {T : Type 0} where
+  walk-takes : (pages : List (PageState T)) (k c n : ℕ) (world : State T) (found : Option (Point T)) → n ≡ c + 2 * k + 3 → Walk pages k c n world found → HasMovedOut found
+  walk-takes pages k c n world found now (AtWord j below is at same) = absurd (omega arith)
+  walk-takes pages k c n world found now (AtChain j below is at same) = absurd (omega arith)
+  walk-takes pages k c n world found now (AtBits is at same) = absurd (omega arith)
+  walk-takes pages k c n world found now (HasTaken id is at) = absurd (omega arith)
+  walk-takes pages k c n world found now (HasMoved past holds) = holds now
+
+  chain-links : (pages : List (PageState T)) (limit : Option ℕ) (a : ℕ) (log : Log T) (n : ℕ) (world : State T) (found : Option (Point T)) → (limit ≡ Some (length pages) → ⊥) → n ≡ 2 * length pages + 5 → Chain pages limit a log n world found → HasMovedOut found
+  chain-links pages limit a log n world found unlimited now (FullWord j below is at same bound) = absurd (omega arith)
+  chain-links pages limit a log n world found unlimited now (FullLink j below is at same bound) = absurd (omega arith)
+  chain-links pages limit a log n world found unlimited now (FullMake k last is at same other) = absurd (omega arith)
+  chain-links pages limit a log n world found unlimited now (FullMade k values last is at same) = absurd (omega arith)
+  chain-links pages limit a log n world found unlimited now (FullLinked values past walk) = walk-takes (pages ++ linked_page values ∷ []) (length pages) 2 n world found (omega arith) walk
+  chain-links pages limit a log n world found unlimited now (FullRefused limited past ends) = absurd (unlimited limited)
+
+  chain-refused : (pages : List (PageState T)) (limit : Option ℕ) (a : ℕ) (log : Log T) (n : ℕ) (world : State T) (found : Option (Point T)) → limit ≡ Some (length pages) → n ≡ 2 * length pages → Chain pages limit a log n world found → EndsRefused a log
+  chain-refused pages limit a log n world found limited now (FullWord j below is at same bound) = absurd (omega arith)
+  chain-refused pages limit a log n world found limited now (FullLink j below is at same bound) = absurd (omega arith)
+  chain-refused pages limit a log n world found limited now (FullMake k last is at same other) = absurd (other limited)
+  chain-refused pages limit a log n world found limited now (FullMade k values last is at same) = absurd (omega arith)
+  chain-refused pages limit a log n world found limited now (FullLinked values past walk) = absurd (omega arith)
+  chain-refused pages limit a log n world found limited now (FullRefused same past ends) = ends now
+
+  -- where an agent is after the steps of a log that are all its own
+  pub record Stands (old : State T) (log : Log T) (new : State T) (a : ℕ) : Type 0 where
+    pub walks : (k : ℕ) → IsFirstFree old.pages k → Walk old.pages k 0 (length log) new (slice_get new.agents a)
+    pub chains : AllFull old.pages → Chain old.pages old.limit a log (length log) new (slice_get new.agents a)
+
+  pub stands-first : (old : State T) (a : ℕ) → slice_get old.agents a ≡ Some (Reading 0) → Stands old [] old a
+  stands-first old a at = record {
+    walks = λ k free. AtWord 0 (omega arith) refl at refl;
+    chains = λ all. FullWord 0 all.some refl at refl refl;
+  }
+
+  pub stands-next : (Leaves : T → T → Type 0) (first : List T) (before : Log T) (acts : List (Act T)) (start old : State T) → Agrees Leaves first before acts old → (log : Log T) (a : ℕ) (e : Event T) (answer : Seen) (new : State T) → IsStepAlone a e answer → Steps Leaves old e answer new → Stands start log old a → Stands start ((e, answer) ∷ log) new a
+  stands-next Leaves first before acts start old agrees log a e answer new alone step stands =
+      let count : length log + 1 ≡ length ((e, answer) ∷ log) = omega arith in
+      record {
+        walks = λ k free.
+            let P : ℕ → Type 0 = λ n. Walk start.pages k 0 n new (slice_get new.agents a) in
+            subst P count (walk-step Leaves first before acts old agrees a e answer new alone step start.pages k 0 (length log) free (stands.walks k free));
+        chains = λ all.
+            let P : ℕ → Type 0 = λ n. Chain start.pages start.limit a ((e, answer) ∷ log) n new (slice_get new.agents a) in
+            subst P count (chain-step Leaves first before acts old agrees a e answer new alone step start.pages start.limit log (length log) all (stands.chains all));
+      }
+
+  pub stands-alone : (old : State T) (log : Log T) (new : State T) (a : ℕ) → Stands old log new a → StepsAlone old log new a
+  stands-alone old log new a stands = record {
+    takes = λ k free now. walk-takes old.pages k 0 (length log) new (slice_get new.agents a) (omega arith) (stands.walks k free);
+    links = λ all unlimited now. chain-links old.pages old.limit a log (length log) new (slice_get new.agents a) unlimited now (stands.chains all);
+    refused = λ all limited now. chain-refused old.pages old.limit a log (length log) new (slice_get new.agents a) limited now (stands.chains all);
+  }

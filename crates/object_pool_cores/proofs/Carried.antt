@@ -1,0 +1,230 @@
+-- What is known of an agent stays known while others step.
+use Rattle.std.proofs.Common.{◌≡◌, ◌≢◌, inl, inr, ℕ, ◌+◌, ◌^◌, ◌<◌, ◌≤◌, Bool, true, false, if◌then◌else◌, Option, Some, None, List, [], ◌∷◌, length, slice_get, slice_set, refl, ap, sym, ◌∙◌, subst, arith}
+use Rattle.std.proofs.lemmas.Bool.{cases_eq}
+use Rattle.object_pool_cores.specs.declared.interleave.event.Event.{Event}
+use Rattle.object_pool_cores.specs.declared.interleave.event.Seen.{Seen}
+use Rattle.object_pool_cores.specs.declared.interleave.point.Point.{Point}
+use Rattle.object_pool_cores.specs.declared.interleave.point.Point.TheVariants.{Reading, Clearing, AtLink, Making, Linking, Taken, Holding, Home, Ended}
+use Rattle.object_pool_cores.specs.Pool.{Pool, IsSame, IsOut, AllowsPages, number}
+use Rattle.object_pool_cores.specs.Move.{Pull, Return, Growth, Refusal}
+use Rattle.object_pool_cores.specs.Run.{Act, Opens, Writes, Moves, Holds, agent_of, stage_of, pool_of, FoundOut, HadPages, MayCome, FoundBefore}
+use Rattle.object_pool_cores.specs.World.PageState.{PageState}
+use Rattle.object_pool_cores.specs.World.State.{State}
+use Rattle.object_pool_cores.specs.World.Machine.{Outcome, Gives, value_at}
+use Rattle.object_pool_cores.specs.World.Reading.{reading}
+use Rattle.object_pool_cores.specs.World.Visible.{Log, IsHidden, made_by, or_else, last_made, Shows}
+use Rattle.object_pool_cores.specs.World.Invariant.{LooksOn, IsPast, IsAtEnd, HoldsAt, Knows, KnowsIf, Agrees}
+use Rattle.object_pool_cores.proofs.Runs.{since-later, other-opens, stage_of-other}
+use Rattle.object_pool_cores.proofs.Holders.{IsSound, sound-run}
+use Rattle.object_pool_cores.proofs.Readings.{get-set_same, get-set_other}
+
+-- fewer pages are allowed too
+pub allows-fewer : (limit : Option ℕ) (fewer pages : ℕ) → fewer ≤ pages → AllowsPages limit pages → AllowsPages limit fewer
+allows-fewer None fewer pages less allowed = tt
+allows-fewer (Some limit) fewer pages less allowed = omega arith
+
+module _ {T : Type 0} (first : List T) where
+  -- what an agent knows is carried from one log, run and world to another
+  pub record Carries (log later : Log T) (acts more : List (Act T)) (old new : State T) (b : ℕ) : Type 0 where
+    pub stage : stage_of more b ≡ stage_of acts b
+    pub out : (n : ℕ) → FoundOut first acts b n → FoundOut first more b n
+    pub had : (count : ℕ) → HadPages first acts b count → HadPages first more b count
+    pub pages : length old.pages ≤ length new.pages
+    pub limit : new.limit ≡ old.limit
+    pub made : last_made later b ≡ last_made log b
+    pub values : (k id : ℕ) (value : T) → k < length old.pages → id < 32 → stage_of acts b ≡ Holds (number k id) value → value_at new.pages k id ≡ value_at old.pages k id
+
+module _ {T : Type 0} (Leaves : T → T → Type 0) (first : List T) where
+  module _ (log later : Log T) (acts more : List (Act T)) (old new : State T) (b : ℕ) (carries : Carries first log later acts more old new b) where
+    looks-carried : (k : ℕ) → LooksOn first acts old b k → LooksOn first more new b k
+    looks-carried k looks = record {
+      looking = carries.stage ∙ looks.looking;
+      linked = let below = looks.linked in let more_pages = carries.pages in omega arith;
+      found = λ n below. carries.out n (looks.found n below);
+    }
+
+    past-carried : (k : ℕ) → IsPast first acts old b k → IsPast first more new b k
+    past-carried k past = record {
+      looking = carries.stage ∙ past.looking;
+      linked = let below = past.linked in let more_pages = carries.pages in omega arith;
+      found = λ n below. carries.out n (past.found n below);
+    }
+
+    end-carried : (k : ℕ) → IsAtEnd first acts old b k → IsAtEnd first more new b k
+    end-carried k end = record {
+      past = past-carried k end.past;
+      last = carries.had (k + 1) end.last;
+      allowed = let P : Option ℕ → Type 0 = λ limit. AllowsPages limit (k + 1 + 1) in subst P (sym carries.limit) end.allowed;
+    }
+
+    holds-carried : (k id : ℕ) (value : T) → HoldsAt acts old b k id value → HoldsAt more new b k id value
+    holds-carried k id value holds = record {
+      linked = let below = holds.linked in let more_pages = carries.pages in omega arith;
+      in_page = holds.in_page;
+      stage = carries.stage ∙ holds.stage;
+    }
+
+    knows-carried : (point : Point T) → Knows Leaves first log acts old b point → Knows Leaves first later more new b point
+    knows-carried (Reading k) knows = looks-carried k knows
+    knows-carried (Clearing k mask) knows =
+        (looks-carried k knows.0, record { some = knows.1.some; in_word = knows.1.in_word; others = λ id within clear. carries.out (number k id) (knows.1.others id within clear) })
+    knows-carried (AtLink k) knows = past-carried k knows
+    knows-carried (Making k) knows = end-carried k knows
+    knows-carried (Linking k values) knows = (end-carried k knows.0, carries.made ∙ knows.1)
+    knows-carried (Taken k id) (value, holds, lies) =
+        (value, holds-carried k id value holds, carries.values k id value holds.linked holds.in_page holds.stage ∙ lies)
+    knows-carried (Holding k id value) knows = holds-carried k id value knows
+    knows-carried (Home k id) (value, kept, holds, leaves, lies) =
+        (value, kept, holds-carried k id value holds, leaves, carries.values k id value holds.linked holds.in_page holds.stage ∙ lies)
+    knows-carried Ended knows = tt
+
+    pub known-carried : (found : Option (Point T)) → KnowsIf Leaves first log acts old b found → KnowsIf Leaves first later more new b found
+    known-carried None knows = carries.stage ∙ knows
+    known-carried (Some point) knows = knows-carried point knows
+
+module _ {T : Type 0} (first : List T) where
+  -- there is a page from the first on
+  pub pages-some : (acts : List (Act T)) → 0 < (pool_of first acts).pages
+  pages-some [] = omega arith
+  pages-some (Opens a ∷ acts) = pages-some acts
+  pages-some (Writes a value ∷ acts) = pages-some acts
+  pages-some (Moves a (Pull n value) ∷ acts) = pages-some acts
+  pages-some (Moves a (Return n kept) ∷ acts) = pages-some acts
+  pages-some (Moves a (Growth values) ∷ acts) = omega arith
+  pages-some (Moves a (Refusal cause) ∷ acts) = pages-some acts
+
+module _ {T : Type 0} (Leaves : T → T → Type 0) (first : List T) where
+  -- the run of a world keeps its holders and its numbers
+  pub sound-of : (log : Log T) (acts : List (Act T)) (world : State T) → length first ≡ 32 → Agrees Leaves first log acts world → IsSound first world.limit acts
+  sound-of log acts world full agrees =
+      let some = pages-some first acts in
+      let pages = agrees.same.pages in
+      sound-run Leaves world.limit first full (allows-fewer world.limit 1 (length world.pages) (omega arith) agrees.allowed) acts agrees.run
+
+  -- the world with other pages and an agent at another point
+  abbrev pub moved : State T → List (PageState T) → ℕ → Point T → State T
+  moved world pages a point = record { pages = pages; agents = slice_set world.agents a point; limit = world.limit }
+
+  -- pages that an agent may leave by a step: they read as the pool, and what others left lies where it was
+  pub record StepsPages (acts more : List (Act T)) (world : State T) (pages : List (PageState T)) (a : ℕ) : Type 0 where
+    pub count : length world.pages ≤ length pages
+    pub same : IsSame (pool_of first more) (reading (record { pages = pages; agents = world.agents; limit = world.limit }))
+    pub words : (k : ℕ) (page : PageState T) → slice_get pages k ≡ Some page → page.word < 2 ^ 32
+    pub places : (k : ℕ) (page : PageState T) → slice_get pages k ≡ Some page → length page.places ≡ 32
+    pub allowed : AllowsPages world.limit (length pages)
+    pub values : (b k id : ℕ) (value : T) → a ≢ b → k < length world.pages → id < 32 → stage_of acts b ≡ Holds (number k id) value → value_at pages k id ≡ value_at world.pages k id
+
+  -- the pages stay
+  pub pages-stay : (log : Log T) (acts more : List (Act T)) (world : State T) (a : ℕ) → Agrees Leaves first log acts world → pool_of first more ≡ pool_of first acts → StepsPages acts more world world.pages a
+  pages-stay log acts more world a agrees pool = record {
+    count = omega arith;
+    same = let P : Pool T → Type 0 = λ p. IsSame p (reading world) in subst P (sym pool) agrees.same;
+    words = agrees.words;
+    places = agrees.places;
+    allowed = agrees.allowed;
+    values = λ b k id value other linked within holds. refl;
+  }
+
+  -- the agents after one of them moved
+  agents-moved : (log later : Log T) (acts more : List (Act T)) (old new : State T) (a : ℕ) (from point : Point T) → slice_get old.agents a ≡ Some from → Knows Leaves first later more new a point → ((b : ℕ) → a ≢ b → Carries first log later acts more old new b) → ((b : ℕ) → KnowsIf Leaves first log acts old b (slice_get old.agents b)) → (b : ℕ) → KnowsIf Leaves first later more new b (slice_get (slice_set old.agents a point) b)
+  agents-moved log later acts more old new a from point at own others before b =
+      let Known : Option (Point T) → Type 0 = KnowsIf Leaves first later more new b in
+      elim (cases_eq a b) [
+        | inl same ↦
+            let is : slice_get (slice_set old.agents a point) b ≡ Some point = ap (λ c. slice_get (slice_set old.agents a point) c) (sym same) ∙ get-set_same old.agents a from point at in
+            let P : ℕ → Type 0 = λ c. Knows Leaves first later more new c point in
+            subst Known (sym is) (subst P same own)
+        | inr other ↦
+            let is : slice_get (slice_set old.agents a point) b ≡ slice_get old.agents b = get-set_other old.agents a b point (λ e. other (sym e)) in
+            subst Known (sym is) (known-carried Leaves first log later acts more old new b (others b other) (slice_get old.agents b) (before b))
+      ]
+
+  -- a step whose answer shows nothing
+  pub hidden-step : (log : Log T) (acts : List (Act T)) (world : State T) (e : Event T) (answer : Seen) (a : ℕ) (from point : Point T) (pages : List (PageState T)) → Agrees Leaves first log acts world → slice_get world.agents a ≡ Some from → IsHidden answer → ((b : ℕ) → a ≢ b → made_by e answer b ≡ None) → StepsPages acts acts world pages a → Knows Leaves first ((e, answer) ∷ log) acts (moved world pages a point) a point → Agrees Leaves first ((e, answer) ∷ log) acts (moved world pages a point)
+  hidden-step log acts world e answer a from point pages agrees at hidden made left own = record {
+    reads = inl (hidden, agrees.reads);
+    run = agrees.run;
+    found = agrees.found;
+    same = record { pages = left.same.pages; places = left.same.places };
+    words = left.words;
+    places = left.places;
+    allowed = left.allowed;
+    agents = agents-moved log ((e, answer) ∷ log) acts acts world (moved world pages a point) a from point at own
+        (λ b other. record {
+          stage = refl;
+          out = λ n found. found;
+          had = λ count found. found;
+          pages = left.count;
+          limit = refl;
+          made = ap (λ found. or_else found (last_made log b)) (made b other);
+          values = λ k id value linked within holds. left.values b k id value other linked within holds;
+        })
+        agrees.agents;
+  }
+
+  -- a step whose answer shows an act
+  pub shown-step : (log : Log T) (acts : List (Act T)) (world : State T) (e : Event T) (answer : Seen) (a : ℕ) (from point : Point T) (pages : List (PageState T)) (act : Act T) → Agrees Leaves first log acts world → slice_get world.agents a ≡ Some from → Shows log e answer act → MayCome Leaves world.limit first acts act → FoundBefore first acts act → agent_of act ≡ a → ((b : ℕ) → a ≢ b → made_by e answer b ≡ None) → StepsPages acts (act ∷ acts) world pages a → Knows Leaves first ((e, answer) ∷ log) (act ∷ acts) (moved world pages a point) a point → Agrees Leaves first ((e, answer) ∷ log) (act ∷ acts) (moved world pages a point)
+  shown-step log acts world e answer a from point pages act agrees at shows may found agent made left own = record {
+    reads = inr (act, acts, refl, shows, agrees.reads);
+    run = (may, agrees.run);
+    found = (found, agrees.found);
+    same = record { pages = left.same.pages; places = left.same.places };
+    words = left.words;
+    places = left.places;
+    allowed = left.allowed;
+    agents = agents-moved log ((e, answer) ∷ log) acts (act ∷ acts) world (moved world pages a point) a from point at own
+        (λ b other.
+        let apart : agent_of act ≢ b = λ is. other (sym agent ∙ is) in
+        record {
+          stage = stage_of-other act acts b apart;
+          out = λ n out. since-later first act acts b (λ pool. IsOut pool n) (other-opens act b apart) out;
+          had = λ count had. since-later first act acts b (λ pool. pool.pages ≡ count) (other-opens act b apart) had;
+          pages = left.count;
+          limit = refl;
+          made = ap (λ found. or_else found (last_made log b)) (made b other);
+          values = λ k id value linked within holds. left.values b k id value other linked within holds;
+        })
+        agrees.agents;
+  }
+
+  -- the acts go on with what a step shows
+  pub record GoesOn (log : Log T) (e : Event T) (answer : Seen) (new : State T) : Type 0 where
+    pub acts : List (Act T)
+    pub agrees : Agrees Leaves first ((e, answer) ∷ log) acts new
+
+  -- an answer and a world are those of an outcome
+  pub from-gives : (log : Log T) (e : Event T) (outcome : Outcome T) (answer : Seen) (new : State T) → GoesOn log e outcome.0 outcome.1 → Gives outcome answer new → GoesOn log e answer new
+  from-gives log e outcome answer new goes gives =
+      let P : Seen → Type 0 = λ seen. GoesOn log e seen outcome.1 in
+      let Q : State T → Type 0 = λ world. GoesOn log e answer world in
+      subst Q (sym gives.1) (subst P (sym gives.0) goes)
+
+  pub from-if : (log : Log T) (e : Event T) (test : Bool) (one other : Outcome T) (answer : Seen) (new : State T) → (test ≡ true → Gives one answer new → GoesOn log e answer new) → (test ≡ false → Gives other answer new → GoesOn log e answer new) → Gives (if test then one else other) answer new → GoesOn log e answer new
+  from-if log e true one other answer new then_goes else_goes gives = then_goes refl gives
+  from-if log e false one other answer new then_goes else_goes gives = else_goes refl gives
+
+  -- nothing happens
+  pub idle : (log : Log T) (acts : List (Act T)) (world : State T) (e : Event T) (answer : Seen) → Agrees Leaves first log acts world → IsHidden answer → ((b : ℕ) → made_by e answer b ≡ None) → GoesOn log e answer world
+  idle log acts world e answer agrees hidden made = record {
+    acts = acts;
+    agrees = record {
+      reads = inl (hidden, agrees.reads);
+      run = agrees.run;
+      found = agrees.found;
+      same = agrees.same;
+      words = agrees.words;
+      places = agrees.places;
+      allowed = agrees.allowed;
+      agents = λ b. known-carried Leaves first log ((e, answer) ∷ log) acts acts world world b
+          (record {
+            stage = refl;
+            out = λ n found. found;
+            had = λ count found. found;
+            pages = omega arith;
+            limit = refl;
+            made = ap (λ found. or_else found (last_made log b)) (made b);
+            values = λ k id value linked within holds. refl;
+          })
+          (slice_get world.agents b) (agrees.agents b);
+    };
+  }

@@ -1,0 +1,203 @@
+-- In each world that can be reached a step answers NotEnabled exactly where the table has no row.
+use Rattle.std.proofs.Common.{◌≡◌, ◌≢◌, inl, inr, ℕ, ◌+◌, ◌==◌, Bool, true, false, if◌then◌else◌, Option, Some, None, List, [], ◌∷◌, ◌++◌, length, slice_get, Result, Ok, Err, refl, subst, arith}
+use Rattle.std.specs.Bool.{⊤}
+use Rattle.std.proofs.lemmas.Bool.{eqb-true, ltb-false}
+use Rattle.lockfree_object_pool.specs.declared.pull_error.PullError.TheVariants.{Memory, Init, Limit}
+use Rattle.object_pool_cores.specs.declared.interleave.event.Event.{Event}
+use Rattle.object_pool_cores.specs.declared.interleave.event.Event.TheVariants as event
+use Rattle.object_pool_cores.specs.declared.interleave.event.Seen.{Seen}
+use Rattle.object_pool_cores.specs.declared.interleave.event.Seen.TheVariants as seen
+use Rattle.object_pool_cores.specs.declared.interleave.point.Point.{Point}
+use Rattle.object_pool_cores.specs.declared.interleave.point.Point.TheVariants.{Reading, Clearing, AtLink, Making, Linking, Taken, Holding, Home, Ended}
+use Rattle.object_pool_cores.specs.Pool.{number}
+use Rattle.object_pool_cores.specs.Run.{Act}
+use Rattle.object_pool_cores.specs.World.State.{State}
+use Rattle.object_pool_cores.specs.World.Machine.{Outcome, Gives, lowest, has_bit, with_word, without_bit, without_lowest, tries, at_point, with_pages, linked_page, is_limit, word_of, not_enabled, value_at, takes, clears, read_mask, clear_bit, read_next, make_page, exchange_next, move_out, write, or_mask, Row, Steps, MayGrow, MovesHome, point_of}
+use Rattle.object_pool_cores.specs.World.Visible.{Log}
+use Rattle.object_pool_cores.specs.World.Rows.{HasRow}
+use Rattle.object_pool_cores.specs.World.Reached.{IsReached, IsExact}
+use Rattle.object_pool_cores.specs.World.Headline.{IsNew, Ran}
+use Rattle.object_pool_cores.specs.World.Invariant.{IsPast, IsAtEnd, Agrees}
+use Rattle.object_pool_cores.proofs.WordSteps.{known}
+use Rattle.object_pool_cores.proofs.Headline.{ran-agrees, Shown}
+
+module _ {T : Type 0} (old : State T) (answer : Seen) (new : State T) where
+  -- exact, of an event with a row or without one
+  record ExactAt (HasRowHere : Type 0) : Type 0 where
+    pub never : answer ≡ seen.NotEnabled → HasRowHere → ⊥
+    pub always : (HasRowHere → ⊥) → answer ≡ seen.NotEnabled
+    pub unchanged : answer ≡ seen.NotEnabled → new ≡ old
+
+  -- the table has a row, which answers something else
+  row-there : (HasRowHere : Type 0) → HasRowHere → answer ≢ seen.NotEnabled → ExactAt HasRowHere
+  row-there HasRowHere row other = record { never = λ is here. other is; always = λ none. absurd (none row); unchanged = λ is. absurd (other is) }
+
+  -- the table has no row
+  row-missing : (HasRowHere : Type 0) → (HasRowHere → ⊥) → Gives (not_enabled old) answer new → ExactAt HasRowHere
+  row-missing HasRowHere none gives = record { never = λ is here. none here; always = λ none. gives.0; unchanged = λ is. gives.1 }
+
+  -- the outcome of a test
+  by-test : (test : Bool) (one other : Outcome T) → Gives (if test then one else other) answer new → (test ≡ true → answer ≡ one.0 → answer ≢ seen.NotEnabled) → (test ≡ false → answer ≡ other.0 → answer ≢ seen.NotEnabled) → answer ≢ seen.NotEnabled
+  by-test true one other gives then_is else_is = then_is refl gives.0
+  by-test false one other gives then_is else_is = else_is refl gives.0
+
+  by-test-2 : (test : Bool) (one other : Outcome T) → Gives (if test then one else other) answer new → (test ≡ true → Gives one answer new → answer ≢ seen.NotEnabled) → (test ≡ false → Gives other answer new → answer ≢ seen.NotEnabled) → answer ≢ seen.NotEnabled
+  by-test-2 true one other gives then_is else_is = then_is refl gives
+  by-test-2 false one other gives then_is else_is = else_is refl gives
+
+module _ {T : Type 0} (Leaves : T → T → Type 0) (first : List T) (log : Log T) (acts : List (Act T)) (old : State T) (agrees : Agrees Leaves first log acts old) (answer : Seen) (new : State T) where
+  read_mask-exact : (a : ℕ) (found : Option (Point T)) → Gives (read_mask old a found) answer new → ExactAt old answer new (HasRow (event.ReadMask a) found)
+  read_mask-exact a (Some (Reading k)) gives = row-there old answer new _ tt (λ is. let word = gives.0 in cc)
+  read_mask-exact a _ gives = row-missing old answer new _ (λ row. row) gives
+
+  clears-answers : (a k mask word : ℕ) → Gives (clears old a k mask word) answer new → answer ≢ seen.NotEnabled
+  clears-answers a k mask word gives =
+      let id = lowest mask in
+      let one : Outcome T = (seen.Pulled a (number k id), at_point (with_pages old (with_word old.pages k (without_bit word id))) a (Taken k id)) in
+      let two : Outcome T = (seen.Found a word, at_point old a (tries k (without_lowest mask))) in
+      by-test old answer new (has_bit word id) one two gives (λ set is no_row. cc) (λ clear is no_row. cc)
+
+  clear_bit-exact : (a : ℕ) (found : Option (Point T)) → slice_get old.agents a ≡ found → Gives (clear_bit old a found) answer new → ExactAt old answer new (HasRow (event.ClearBit a) found)
+  clear_bit-exact a (Some (Clearing k mask)) at gives =
+      let bits = (known Leaves first log acts old agrees a (Clearing k mask) at).1 in
+      let some = bits.some in
+      row-there old answer new _ tt
+      (by-test-2 old answer new _ _ _ gives
+      (λ none gave. let zero = eqb-true mask 0 none in absurd (omega arith))
+      (λ more gave. clears-answers a k mask (word_of old.pages k) gave))
+  clear_bit-exact a _ at gives = row-missing old answer new _ (λ row. row) gives
+
+  read_next-exact : (a : ℕ) (found : Option (Point T)) → slice_get old.agents a ≡ found → Gives (read_next old a found) answer new → ExactAt old answer new (HasRow (event.ReadNext a) found)
+  read_next-exact a (Some (AtLink k)) at gives =
+      let past : IsPast first acts old a k = known Leaves first log acts old agrees a (AtLink k) at in
+      let linked = past.linked in
+      let one : Outcome T = (seen.Refused a Limit, at_point old a Ended) in
+      let two : Outcome T = (seen.Next a false, at_point old a (Making k)) in
+      let three : Outcome T = (seen.Next a true, at_point old a (Reading (k + 1))) in
+      let rest : Outcome T = if length old.pages == k + 1 then two else three in
+      row-there old answer new _ tt
+      (by-test-2 old answer new _ _ _ gives
+      (λ there gave. by-test-2 old answer new (is_limit old.limit (k + 1)) one rest gave
+      (λ limit given no_row. let is = given.0 in cc)
+      (λ below given. by-test old answer new (length old.pages == k + 1) two three given (λ last is no_row. cc) (λ more is no_row. cc)))
+      (λ beyond gave. let none = ltb-false k (length old.pages) beyond in absurd (omega arith)))
+  read_next-exact a _ at gives = row-missing old answer new _ (λ row. row) gives
+
+  make_page-exact : (a : ℕ) (made : Result (List T) _) (found : Option (Point T)) → slice_get old.agents a ≡ found → Gives (make_page old a made found) answer new → ExactAt old answer new (HasRow (event.MakePage a made) found)
+  make_page-exact a (Ok values) (Some (Making k)) at gives =
+      let end : IsAtEnd first acts old a k = known Leaves first log acts old agrees a (Making k) at in
+      let linked = end.past.linked in
+      row-there old answer new _ tt
+      (by-test old answer new _ _ _ gives (λ there is no_row. cc) (λ beyond is. let none = ltb-false k (length old.pages) beyond in absurd (omega arith)))
+  make_page-exact a (Err Memory) (Some (Making k)) at gives = row-there old answer new _ tt (λ is. let refused = gives.0 in cc)
+  make_page-exact a (Err Init) (Some (Making k)) at gives = row-there old answer new _ tt (λ is. let refused = gives.0 in cc)
+  make_page-exact a (Ok values) _ at gives = row-missing old answer new _ (λ row. row) gives
+  make_page-exact a (Err Limit) _ at gives = row-missing old answer new _ (λ row. row) gives
+  make_page-exact a (Err Memory) _ at gives = row-missing old answer new _ (λ row. row) gives
+  make_page-exact a (Err Init) _ at gives = row-missing old answer new _ (λ row. row) gives
+
+  exchange_next-exact : (a : ℕ) (found : Option (Point T)) → slice_get old.agents a ≡ found → Gives (exchange_next old a found) answer new → ExactAt old answer new (HasRow (event.ExchangeNext a) found)
+  exchange_next-exact a (Some (Linking k values)) at gives =
+      let end = (known Leaves first log acts old agrees a (Linking k values) at).0 in
+      let linked = end.past.linked in
+      let one : Outcome T = (seen.Linked a, at_point (with_pages old (old.pages ++ linked_page values ∷ [])) a (Reading (k + 1))) in
+      let two : Outcome T = (seen.Lost a, at_point old a (Reading (k + 1))) in
+      row-there old answer new _ tt
+      (by-test-2 old answer new _ _ _ gives
+      (λ there gave. by-test old answer new (length old.pages == k + 1) one two gave (λ last is no_row. cc) (λ more is no_row. cc))
+      (λ beyond gave. let none = ltb-false k (length old.pages) beyond in absurd (omega arith)))
+  exchange_next-exact a _ at gives = row-missing old answer new _ (λ row. row) gives
+
+  takes-answers : (a k id : ℕ) (value : T) (found : Option T) → found ≡ Some value → Gives (takes old a k id found) answer new → answer ≢ seen.NotEnabled
+  takes-answers a k id value None some gives is = cc
+  takes-answers a k id value (Some other) some gives is = let out = gives.0 in cc
+
+  move_out-exact : (a : ℕ) (found : Option (Point T)) → slice_get old.agents a ≡ found → Gives (move_out old a found) answer new → ExactAt old answer new (HasRow (event.MoveOut a) found)
+  move_out-exact a (Some (Taken k id)) at gives =
+      let (value, holds, lies) = known Leaves first log acts old agrees a (Taken k id) at in
+      row-there old answer new _ tt (takes-answers a k id value (value_at old.pages k id) lies gives)
+  move_out-exact a _ at gives = row-missing old answer new _ (λ row. row) gives
+
+  write-exact : (a : ℕ) (value : T) (found : Option (Point T)) → Gives (write old a value found) answer new → ExactAt old answer new (HasRow (event.Write a value) found)
+  write-exact a value (Some (Holding k id before)) gives = row-there old answer new _ tt (λ is. let wrote = gives.0 in cc)
+  write-exact a value _ gives = row-missing old answer new _ (λ row. row) gives
+
+  move_home-exact : (a : ℕ) (found : Option (Point T)) → MovesHome Leaves old a found answer new → ExactAt old answer new (HasRow (event.MoveHome a) found)
+  move_home-exact a (Some (Holding k id value)) (kept, leaves, gives) = row-there old answer new _ tt (λ is. let home = gives.0 in cc)
+  move_home-exact a None gives = row-missing old answer new _ (λ row. row) gives
+  move_home-exact a _ gives = row-missing old answer new _ (λ row. row) gives
+
+  or_mask-exact : (a : ℕ) (found : Option (Point T)) → slice_get old.agents a ≡ found → Gives (or_mask old a found) answer new → ExactAt old answer new (HasRow (event.OrMask a) found)
+  or_mask-exact a (Some (Home k id)) at gives =
+      let (value, kept, holds, leaves, lies) = known Leaves first log acts old agrees a (Home k id) at in
+      let within = holds.in_page in
+      row-there old answer new _ tt
+      (by-test old answer new _ _ _ gives (λ there is no_row. cc) (λ beyond is. let none = ltb-false id 32 beyond in absurd (omega arith)))
+  or_mask-exact a _ at gives = row-missing old answer new _ (λ row. row) gives
+
+  row-exact : (e : Event T) → Row Leaves old e answer new → ExactAt old answer new (HasRow e (point_of old e))
+  row-exact event.Begin row = row-there old answer new _ tt (λ is. let began = row.0 in cc)
+  row-exact (event.ReadMask a) row = read_mask-exact a (slice_get old.agents a) row
+  row-exact (event.ClearBit a) row = clear_bit-exact a (slice_get old.agents a) refl row
+  row-exact (event.ReadNext a) row = read_next-exact a (slice_get old.agents a) refl row
+  row-exact (event.MakePage a made) row = make_page-exact a made (slice_get old.agents a) refl row
+  row-exact (event.ExchangeNext a) row = exchange_next-exact a (slice_get old.agents a) refl row.0
+  row-exact (event.MoveOut a) row = move_out-exact a (slice_get old.agents a) refl row
+  row-exact (event.Write a value) row = write-exact a value (slice_get old.agents a) row
+  row-exact (event.MoveHome a) row = move_home-exact a (slice_get old.agents a) row
+  row-exact (event.OrMask a) row = or_mask-exact a (slice_get old.agents a) refl row
+
+  -- what may have to grow has a row
+  grows-row : (e : Event T) (found : Option (Point T)) → MayGrow e found → HasRow e found
+  grows-row event.Begin found may = tt
+  grows-row (event.MakePage a (Ok values)) (Some (Making k)) may = tt
+  grows-row _ _ may = absurd may
+
+  step-exact : (e : Event T) → Steps Leaves old e answer new → ExactAt old answer new (HasRow e (point_of old e))
+  step-exact e (inl row) = row-exact e row
+  step-exact e (inr (may, lacks, same)) = row-there old answer new _ (grows-row e (point_of old e) may) (λ is. cc)
+
+module _ {T : Type 0} where
+  any-row : (Leaves : T → T → Type 0) (old : State T) (a : ℕ) (found : Option (Point T)) (answer : Seen) (new : State T) → MovesHome Leaves old a found answer new → MovesHome (λ before kept. ⊤) old a found answer new
+  any-row Leaves old a (Some (Holding k id value)) answer new (kept, leaves, gives) = (kept, tt, gives)
+  any-row Leaves old a None answer new gives = gives
+  any-row Leaves old a _ answer new gives = gives
+
+  -- a step of one reset is a step of any
+  pub any-step : (Leaves : T → T → Type 0) (old : State T) (e : Event T) (answer : Seen) (new : State T) → Steps Leaves old e answer new → Steps (λ before kept. ⊤) old e answer new
+  any-step Leaves old e answer new (inr lacks) = inr lacks
+  any-step Leaves old (event.MoveHome a) answer new (inl row) = inl (any-row Leaves old a (slice_get old.agents a) answer new row)
+  any-step Leaves old event.Begin answer new (inl row) = inl row
+  any-step Leaves old (event.ReadMask a) answer new (inl row) = inl row
+  any-step Leaves old (event.ClearBit a) answer new (inl row) = inl row
+  any-step Leaves old (event.ReadNext a) answer new (inl row) = inl row
+  any-step Leaves old (event.MakePage a made) answer new (inl row) = inl row
+  any-step Leaves old (event.ExchangeNext a) answer new (inl row) = inl row
+  any-step Leaves old (event.MoveOut a) answer new (inl row) = inl row
+  any-step Leaves old (event.Write a value) answer new (inl row) = inl row
+  any-step Leaves old (event.OrMask a) answer new (inl row) = inl row
+
+  -- a new world is reached, and so is what a step leaves of one
+  pub reached-new : (world : State T) → IsNew world → IsReached world
+  reached-new world is_new = record { start = world; is_new = is_new; log = []; ran = refl }
+
+  pub reached-step : (Leaves : T → T → Type 0) (old : State T) (e : Event T) (answer : Seen) (new : State T) → IsReached old → Steps Leaves old e answer new → IsReached new
+  reached-step Leaves old e answer new reached step = record {
+    start = reached.start;
+    is_new = reached.is_new;
+    log = (e, answer) ∷ reached.log;
+    ran = (old, reached.ran, any-step Leaves old e answer new step);
+  }
+
+  -- what the invariant knows of a world that can be reached
+  pub reached-agrees : (world : State T) (reached : IsReached world) → Shown (λ before kept. ⊤) reached.is_new.first reached.is_new.full reached.log world
+  reached-agrees world reached =
+      let start = reached.is_new in
+      let P : State T → Type 0 = λ old. Ran (λ before kept. ⊤) old reached.log world in
+      ran-agrees (λ before kept. ⊤) start.first start.full reached.start.limit start.allowed reached.log world (subst P start.same reached.ran)
+
+  pub reached-exact : (Leaves : T → T → Type 0) (old : State T) (e : Event T) (answer : Seen) (new : State T) → IsReached old → Steps Leaves old e answer new → IsExact old e answer new
+  reached-exact Leaves old e answer new reached step =
+      let shown = reached-agrees old reached in
+      let exact = step-exact (λ before kept. ⊤) reached.is_new.first reached.log shown.acts old shown.agrees answer new e (any-step Leaves old e answer new step) in
+      record { enabled = (exact.never, exact.always); unchanged = exact.unchanged }

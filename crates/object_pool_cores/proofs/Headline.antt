@@ -1,0 +1,132 @@
+-- The steps of a world, one after another, are a run of one pool.
+use Rattle.std.proofs.Common.{◌≡◌, inl, inr, ℕ, ◌-◌, ◌^◌, ◌<◌, Option, Some, None, List, [], ◌∷◌, length, slice_get, Ok, Err, refl, ap, sym, ◌∙◌, subst, arith, lit<}
+use Rattle.std.proofs.lemmas.List.{length-map}
+use Rattle.object_pool_cores.specs.declared.interleave.event.Event.{Event}
+use Rattle.object_pool_cores.specs.declared.interleave.event.Event.TheVariants as event
+use Rattle.object_pool_cores.specs.declared.interleave.event.Seen.{Seen}
+use Rattle.object_pool_cores.specs.declared.interleave.event.Seen.TheVariants as seen
+use Rattle.object_pool_cores.specs.declared.interleave.point.Point.{Point}
+use Rattle.object_pool_cores.specs.declared.interleave.point.Point.TheVariants.{Holding}
+use Rattle.object_pool_cores.specs.Pool.{Pool, Absent, IsSame, AllowsPages, free_with, opening, number}
+use Rattle.object_pool_cores.specs.Move.{grown}
+use Rattle.object_pool_cores.specs.Run.{Act, Holds, stage_of}
+use Rattle.object_pool_cores.specs.World.State.{State}
+use Rattle.object_pool_cores.specs.World.Machine.{Row, Steps, held_by, linked_page, opening_world}
+use Rattle.object_pool_cores.specs.World.Reading.{reading}
+use Rattle.object_pool_cores.specs.World.Visible.{Log, made_by}
+use Rattle.object_pool_cores.specs.World.Headline.{IsRun, Ran, IsNew}
+use Rattle.object_pool_cores.specs.World.Invariant.{HoldsAt, Agrees}
+use Rattle.object_pool_cores.proofs.Runs.{grown-new}
+use Rattle.object_pool_cores.proofs.Holders.{holders-run, whole-run}
+use Rattle.object_pool_cores.proofs.Readings.{same-grown, pushed-all}
+use Rattle.object_pool_cores.proofs.Carried.{GoesOn, idle, pages-some, allows-fewer}
+use Rattle.object_pool_cores.proofs.WordSteps.{read_mask-goes, clear_bit-goes, or_mask-goes, known}
+use Rattle.object_pool_cores.proofs.ValueSteps.{move_out-goes, write-goes, move_home-goes, begin-goes}
+use Rattle.object_pool_cores.proofs.LinkSteps.{read_next-goes, make_page-goes, exchange_next-goes}
+
+module _ {T : Type 0} where
+  -- nothing is made where memory is missing
+  nothing-made : (e : Event T) (b : ℕ) → made_by e seen.NoMemory b ≡ None
+  nothing-made event.Begin b = refl
+  nothing-made (event.ReadMask a) b = refl
+  nothing-made (event.ClearBit a) b = refl
+  nothing-made (event.ReadNext a) b = refl
+  nothing-made (event.MakePage a (Ok values)) b = refl
+  nothing-made (event.MakePage a (Err cause)) b = refl
+  nothing-made (event.ExchangeNext a) b = refl
+  nothing-made (event.MoveOut a) b = refl
+  nothing-made (event.Write a value) b = refl
+  nothing-made (event.MoveHome a) b = refl
+  nothing-made (event.OrMask a) b = refl
+
+module _ {T : Type 0} (Leaves : T → T → Type 0) (first : List T) (full : length first ≡ 32) where
+  row-goes : (log : Log T) (acts : List (Act T)) (old : State T) → Agrees Leaves first log acts old → (e : Event T) (answer : Seen) (new : State T) → Row Leaves old e answer new → GoesOn Leaves first log e answer new
+  row-goes log acts old agrees event.Begin answer new row = begin-goes Leaves first log acts old agrees answer new row
+  row-goes log acts old agrees (event.ReadMask a) answer new row = read_mask-goes Leaves first log acts old agrees a (slice_get old.agents a) refl answer new row
+  row-goes log acts old agrees (event.ClearBit a) answer new row = clear_bit-goes Leaves first log acts old agrees full a (slice_get old.agents a) refl answer new row
+  row-goes log acts old agrees (event.ReadNext a) answer new row = read_next-goes Leaves first log acts old agrees a (slice_get old.agents a) refl answer new row
+  row-goes log acts old agrees (event.MakePage a made) answer new row = make_page-goes Leaves first log acts old agrees a made (slice_get old.agents a) refl answer new row
+  row-goes log acts old agrees (event.ExchangeNext a) answer new row = exchange_next-goes Leaves first log acts old agrees a (slice_get old.agents a) refl answer new row.0 row.1
+  row-goes log acts old agrees (event.MoveOut a) answer new row = move_out-goes Leaves first log acts old agrees full a (slice_get old.agents a) refl answer new row
+  row-goes log acts old agrees (event.Write a value) answer new row = write-goes Leaves first log acts old agrees a value (slice_get old.agents a) refl answer new row
+  row-goes log acts old agrees (event.MoveHome a) answer new row = move_home-goes Leaves first log acts old agrees full a (slice_get old.agents a) refl answer new row
+  row-goes log acts old agrees (event.OrMask a) answer new row = or_mask-goes Leaves first log acts old agrees full a (slice_get old.agents a) refl answer new row
+
+  -- a step keeps the invariant
+  pub step-goes : (log : Log T) (acts : List (Act T)) (old : State T) → Agrees Leaves first log acts old → (e : Event T) (answer : Seen) (new : State T) → Steps Leaves old e answer new → GoesOn Leaves first log e answer new
+  step-goes log acts old agrees e answer new (inl row) = row-goes log acts old agrees e answer new row
+  step-goes log acts old agrees e answer new (inr (may, lacks, same)) =
+      let P : Seen → Type 0 = λ seen. GoesOn Leaves first log e seen old in
+      let Q : State T → Type 0 = λ world. GoesOn Leaves first log e answer world in
+      subst Q (sym same) (subst P (sym lacks) (idle Leaves first log acts old e seen.NoMemory agrees tt (nothing-made e)))
+
+  -- the first page reads as the opening pool
+  opening-reads : (limit : Option ℕ) → IsSame (opening first) (reading (opening_world first limit))
+  opening-reads limit =
+      let none : Pool T = record { pages = 0; at = λ n. Absent } in
+      let empty : State T = record { pages = []; agents = []; limit = limit } in
+      let grows : IsSame (grown none first) (reading (opening_world first limit)) = same-grown none empty (opening_world first limit) first full (record { pages = refl; places = λ n. refl }) refl in
+      record {
+        pages = refl;
+        places = λ n.
+            let index : n ≡ n - 0 = omega arith in
+            ap (λ i. free_with (slice_get first i)) index ∙ sym (grown-new none first n (omega arith)) ∙ grows.places n;
+      }
+
+  opening-agrees : (limit : Option ℕ) → AllowsPages limit 1 → Agrees Leaves first [] [] (opening_world first limit)
+  opening-agrees limit allowed = record {
+    reads = refl;
+    run = tt;
+    found = tt;
+    same = opening-reads limit;
+    words = pushed-all (λ page. page.word < 2 ^ 32) [] (linked_page first) (lit< tt) (λ j page found. cc);
+    places = pushed-all (λ page. length page.places ≡ 32) [] (linked_page first) (length-map first Some ∙ full) (λ j page found. cc);
+    allowed = allowed;
+    agents = λ a. refl;
+  }
+
+  -- what the steps so far show
+  pub record Shown (log : Log T) (world : State T) : Type 0 where
+    pub acts : List (Act T)
+    pub agrees : Agrees Leaves first log acts world
+
+  pub ran-agrees : (limit : Option ℕ) → AllowsPages limit 1 → (log : Log T) (new : State T) → Ran Leaves (opening_world first limit) log new → Shown log new
+  ran-agrees limit allowed [] new same =
+      let P : State T → Type 0 = Shown [] in
+      subst P (sym same) (record { acts = []; agrees = opening-agrees limit allowed })
+  ran-agrees limit allowed ((e, answer) ∷ log) new (between, ran, step) =
+      let before = ran-agrees limit allowed log between ran in
+      let goes = step-goes log before.acts between before.agrees e answer new step in
+      record { acts = goes.acts; agrees = goes.agrees }
+
+  -- what an agent has in the world is what it holds in the run
+  held-is : (log : Log T) (acts : List (Act T)) (world : State T) → Agrees Leaves first log acts world → (a : ℕ) (value : T) (found : Option (Point T)) → slice_get world.agents a ≡ found → held_by found ≡ Some value → (n : ℕ) × (stage_of acts a ≡ Holds n value)
+  held-is log acts world agrees a value (Some (Holding k id has)) at held =
+      let holds : HoldsAt acts world a k id has = known Leaves first log acts world agrees a (Holding k id has) at in
+      let is : has ≡ value = cc in
+      (number k id, holds.stage ∙ ap (λ v. Holds (number k id) v) is)
+  held-is log acts world agrees a value _ at held = absurd (cc)
+
+  pub agrees-run : (log : Log T) (acts : List (Act T)) (world : State T) → Agrees Leaves first log acts world → IsRun Leaves first log world
+  agrees-run log acts world agrees =
+      let some = pages-some first acts in
+      let pages = agrees.same.pages in
+      let allowed = allows-fewer world.limit 1 (length world.pages) (omega arith) agrees.allowed in
+      record {
+        acts = acts;
+        visible = agrees.reads;
+        run = agrees.run;
+        ends = agrees.same;
+        allowed = agrees.allowed;
+        whole = whole-run Leaves world.limit first full allowed acts agrees.run;
+        holders = holders-run Leaves world.limit first full allowed acts agrees.run;
+        held = λ a value has. held-is log acts world agrees a value (slice_get world.agents a) refl has;
+        found = agrees.found;
+      }
+
+-- from a world in which no agent has begun the steps are a run
+pub ran-is_run : {T : Type 0} (Leaves : T → T → Type 0) (old : State T) (start : IsNew old) (log : Log T) (new : State T) → Ran Leaves old log new → IsRun Leaves start.first log new
+ran-is_run {T} Leaves old start log new ran =
+    let P : State T → Type 0 = λ world. Ran Leaves world log new in
+    let shown = ran-agrees Leaves start.first start.full old.limit start.allowed log new (subst P start.same ran) in
+    agrees-run Leaves start.first start.full log shown.acts new shown.agrees

@@ -1,0 +1,33 @@
+use Rattle.std.proofs.Common.{◌≡◌, ◌∙◌, ◌∷◌, [], ◌++◌, refl, reverse, rules, length, subst, arith}
+use Rattle.std.proofs.lemmas.List.{reverse-reverse}
+use Rattle.object_pool_cores.specs.World.Machine.{Steps}
+use Rattle.object_pool_cores.specs.World.Shown.{world_state}
+use Rattle.object_pool_cores.proofs.Replayed.{replayed-none, replayed-next, played-from, on-err, no-elements}
+use Rattle.object_pool_cores.proofs.interleave.world.World.run.Goals as goal
+
+pub loop-event-init : goal.loop-event-init
+loop-event-init g c =
+    let turned : reverse c.reverse.new.self.items ≡ c.args.events.items = search (rules, reverse-reverse) in
+    record { replayed = rw turned (replayed-none _ _ _ _); reset = refl }
+
+pub returns-in_err-reserve-clause-played : goal.returns-in_err-reserve-clause-played
+returns-in_err-reserve-clause-played g c =
+    rw c.in_err-reserve.ensures.items
+    (played-from _ _ _ _ _ _ _ _ c.loop-event.invariant.replayed (on-err _ _ c.from_residual.ensures.0))
+
+pub loop-event-preserved : goal.loop-event-preserved
+loop-event-preserved g c =
+    let kept = c.loop-event.invariant in
+    let P : g.row.R.Denot → Type 0 = λ reset. Steps (g.R.Reset.leaves reset) (world_state c.loop-event.self) c.in-Some.event c.step-answer.result (world_state c.step-answer.new.self) in
+    let answered : c.push.new.self.items ≡ c.loop-event.seen.items ++ c.step-answer.result ∷ [] =
+    let same : c.reserve.new.self.items ≡ c.loop-event.seen.items = c.in_ok-reserve.ensures.items in
+    rw (c.in_ok-push.ensures.items, same) refl in
+    record {
+      replayed = replayed-next _ _ _ _ _ _ _ _ _ c.in-Some.event c.step-answer.result _ c.in-Some.ensures.items answered kept.replayed c.step-answer.ensures.reached (subst P kept.reset c.step-answer.ensures.step);
+      reset = c.step-answer.ensures.reset ∙ kept.reset;
+    }
+
+pub returns-clause-played : goal.returns-clause-played
+returns-clause-played g c =
+    let none : length c.loop-event.events.items ≡ 0 = grind (arith, c.in_default.ensures.cases) in
+    played-from _ _ _ _ _ _ _ _ c.loop-event.invariant.replayed (no-elements _ none)

@@ -1,0 +1,14 @@
+pub mod Prepared
+pub mod PageState
+pub mod State
+pub mod Room
+pub mod Machine
+pub mod Reading
+pub mod Shown
+pub mod Visible
+pub mod OwnSteps
+pub mod Alone
+pub mod Headline
+pub mod Rows
+pub mod Reached
+pub mod Invariant

@@ -1,0 +1,72 @@
+-- The invariant: how the acts that were seen, the words, the places and the points of the agents belong together.
+use Rattle.std.specs.Prelude.{◌≡◌, ℕ, ◌+◌, ◌^◌, ◌<◌, false, Option, Some, None, List, length, slice_get, ⊤}
+use Rattle.object_pool_cores.specs.declared.interleave.point.Point.{Point}
+use Rattle.object_pool_cores.specs.declared.interleave.point.Point.TheVariants.{Reading, Clearing, AtLink, Making, Linking, Taken, Holding, Home, Ended}
+use Rattle.object_pool_cores.specs.Pool.{IsSame, AllowsPages, number}
+use Rattle.object_pool_cores.specs.Run.{Act, NotBegun, Looking, Holds, stage_of, pool_of, FoundOut, FoundPages, HadPages, Run, Found}
+use Rattle.object_pool_cores.specs.World.PageState.{PageState}
+use Rattle.object_pool_cores.specs.World.State.{State}
+use Rattle.object_pool_cores.specs.World.Machine.{has_bit, value_at}
+use Rattle.object_pool_cores.specs.World.Reading.{reading}
+use Rattle.object_pool_cores.specs.World.Visible.{Log, last_made, Reads}
+
+module _ {T : Type 0} (first : List T) where
+  -- an agent looks on page k, and found each number of the pages before it out
+  pub record LooksOn (acts : List (Act T)) (world : State T) (a k : ℕ) : Type 0 where
+    pub looking : stage_of acts a ≡ Looking
+    pub linked : k < length world.pages
+    pub found : FoundPages first acts a k
+
+  -- an agent found each number of page k and of the pages before it out
+  pub record IsPast (acts : List (Act T)) (world : State T) (a k : ℕ) : Type 0 where
+    pub looking : stage_of acts a ≡ Looking
+    pub linked : k < length world.pages
+    pub found : FoundPages first acts a (k + 1)
+
+  -- and page k was the last page at some place, after which one more is allowed
+  pub record IsAtEnd (acts : List (Act T)) (world : State T) (a k : ℕ) : Type 0 where
+    pub past : IsPast acts world a k
+    pub last : HadPages first acts a (k + 1)
+    pub allowed : AllowsPages world.limit (k + 1 + 1)
+
+  -- an agent has bits of page k to try, and found the numbers of the others out
+  pub record TriesBits (acts : List (Act T)) (a k mask : ℕ) : Type 0 where
+    pub some : 0 < mask
+    pub in_word : mask < 2 ^ 32
+    pub others : (id : ℕ) → id < 32 → has_bit mask id ≡ false → FoundOut first acts a (number k id)
+
+module _ {T : Type 0} where
+  -- an agent holds the number at a place with this value
+  pub record HoldsAt (acts : List (Act T)) (world : State T) (a k id : ℕ) (value : T) : Type 0 where
+    pub linked : k < length world.pages
+    pub in_page : id < 32
+    pub stage : stage_of acts a ≡ Holds (number k id) value
+
+module _ {T : Type 0} (Leaves : T → T → Type 0) (first : List T) where
+  -- what is known of an agent at its point
+  abbrev pub Knows : Log T → List (Act T) → State T → ℕ → Point T → Type 0
+  Knows log acts world a (Reading k) = LooksOn first acts world a k
+  Knows log acts world a (Clearing k mask) = LooksOn first acts world a k × TriesBits first acts a k mask
+  Knows log acts world a (AtLink k) = IsPast first acts world a k
+  Knows log acts world a (Making k) = IsAtEnd first acts world a k
+  Knows log acts world a (Linking k values) = IsAtEnd first acts world a k × (last_made log a ≡ Some values)
+  Knows log acts world a (Taken k id) = (value : T) × HoldsAt acts world a k id value × (value_at world.pages k id ≡ Some value)
+  Knows log acts world a (Holding k id value) = HoldsAt acts world a k id value
+  Knows log acts world a (Home k id) =
+      (value : T) × (kept : T) × HoldsAt acts world a k id value × Leaves value kept × (value_at world.pages k id ≡ Some kept)
+  Knows log acts world a Ended = ⊤
+
+  abbrev pub KnowsIf : Log T → List (Act T) → State T → ℕ → Option (Point T) → Type 0
+  KnowsIf log acts world a None = stage_of acts a ≡ NotBegun
+  KnowsIf log acts world a (Some point) = Knows log acts world a point
+
+  -- the acts are what the log shows, they are a run, and the world is where they lead
+  pub record Agrees (log : Log T) (acts : List (Act T)) (world : State T) : Type 0 where
+    pub reads : Reads log acts
+    pub run : Run Leaves world.limit first acts
+    pub found : Found first acts
+    pub same : IsSame (pool_of first acts) (reading world)
+    pub words : (k : ℕ) (page : PageState T) → slice_get world.pages k ≡ Some page → page.word < 2 ^ 32
+    pub places : (k : ℕ) (page : PageState T) → slice_get world.pages k ≡ Some page → length page.places ≡ 32
+    pub allowed : AllowsPages world.limit (length world.pages)
+    pub agents : (a : ℕ) → KnowsIf log acts world a (slice_get world.agents a)

@@ -1,0 +1,234 @@
+-- The table of the world's machine: what each event answers and leaves, by the point of its agent.
+use Rattle.std.specs.Prelude.{◌≡◌, ◌⊎◌, ℕ, ◌+◌, ◌-◌, ◌^◌, ◌==◌, nat_lt, Bool, true, false, bit_and, bit_or, if◌then◌else◌, Option, Some, None, option_map, option_and_then, List, [], ◌∷◌, ◌++◌, map, length, slice_get, slice_set, Result, Ok, Err, ⊤}
+use Rattle.std.specs.Int.{w32, bit_at, bit_not, trailing_zeros}
+use Rattle.lockfree_object_pool.specs.declared.pull_error.PullError.{PullError}
+use Rattle.lockfree_object_pool.specs.declared.pull_error.PullError.TheVariants.{Memory, Init, Limit}
+use Rattle.object_pool_cores.specs.declared.interleave.event.Event.{Event}
+use Rattle.object_pool_cores.specs.declared.interleave.event.Event.TheVariants as event
+use Rattle.object_pool_cores.specs.declared.interleave.event.Seen.{Seen}
+use Rattle.object_pool_cores.specs.declared.interleave.event.Seen.TheVariants as seen
+use Rattle.object_pool_cores.specs.declared.interleave.point.Point.{Point}
+use Rattle.object_pool_cores.specs.declared.interleave.point.Point.TheVariants.{Reading, Clearing, AtLink, Making, Linking, Taken, Holding, Home, Ended}
+use Rattle.object_pool_cores.specs.Pool.{number}
+use Rattle.object_pool_cores.specs.World.PageState.{PageState}
+use Rattle.object_pool_cores.specs.World.State.{State}
+
+-- the bit of an id is set in the word
+abbrev pub has_bit : ℕ → ℕ → Bool
+has_bit word id = bit_at word id == 1
+
+-- the word with the bit of an id set
+abbrev pub with_bit : ℕ → ℕ → ℕ
+with_bit word id = bit_or word (2 ^ id)
+
+-- the word with the bit of an id clear
+abbrev pub without_bit : ℕ → ℕ → ℕ
+without_bit word id = bit_and word (bit_not w32 (2 ^ id))
+
+-- the place of the lowest set bit
+abbrev pub lowest : ℕ → ℕ
+lowest mask = trailing_zeros w32 mask
+
+-- the mask without its lowest set bit
+abbrev pub without_lowest : ℕ → ℕ
+without_lowest mask = bit_and mask (mask - 1)
+
+-- there is a limit, and it is this number
+abbrev pub is_limit : Option ℕ → ℕ → Bool
+is_limit None count = false
+is_limit (Some limit) count = limit == count
+
+module _ {T : Type 0} where
+  -- a page that was just linked with these values: each of its items is free
+  abbrev pub linked_page : List T → PageState T
+  linked_page values = record { word = 4294967295; places = map Some values }
+
+  -- the word of a page, 0 where there is no such page
+  abbrev pub word_in : Option (PageState T) → ℕ
+  word_in None = 0
+  word_in (Some page) = page.word
+
+  abbrev pub word_of : List (PageState T) → ℕ → ℕ
+  word_of pages k = word_in (slice_get pages k)
+
+  -- the value at a place of a page, if one lies there
+  abbrev pub value_in : Option (PageState T) → ℕ → Option T
+  value_in None id = None
+  value_in (Some page) id = option_and_then (λ place. place) (slice_get page.places id)
+
+  abbrev pub value_at : List (PageState T) → ℕ → ℕ → Option T
+  value_at pages k id = value_in (slice_get pages k) id
+
+  -- the pages with this one in place of page k, if there is one
+  abbrev pub with_page : List (PageState T) → ℕ → Option (PageState T) → List (PageState T)
+  with_page pages k None = pages
+  with_page pages k (Some page) = slice_set pages k page
+
+  -- the pages with another word on page k
+  abbrev pub with_word : List (PageState T) → ℕ → ℕ → List (PageState T)
+  with_word pages k word = with_page pages k (option_map (λ page. record { word = word; places = page.places }) (slice_get pages k))
+
+  -- the pages with another value, or none, at a place of page k
+  abbrev pub with_value : List (PageState T) → ℕ → ℕ → Option T → List (PageState T)
+  with_value pages k id value = with_page pages k (option_map (λ page. record { word = page.word; places = slice_set page.places id value }) (slice_get pages k))
+
+  -- a world of one page of these values, in which no agent has begun
+  abbrev pub opening_world : List T → Option ℕ → State T
+  opening_world values limit = record { pages = linked_page values ∷ []; agents = []; limit = limit }
+
+  -- the world with its agent at another point
+  abbrev pub at_point : State T → ℕ → Point T → State T
+  at_point world a point = record { pages = world.pages; agents = slice_set world.agents a point; limit = world.limit }
+
+  -- the world with other pages
+  abbrev pub with_pages : State T → List (PageState T) → State T
+  with_pages world pages = record { pages = pages; agents = world.agents; limit = world.limit }
+
+-- an answer, and the world that is left
+abbrev pub Outcome : Type 0 → Type 0
+Outcome T = Seen × State T
+
+module _ {T : Type 0} where
+  -- the event isn't enabled, and nothing changes
+  abbrev pub not_enabled : State T → Outcome T
+  not_enabled world = (seen.NotEnabled, world)
+
+  -- the same where page k isn't there, which is so of no agent in a world that can be reached
+  abbrev pub if_linked : State T → ℕ → Outcome T → Outcome T
+  if_linked world k outcome = if nat_lt k (length world.pages) then outcome else not_enabled world
+
+  -- the value that an agent has, from its MoveOut until its MoveHome
+  abbrev pub held_by : Option (Point T) → Option T
+  held_by (Some (Holding k id value)) = Some value
+  held_by _ = None
+
+  -- the values that an agent has for a page of its own
+  abbrev pub prepared_by : Option (Point T) → Option (List T)
+  prepared_by (Some (Linking k values)) = Some values
+  prepared_by _ = None
+
+  -- where an agent on page k goes next with these bits to try
+  abbrev pub tries : ℕ → ℕ → Point T
+  tries k mask = if mask == 0 then AtLink k else Clearing k mask
+
+  abbrev pub read_mask : State T → ℕ → Option (Point T) → Outcome T
+  read_mask world a (Some (Reading k)) =
+      let word = word_of world.pages k in (seen.Word a word, at_point world a (tries k word))
+  read_mask world a _ = not_enabled world
+
+  -- the bit is set in the word: it is cleared there; or it isn't, and the next bit is tried
+  abbrev pub clears : State T → ℕ → ℕ → ℕ → ℕ → Outcome T
+  clears world a k mask word =
+      if has_bit word (lowest mask)
+      then (seen.Pulled a (number k (lowest mask)), at_point (with_pages world (with_word world.pages k (without_bit word (lowest mask)))) a (Taken k (lowest mask)))
+      else (seen.Found a word, at_point world a (tries k (without_lowest mask)))
+
+  abbrev pub clear_bit : State T → ℕ → Option (Point T) → Outcome T
+  clear_bit world a (Some (Clearing k mask)) = if mask == 0 then not_enabled world else clears world a k mask (word_of world.pages k)
+  clear_bit world a _ = not_enabled world
+
+  abbrev pub read_next : State T → ℕ → Option (Point T) → Outcome T
+  read_next world a (Some (AtLink k)) =
+      if_linked world k
+      (if is_limit world.limit (k + 1) then (seen.Refused a Limit, at_point world a Ended)
+      else if length world.pages == k + 1 then (seen.Next a false, at_point world a (Making k))
+      else (seen.Next a true, at_point world a (Reading (k + 1))))
+  read_next world a _ = not_enabled world
+
+  abbrev pub make_page : State T → ℕ → Result (List T) PullError → Option (Point T) → Outcome T
+  make_page world a (Ok values) (Some (Making k)) = if_linked world k (seen.Made a, at_point world a (Linking k values))
+  make_page world a (Err Memory) (Some (Making k)) = (seen.Refused a Memory, at_point world a Ended)
+  make_page world a (Err Init) (Some (Making k)) = (seen.Refused a Init, at_point world a Ended)
+  make_page world a made _ = not_enabled world
+
+  abbrev pub exchange_next : State T → ℕ → Option (Point T) → Outcome T
+  exchange_next world a (Some (Linking k values)) =
+      if_linked world k
+      (if length world.pages == k + 1
+      then (seen.Linked a, at_point (with_pages world (world.pages ++ linked_page values ∷ [])) a (Reading (k + 1)))
+      else (seen.Lost a, at_point world a (Reading (k + 1))))
+  exchange_next world a _ = not_enabled world
+
+  -- the value of the place goes to the agent; one lies there in each world that can be reached
+  abbrev pub takes : State T → ℕ → ℕ → ℕ → Option T → Outcome T
+  takes world a k id None = not_enabled world
+  takes world a k id (Some value) =
+      (seen.MovedOut a, at_point (with_pages world (with_value world.pages k id None)) a (Holding k id value))
+
+  abbrev pub move_out : State T → ℕ → Option (Point T) → Outcome T
+  move_out world a (Some (Taken k id)) = takes world a k id (value_at world.pages k id)
+  move_out world a _ = not_enabled world
+
+  abbrev pub write : State T → ℕ → T → Option (Point T) → Outcome T
+  write world a value (Some (Holding k id old)) = (seen.Wrote a, at_point world a (Holding k id value))
+  write world a value _ = not_enabled world
+
+  -- what reset left of the agent's value goes to its place
+  abbrev pub puts : State T → ℕ → ℕ → ℕ → T → Outcome T
+  puts world a k id kept =
+      (seen.MovedHome a, at_point (with_pages world (with_value world.pages k id (Some kept))) a (Home k id))
+
+  abbrev pub or_mask : State T → ℕ → Option (Point T) → Outcome T
+  or_mask world a (Some (Home k id)) =
+      if nat_lt id 32
+      then (seen.Returned a (number k id), at_point (with_pages world (with_word world.pages k (with_bit (word_of world.pages k) id))) a Ended)
+      else not_enabled world
+  or_mask world a _ = not_enabled world
+
+  abbrev pub begin : State T → Outcome T
+  begin world = (seen.Began (length world.agents), record { pages = world.pages; agents = world.agents ++ Reading 0 ∷ []; limit = world.limit })
+
+  -- the answer and the world are those of the outcome
+  abbrev pub Gives : Outcome T → Seen → State T → Type 0
+  Gives outcome answer new = (answer ≡ outcome.0) × (new ≡ outcome.1)
+
+  -- the tables may have to grow for this event: a new agent, or the room of a page's link
+  abbrev pub MayGrow : Event T → Option (Point T) → Type 0
+  MayGrow event.Begin point = ⊤
+  MayGrow (event.MakePage a (Ok values)) (Some (Making k)) = ⊤
+  MayGrow _ _ = ⊥
+
+  -- a page that is linked has 32 values
+  abbrev pub LinksWhole : Seen → Option (List T) → Type 0
+  LinksWhole (seen.Linked a) (Some values) = length values ≡ 32
+  LinksWhole _ _ = ⊤
+
+  -- the agent that an event names
+  abbrev pub agent_of : Event T → Option ℕ
+  agent_of event.Begin = None
+  agent_of (event.ReadMask a) = Some a
+  agent_of (event.ClearBit a) = Some a
+  agent_of (event.ReadNext a) = Some a
+  agent_of (event.MakePage a made) = Some a
+  agent_of (event.ExchangeNext a) = Some a
+  agent_of (event.MoveOut a) = Some a
+  agent_of (event.Write a value) = Some a
+  agent_of (event.MoveHome a) = Some a
+  agent_of (event.OrMask a) = Some a
+
+  -- the point of the agent that an event names
+  abbrev pub point_of : State T → Event T → Option (Point T)
+  point_of world e = option_and_then (λ a. slice_get world.agents a) (agent_of e)
+
+module _ {T : Type 0} (Leaves : T → T → Type 0) where
+  -- reset runs on the agent's value, and may leave any value that it leaves of it
+  abbrev pub MovesHome : State T → ℕ → Option (Point T) → Seen → State T → Type 0
+  MovesHome old a (Some (Holding k id value)) answer new = (kept : T) × Leaves value kept × Gives (puts old a k id kept) answer new
+  MovesHome old a _ answer new = Gives (not_enabled old) answer new
+
+  -- the row of the table for an event
+  abbrev pub Row : State T → Event T → Seen → State T → Type 0
+  Row old event.Begin answer new = Gives (begin old) answer new
+  Row old (event.ReadMask a) answer new = Gives (read_mask old a (slice_get old.agents a)) answer new
+  Row old (event.ClearBit a) answer new = Gives (clear_bit old a (slice_get old.agents a)) answer new
+  Row old (event.ReadNext a) answer new = Gives (read_next old a (slice_get old.agents a)) answer new
+  Row old (event.MakePage a made) answer new = Gives (make_page old a made (slice_get old.agents a)) answer new
+  Row old (event.ExchangeNext a) answer new = Gives (exchange_next old a (slice_get old.agents a)) answer new × LinksWhole answer (prepared_by (slice_get old.agents a))
+  Row old (event.MoveOut a) answer new = Gives (move_out old a (slice_get old.agents a)) answer new
+  Row old (event.Write a value) answer new = Gives (write old a value (slice_get old.agents a)) answer new
+  Row old (event.MoveHome a) answer new = MovesHome old a (slice_get old.agents a) answer new
+  Row old (event.OrMask a) answer new = Gives (or_mask old a (slice_get old.agents a)) answer new
+
+  -- one step: the row of the table; or the tables had to grow and couldn't, and nothing changes
+  abbrev pub Steps : State T → Event T → Seen → State T → Type 0
+  Steps old e answer new = Row old e answer new ⊎ (MayGrow e (point_of old e) × (answer ≡ seen.NoMemory) × (new ≡ old))

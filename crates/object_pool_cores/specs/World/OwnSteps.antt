@@ -1,0 +1,45 @@
+-- An agent's own steps in a list of events.
+use Rattle.std.specs.Prelude.{◌≡◌, ℕ, ◌+◌, ◌==◌, Bool, true, false, if◌then◌else◌, Option, Some, None, [], ◌∷◌, ⊤}
+use Rattle.object_pool_cores.specs.declared.interleave.event.Event.{Event}
+use Rattle.object_pool_cores.specs.declared.interleave.event.Seen.{Seen}
+use Rattle.object_pool_cores.specs.declared.interleave.event.Seen.TheVariants as seen
+use Rattle.object_pool_cores.specs.declared.interleave.point.Point.{Point}
+use Rattle.object_pool_cores.specs.declared.interleave.point.Point.TheVariants.{Reading, Clearing, AtLink, Making, Linking}
+use Rattle.object_pool_cores.specs.World.Machine.{agent_of}
+use Rattle.object_pool_cores.specs.World.Visible.{Log}
+
+-- an answer with which nothing happened
+abbrev pub is_idle : Seen → Bool
+is_idle seen.NotEnabled = true
+is_idle seen.NoMemory = true
+is_idle _ = false
+
+-- this agent is named
+abbrev pub names : Option ℕ → ℕ → Bool
+names None a = false
+names (Some b) a = b == a
+
+module _ {T : Type 0} where
+  -- the event is a step of the agent: it names it, and something happened
+  abbrev pub is_step_of : Event T → Seen → ℕ → Bool
+  is_step_of e answer a = if is_idle answer then false else names (agent_of e) a
+
+  -- how many steps of the agent there are
+  abbrev pub own_steps : Log T → ℕ → ℕ
+  own_steps [] a = 0
+  own_steps ((e, answer) ∷ log) a = if is_step_of e answer a then own_steps log a + 1 else own_steps log a
+
+  -- an agent is on page k: it reads the word, or clears bits
+  abbrev pub IsOnPage : ℕ → Option (Point T) → Type 0
+  IsOnPage k (Some (Reading j)) = j ≡ k
+  IsOnPage k (Some (Clearing j mask)) = j ≡ k
+  IsOnPage k _ = ⊥
+
+  -- an agent has neither taken a number nor been refused
+  abbrev pub IsLooking : Option (Point T) → Type 0
+  IsLooking (Some (Reading k)) = ⊤
+  IsLooking (Some (Clearing k mask)) = ⊤
+  IsLooking (Some (AtLink k)) = ⊤
+  IsLooking (Some (Making k)) = ⊤
+  IsLooking (Some (Linking k values)) = ⊤
+  IsLooking _ = ⊥

@@ -1,0 +1,56 @@
+//! One step of an agent, and what it answers.
+use crate::interleave::Prepared;
+use lockfree_object_pool::PullError;
+
+/// One atomic step. All but `Begin` name their agent.
+#[derive(Drop)]
+pub enum Event<T> {
+    /// A new agent begins its pull.
+    Begin,
+    /// The agent reads its page's word.
+    ReadMask(usize),
+    /// The agent clears in the word the lowest bit that it hasn't tried yet.
+    ClearBit(usize),
+    /// The agent reads its page's link.
+    ReadNext(usize),
+    /// The agent makes the 32 values of a new page, or is refused.
+    MakePage(usize, Result<Prepared<T>, PullError>),
+    /// The agent links the page that it made, if no other page is linked there.
+    ExchangeNext(usize),
+    /// The agent takes its value out of the place.
+    MoveOut(usize),
+    /// The agent writes its value.
+    Write(usize, T),
+    /// The agent resets its value and puts it back into the place.
+    MoveHome(usize),
+    /// The agent sets the bit of its number.
+    OrMask(usize),
+}
+
+/// What a step answers. The first number is the agent's.
+#[derive(Clone, Copy, Debug, PartialEq, Eq)]
+pub enum Seen {
+    Began(usize),
+    /// The word that was read.
+    Word(usize, u32),
+    /// The bit was clear in this word.
+    Found(usize, u32),
+    /// The bit was set and is cleared; the item's number.
+    Pulled(usize, u128),
+    /// Whether a next page is linked.
+    Next(usize, bool),
+    Made(usize),
+    Linked(usize),
+    /// Another page is linked there, and the agent's own was dropped.
+    Lost(usize),
+    Refused(usize, PullError),
+    MovedOut(usize),
+    Wrote(usize),
+    MovedHome(usize),
+    /// The bit is set; the item's number.
+    Returned(usize, u128),
+    /// The agent's point doesn't allow the event, and nothing changed.
+    NotEnabled,
+    /// The world's tables couldn't grow, and nothing changed.
+    NoMemory,
+}

@@ -1,0 +1,26 @@
+//! How far an agent is.
+use crate::interleave::Prepared;
+use lockfree_object_pool::page::PageId;
+
+/// The point of an agent, between two of its steps. The first number is a page's.
+#[derive(Drop)]
+pub enum Point<T> {
+    /// It reads the page's word next.
+    Reading(usize),
+    /// It clears next; the set bits that it hasn't tried yet.
+    Clearing(usize, u32),
+    /// It has found each number of the page out, and reads the link next.
+    AtLink(usize),
+    /// It makes the values of a page after this one.
+    Making(usize),
+    /// It links a page with these values after this one.
+    Linking(usize, Prepared<T>),
+    /// It has cleared the bit; the value is at its place.
+    Taken(usize, PageId),
+    /// It has the value; the place is empty.
+    Holding(usize, PageId, T),
+    /// It has put the value back; the bit is clear.
+    Home(usize, PageId),
+    /// It has returned its item, or was refused.
+    Ended,
+}

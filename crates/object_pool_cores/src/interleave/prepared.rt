@@ -1,0 +1,58 @@
+//! The values of a page before it is linked.
+ghost use Rattle.std.specs.Prelude.{◌≡◌, ◌≢◌, Option, Some, None, map, length, All, IfOk, IfErr};
+ghost use Rattle.lockfree_object_pool.specs.declared.pull_error.PullError.TheVariants.{Init, Limit};
+
+use lockfree_object_pool::PullError;
+use std::alloc::Global;
+use std::marker::Model;
+
+/// How many items a page has.
+const PAGE_ITEMS: usize = 32;
+
+/// 32 values for a new page.
+#[derive(Drop)]
+pub struct Prepared<T> {
+    places: Vec<Option<T>>,
+}
+
+impl<T> Model for Prepared<T> {
+    ghost use Rattle.std.specs.Prelude.{List};
+    ghost use Rattle.object_pool_cores.specs.World.Prepared.{values_of, IsFull};
+
+    ghost Value = { List T };
+
+    ghost view = { λ prepared. values_of prepared.places.items };
+
+    ghost invariant = { λ prepared. IsFull prepared.places.items };
+}
+
+impl<T: Drop> Prepared<T> {
+    /// The values that `init` gives, in order. It is called until the page is full or it gives none; then what was
+    /// made is dropped.
+    pub fn make<I: Fn() -> Option<T>>(alloc: Global, init: &I) -> Result<Prepared<T>, PullError>
+        requires { I.pre init.now }
+        ensures values { IfOk result (All (λ value. I.post init.now (Some value))) }
+        ensures count { IfOk result (λ values. length values ≡ 32) }
+        ensures refused { IfErr result (λ cause. cause ≡ Init → I.post init.now None) }
+        ensures unlimited { IfErr result (λ cause. cause ≢ Limit) }
+    {
+        let mut places = Vec::new(alloc);
+        places.reserve(PAGE_ITEMS)?;
+        for index in 0..PAGE_ITEMS {
+            let _ = index;
+            match init() {
+                Some(value) => places.push(Some(value))?,
+                None => return Err(PullError::Init),
+            }
+        }
+        Ok(Prepared { places })
+    }
+
+    /// The values, each at its place.
+    pub(super) fn into_places(self) -> Vec<Option<T>>
+        ensures places { result.items ≡ map Some self }
+        ensures count { length self ≡ 32 }
+    {
+        self.places
+    }
+}

@@ -1,0 +1,447 @@
+//! A world's pages and agents, and what each event does to them.
+ghost use Rattle.std.specs.Prelude.{slice_set, vec_len, vec_capacity, ◌++◌, ◌∷◌, [], ◌≡◌, ◌+◌, ◌<◌, ◌≤◌, ◌↔◌, ◌==◌, ◌⊎◌, Option, Some, None, option_map, option_copied, slice_get, length, IfOk, OnOk, IsTrue, bit_and};
+ghost use Rattle.object_pool_cores.specs.World.PageState.{PageState};
+ghost use Rattle.object_pool_cores.specs.World.Room.{NeedsNoRoom};
+ghost use Rattle.object_pool_cores.specs.World.Machine.{prepared_by, at_point, linked_page, lowest, without_lowest, has_bit, is_limit, word_of, value_at, with_word, with_value, opening_world, tries, read_mask, clear_bit, held_by, read_next, make_page, exchange_next, move_out, write, or_mask, begin, Gives, MayGrow, LinksWhole, MovesHome, Steps};
+ghost use Rattle.object_pool_cores.specs.Pool.{number};
+ghost use Rattle.object_pool_cores.specs.declared.interleave.point.Point.TheVariants.{Reading};
+ghost use Rattle.object_pool_cores.specs.declared.interleave.event.Seen.TheVariants.{NoMemory};
+ghost use Rattle.object_pool_cores.specs.declared.interleave.event.Event.TheVariants.{MakePage};
+
+use crate::interleave::page::Page;
+use crate::interleave::point::Point;
+use crate::interleave::{Event, Prepared, Seen};
+use lockfree_object_pool::PullError;
+use lockfree_object_pool::clean::AnyValue;
+use lockfree_object_pool::closures::Reset;
+use lockfree_object_pool::page::{PageId, take_least, with_bit, without_bit};
+use std::alloc::{AllocError, Global};
+use std::marker::Model;
+use std::mem;
+
+/// How many items a page has.
+const PAGE_ITEMS: PageId = 32;
+
+/// The pages in order, the agents by their numbers, and the limit.
+#[derive(Drop)]
+pub struct Table<T> {
+    pages: Vec<Page<T>>,
+    agents: Vec<Point<T>>,
+    limit: Option<usize>,
+}
+
+impl<T> Model for Table<T> {
+    ghost use Rattle.std.specs.Prelude.{All, vec_capacity};
+    ghost use Rattle.object_pool_cores.specs.World.State.{State};
+    ghost use Rattle.object_pool_cores.specs.World.Room.{HasRoom};
+
+    ghost Value = { State T };
+
+    ghost view = { λ table. record { pages = table.pages.items; agents = table.agents.items; limit = table.limit } };
+
+    ghost invariant = { λ table. All (HasRoom (vec_capacity table.pages)) table.agents.items };
+}
+
+/// The bit of an id is set in the word.
+fn has_bit(word: u32, id: PageId) -> bool
+    requires { id < 32 }
+    ensures { result ≡ has_bit word id }
+{
+    word >> id & 1 == 1
+}
+
+/// There is a limit, and it is the count after `page`.
+fn is_last_allowed(limit: Option<usize>, page: usize) -> bool
+    ensures { result ≡ is_limit limit (page + 1) }
+{
+    match limit {
+        Some(limit) => is_last(limit, page),
+        None => false,
+    }
+}
+
+/// The page is the last of so many.
+fn is_last(pages: usize, page: usize) -> bool
+    ensures { result ≡ (pages == page + 1) }
+{
+    pages > page && pages - page == 1
+}
+
+/// The word of a page, 0 where there is no such page.
+fn word_of<T: Drop>(pages: &Vec<Page<T>>, page: usize) -> u32
+    ensures { result ≡ word_of pages.now.items page }
+{
+    match pages.get(page) {
+        Some(page) => page.word(),
+        None => 0,
+    }
+}
+
+/// Where an agent on a page goes next with these bits to try.
+fn tries<T>(page: usize, mask: u32) -> Point<T>
+    ensures value { result ≡ tries page mask }
+    ensures room { NeedsNoRoom result }
+{
+    if mask == 0 {
+        Point::AtLink(page)
+    } else {
+        Point::Clearing(page, mask)
+    }
+}
+
+/// Gives a page another word, if there is such a page.
+fn set_word<T: Drop>(pages: &mut Vec<Page<T>>, page: usize, word: u32)
+    ensures pages { pages.new.items ≡ with_word pages.old.items page word }
+    ensures room { vec_capacity pages.new ≡ vec_capacity pages.old }
+{
+    if let Some(page) = pages.get_mut(page) {
+        page.set_word(word);
+    }
+}
+
+/// The value at a place, if one lies there.
+fn value_at<T: Drop>(pages: &Vec<Page<T>>, page: usize, id: PageId) -> Option<&T>
+    ensures { option_copied result ≡ value_at pages.now.items page id }
+{
+    match pages.get(page) {
+        Some(page) => page.value(id),
+        None => None,
+    }
+}
+
+/// Takes the value out of a place, if one lies there.
+fn take_value<T: Drop>(pages: &mut Vec<Page<T>>, page: usize, id: PageId) -> Option<T>
+    ensures value { result ≡ value_at pages.old.items page id }
+    ensures pages { pages.new.items ≡ with_value pages.old.items page id None }
+    ensures room { vec_capacity pages.new ≡ vec_capacity pages.old }
+{
+    match pages.get_mut(page) {
+        Some(page) => page.take(id),
+        None => None,
+    }
+}
+
+/// Puts a value into a place, if there is such a page.
+fn put_value<T: Drop>(pages: &mut Vec<Page<T>>, page: usize, id: PageId, value: T)
+    ensures pages { pages.new.items ≡ with_value pages.old.items page id (Some value) }
+    ensures room { vec_capacity pages.new ≡ vec_capacity pages.old }
+{
+    if let Some(page) = pages.get_mut(page) {
+        page.put(id, value);
+    }
+}
+
+/// A mask without its lowest set bit, and that bit's place.
+fn split_lowest(mask: u32) -> (u32, PageId)
+    requires { 0 < mask }
+    ensures rest { result.0 ≡ without_lowest mask }
+    ensures lowest { result.1 ≡ lowest mask }
+    ensures in_page { result.1 < 32 }
+{
+    match take_least(mask) {
+        Some(split) => split,
+        None => (0, 0),
+    }
+}
+
+/// The number of an item.
+fn number(page: usize, id: PageId) -> u128
+    ensures { result ≡ number page id }
+{
+    32 * page as u128 + u128::from(id)
+}
+
+/// Moves an agent to the next page, and gives the values that it had for a page of its own.
+fn pass_link<T: Drop>(agents: &mut Vec<Point<T>>, agent: usize, next: usize) -> Option<Prepared<T>>
+    requires { agent < vec_len agents.old }
+    ensures values { result ≡ prepared_by (slice_get agents.old.items agent) }
+    ensures agents { agents.new.items ≡ slice_set agents.old.items agent (Reading next) }
+{
+    match mem::replace(&mut agents[agent], Point::Reading(next)) {
+        Point::Linking(_, values) => Some(values),
+        _ => None,
+    }
+}
+
+/// Links a page of these values after the last, in the room that was made for it.
+fn link_last<T: Drop>(pages: &mut Vec<Page<T>>, values: Prepared<T>)
+    requires { vec_len pages.old < vec_capacity pages.old }
+    ensures pages { pages.new.items ≡ pages.old.items ++ linked_page values ∷ [] }
+    ensures room { vec_capacity pages.old ≤ vec_capacity pages.new }
+    ensures whole { length values ≡ 32 }
+{
+    let _ = pages.push(Page::new(values));
+}
+
+/// What `reset` leaves of a value.
+fn reset_of<T: Drop, R: Reset<T, AnyValue>>(reset: &R, mut value: T) -> T
+    ensures { R.leaves reset.now value result }
+{
+    reset.reset(&mut value);
+    value
+}
+
+impl<T: Drop> Table<T> {
+    /// One page of these values, and no agent.
+    pub fn new(
+        alloc: Global,
+        first: Prepared<T>,
+        limit: Option<usize>,
+    ) -> Result<Table<T>, AllocError>
+        ensures opening { IfOk result (λ table. table ≡ opening_world first limit) }
+        ensures whole { OnOk result (length first ≡ 32) }
+    {
+        let mut pages = Vec::new(alloc);
+        pages.push(Page::new(first))?;
+        Ok(Table {
+            pages,
+            agents: Vec::new(alloc),
+            limit,
+        })
+    }
+
+    pub fn pages(&self) -> usize
+        ensures { result ≡ length self.now.pages }
+    {
+        self.pages.len()
+    }
+
+    pub fn limit(&self) -> Option<usize>
+        ensures { result ≡ self.now.limit }
+    {
+        self.limit
+    }
+
+    /// The page's word, if there is such a page.
+    pub fn word(&self, page: usize) -> Option<u32>
+        ensures { result ≡ option_map (λ page. page.word) (slice_get self.now.pages page) }
+    {
+        match self.pages.get(page) {
+            Some(page) => Some(page.word()),
+            None => None,
+        }
+    }
+
+    /// The value at a place, if one lies there.
+    pub fn place(&self, page: usize, id: PageId) -> Option<&T>
+        ensures { option_copied result ≡ value_at self.now.pages page id }
+    {
+        value_at(&self.pages, page, id)
+    }
+
+    /// The agent's value, from its `MoveOut` until its `MoveHome`.
+    pub fn held(&self, agent: usize) -> Option<&T>
+        ensures { option_copied result ≡ held_by (slice_get self.now.agents agent) }
+    {
+        match self.agents.get(agent) {
+            Some(Point::Holding(_, _, value)) => Some(value),
+            _ => None,
+        }
+    }
+
+    /// One step. Only `MoveHome` uses `reset`.
+    pub fn step<R: Reset<T, AnyValue>>(&mut self, reset: &R, event: Event<T>) -> Seen
+        ensures { Steps (R.leaves reset.now) self.old event result self.new }
+    {
+        match event {
+            Event::Begin => self.begin(),
+            Event::ReadMask(agent) => self.read_mask(agent),
+            Event::ClearBit(agent) => self.clear_bit(agent),
+            Event::ReadNext(agent) => self.read_next(agent),
+            Event::MakePage(agent, made) => self.make_page(agent, made),
+            Event::ExchangeNext(agent) => self.exchange_next(agent),
+            Event::MoveOut(agent) => self.move_out(agent),
+            Event::Write(agent, value) => self.write(agent, value),
+            Event::MoveHome(agent) => self.move_home(agent, reset),
+            Event::OrMask(agent) => self.or_mask(agent),
+        }
+    }
+
+    /// Moves an agent to another point, which needs no room for a link.
+    fn go(&mut self, agent: usize, point: Point<T>)
+        requires begun { agent < length self.old.agents }
+        requires room { NeedsNoRoom point }
+        ensures { self.new ≡ at_point self.old agent point }
+    {
+        self.agents[agent] = point;
+    }
+
+    fn begin(&mut self) -> Seen
+        ensures { Gives (begin self.old) result self.new ⊎ ((result ≡ NoMemory) × (self.new ≡ self.old)) }
+    {
+        let agent = self.agents.len();
+        match self.agents.push(Point::Reading(0)) {
+            Ok(()) => Seen::Began(agent),
+            Err(_) => Seen::NoMemory,
+        }
+    }
+
+    fn read_mask(&mut self, agent: usize) -> Seen
+        ensures { Gives (read_mask self.old agent (slice_get self.old.agents agent)) result self.new }
+    {
+        let page = match self.agents.get(agent) {
+            Some(Point::Reading(page)) => *page,
+            _ => return Seen::NotEnabled,
+        };
+        let word = word_of(&self.pages, page);
+        self.go(agent, tries(page, word));
+        Seen::Word(agent, word)
+    }
+
+    fn clear_bit(&mut self, agent: usize) -> Seen
+        ensures { Gives (clear_bit self.old agent (slice_get self.old.agents agent)) result self.new }
+    {
+        let (page, mask) = match self.agents.get(agent) {
+            Some(Point::Clearing(page, mask)) => (*page, *mask),
+            _ => return Seen::NotEnabled,
+        };
+        if mask == 0 {
+            return Seen::NotEnabled;
+        }
+        let (rest, id) = split_lowest(mask);
+        let word = word_of(&self.pages, page);
+        if has_bit(word, id) {
+            set_word(&mut self.pages, page, without_bit(word, id));
+            self.go(agent, Point::Taken(page, id));
+            return Seen::Pulled(agent, number(page, id));
+        }
+        self.go(agent, tries(page, rest));
+        Seen::Found(agent, word)
+    }
+
+    fn read_next(&mut self, agent: usize) -> Seen
+        ensures { Gives (read_next self.old agent (slice_get self.old.agents agent)) result self.new }
+    {
+        let page = match self.agents.get(agent) {
+            Some(Point::AtLink(page)) => *page,
+            _ => return Seen::NotEnabled,
+        };
+        let pages = self.pages.len();
+        if page >= pages {
+            return Seen::NotEnabled;
+        }
+        if is_last_allowed(self.limit, page) {
+            self.go(agent, Point::Ended);
+            return Seen::Refused(agent, PullError::Limit);
+        }
+        if is_last(pages, page) {
+            self.go(agent, Point::Making(page));
+            return Seen::Next(agent, false);
+        }
+        self.go(agent, Point::Reading(page + 1));
+        Seen::Next(agent, true)
+    }
+
+    fn make_page(&mut self, agent: usize, made: Result<Prepared<T>, PullError>) -> Seen
+        ensures { Gives (make_page self.old agent made (slice_get self.old.agents agent)) result self.new ⊎ (MayGrow (MakePage agent made) (slice_get self.old.agents agent) × (result ≡ NoMemory) × (self.new ≡ self.old)) }
+    {
+        let page = match self.agents.get(agent) {
+            Some(Point::Making(page)) => *page,
+            _ => return Seen::NotEnabled,
+        };
+        match made {
+            Ok(values) => {
+                if page >= self.pages.len() {
+                    return Seen::NotEnabled;
+                }
+                if self.pages.reserve(1).is_err() {
+                    return Seen::NoMemory;
+                }
+                self.agents[agent] = Point::Linking(page, values);
+                Seen::Made(agent)
+            }
+            Err(PullError::Limit) => Seen::NotEnabled,
+            Err(cause) => {
+                self.agents[agent] = Point::Ended;
+                Seen::Refused(agent, cause)
+            }
+        }
+    }
+
+    fn exchange_next(&mut self, agent: usize) -> Seen
+        ensures step { Gives (exchange_next self.old agent (slice_get self.old.agents agent)) result self.new }
+        ensures whole { LinksWhole result (prepared_by (slice_get self.old.agents agent)) }
+    {
+        let page = match self.agents.get(agent) {
+            Some(Point::Linking(page, _)) => *page,
+            _ => return Seen::NotEnabled,
+        };
+        if page >= self.pages.len() {
+            return Seen::NotEnabled;
+        }
+        let next = page + 1;
+        if !is_last(self.pages.len(), page) {
+            self.go(agent, Point::Reading(next));
+            return Seen::Lost(agent);
+        }
+        match pass_link(&mut self.agents, agent, next) {
+            Some(values) => {
+                link_last(&mut self.pages, values);
+                Seen::Linked(agent)
+            }
+            None => Seen::NotEnabled,
+        }
+    }
+
+    fn move_out(&mut self, agent: usize) -> Seen
+        ensures { Gives (move_out self.old agent (slice_get self.old.agents agent)) result self.new }
+    {
+        let (page, id) = match self.agents.get(agent) {
+            Some(Point::Taken(page, id)) => (*page, *id),
+            _ => return Seen::NotEnabled,
+        };
+        if value_at(&self.pages, page, id).is_none() {
+            return Seen::NotEnabled;
+        }
+        match take_value(&mut self.pages, page, id) {
+            Some(value) => {
+                self.agents[agent] = Point::Holding(page, id, value);
+                Seen::MovedOut(agent)
+            }
+            None => Seen::NotEnabled,
+        }
+    }
+
+    fn write(&mut self, agent: usize, value: T) -> Seen
+        ensures { Gives (write self.old agent value (slice_get self.old.agents agent)) result self.new }
+    {
+        let (page, id) = match self.agents.get(agent) {
+            Some(Point::Holding(page, id, _)) => (*page, *id),
+            _ => return Seen::NotEnabled,
+        };
+        self.agents[agent] = Point::Holding(page, id, value);
+        Seen::Wrote(agent)
+    }
+
+    fn move_home<R: Reset<T, AnyValue>>(&mut self, agent: usize, reset: &R) -> Seen
+        ensures { MovesHome (R.leaves reset.now) self.old agent (slice_get self.old.agents agent) result self.new }
+    {
+        let (page, id) = match self.agents.get(agent) {
+            Some(Point::Holding(page, id, _)) => (*page, *id),
+            _ => return Seen::NotEnabled,
+        };
+        let value = match mem::replace(&mut self.agents[agent], Point::Home(page, id)) {
+            Point::Holding(_, _, value) => value,
+            _ => return Seen::NotEnabled,
+        };
+        let kept = reset_of(reset, value);
+        put_value(&mut self.pages, page, id, kept);
+        Seen::MovedHome(agent)
+    }
+
+    fn or_mask(&mut self, agent: usize) -> Seen
+        ensures { Gives (or_mask self.old agent (slice_get self.old.agents agent)) result self.new }
+    {
+        let (page, id) = match self.agents.get(agent) {
+            Some(Point::Home(page, id)) => (*page, *id),
+            _ => return Seen::NotEnabled,
+        };
+        if id >= PAGE_ITEMS {
+            return Seen::NotEnabled;
+        }
+        let word = word_of(&self.pages, page);
+        set_word(&mut self.pages, page, with_bit(word, id));
+        self.agents[agent] = Point::Ended;
+        Seen::Returned(agent, number(page, id))
+    }
+}

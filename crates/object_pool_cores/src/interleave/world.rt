@@ -1,0 +1,117 @@
+//! The world of agents.
+ghost use Rattle.std.specs.Prelude.{◌≡◌, ◌≤◌, Some, None, option_map, option_copied, slice_get, IfOk, IfErr};
+ghost use Rattle.lockfree_object_pool.specs.declared.pull_error.PullError.TheVariants.{Memory};
+ghost use Rattle.object_pool_cores.specs.World.Headline.{IsNew, Played};
+ghost use Rattle.object_pool_cores.specs.World.Machine.{held_by, opening_world, value_at, Steps};
+ghost use Rattle.object_pool_cores.specs.World.Reached.{IsExact, IsReached};
+ghost use Rattle.object_pool_cores.specs.World.Reading.{reading};
+ghost use Rattle.object_pool_cores.specs.World.Shown.{world_reset, world_state};
+
+use crate::interleave::reached::Reached;
+use crate::interleave::{Event, Prepared, RunError, Seen};
+use lockfree_object_pool::PullError;
+use lockfree_object_pool::clean::AnyValue;
+use lockfree_object_pool::closures::Reset;
+use lockfree_object_pool::page::PageId;
+use std::alloc::Global;
+
+/// The linear core with any number of agents. What an agent returns is reset by `R`.
+#[derive(Drop)]
+pub struct World<T, R: Reset<T, AnyValue>> {
+    reached: Reached<T>,
+    reset: R,
+}
+
+impl<T: Drop, R: Reset<T, AnyValue>> World<T, R> {
+    /// A world of one page, in which no agent has begun.
+    pub fn new(alloc: Global, first: Prepared<T>, reset: R) -> Result<World<T, R>, PullError>
+        ensures world { IfOk result (λ world. world_state world ≡ opening_world first None) }
+        ensures is_new { IfOk result (λ world. IsNew (world_state world)) }
+        ensures reset { IfOk result (λ world. world_reset world ≡ reset) }
+        ensures refused { IfErr result (λ cause. cause ≡ Memory) }
+    {
+        match Reached::new(alloc, first, None) {
+            Ok(reached) => Ok(World { reached, reset }),
+            Err(_) => Err(PullError::Memory),
+        }
+    }
+
+    /// The same with a limit on its pages.
+    pub fn with_limit(
+        alloc: Global,
+        first: Prepared<T>,
+        reset: R,
+        pages: usize,
+    ) -> Result<World<T, R>, PullError>
+        requires { 1 ≤ pages }
+        ensures world { IfOk result (λ world. world_state world ≡ opening_world first (Some pages)) }
+        ensures is_new { IfOk result (λ world. IsNew (world_state world)) }
+        ensures reset { IfOk result (λ world. world_reset world ≡ reset) }
+        ensures refused { IfErr result (λ cause. cause ≡ Memory) }
+    {
+        match Reached::new(alloc, first, Some(pages)) {
+            Ok(reached) => Ok(World { reached, reset }),
+            Err(_) => Err(PullError::Memory),
+        }
+    }
+
+    /// How many pages may be linked, if there is a limit.
+    pub fn limit(&self) -> Option<usize>
+        ensures { result ≡ (world_state self.now).limit }
+    {
+        self.reached.limit()
+    }
+
+    /// How many pages are linked.
+    pub fn pages(&self) -> usize
+        ensures { result ≡ (reading (world_state self.now)).pages }
+    {
+        self.reached.pages()
+    }
+
+    /// The word of a page, if there is such a page.
+    pub fn word(&self, page: usize) -> Option<u32>
+        ensures { result ≡ option_map (λ page. page.word) (slice_get (world_state self.now).pages page) }
+    {
+        self.reached.word(page)
+    }
+
+    /// The value that lies at a place, if one does.
+    pub fn place(&self, page: usize, id: PageId) -> Option<&T>
+        ensures { option_copied result ≡ value_at (world_state self.now).pages page id }
+    {
+        self.reached.place(page, id)
+    }
+
+    /// The value of an agent, from its `MoveOut` until its `MoveHome`.
+    pub fn held(&self, agent: usize) -> Option<&T>
+        ensures { option_copied result ≡ held_by (slice_get (world_state self.now).agents agent) }
+    {
+        self.reached.held(agent)
+    }
+
+    /// One atomic step of the agent that the event names.
+    pub fn step(&mut self, event: Event<T>) -> Seen
+        ensures step { Steps (R.leaves (world_reset self.old)) (world_state self.old) event result (world_state self.new) }
+        ensures exact { IsExact (world_state self.old) event result (world_state self.new) }
+        ensures reached { IsReached (world_state self.old) }
+        ensures reset { world_reset self.new ≡ world_reset self.old }
+    {
+        self.reached.step(&self.reset, event)
+    }
+
+    /// The events, one after another, each with its answer at the end of `seen`. An error leaves the answers of the
+    /// events that were done, and the world after them; the others are dropped.
+    pub fn run(&mut self, mut events: Vec<Event<T>>, seen: &mut Vec<Seen>) -> Result<(), RunError>
+        ensures played { Played (R.leaves (world_reset self.old)) (world_state self.old) events.items seen.old.items result seen.new.items (world_state self.new) }
+        ensures reset { world_reset self.new ≡ world_reset self.old }
+    {
+        events.reverse();
+        while let Some(event) = events.pop() {
+            seen.reserve(1)?;
+            let answer = self.step(event);
+            seen.push(answer)?;
+        }
+        Ok(())
+    }
+}
