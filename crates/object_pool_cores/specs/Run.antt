@@ -1,7 +1,7 @@
 -- Runs: what agents do with a pool, one act after another.
 use Rattle.std.specs.Prelude.{◌≡◌, ◌≢◌, ◌⊎◌, ℕ, ◌*◌, ◌<◌, ◌≤◌, ◌==◌, if◌then◌else◌, Option, List, [], ◌∷◌, ⊤}
 use Rattle.lockfree_object_pool.specs.declared.pull_error.PullError.TheVariants.{Memory, Init, Limit}
-use Rattle.object_pool_cores.specs.Pool.{Pool, Absent, IsOut, AllowsPages, opening}
+use Rattle.object_pool_cores.specs.Pool.{Pool, IsOut, IsPool, opening}
 use Rattle.object_pool_cores.specs.Move.{Move, Pull, Return, Growth, Refusal, IsLawful, after}
 
 -- an agent opens, writes the value that it holds, or makes a move of the pool
@@ -121,10 +121,8 @@ module _ {T : Type 0} (first : List T) where
     pub one : (n a b : ℕ) (v w : T) → stage_of acts a ≡ Holds n v → stage_of acts b ≡ Holds n w → a ≡ b
 
   -- the numbers are those of the pages, of which there are as many as there may be
-  pub record IsWhole (limit : Option ℕ) (acts : List (Act T)) : Type 0 where
-    pub inside : (n : ℕ) → n < 32 * (pool_of first acts).pages → (pool_of first acts).at n ≢ Absent
-    pub past : (n : ℕ) → 32 * (pool_of first acts).pages ≤ n → (pool_of first acts).at n ≡ Absent
-    pub allowed : AllowsPages limit (pool_of first acts).pages
+  abbrev pub IsWhole : Option ℕ → List (Act T) → Type 0
+  IsWhole limit acts = IsPool limit (pool_of first acts)
 
 -- P is true after each beginning of these acts
 abbrev pub AtEachPlace : {T : Type 0} → (List (Act T) → Type 0) → List (Act T) → Type 0
