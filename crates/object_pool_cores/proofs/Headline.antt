@@ -16,7 +16,7 @@ use Rattle.object_pool_cores.specs.World.Reading.{reading}
 use Rattle.object_pool_cores.specs.World.Visible.{Log, made_by}
 use Rattle.object_pool_cores.specs.World.Headline.{IsRun, Ran, IsNew}
 use Rattle.object_pool_cores.specs.World.Invariant.{HoldsAt, Agrees}
-use Rattle.object_pool_cores.proofs.Runs.{grown-new}
+use Rattle.object_pool_cores.specs.Laws.PoolSteps.{grown-new}
 use Rattle.object_pool_cores.proofs.Holders.{holders-run, whole-run}
 use Rattle.object_pool_cores.proofs.Readings.{same-grown, pushed-all}
 use Rattle.object_pool_cores.proofs.Carried.{GoesOn, idle, pages-some, allows-fewer}

@@ -6,7 +6,8 @@ use Rattle.lockfree_object_pool.specs.declared.pull_error.PullError.TheVariants.
 use Rattle.object_pool_cores.specs.Pool.{Place, Pool, Absent, Free, Out, IsFree, IsOut, AllowsPages, free_with, with_place}
 use Rattle.object_pool_cores.specs.Move.{Move, Pull, Return, Growth, Refusal, IsLawful, after}
 use Rattle.object_pool_cores.specs.Run.{Act, Opens, Writes, Moves, Stage, NotBegun, Looking, Holds, agent_of, after_act, after_write, stage_of, pool_of, MayMove, MayCome, Run, HasHolders, IsWhole, AtEachPlace}
-use Rattle.object_pool_cores.proofs.Runs.{stage_of-own, stage_of-other, free_with-in, with_place-same, with_place-other, grown-old, grown-new}
+use Rattle.object_pool_cores.proofs.Runs.{stage_of-own, stage_of-other, free_with-in}
+use Rattle.object_pool_cores.specs.Laws.PoolSteps.{with_place-same, with_place-other, grown-old, grown-new}
 
 module _ {T : Type 0} where
   -- an agent holds nothing at its stage

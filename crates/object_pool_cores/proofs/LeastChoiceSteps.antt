@@ -1,10 +1,10 @@
 -- What makes a pull one by least choice.
-use Rattle.std.proofs.Common.{◌≡◌, ◌≢◌, ℕ, ◌+◌, ◌-◌, ◌*◌, Option, Some, None, List, [], ◌∷◌, length, Result, Ok, Err, refl, sym, ap, subst, ◌∙◌, arith, inl, inr}
+use Rattle.std.proofs.Common.{◌≡◌, ◌≢◌, ℕ, ◌+◌, ◌-◌, ◌*◌, Option, Some, None, List, [], ◌∷◌, length, Ok, Err, refl, sym, ap, subst, ◌∙◌, arith, inl, inr}
 use Rattle.std.specs.List.{slice_get}
 use Rattle.lockfree_object_pool.specs.declared.pull_error.PullError.{PullError}
 use Rattle.lockfree_object_pool.specs.declared.pull_error.PullError.TheVariants.{Memory, Init, Limit}
 use Rattle.object_pool_cores.specs.Pool.{Pool, Out, IsFree, IsPool, IsSame, AllowsPages, free_with}
-use Rattle.object_pool_cores.specs.Move.{Pull, Growth, after, grown}
+use Rattle.object_pool_cores.specs.Move.{Pull, after, grown}
 use Rattle.object_pool_cores.specs.LeastChoice.{IsExhausted, IsLeastFree, IsCause, PullsLeast}
 use Rattle.object_pool_cores.specs.Numbered.{Grows}
 use Rattle.object_pool_cores.specs.Laws.NumberedPlaces.{AllowsPages-more}

@@ -1,5 +1,5 @@
 -- What was played on a linear core, told of the pool that the core is.
-use Rattle.std.proofs.Common.{◌≡◌, ℕ, Option, Some, None, List, [], ◌∷◌, ◌++◌, length, Result, refl, sym, ap, subst, ◌∙◌, inl, inr, arith, suc, zero}
+use Rattle.std.proofs.Common.{◌≡◌, ℕ, Option, Some, None, List, [], ◌∷◌, length, Result, refl, sym, ap, subst, ◌∙◌, inl, inr, arith, suc, zero}
 use Rattle.std.specs.Prelude.{All, replicate}
 use Rattle.std.proofs.KnownBytes.{Appends-nil}
 use Rattle.std.proofs.lemmas.List.Elements.{All-head, All-tail}
@@ -16,7 +16,7 @@ use Rattle.object_pool_cores.specs.Held.{Playing, held_at}
 use Rattle.object_pool_cores.specs.LeastChoice.{PullsItem, ReturnsItem}
 use Rattle.object_pool_cores.specs.Lines.{with_last_line}
 use Rattle.object_pool_cores.proofs.LineSplits.{IsLines-none}
-use Rattle.object_pool_cores.specs.Linear.{pool_of, limit_of, init_of, reset_of, Pulls, Gives, IsOpening}
+use Rattle.object_pool_cores.specs.Linear.{pool_of, limit_of, init_of, reset_of, Pulls, Gives}
 use Rattle.object_pool_cores.specs.Opens.{Opens}
 use Rattle.object_pool_cores.specs.Pool.{Pool, IsSame, opening}
 use Rattle.object_pool_cores.specs.Replies.{Plays, AfterWrite, AfterReturn, AfterForget}

@@ -5,12 +5,13 @@ use Rattle.std.proofs.lemmas.List.{length-set}
 use Rattle.std.proofs.lemmas.Option.{slice_get_past, slice_get_cases, slice_get-map}
 use Rattle.object_pool_cores.specs.Pool.{Place, Pool, Free, Out, IsSame, free_with, number, with_place}
 use Rattle.object_pool_cores.specs.Move.{grown}
-use Rattle.object_pool_cores.proofs.Runs.{with_place-same, with_place-other, grown-old, grown-new}
+use Rattle.object_pool_cores.specs.Laws.PoolSteps.{with_place-same, with_place-other, grown-old, grown-new}
 use Rattle.object_pool_cores.specs.World.PageState.{PageState}
 use Rattle.object_pool_cores.specs.World.State.{State}
 use Rattle.object_pool_cores.specs.World.Machine.{has_bit, with_bit, without_bit, value_in, value_at, with_page, with_word, with_value, linked_page}
 use Rattle.object_pool_cores.specs.World.Reading.{place_of, place_on, reading}
 use Rattle.object_pool_cores.proofs.Bits.{has_bit-all, has_bit-set_same, has_bit-set_other, has_bit-clear_same, has_bit-clear_other}
+pub use Rattle.object_pool_cores.specs.Laws.NumberedPlaces.{slice_get-set_other as get-set_other}
 
 -- ---- lists by index
 module _ {X : Type 0} where
@@ -18,13 +19,6 @@ module _ {X : Type 0} where
   get-set_same [] k old new at = cc
   get-set_same (x ∷ xs) zero old new at = refl
   get-set_same (x ∷ xs) (suc k) old new at = get-set_same xs k old new at
-
-  pub get-set_other : (xs : List X) (k j : ℕ) (new : X) → j ≢ k → slice_get (slice_set xs k new) j ≡ slice_get xs j
-  get-set_other [] k j new other = refl
-  get-set_other (x ∷ xs) zero zero new other = absurd (other refl)
-  get-set_other (x ∷ xs) zero (suc j) new other = refl
-  get-set_other (x ∷ xs) (suc k) zero new other = refl
-  get-set_other (x ∷ xs) (suc k) (suc j) new other = get-set_other xs k j new (λ e. other (ap suc e))
 
   pub get-push_old : (xs : List X) (last : X) (j : ℕ) → j < length xs → slice_get (xs ++ last ∷ []) j ≡ slice_get xs j
   get-push_old [] last j below = absurd (omega arith)

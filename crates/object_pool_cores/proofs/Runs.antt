@@ -1,8 +1,7 @@
 -- Facts of runs: what was true stays found, who holds what, and which numbers there are.
-use Rattle.std.proofs.Common.{◌≡◌, ◌≢◌, inl, inr, ℕ, ◌-◌, ◌*◌, ◌<◌, ◌≤◌, Option, Some, None, List, [], ◌∷◌, slice_get, refl, ap}
-use Rattle.std.proofs.lemmas.Bool.{eq-eqb, ne_eqb, lt-ltb, le-ltb}
-use Rattle.object_pool_cores.specs.Pool.{Place, Pool, Out, free_with, with_place}
-use Rattle.object_pool_cores.specs.Move.{grown}
+use Rattle.std.proofs.Common.{◌≡◌, ◌≢◌, inl, inr, ℕ, Option, Some, None, List, [], ◌∷◌, refl, ap}
+use Rattle.std.proofs.lemmas.Bool.{eq-eqb, ne_eqb}
+use Rattle.object_pool_cores.specs.Pool.{Pool, Out, free_with}
 use Rattle.object_pool_cores.specs.Run.{Act, Opens, Looking, agent_of, after_act, stage_of, pool_of, Since}
 
 module _ {T : Type 0} where
@@ -30,17 +29,3 @@ module _ {T : Type 0} where
   pub free_with-in : (value : Option T) → free_with value ≢ Out
   free_with-in None e = cc
   free_with-in (Some v) e = cc
-
-  -- a place that changes, and one that doesn't
-  pub with_place-same : (pool : Pool T) (n : ℕ) (place : Place T) → (with_place pool n place).at n ≡ place
-  with_place-same pool n place = rw (eq-eqb n n refl) refl
-
-  pub with_place-other : (pool : Pool T) (n m : ℕ) (place : Place T) → m ≢ n → (with_place pool n place).at m ≡ pool.at m
-  with_place-other pool n m place other = rw (ne_eqb m n other) refl
-
-  -- the numbers of the pages that there were, and those of the page that came
-  pub grown-old : (pool : Pool T) (values : List T) (n : ℕ) → n < 32 * pool.pages → (grown pool values).at n ≡ pool.at n
-  grown-old pool values n below = rw (lt-ltb n (32 * pool.pages) below) refl
-
-  pub grown-new : (pool : Pool T) (values : List T) (n : ℕ) → 32 * pool.pages ≤ n → (grown pool values).at n ≡ free_with (slice_get values (n - 32 * pool.pages))
-  grown-new pool values n past = rw (le-ltb n (32 * pool.pages) past) refl

@@ -7,7 +7,7 @@ use Rattle.lockfree_object_pool.specs.declared.pull_error.PullError.{PullError}
 use Rattle.object_pool_cores.specs.declared.sequential.item.Item.{Item}
 use Rattle.object_pool_cores.specs.declared.sequential.attach_error.AttachError.{AttachError}
 use Rattle.object_pool_cores.specs.Held.{Playing}
-use Rattle.object_pool_cores.specs.Lines.{ended, IsLines, HasNoLineFeed, with_last_line}
+use Rattle.object_pool_cores.specs.Lines.{ended, HasNoLineFeed, with_last_line}
 use Rattle.object_pool_cores.specs.Transcript.{Answers, Transcript}
 use Rattle.object_pool_cores.specs.Served.{AppendsPart, Serves, ServesAll, ServesFront, ServesPart, AnswersLast, AnswersLastInPart}
 use Rattle.object_pool_cores.proofs.LineSplits.{IsLines-rest, IsLines-byte, IsLines-feed, IsLines-join, IsLines-front}

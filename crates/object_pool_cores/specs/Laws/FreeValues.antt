@@ -1,9 +1,8 @@
 -- The values of the free items of a list, when one place changes.
-use Rattle.std.proofs.Common.{◌≡◌, ◌≢◌, ℕ, ◌<◌, suc, zero, Option, Some, None, List, [], ◌∷◌, ◌++◌, length, slice_set, refl, sym, ap, subst, ◌∙◌, arith}
+use Rattle.std.proofs.Common.{◌≡◌, ℕ, suc, zero, Option, Some, None, List, [], ◌∷◌, slice_set, refl, sym, ap}
 use Rattle.std.specs.List.{slice_get}
 use Rattle.std.specs.Prelude.{All}
 use Rattle.std.proofs.lemmas.List.Elements.{All-nil, All-cons}
-use Rattle.object_pool_cores.specs.Pool.{Place, Absent, Free, Out}
 use Rattle.object_pool_cores.specs.Bag.{IsPutIn}
 use Rattle.object_pool_cores.specs.Numbered.{place_of, free_values}
 use Rattle.object_pool_cores.specs.Laws.NumberedPlaces.{place_of-there}

@@ -1,15 +1,14 @@
 -- Each step of the linear core is a case of the common relation.
-use Rattle.std.proofs.Common.{◌≡◌, ◌≢◌, ℕ, ◌-◌, ◌*◌, ◌<◌, ◌≤◌, Option, Some, None, List, [], ◌∷◌, length, Result, Ok, Err, slice_set, refl, sym, ap, subst, ◌∙◌, arith, inl, inr, ◌⊎◌}
+use Rattle.std.proofs.Common.{◌≡◌, ℕ, ◌-◌, ◌*◌, ◌<◌, Option, Some, None, [], length, Result, Ok, Err, slice_set, sym, ap, subst, ◌∙◌, inl, inr}
 use Rattle.std.specs.List.{slice_get}
-use Rattle.std.specs.Prelude.{All}
 use Rattle.std.proofs.lemmas.Option.{get_or_from_slice_get, slice_get_within}
 use Rattle.lockfree_object_pool.specs.declared.pull_error.PullError.{PullError}
 use Rattle.object_pool_cores.specs.declared.sequential.item.Item.{Item}
 use Rattle.object_pool_cores.specs.declared.sequential.linear_core.LinearCore.{LinearCore}
-use Rattle.object_pool_cores.specs.Item.{item_value, item_number}
-use Rattle.object_pool_cores.specs.Pool.{Pool, Place, Free, Out, IsFree, IsOut, IsSame, with_place}
-use Rattle.object_pool_cores.specs.Move.{Pull, Return, Growth, after, grown}
-use Rattle.object_pool_cores.specs.LeastChoice.{IsExhausted, TakesLeast, GrowsFirst, PullsLeast, PullsItem, ReturnsItem}
+use Rattle.object_pool_cores.specs.Item.{item_value}
+use Rattle.object_pool_cores.specs.Pool.{Free, Out, IsFree, IsSame, with_place}
+use Rattle.object_pool_cores.specs.Move.{grown}
+use Rattle.object_pool_cores.specs.LeastChoice.{IsExhausted, TakesLeast, GrowsFirst, PullsLeast, PullsItem}
 use Rattle.object_pool_cores.specs.Bag.{IsPutIn, IsFresh, PullsFromBag, ReturnsToBag, pulled_value}
 use Rattle.object_pool_cores.specs.Numbered.{Numbered, pool_of, place_of, free_values}
 use Rattle.object_pool_cores.specs.Linear.{Pulls, Gives}

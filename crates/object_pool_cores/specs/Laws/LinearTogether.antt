@@ -1,18 +1,17 @@
 -- Items that are held together of a linear core stay together.
-use Rattle.std.proofs.Common.{◌≡◌, ◌≢◌, ℕ, ◌*◌, ◌<◌, ◌≤◌, Option, Some, None, List, [], ◌∷◌, ◌++◌, length, Result, Ok, Err, slice_set, refl, sym, ap, subst, ◌∙◌, arith, inl, inr, ◌⊎◌}
+use Rattle.std.proofs.Common.{◌≡◌, ◌≢◌, ℕ, ◌*◌, Option, Some, None, List, [], ◌∷◌, ◌++◌, Ok, Err, slice_set, refl, sym, ap, subst, ◌∙◌, inl, inr}
 use Rattle.std.specs.List.{slice_get}
 use Rattle.std.proofs.lemmas.Bool.{cases_lt}
 use Rattle.lockfree_object_pool.specs.declared.pull_error.PullError.{PullError}
 use Rattle.object_pool_cores.specs.declared.sequential.item.Item.{Item}
-use Rattle.object_pool_cores.specs.declared.sequential.attach_error.AttachError.{AttachError}
 use Rattle.object_pool_cores.specs.declared.sequential.linear_core.LinearCore.{LinearCore}
 use Rattle.object_pool_cores.specs.Attach.{RefusesAttach}
 use Rattle.object_pool_cores.specs.Item.{item_value, item_number, with_value}
-use Rattle.object_pool_cores.specs.Pool.{Pool, Place, Absent, Free, Out, IsFree, IsOut, IsPool, IsSame, with_place}
+use Rattle.object_pool_cores.specs.Pool.{Pool, Absent, Free, Out, IsFree, IsOut, IsPool, IsSame, with_place}
 use Rattle.object_pool_cores.specs.Move.{grown}
-use Rattle.object_pool_cores.specs.LeastChoice.{TakesLeast, GrowsFirst, PullsLeast}
+use Rattle.object_pool_cores.specs.LeastChoice.{PullsLeast}
 use Rattle.object_pool_cores.specs.Linear.{pool_of, limit_of, Pulls, Gives, HeldTogether, IsOutOf}
-use Rattle.object_pool_cores.specs.Laws.PoolSteps.{with_place-same, with_place-other, grown-old, free-grown}
+use Rattle.object_pool_cores.specs.Laws.PoolSteps.{with_place-same, with_place-other, grown-old}
 use Rattle.object_pool_cores.specs.Laws.HeldItems.{slice_get-from_set, slice_get-from_push}
 
 module _ {T : Type 0} where

@@ -1,13 +1,13 @@
 -- The places of a list of numbered items, and the pool that the list stands for.
-use Rattle.std.proofs.Common.{◌≡◌, ◌≢◌, ℕ, ◌+◌, ◌-◌, ◌<◌, ◌≤◌, suc, zero, Option, Some, None, List, [], ◌∷◌, length, refl, sym, ap, subst, ◌∙◌, arith, add-one, add-suc, MatchOption, is_some, map, slice_set, ◌/◌, ◌%◌, ◌++◌, length-append, length-set, inl, inr, ◌*◌}
+use Rattle.std.proofs.Common.{◌≡◌, ◌≢◌, ℕ, ◌+◌, ◌-◌, ◌<◌, ◌≤◌, suc, zero, Option, Some, None, List, [], ◌∷◌, length, refl, sym, ap, subst, ◌∙◌, arith, add-suc, MatchOption, is_some, map, slice_set, ◌/◌, ◌++◌, length-append, length-set, inl, inr, ◌*◌}
 use Rattle.std.specs.Prelude.{All}
 use Rattle.std.specs.List.{position, position_from, slice_get}
 use Rattle.std.proofs.lemmas.Bool.{cases_lt, cases_eq}
 use Rattle.std.proofs.lemmas.List.{length-map}
 use Rattle.std.proofs.lemmas.Option.{get_or_from_slice_get, slice_get_within, slice_get_cases, slice_get_past}
 use Rattle.std.proofs.lemmas.Iterator.Adapters.{position_from-zero}
-use Rattle.object_pool_cores.specs.Pool.{IsPool, IsSame, with_place, free_with, AllowsPages, Place, Absent, Free, Out, IsFree, IsOut}
-use Rattle.object_pool_cores.specs.Move.{Growth, after, grown}
+use Rattle.object_pool_cores.specs.Pool.{IsPool, IsSame, with_place, free_with, AllowsPages, Absent, Free, Out}
+use Rattle.object_pool_cores.specs.Move.{grown}
 use Rattle.object_pool_cores.specs.Laws.PoolSteps.{with_place-same, with_place-other, grown-old, grown-new}
 use Rattle.object_pool_cores.specs.LeastChoice.{IsExhausted, IsLeastFree}
 use Rattle.object_pool_cores.specs.Numbered.{Numbered, IsSound, Grows, place_of, pool_of}

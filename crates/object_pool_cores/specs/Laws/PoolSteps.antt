@@ -1,26 +1,18 @@
 -- What the moves of a pool make of its places.
-use Rattle.std.proofs.Common.{◌≡◌, ◌≢◌, ℕ, ◌+◌, ◌-◌, ◌*◌, ◌<◌, ◌≤◌, Option, Some, None, List, length, refl, sym, ap, subst, ◌∙◌, arith, inl, inr, ⊎_elim, true, false, nat_lt, ◌==◌, ◌⊎◌, suc}
+use Rattle.std.proofs.Common.{◌≡◌, ◌≢◌, ℕ, ◌-◌, ◌*◌, ◌<◌, ◌≤◌, Option, Some, None, List, refl, sym, ap, subst, ◌∙◌, inl, inr, ◌⊎◌}
 use Rattle.std.specs.List.{slice_get}
-use Rattle.std.specs.Prelude.{All}
-use Rattle.std.proofs.lemmas.Bool.Decides.{eqb_tells, leb_tells}
-use Rattle.std.proofs.lemmas.Bool.{cases_lt, cases_eq}
-use Rattle.std.proofs.lemmas.Option.{get_or_from_slice_get, slice_get_within, slice_get_past}
-use Rattle.object_pool_cores.specs.Pool.{Pool, Place, Absent, Free, Out, IsFree, IsOut, IsPool, IsSame, AllowsPages, free_with, with_place}
-use Rattle.object_pool_cores.specs.Move.{Pull, Return, Growth, IsLawful, after, grown}
-use Rattle.object_pool_cores.specs.LeastChoice.{IsExhausted, IsLeastFree, TakesLeast, GrowsFirst}
+use Rattle.std.proofs.lemmas.Bool.{cases_lt, cases_eq, eq-eqb, ne_eqb, lt-ltb, le-ltb}
+use Rattle.object_pool_cores.specs.Pool.{Pool, Place, Free, IsFree, IsSame, free_with, with_place}
+use Rattle.object_pool_cores.specs.Move.{grown}
+use Rattle.object_pool_cores.specs.LeastChoice.{IsExhausted, IsLeastFree}
 
 module _ {T : Type 0} where
+  -- a place that changes, and one that doesn't
   pub with_place-same : (pool : Pool T) (n : ℕ) (place : Place T) → (with_place pool n place).at n ≡ place
-  with_place-same pool n place = elim (eqb_tells n n) [
-    | inl same ↦ rw same.0 refl
-    | inr other ↦ absurd (other.1 refl)
-  ]
+  with_place-same pool n place = rw (eq-eqb n n refl) refl
 
   pub with_place-other : (pool : Pool T) (n m : ℕ) (place : Place T) → m ≢ n → (with_place pool n place).at m ≡ pool.at m
-  with_place-other pool n m place differ = elim (eqb_tells m n) [
-    | inl same ↦ absurd (differ same.1)
-    | inr other ↦ rw other.0 refl
-  ]
+  with_place-other pool n m place other = rw (ne_eqb m n other) refl
 
   -- the places of a pool that has another place at one number
   pub at-with_place : (pool : Pool T) (n m : ℕ) (place other : Place T) → (with_place pool n place).at m ≡ other → ((m ≡ n) × (place ≡ other)) ⊎ ((m ≢ n) × (pool.at m ≡ other))
@@ -29,19 +21,12 @@ module _ {T : Type 0} where
     | inr differ ↦ inr (differ, sym (with_place-other pool n m place differ) ∙ e)
   ]
 
-  -- the old numbers of a pool with a page more
+  -- the numbers of the pages that there were, and those of the page that came
   pub grown-old : (pool : Pool T) (values : List T) (n : ℕ) → n < 32 * pool.pages → (grown pool values).at n ≡ pool.at n
-  grown-old pool values n old = elim (leb_tells (suc n) (32 * pool.pages)) [
-    | inl below ↦ rw below.0 refl
-    | inr past ↦ absurd (omega arith)
-  ]
+  grown-old pool values n below = rw (lt-ltb n (32 * pool.pages) below) refl
 
-  -- its new numbers
   pub grown-new : (pool : Pool T) (values : List T) (n : ℕ) → 32 * pool.pages ≤ n → (grown pool values).at n ≡ free_with (slice_get values (n - 32 * pool.pages))
-  grown-new pool values n new = elim (leb_tells (suc n) (32 * pool.pages)) [
-    | inl below ↦ absurd (omega arith)
-    | inr past ↦ rw past.0 refl
-  ]
+  grown-new pool values n past = rw (le-ltb n (32 * pool.pages) past) refl
 
   pub IsSame-trans : (a b c : Pool T) → IsSame a b → IsSame b c → IsSame a c
   IsSame-trans a b c ab bc = record { pages = ab.pages ∙ bc.pages; places = λ n. ab.places n ∙ bc.places n }

@@ -1,4 +1,4 @@
-use Rattle.std.proofs.Common.{◌≢◌, take}
+use Rattle.std.proofs.Common.{take}
 use Rattle.object_pool_cores.specs.CommandText.{HasNoSpace}
 use Rattle.object_pool_cores.proofs.engine.command_text.around_space.Given as goal
 

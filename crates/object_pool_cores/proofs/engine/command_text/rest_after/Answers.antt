@@ -1,4 +1,3 @@
-use Rattle.std.proofs.Common.{nat_eq}
 use Rattle.std.proofs.lemmas.Slice.Eq.{strip_prefix_is}
 use Rattle.std.proofs.lemmas.Bool.Decides.{Decides-eqb}
 use Rattle.object_pool_cores.proofs.engine.command_text.rest_after.Goals as goal

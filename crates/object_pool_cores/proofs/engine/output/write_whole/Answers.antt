@@ -1,4 +1,4 @@
-use Rattle.std.proofs.Common.{◌≡◌, ◌++◌, take, ap, sym, ◌∙◌, append_assoc, take-append-drop}
+use Rattle.std.proofs.Common.{◌++◌, take, ap, sym, ◌∙◌, append_assoc, take-append-drop}
 use Rattle.std.proofs.KnownBytes.{Appends-trans}
 use Rattle.object_pool_cores.proofs.engine.output.write_whole.Goals as goal
 

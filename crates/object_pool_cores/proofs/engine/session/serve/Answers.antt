@@ -1,4 +1,4 @@
-use Rattle.std.proofs.Common.{◌≡◌, ℕ, List, ◌++◌, [], take, refl, sym, ap, ◌∙◌, append-nil, rules}
+use Rattle.std.proofs.Common.{[], sym, ap, ◌∙◌, append-nil, rules}
 use Rattle.std.specs.Prelude.{Err}
 use Rattle.std.proofs.KnownBytes.{Consumes-nil, Consumes-trans, Consumes-kept}
 use Rattle.std.proofs.lemmas.List.Elements.{All-nil}

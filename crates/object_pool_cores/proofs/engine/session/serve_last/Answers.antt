@@ -1,4 +1,4 @@
-use Rattle.std.proofs.Common.{◌≡◌, ◌≢◌, [], sym, ◌∙◌}
+use Rattle.std.proofs.Common.{◌≢◌, [], sym, ◌∙◌}
 use Rattle.std.proofs.lemmas.Bool.{false≢true}
 use Rattle.object_pool_cores.proofs.ReplyRuns.{OnOk-map}
 use Rattle.object_pool_cores.proofs.TranscriptRuns.{AnswersLast-none, AnswersLast-line, AnswersLastInPart-line}

@@ -1,4 +1,4 @@
-use Rattle.std.proofs.Common.{◌≡◌, ℕ, Some, refl, sym, ◌∙◌, ap, subst}
+use Rattle.std.proofs.Common.{◌≡◌, ℕ, Some, refl, sym, ◌∙◌, subst}
 use Rattle.object_pool_cores.specs.Pool.{IsOut}
 use Rattle.object_pool_cores.specs.Numbered.{pool_of}
 use Rattle.object_pool_cores.proofs.sequential.linear_core.LinearCoreSequentialPool.give.Goals as goal
