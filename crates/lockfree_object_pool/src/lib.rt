@@ -8,6 +8,7 @@ pub mod closures;
 #[cfg(test)]
 mod counted;
 mod lender;
+pub mod linear_page;
 pub mod page;
 mod pull_error;
 pub mod spin_lock;
