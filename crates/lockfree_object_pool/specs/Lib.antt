@@ -3,6 +3,7 @@ pub mod Guard
 pub mod Kept
 pub mod LastIn
 pub mod LinearPage
+pub mod LinearPool
 pub mod LinkNote
 pub mod LinkRow
 pub mod Lock
