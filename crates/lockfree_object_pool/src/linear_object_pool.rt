@@ -126,3 +126,6 @@ impl<T: Drop, I: Init<T, K>, R: Reset<T, K>, K: Clean<T>> LinearObjectPool<T, I,
         self.reset.reset(value);
     }
 }
+
+#[cfg(test)]
+mod tests;
