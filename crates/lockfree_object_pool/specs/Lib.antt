@@ -2,6 +2,10 @@ pub mod FullSeen
 pub mod Guard
 pub mod Kept
 pub mod LastIn
+pub mod LinearPage
+pub mod LinearPool
+pub mod LinkNote
+pub mod LinkRow
 pub mod Lock
 pub mod OneProof
 pub mod OwnedSlot

@@ -8,9 +8,16 @@ pub mod closures;
 #[cfg(test)]
 mod counted;
 mod lender;
+pub mod linear_object_pool;
+pub mod linear_owned_reusable;
+pub mod linear_page;
+pub mod linear_reusable;
 pub mod page;
 mod pull_error;
 pub mod spin_lock;
 pub mod stack;
 
+pub use linear_object_pool::LinearObjectPool;
+pub use linear_owned_reusable::LinearOwnedReusable;
+pub use linear_reusable::LinearReusable;
 pub use pull_error::PullError;

@@ -1,0 +1,25 @@
+-- What a note of a link shows.
+use Rattle.std.specs.Prelude.{◌≡◌, ℕ, Option, None}
+use Rattle.std.specs.Arc.{arc_value}
+use Rattle.std.specs.Option.{option_map}
+use Rattle.atomic_table.specs.Seated.{TableId}
+use Rattle.lockfree_object_pool.specs.Page.{page_identity}
+use Rattle.lockfree_object_pool.specs.declared.linear_page.link_note.LinkNote.{LinkNote}
+
+module _ {T K : Type 0} where
+  -- which link the note is of
+  abbrev pub known_link : LinkNote T K → ℕ × ℕ
+  known_link note = (note.row.cell, note.offset)
+
+  -- which cell the link is
+  abbrev pub link_cell : LinkNote T K → ℕ
+  link_cell note = note.link.cell
+
+  -- which page the note knows to be linked
+  abbrev pub known_next : LinkNote T K → Option TableId
+  known_next note = option_map (λ page. page_identity (arc_value page)) note.link.known
+
+  -- a note of this link that knows no page yet
+  pub record IsNewNoteOf (link : ℕ × ℕ) (note : LinkNote T K) : Type 0 where
+    pub of_link : known_link note ≡ link
+    pub knows_none : known_next note ≡ None

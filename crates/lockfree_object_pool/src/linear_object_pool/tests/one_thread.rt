@@ -1,0 +1,109 @@
+//! One thread that pulls, holds and drops: places, values, and calls of `init`.
+ghost use Rattle.std.specs.Prelude.{⊤};
+
+use super::*;
+use crate::counted::Counted;
+use std::cell::Cell;
+use std::mem;
+use std::test::Fail;
+
+/// Makes values that count their end.
+#[derive(Drop)]
+struct CountedValues<'c> {
+    drops: &'c Cell<u32>,
+}
+
+impl<'c> Init<Counted<'c>, AnyValue> for CountedValues<'c> {
+    ghost answers = { λ _ _. ⊤ };
+
+    fn make(&self) -> Option<Counted<'c>> {
+        Some(Counted::new(self.drops))
+    }
+}
+
+#[test]
+fn a_kept_value_comes_back(rt: HostRuntime) -> Result<(), Fail> {
+    let calls = new_calls(rt.alloc())?;
+    let pool = kept(rt.alloc(), &calls)?;
+    let mut item = pool.pull()?;
+    *item = 5;
+    drop(item);
+    assert_eq!(rt; *pool.pull()?, 5);
+    assert_eq!(rt; calls.load(SeqCst), 32);
+    Ok(())
+}
+
+#[test]
+fn a_reset_value_comes_back(rt: HostRuntime) -> Result<(), Fail> {
+    let pool = cleared(rt.alloc(), &new_calls(rt.alloc())?)?;
+    for _ in 0..2 {
+        let mut item = pool.pull()?;
+        assert_eq!(rt; *item, 0);
+        *item = item.wrapping_add(1);
+    }
+    Ok(())
+}
+
+#[test]
+fn one_item_is_pulled_again_and_again(rt: HostRuntime) -> Result<(), Fail> {
+    let pool = cleared(rt.alloc(), &new_calls(rt.alloc())?)?;
+    for _ in 0..10 {
+        let mut item = pool.pull()?;
+        assert_eq!(rt; *item, 0);
+        *item = item.wrapping_add(1);
+        assert_eq!(rt; *item, 1);
+        *item = item.wrapping_add(1);
+        assert_eq!(rt; (*item, item.page_number(), item.page_id()), (2, 0, 0));
+    }
+    Ok(())
+}
+
+#[test]
+fn two_items_are_pulled_again_and_again(rt: HostRuntime) -> Result<(), Fail> {
+    let pool = cleared(rt.alloc(), &new_calls(rt.alloc())?)?;
+    for _ in 0..10 {
+        let (first, second) = (pool.pull()?, pool.pull()?);
+        assert_eq!(rt; (first.page_number(), first.page_id()), (0, 0));
+        assert_eq!(rt; (second.page_number(), second.page_id()), (0, 1));
+    }
+    Ok(())
+}
+
+#[test]
+fn a_full_page_is_followed_by_another(rt: HostRuntime) -> Result<(), Fail> {
+    let calls = new_calls(rt.alloc())?;
+    let pool = cleared(rt.alloc(), &calls)?;
+    let first = pool.pull()?;
+    let _of_first_page = held(rt.alloc(), &pool, 31)?;
+    assert_eq!(rt; calls.load(SeqCst), 32);
+    for id in 0..32u8 {
+        let item = pool.pull()?;
+        assert_eq!(rt; (item.page_number(), item.page_id()), (1, id));
+        mem::forget(item);
+    }
+    assert_eq!(rt; calls.load(SeqCst), 64);
+    drop(first);
+    let item = pool.pull()?;
+    assert_eq!(rt; (item.page_number(), item.page_id()), (0, 0));
+    assert_eq!(rt; calls.load(SeqCst), 64);
+    Ok(())
+}
+
+#[test]
+fn a_forgotten_item_stays_out(rt: HostRuntime) -> Result<(), Fail> {
+    let drops = Cell::new(0u32);
+    let init = CountedValues { drops: &drops };
+    let pool: LinearObjectPool<Counted<'_>, _, _, AnyValue> = LinearObjectPool::new(
+        rt.alloc(),
+        init,
+        Keep,
+    )?;
+    mem::forget(pool.pull()?);
+    for _ in 0..2 {
+        assert_eq!(rt; pool.pull()?.page_id(), 1);
+    }
+    assert_eq!(rt; drops.get(), 0);
+    drop(pool);
+    assert_eq!(rt; drops.get(), 31);
+    Ok(())
+}

@@ -1,0 +1,92 @@
+//! A value that was pulled from a linear pool, with an owner of the pool.
+ghost use Rattle.std.specs.Prelude.{◌≡◌, ◌<◌};
+ghost use Rattle.std.specs.Arc.{arc_value};
+
+use crate::clean::Clean;
+use crate::closures::{Init, Reset};
+use crate::linear_object_pool::LinearObjectPool;
+use crate::page::{OwnedSlot, PageId};
+use std::ops::{Deref, DerefMut};
+use std::sync::Arc;
+
+/// A pulled value. Its end resets it and brings it back to its page.
+pub struct LinearOwnedReusable<T: Drop, I: Init<T, K>, R: Reset<T, K>, K: Clean<T>> {
+    pool: Arc<LinearObjectPool<T, I, R, K>>,
+    slot: OwnedSlot<T, K>,
+    number: usize,
+}
+
+impl<T: Drop, I: Init<T, K>, R: Reset<T, K>, K: Clean<T>> LinearOwnedReusable<T, I, R, K> {
+    ghost use Rattle.lockfree_object_pool.specs.LinearPool.{owned_pool, owned_value, owned_page, owned_number, owned_id};
+    ghost use Rattle.lockfree_object_pool.specs.OwnedSlot.{owned_slot_page, owned_slot_id, owned_slot_value};
+
+    pub(crate) fn new(
+        pool: Arc<LinearObjectPool<T, I, R, K>>,
+        slot: OwnedSlot<T, K>,
+        number: usize,
+    ) -> LinearOwnedReusable<T, I, R, K>
+        ensures pool { owned_pool result ≡ arc_value pool }
+        ensures page { owned_page result ≡ owned_slot_page slot }
+        ensures number { owned_number result ≡ number }
+        ensures id { owned_id result ≡ owned_slot_id slot }
+        ensures value { owned_value result ≡ owned_slot_value slot }
+    {
+        LinearOwnedReusable { pool, slot, number }
+    }
+
+    /// The number of the item's page in the pool, counted from 0.
+    pub fn page_number(&self) -> usize
+        ensures { result ≡ owned_number self.now }
+    {
+        self.number
+    }
+
+    /// The number of the item in its page.
+    pub fn page_id(&self) -> PageId
+        ensures value { result ≡ owned_id self.now }
+        ensures in_page { result < 32 }
+    {
+        self.slot.id()
+    }
+}
+
+impl<T: Drop, I: Init<T, K>, R: Reset<T, K>, K: Clean<T>> Deref
+    for LinearOwnedReusable<T, I, R, K> {
+    type Target = T;
+
+    ghost use Rattle.lockfree_object_pool.specs.LinearPool.{owned_value};
+
+    ghost deref_gives = { λ reusable value. value ≡ owned_value reusable };
+
+    fn deref(&self) -> &T {
+        &self.slot
+    }
+}
+
+impl<T: Drop, I: Init<T, K>, R: Reset<T, K>, K: Clean<T>> DerefMut
+    for LinearOwnedReusable<T, I, R, K> {
+    ghost use Rattle.std.specs.Borrow.{Lends, sem};
+    ghost use Rattle.lockfree_object_pool.specs.contracts.linear_owned_reusable.LinearOwnedReusable.{the_row};
+    ghost use Rattle.lockfree_object_pool.specs.LinearPool.{owned_value, owned_with};
+
+    ghost deref_mut_gives = { λ reusable value. value ≡ owned_value reusable };
+
+    fn deref_mut(&mut self) -> &mut T
+        ensures* writes_back { sem 𝓛 (Lends (the_row T.row I.row R.row K.row K.Clean) T.row self.entry result (owned_with self.old)) }
+        ensures shows { result.now ≡ owned_value self.old }
+    {
+        &mut self.slot
+    }
+}
+
+impl<T: Drop, I: Init<T, K>, R: Reset<T, K>, K: Clean<T>> Drop for LinearOwnedReusable<T, I, R, K> {
+    fn drop(self) {
+        let LinearOwnedReusable {
+            pool,
+            mut slot,
+            number: _,
+        } = self;
+        pool.reset(&mut slot);
+        slot.free();
+    }
+}

@@ -1,0 +1,196 @@
+//! A chain of pages, which grows by a page at its end and never shrinks.
+//!
+//! This file has the chain and a page of it. Below it: where a link lies (`directory`), what a caller has learned of a
+//! link (`link_note`), and the walk from page to page for an item (`walk`).
+//!
+//! No call waits for another thread. A link is set once, in `get_or_create_next` alone.
+ghost use Rattle.std.specs.Prelude.{◌≡◌, ◌+◌, ◌^◌, ◌<◌, Option, None, IfSome, IfNone, IfOk, IfErr};
+ghost use Rattle.std.specs.Arc.{arc_value};
+ghost use Rattle.lockfree_object_pool.specs.Page.{page_identity};
+ghost use Rattle.lockfree_object_pool.specs.Refusal.{RefusesMaking};
+
+use crate::PullError;
+use crate::clean::Clean;
+use crate::page::{FullSeen, Page};
+use directory::{Directory, LinkPlace};
+use std::alloc::{AllocError, Global};
+use std::sync::Arc;
+
+mod directory;
+mod link_note;
+mod walk;
+
+pub use link_note::LinkNote;
+
+/// A chain of pages: the first one, and the links behind it.
+#[derive(Drop)]
+pub struct Chain<T, K: Clean<T>> {
+    first: Arc<Page<T, K>>,
+    directory: Directory<T, K>,
+}
+
+impl<T: Drop, K: Clean<T>> Chain<T, K> {
+    ghost use Rattle.lockfree_object_pool.specs.LinearPage.{first_page, shown_page, page_number};
+
+    /// A chain of one page, made as by [`Page::new`].
+    pub fn new<I: Fn() -> Option<T>>(alloc: Global, init: &I) -> Result<Chain<T, K>, PullError>
+        requires callable { I.pre init.now }
+        requires meets { (answer : Option T) → I.post init.now answer → IfSome answer K.meets }
+        ensures refused { IfErr result (RefusesMaking (I.post init.now None)) }
+    {
+        let page = Page::new(alloc, init)?;
+        let directory = Directory::new(alloc)?;
+        let first = Arc::new(alloc, page)?;
+        Ok(Chain { first, directory })
+    }
+
+    /// The page with number 0.
+    pub fn first(&self) -> LinearPage<'_, T, K>
+        ensures page { shown_page result ≡ first_page self.now }
+        ensures number { page_number result ≡ 0 }
+    {
+        LinearPage::new(&self.directory, &self.first, 0)
+    }
+}
+
+/// One page of a chain.
+pub struct LinearPage<'c, T, K: Clean<T>> {
+    directory: &'c Directory<T, K>,
+    page: &'c Arc<Page<T, K>>,
+    number: usize,
+    next: LinkPlace<'c, T, K>,
+}
+
+impl<T, K: Clean<T>> Copy for LinearPage<'_, T, K> {}
+
+impl<T, K: Clean<T>> Clone for LinearPage<'_, T, K> {
+    ghost use Rattle.std.specs.Prelude.{⊤};
+
+    ghost is_clone = { λ page copy. copy ≡ page };
+
+    ghost is_infallible = { λ _. ⊤ };
+
+    fn clone(&self) -> Result<Self, AllocError> {
+        Ok(*self)
+    }
+}
+
+impl<'c, T: Drop, K: Clean<T>> LinearPage<'c, T, K> {
+    ghost use Rattle.lockfree_object_pool.specs.FullSeen.{full_page};
+    ghost use Rattle.lockfree_object_pool.specs.LinearPage.{shown_page, page_number, next_link, IsNextAs};
+    ghost use Rattle.lockfree_object_pool.specs.LinkNote.{IsNewNoteOf, known_link, known_next};
+
+    fn new(
+        directory: &'c Directory<T, K>,
+        page: &'c Arc<Page<T, K>>,
+        number: usize,
+    ) -> LinearPage<'c, T, K>
+        ensures page { shown_page result ≡ page_identity (arc_value page.now) }
+        ensures number { page_number result ≡ number }
+    {
+        LinearPage {
+            directory,
+            page,
+            number,
+            next: directory.place(number.saturating_add(1)),
+        }
+    }
+
+    /// The page's items.
+    pub fn page(&self) -> &'c Page<T, K>
+        ensures { page_identity result.now ≡ shown_page self.now }
+    {
+        &**self.page
+    }
+
+    /// How many links the page lies behind its chain's first one.
+    pub fn number(&self) -> usize
+        ensures { result ≡ page_number self.now }
+    {
+        self.number
+    }
+
+    /// The page behind this one, where one is linked.
+    pub fn next(&self) -> Option<LinearPage<'c, T, K>>
+        ensures { IfSome result (λ next. page_number next ≡ page_number self.now + 1) }
+    {
+        let mut note = self.next.known_row()?;
+        self.next_as(&mut note)
+    }
+
+    /// A note of the link to the next page, which knows no page yet. It takes memory where the link has no place yet.
+    pub fn next_note(&self) -> Result<LinkNote<T, K>, PullError>
+        ensures note { IfOk result (IsNewNoteOf (next_link self.now)) }
+        ensures refused { IfErr result (RefusesMaking ⊥) }
+    {
+        self.next.new_note()
+    }
+
+    /// As `next`: where the note knows a page that is linked here, the answer is that page, and the note knows each answer.
+    pub fn next_as(&self, note: &mut LinkNote<T, K>) -> Option<LinearPage<'c, T, K>>
+        requires { known_link note.old ≡ next_link self.now }
+        ensures link { known_link note.new ≡ known_link note.old }
+        ensures none { IfNone result (page_number self.now + 1 < 2 ^ 64 → known_next note.old ≡ None) }
+        ensures unlearned { IfNone result (known_next note.new ≡ known_next note.old) }
+        ensures next { IfSome result (IsNextAs self.now note.old note.new) }
+    {
+        let number = self.number.checked_add(1)?;
+        let page = self.next.link(note).get_as(&mut note.link)?;
+        Some(LinearPage::new(self.directory, page, number))
+    }
+
+    /// The page behind this one; where none is linked, one is made and linked, if no other thread was first.
+    ///
+    /// A page that another thread's came before is dropped, with its items.
+    pub fn get_or_create_next<I: Fn() -> Option<T>>(
+        &self,
+        seen: FullSeen<'_, T>,
+        init: &I,
+    ) -> Result<LinearPage<'c, T, K>, PullError>
+        requires of_page { full_page seen ≡ shown_page self.now }
+        requires callable { I.pre init.now }
+        requires meets { (answer : Option T) → I.post init.now answer → IfSome answer K.meets }
+        ensures number { IfOk result (λ next. page_number next ≡ page_number self.now + 1) }
+        ensures refused { IfErr result (RefusesMaking (I.post init.now None)) }
+    {
+        let mut note = self.next_note()?;
+        self.get_or_create_next_as(seen, init, &mut note)
+    }
+
+    /// As `get_or_create_next`: where the note knows a page that is linked here, the answer is that page, and the note knows each answer.
+    pub fn get_or_create_next_as<I: Fn() -> Option<T>>(
+        &self,
+        _seen: FullSeen<'_, T>,
+        init: &I,
+        note: &mut LinkNote<T, K>,
+    ) -> Result<LinearPage<'c, T, K>, PullError>
+        requires of_page { full_page _seen ≡ shown_page self.now }
+        requires callable { I.pre init.now }
+        requires meets { (answer : Option T) → I.post init.now answer → IfSome answer K.meets }
+        requires link { known_link note.old ≡ next_link self.now }
+        ensures link { known_link note.new ≡ known_link note.old }
+        ensures next { IfOk result (IsNextAs self.now note.old note.new) }
+        ensures refused { IfErr result (RefusesMaking (I.post init.now None)) }
+    {
+        let Some(number) = self.number.checked_add(1) else {
+            return Err(PullError::Memory);
+        };
+        let alloc = self.directory.alloc();
+        let link = self.next.link(note);
+        let page = link.get_or_try_init_as(|| made_page(alloc, init), &mut note.link)?;
+        Ok(LinearPage::new(self.directory, page, number))
+    }
+}
+
+/// A page for a link.
+fn made_page<T: Drop, K: Clean<T>, I: Fn() -> Option<T>>(
+    alloc: Global,
+    init: &I,
+) -> Result<Box<Arc<Page<T, K>>>, PullError>
+    requires callable { I.pre init.now }
+    requires meets { (answer : Option T) → I.post init.now answer → IfSome answer K.meets }
+    ensures refused { IfErr result (RefusesMaking (I.post init.now None)) }
+{
+    let page = Arc::new(alloc, Page::new(alloc, init)?)?;
+    Ok(Box::new(alloc, page)?)
+}

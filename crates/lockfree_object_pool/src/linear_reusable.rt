@@ -1,0 +1,102 @@
+//! A value that was pulled from a linear pool, under a borrow of the pool.
+ghost use Rattle.std.specs.Prelude.{◌≡◌, ◌<◌, []};
+
+use crate::clean::Clean;
+use crate::closures::{Init, Reset};
+use crate::lender::Lender;
+use crate::linear_object_pool::LinearObjectPool;
+use crate::page::{PageId, PageSlot, TakenId};
+use std::ops::{Deref, DerefMut};
+
+/// A pulled value. Its end resets it and brings it back to its page.
+pub struct LinearReusable<'p, T: Drop, I: Init<T, K>, R: Reset<T, K>, K: Clean<T>> {
+    pool: &'p LinearObjectPool<T, I, R, K>,
+    lender: Lender,
+    taken: TakenId<'p, T, K>,
+    number: usize,
+    value: T,
+}
+
+impl<'p, T: Drop, I: Init<T, K>, R: Reset<T, K>, K: Clean<T>> LinearReusable<'p, T, I, R, K> {
+    ghost use Rattle.lockfree_object_pool.specs.LinearPool.{reusable_pool, reusable_value, reusable_page, reusable_number, reusable_id};
+    ghost use Rattle.lockfree_object_pool.specs.Slot.{slot_page, slot_id, slot_value};
+
+    pub(crate) fn new(
+        pool: &'p LinearObjectPool<T, I, R, K>,
+        slot: PageSlot<'p, T, K>,
+        number: usize,
+    ) -> LinearReusable<'p, T, I, R, K>
+        ensures pool { reusable_pool result ≡ pool.now }
+        ensures page { reusable_page result ≡ slot_page slot.entry }
+        ensures number { reusable_number result ≡ number }
+        ensures id { reusable_id result ≡ slot_id slot.entry }
+        ensures value { reusable_value result ≡ slot_value slot.entry }
+    {
+        let (taken, value) = slot.into_parts();
+        LinearReusable {
+            pool,
+            lender: Lender,
+            taken,
+            number,
+            value,
+        }
+    }
+
+    /// The number of the item's page in the pool, counted from 0.
+    pub fn page_number(&self) -> usize
+        ensures { result ≡ reusable_number self.now }
+    {
+        self.number
+    }
+
+    /// The number of the item in its page.
+    pub fn page_id(&self) -> PageId
+        ensures value { result ≡ reusable_id self.now }
+        ensures in_page { result < 32 }
+    {
+        self.taken.id()
+    }
+}
+
+impl<T: Drop, I: Init<T, K>, R: Reset<T, K>, K: Clean<T>> Deref for LinearReusable<'_, T, I, R, K> {
+    type Target = T;
+
+    ghost use Rattle.lockfree_object_pool.specs.LinearPool.{reusable_value};
+
+    ghost deref_gives = { λ reusable value. value ≡ reusable_value reusable };
+
+    fn deref(&self) -> &T {
+        &self.value
+    }
+}
+
+impl<T: Drop, I: Init<T, K>, R: Reset<T, K>, K: Clean<T>> DerefMut
+    for LinearReusable<'_, T, I, R, K> {
+    ghost use Rattle.std.specs.Borrow.{Lends, sem};
+    ghost use mir.Syntax.{named};
+    ghost use Rattle.lockfree_object_pool.specs.contracts.linear_reusable.LinearReusable.{the_row};
+    ghost use Rattle.lockfree_object_pool.specs.LinearPool.{reusable_value, reusable_with};
+
+    ghost deref_mut_gives = { λ reusable value. value ≡ reusable_value reusable };
+
+    fn deref_mut(&mut self) -> &mut T
+        ensures* writes_back { sem 𝓛 (Lends (the_row (record { mir = named 1; lft = [] }) T.row I.row R.row K.row K.Clean) T.row self.entry result (reusable_with self.old)) }
+        ensures shows { result.now ≡ reusable_value self.old }
+    {
+        &mut self.value
+    }
+}
+
+impl<T: Drop, I: Init<T, K>, R: Reset<T, K>, K: Clean<T>> Drop for LinearReusable<'_, T, I, R, K> {
+    fn drop(self) {
+        let LinearReusable {
+            pool,
+            lender: _,
+            taken,
+            number: _,
+            mut value,
+        } = self;
+        pool.reset(&mut value);
+        taken.free(value);
+    }
+}
