@@ -10,6 +10,7 @@ use std::sync::atomic::AtomicUsize;
 use std::sync::atomic::Ordering::SeqCst;
 
 mod callers;
+mod first_example;
 mod limits;
 mod one_thread;
 mod sends;

@@ -1,0 +1,47 @@
+//! The first example of the README.
+
+use crate::clean::AnyValue;
+use crate::closures::{Copied, InitBy, Keep, Makes, ResetBy, Resets};
+use crate::{LinearObjectPool, PullError};
+use std::alloc::Global;
+use std::test::Fail;
+
+/// Ready-made function objects: each item starts as 7, and a return changes nothing.
+fn kept(alloc: Global) -> Result<u32, PullError> {
+    let pool: LinearObjectPool<u32, _, _, AnyValue> = LinearObjectPool::new(
+        alloc,
+        Copied::new(7),
+        Keep,
+    )?;
+    let mut item = pool.pull()?;
+    *item = 5;
+    drop(item); // it is in the pool again
+    let again = pool.pull()?;
+    Ok(*again)
+}
+
+/// Any two closures: the code that names the pool is generic in them, and whoever has them calls it.
+fn first_item<I: InitBy<u32>, R: ResetBy<u32>>(
+    alloc: Global,
+    init: I,
+    reset: R,
+) -> Result<u32, PullError>
+    requires may_make { I.may_make init }
+    requires may_reset { R.may_reset reset }
+{
+    let pool: LinearObjectPool<u32, _, _, AnyValue> = LinearObjectPool::new(
+        alloc,
+        Makes::new(init),
+        Resets::new(reset),
+    )?;
+    let item = pool.pull()?;
+    Ok(*item)
+}
+
+#[test]
+fn the_first_example(rt: HostRuntime) -> Result<(), Fail> {
+    assert_eq!(rt; kept(rt.alloc())?, 5);
+    let item = first_item(rt.alloc(), || Some(3), |value: &mut u32| *value = 0)?;
+    assert_eq!(rt; item, 3);
+    Ok(())
+}
