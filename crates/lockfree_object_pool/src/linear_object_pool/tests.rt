@@ -13,6 +13,7 @@ mod callers;
 mod limits;
 mod one_thread;
 mod sends;
+mod threads;
 
 /// The value is 0.
 struct Zero;
