@@ -194,3 +194,6 @@ fn made_page<T: Drop, K: Clean<T>, I: Fn() -> Option<T>>(
     let page = Arc::new(alloc, Page::new(alloc, init)?)?;
     Ok(Box::new(alloc, page)?)
 }
+
+#[cfg(test)]
+mod tests;

@@ -14,6 +14,7 @@ mod first_example;
 mod limits;
 mod one_thread;
 mod sends;
+mod threads;
 
 /// The value is 0.
 struct Zero;
