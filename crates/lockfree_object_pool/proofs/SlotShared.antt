@@ -36,7 +36,8 @@ module _ (T K : RattleType) (clean : Ghosts K.Denot T.Denot) where
       let page = Arc-sync (Page.the_row T K clean) (page.the_send T K clean sent) (page.the_sync T K clean sent) in
       struct_sync (shape (OwnedTakenId.the_type T K clean)) (record { shared = page.shared }, (record { shared = (seat_sync T sent).shared }, (search sendable, tt)))
 
+  pub owned_slot_parts_sync : IsSend T → IsSync T → IsSync (OwnedSlot.the_field T K clean).row
+  owned_slot_parts_sync sent shared = struct_sync (shape (OwnedSlot.the_type T K clean)) (owned_taken_sync sent, (record { shared = shared.shared }, tt))
+
   pub owned_slot_sync : IsSend T → IsSync T → IsSync (OwnedSlot.the_row T K clean)
-  owned_slot_sync sent shared =
-      let type = OwnedSlot.the_type T K clean in
-      record { shared = λ slot. (struct_sync (shape type) (owned_taken_sync sent, (record { shared = shared.shared }, tt))).shared (type.to slot) }
+  owned_slot_sync sent shared = record { shared = λ slot. (owned_slot_parts_sync sent shared).shared ((OwnedSlot.the_type T K clean).to slot) }

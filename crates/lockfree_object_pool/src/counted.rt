@@ -1,19 +1,57 @@
-//! A value of the tests, which counts its end.
-use std::cell::Cell;
+//! Values of the tests, which count how often they are made and dropped.
+use std::sync::atomic::AtomicUsize;
+use std::sync::atomic::Ordering::SeqCst;
 
-pub struct Counted<'a> {
-    drops: &'a Cell<u32>,
+/// How many calls there were for a value, and how many values were dropped.
+#[derive(Drop)]
+pub struct Counts {
+    calls: AtomicUsize,
+    drops: AtomicUsize,
 }
 
-impl<'a> Counted<'a> {
-    pub fn new(drops: &'a Cell<u32>) -> Counted<'a> {
-        Counted { drops }
+impl Counts {
+    pub fn new() -> Counts {
+        Counts {
+            calls: AtomicUsize::new(0),
+            drops: AtomicUsize::new(0),
+        }
     }
+
+    /// The calls and the drops until now.
+    pub fn now(&self) -> (usize, usize) {
+        (self.calls.load(SeqCst), self.drops())
+    }
+
+    pub fn drops(&self) -> usize {
+        self.drops.load(SeqCst)
+    }
+
+    /// A value, by one more call.
+    pub fn make(&self) -> Counted<'_> {
+        let call = self.calls.fetch_add(1, SeqCst);
+        Counted { counts: self, call }
+    }
+
+    /// As `make`, but for one call, counted from 0, which is refused.
+    pub fn make_but(&self, refused: usize) -> Option<Counted<'_>> {
+        let call = self.calls.fetch_add(1, SeqCst);
+        if call == refused {
+            None
+        } else {
+            Some(Counted { counts: self, call })
+        }
+    }
+}
+
+/// A value that knows which call made it, counted from 0, and counts its drop.
+pub struct Counted<'c> {
+    counts: &'c Counts,
+    pub call: usize,
 }
 
 impl Drop for Counted<'_> {
     fn drop(self) {
-        let Counted { drops } = self;
-        drops.set(drops.get().saturating_add(1));
+        let Counted { counts, call: _ } = self;
+        counts.drops.fetch_add(1, SeqCst);
     }
 }

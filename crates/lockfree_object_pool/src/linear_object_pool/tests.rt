@@ -1,10 +1,11 @@
 //! The linear pool in use. Here stands what makes and resets the values of its tests.
-ghost use Rattle.std.specs.Prelude.{◌≡◌, None, Some, IfOk};
+ghost use Rattle.std.specs.Prelude.{◌≡◌, ⊤, None, Some, IfOk};
 ghost use Rattle.lockfree_object_pool.specs.LinearPool.{pool_limit};
 
 use super::*;
 use crate::clean::AnyValue;
 use crate::closures::Keep;
+use crate::counted::{Counted, Counts};
 use std::alloc::AllocError;
 use std::sync::atomic::AtomicUsize;
 use std::sync::atomic::Ordering::SeqCst;
@@ -13,6 +14,7 @@ mod callers;
 mod first_example;
 mod limits;
 mod one_thread;
+mod refusals;
 mod sends;
 mod threads;
 
@@ -58,6 +60,27 @@ impl Reset<u32, Zero> for ToZero {
     }
 }
 
+/// Makes values that are counted, and refuses at one call, counted from 0.
+#[derive(Drop)]
+struct CountedValues<'c> {
+    counts: &'c Counts,
+    refused: usize,
+}
+
+impl<'c> Init<Counted<'c>, AnyValue> for CountedValues<'c> {
+    ghost answers = { λ _ _. ⊤ };
+
+    fn make(&self) -> Option<Counted<'c>> {
+        self.counts.make_but(self.refused)
+    }
+}
+
+/// A call that no test comes to.
+const NEVER: usize = usize::MAX;
+
+/// A pool of values that are counted.
+type Tracked<'c> = LinearObjectPool<Counted<'c>, CountedValues<'c>, Keep, AnyValue>;
+
 /// A pool that keeps what was written, or refuses.
 type Kept = Result<LinearObjectPool<u32, CountedZeros, Keep, AnyValue>, PullError>;
 
@@ -84,6 +107,14 @@ fn new_calls(alloc: Global) -> Result<Arc<AtomicUsize>, AllocError> {
 fn kept(alloc: Global, calls: &Arc<AtomicUsize>) -> Kept {
     let calls = Arc::try_clone(calls)?;
     LinearObjectPool::new(alloc, CountedZeros { calls }, Keep)
+}
+
+fn counted<'c>(
+    alloc: Global,
+    counts: &'c Counts,
+    refused: usize,
+) -> Result<Tracked<'c>, PullError> {
+    LinearObjectPool::new(alloc, CountedValues { counts, refused }, Keep)
 }
 
 fn cleared(alloc: Global, calls: &Arc<AtomicUsize>) -> Cleared

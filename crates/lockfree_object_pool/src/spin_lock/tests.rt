@@ -1,6 +1,5 @@
 use super::*;
-use crate::counted::Counted;
-use std::cell::Cell;
+use crate::counted::Counts;
 use std::mem;
 use std::sync::Arc;
 use std::sync::atomic::AtomicU64;
@@ -76,27 +75,27 @@ fn a_lock_is_made_or_gives_its_data_back(rt: HostRuntime) {
 
 #[test]
 fn a_forgotten_guard_leaves_the_lock_taken(rt: HostRuntime) -> Result<(), Fail> {
-    let drops = Cell::new(0u32);
-    let lock = SpinLock::new(rt.alloc(), Counted::new(&drops)).map_err(|_| "memory")?;
+    let counts = Counts::new();
+    let lock = SpinLock::new(rt.alloc(), counts.make()).map_err(|_| "memory")?;
     mem::forget(lock.try_lock());
     for _ in 0..1_000 {
         assert!(rt; lock.try_lock().is_none());
     }
     drop(lock);
-    assert_eq!(rt; drops.get(), 0);
+    assert_eq!(rt; counts.drops(), 0);
     Ok(())
 }
 
 #[test]
 fn drops_each_value_once(rt: HostRuntime) -> Result<(), Fail> {
-    let drops = Cell::new(0u32);
-    let lock = SpinLock::new(rt.alloc(), Counted::new(&drops)).map_err(|_| "memory")?;
+    let counts = Counts::new();
+    let lock = SpinLock::new(rt.alloc(), counts.make()).map_err(|_| "memory")?;
     let mut guard = lock.try_lock().ok_or("the lock is free")?;
-    *guard = Counted::new(&drops);
-    assert_eq!(rt; drops.get(), 1);
+    *guard = counts.make();
+    assert_eq!(rt; counts.drops(), 1);
     drop(guard);
-    assert_eq!(rt; drops.get(), 1);
+    assert_eq!(rt; counts.drops(), 1);
     drop(lock);
-    assert_eq!(rt; drops.get(), 2);
+    assert_eq!(rt; counts.drops(), 2);
     Ok(())
 }

@@ -1,7 +1,6 @@
 use super::*;
 use crate::clean::AnyValue;
-use crate::counted::Counted;
-use std::cell::Cell;
+use crate::counted::{Counted, Counts};
 use std::test::Fail;
 
 #[test]
@@ -48,29 +47,29 @@ fn a_room_is_made_or_refused_for_memory(rt: HostRuntime) {
 
 #[test]
 fn drops_each_value_once(rt: HostRuntime) -> Result<(), Fail> {
-    let drops = Cell::new(0u32);
+    let counts = Counts::new();
     let mut stack: Stack<Counted<'_>, AnyValue> = Stack::new();
-    stack.put(Room::new(rt.alloc())?, Counted::new(&drops));
-    stack.put(Room::new(rt.alloc())?, Counted::new(&drops));
-    stack.put(Room::new(rt.alloc())?, Counted::new(&drops));
+    stack.put(Room::new(rt.alloc())?, counts.make());
+    stack.put(Room::new(rt.alloc())?, counts.make());
+    stack.put(Room::new(rt.alloc())?, counts.make());
     let taken = stack.take().ok_or("a value is kept")?;
-    assert_eq!(rt; drops.get(), 0);
+    assert_eq!(rt; counts.drops(), 0);
     drop(taken);
-    assert_eq!(rt; drops.get(), 1);
+    assert_eq!(rt; counts.drops(), 1);
     drop(stack);
-    assert_eq!(rt; drops.get(), 3);
+    assert_eq!(rt; counts.drops(), 3);
     Ok(())
 }
 
 #[test]
 fn ends_with_a_million_values(rt: HostRuntime) -> Result<(), Fail> {
-    let drops = Cell::new(0u32);
+    let counts = Counts::new();
     let mut stack: Stack<Counted<'_>, AnyValue> = Stack::new();
     for _ in 0..1_000_000 {
-        stack.put(Room::new(rt.alloc())?, Counted::new(&drops));
+        stack.put(Room::new(rt.alloc())?, counts.make());
     }
     assert_eq!(rt; stack.kept(), 1_000_000);
     drop(stack);
-    assert_eq!(rt; drops.get(), 1_000_000);
+    assert_eq!(rt; counts.drops(), 1_000_000);
     Ok(())
 }

@@ -1,25 +1,7 @@
 //! One thread that pulls, holds and drops: places, values, and calls of `init`.
-ghost use Rattle.std.specs.Prelude.{⊤};
-
 use super::*;
-use crate::counted::Counted;
-use std::cell::Cell;
 use std::mem;
 use std::test::Fail;
-
-/// Makes values that count their end.
-#[derive(Drop)]
-struct CountedValues<'c> {
-    drops: &'c Cell<u32>,
-}
-
-impl<'c> Init<Counted<'c>, AnyValue> for CountedValues<'c> {
-    ghost answers = { λ _ _. ⊤ };
-
-    fn make(&self) -> Option<Counted<'c>> {
-        Some(Counted::new(self.drops))
-    }
-}
 
 #[test]
 fn a_kept_value_comes_back(rt: HostRuntime) -> Result<(), Fail> {
@@ -91,19 +73,14 @@ fn a_full_page_is_followed_by_another(rt: HostRuntime) -> Result<(), Fail> {
 
 #[test]
 fn a_forgotten_item_stays_out(rt: HostRuntime) -> Result<(), Fail> {
-    let drops = Cell::new(0u32);
-    let init = CountedValues { drops: &drops };
-    let pool: LinearObjectPool<Counted<'_>, _, _, AnyValue> = LinearObjectPool::new(
-        rt.alloc(),
-        init,
-        Keep,
-    )?;
+    let counts = Counts::new();
+    let pool = counted(rt.alloc(), &counts, NEVER)?;
     mem::forget(pool.pull()?);
     for _ in 0..2 {
         assert_eq!(rt; pool.pull()?.page_id(), 1);
     }
-    assert_eq!(rt; drops.get(), 0);
+    assert_eq!(rt; counts.now(), (32, 0));
     drop(pool);
-    assert_eq!(rt; drops.get(), 31);
+    assert_eq!(rt; counts.now(), (32, 31));
     Ok(())
 }

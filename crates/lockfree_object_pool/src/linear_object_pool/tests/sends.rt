@@ -1,5 +1,8 @@
 //! Callers that need a pool and its reusables to be sent and shared, each under the least that its parts have to allow.
 use super::*;
+use std::test::Fail;
+use std::thread;
+use std::thread::Threads;
 
 fn sent<X: Send>(_value: &X) {}
 
@@ -28,4 +31,31 @@ fn reusables_sent<
 >(item: &LinearReusable<'_, T, I, R, K>, owned: &LinearOwnedReusable<T, I, R, K>) {
     sent(item);
     sent(owned);
+}
+
+fn reusables_shared<
+    T: Send + Sync + Drop,
+    I: Init<T, K> + Send + Sync,
+    R: Reset<T, K> + Send + Sync,
+    K: Clean<T>,
+>(item: &LinearReusable<'_, T, I, R, K>, owned: &LinearOwnedReusable<T, I, R, K>) {
+    shared(item);
+    shared(owned);
+}
+
+/// Two threads read one item.
+fn read_twice<R: Threads + Sync>(
+    rt: &R,
+    item: &LinearReusable<'_, u32, CountedZeros, ToZero, Zero>,
+) -> (u32, u32) {
+    thread::join(rt, || **item, || **item)
+}
+
+#[test]
+fn two_threads_read_one_item(rt: HostRuntime) -> Result<(), Fail> {
+    let pool = cleared(rt.alloc(), &new_calls(rt.alloc())?)?;
+    let mut item = pool.pull()?;
+    *item = 3;
+    assert_eq!(rt; read_twice(&rt, &item), (3, 3));
+    Ok(())
 }

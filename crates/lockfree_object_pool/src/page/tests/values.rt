@@ -1,48 +1,12 @@
 //! Values that count how often they are made and dropped.
 use crate::PullError;
 use crate::clean::AnyValue;
+use crate::counted::{Counted, Counts};
 use crate::page::{OwnedSlot, Page};
 use std::alloc::Global;
 use std::mem;
 use std::sync::Arc;
-use std::sync::atomic::{AtomicUsize, Ordering};
 use std::test::Fail;
-
-/// How many values were made, and how many were dropped.
-#[derive(Drop)]
-struct Counts {
-    made: AtomicUsize,
-    dropped: AtomicUsize,
-}
-
-impl Counts {
-    fn new() -> Counts {
-        Counts {
-            made: AtomicUsize::new(0),
-            dropped: AtomicUsize::new(0),
-        }
-    }
-
-    fn now(&self) -> (usize, usize) {
-        (
-            self.made.load(Ordering::SeqCst),
-            self.dropped.load(Ordering::SeqCst),
-        )
-    }
-}
-
-/// A value that knows which call of `init` made it, and counts its drop.
-struct Counted<'c> {
-    counts: &'c Counts,
-    call: usize,
-}
-
-impl<'c> Drop for Counted<'c> {
-    fn drop(self) {
-        let Self { counts, call: _ } = self;
-        counts.dropped.fetch_add(1, Ordering::SeqCst);
-    }
-}
 
 /// A page whose `init` answers `None` at one of its calls, counted from 0.
 fn counted_page<'c>(
@@ -50,17 +14,7 @@ fn counted_page<'c>(
     counts: &'c Counts,
     refused_call: usize,
 ) -> Result<Page<Counted<'c>, AnyValue>, PullError> {
-    Page::new(
-        alloc,
-        &|| {
-            let call = counts.made.fetch_add(1, Ordering::SeqCst);
-            if call == refused_call {
-                None
-            } else {
-                Some(Counted { counts, call })
-            }
-        },
-    )
+    Page::new(alloc, &|| counts.make_but(refused_call))
 }
 
 #[test]

@@ -1,0 +1,96 @@
+//! Links: a link is set once, whoever asks, a chain may be long, and what two notes of one link say.
+ghost use Rattle.std.specs.Prelude.{◌≡◌, IfSome};
+ghost use Rattle.lockfree_object_pool.specs.LinearPage.{shown_page};
+
+use super::*;
+use std::sync::atomic::AtomicUsize;
+use std::sync::atomic::Ordering::SeqCst;
+use std::test::Fail;
+use std::thread;
+use std::thread::Threads;
+
+/// Two pages that notes of one link know are the same page, whichever threads asked.
+fn both_next<'c>(page: &ZeroPage<'c>) -> Option<(ZeroPage<'c>, ZeroPage<'c>)>
+    ensures { IfSome result (λ both. shown_page both.0 ≡ shown_page both.1) }
+{
+    let (mut note, mut other) = (page.next_note().ok()?, page.next_note().ok()?);
+    let (first, second) = (page.next_as(&mut note)?, page.next_as(&mut other)?);
+    note.compare(other);
+    Some((first, second))
+}
+
+/// The page behind one that is held as a whole for the time.
+fn grown<'c>(alloc: Global, page: &ZeroPage<'c>, calls: &AtomicUsize) -> Option<ZeroPage<'c>> {
+    let slots = hold_all(alloc, page)?;
+    let next = behind_full(
+        page,
+        &|| {
+            calls.fetch_add(1, SeqCst);
+            Some(0)
+        },
+    )?;
+    for slot in slots {
+        Page::free(slot);
+    }
+    Some(next)
+}
+
+#[test]
+fn a_link_is_set_once(rt: HostRuntime) -> Result<(), Fail> {
+    let chain = Zeros::new(rt.alloc(), &|| Some(0))?;
+    let first = chain.first();
+    assert!(rt; first.next().is_none());
+    let _slots = hold_all(rt.alloc(), &first).ok_or("32 items are free")?;
+    let next = behind_full(&first, &|| Some(0)).ok_or("a page is linked")?;
+    assert_eq!(rt; (next.number(), first_id(&next)), (1, Some(0)));
+    let again = behind_full(&first, &|| None).ok_or("a page is linked")?;
+    assert_eq!(rt; (again.number(), first_id(&again)), (1, Some(1)));
+    let (one, other) = both_next(&first).ok_or("a page is linked")?;
+    assert_eq!(rt; (first_id(&one), first_id(&other)), (Some(2), Some(3)));
+    Ok(())
+}
+
+/// The ids that two threads take of the page behind a full one.
+fn race<R: Threads + Sync>(rt: &R, page: &ZeroPage<'_>) -> (Option<u8>, Option<u8>) {
+    thread::join(
+        rt,
+        || first_id(&behind_full(page, &|| Some(0))?),
+        || first_id(&behind_full(page, &|| Some(0))?),
+    )
+}
+
+#[test]
+fn two_threads_come_to_one_page(rt: HostRuntime) -> Result<(), Fail> {
+    let chain = Zeros::new(rt.alloc(), &|| Some(0))?;
+    let first = chain.first();
+    let _slots = hold_all(rt.alloc(), &first).ok_or("32 items are free")?;
+    let ids = race(&rt, &first);
+    assert!(rt; ids == (Some(0), Some(1)) || ids == (Some(1), Some(0)));
+    Ok(())
+}
+
+/// The number of a chain's last page, once so many were linked behind its first one.
+fn grow_by(alloc: Global, chain: &Zeros, pages: usize, calls: &AtomicUsize) -> Option<usize> {
+    let mut page = chain.first();
+    for _ in 0..pages {
+        page = grown(alloc, &page, calls)?;
+    }
+    Some(page.number())
+}
+
+/// The place of an item of a chain's first page.
+fn first_place(chain: &Zeros) -> Option<(u8, usize)> {
+    let (slot, number) = chain.first().alloc_within(1, &|| Some(0)).ok()?;
+    Some((slot.id(), number))
+}
+
+#[test]
+fn a_thousand_pages_are_linked_and_dropped(rt: HostRuntime) -> Result<(), Fail> {
+    let calls = AtomicUsize::new(0);
+    let chain = Zeros::new(rt.alloc(), &|| Some(0))?;
+    let last = grow_by(rt.alloc(), &chain, 999, &calls);
+    assert_eq!(rt; (last, calls.load(SeqCst)), (Some(999), 31_968));
+    assert_eq!(rt; first_place(&chain), Some((0, 0)));
+    drop(chain);
+    Ok(())
+}

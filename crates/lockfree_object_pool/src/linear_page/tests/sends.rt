@@ -1,0 +1,13 @@
+//! Callers that need a chain and its pages to be sent and shared, each where the items may be sent.
+use super::*;
+
+fn sent<X: Send>(_value: &X) {}
+
+fn shared<X: Sync>(_value: &X) {}
+
+fn chain_and_page<T: Send, K: Clean<T>>(chain: &Chain<T, K>, page: &LinearPage<'_, T, K>) {
+    sent(chain);
+    sent(page);
+    shared(chain);
+    shared(page);
+}
