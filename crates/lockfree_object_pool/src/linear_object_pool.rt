@@ -101,17 +101,15 @@ impl<T: Drop, I: Init<T, K>, R: Reset<T, K>, K: Clean<T>> LinearObjectPool<T, I,
     }
 
     /// As `pull`, with a reusable that owns the pool with others. The pool's owners grow by one before an item is taken.
-    pub fn pull_owned(
-        pool: &Arc<LinearObjectPool<T, I, R, K>>,
-    ) -> Result<LinearOwnedReusable<T, I, R, K>, PullError>
-        ensures pulled { IfOk result (IsOwnedPulledFrom K.meets (arc_value pool.now)) }
-        ensures within { IfOk result (λ item. IfSome (pool_limit (arc_value pool.now)) (λ pages. owned_number item < pages)) }
-        ensures refused { IfErr result (RefusesPull (IsSome (pool_limit (arc_value pool.now))) (I.answers (pool_init (arc_value pool.now)) None)) }
+    pub fn pull_owned(self: &Arc<Self>) -> Result<LinearOwnedReusable<T, I, R, K>, PullError>
+        ensures pulled { IfOk result (IsOwnedPulledFrom K.meets (arc_value self.now)) }
+        ensures within { IfOk result (λ item. IfSome (pool_limit (arc_value self.now)) (λ pages. owned_number item < pages)) }
+        ensures refused { IfErr result (RefusesPull (IsSome (pool_limit (arc_value self.now))) (I.answers (pool_init (arc_value self.now)) None)) }
     {
-        let owner = Arc::try_clone(pool)?;
-        let of = &pool.init;
-        let first = pool.chain.first();
-        let (slot, number) = match pool.limit() {
+        let owner = Arc::try_clone(self)?;
+        let of = &self.init;
+        let first = self.chain.first();
+        let (slot, number) = match self.limit() {
             None => first.alloc_owned(&|| of.make())?,
             Some(pages) => first.alloc_owned_within(pages, &|| of.make())?,
         };

@@ -21,7 +21,7 @@ fn pulled_owned<K: Clean<u32>, I: Init<u32, K>, R: Reset<u32, K>>(
 ) -> Option<u32>
     ensures { IfSome result K.meets }
 {
-    Some(*LinearObjectPool::pull_owned(pool).ok()?)
+    Some(*pool.pull_owned().ok()?)
 }
 
 /// A write changes the value alone.
@@ -118,7 +118,7 @@ fn a_value_is_written_and_read(rt: HostRuntime) -> Result<(), Fail> {
     write(&mut item, 7);
     assert_eq!(rt; *item, 7);
     assert_eq!(rt; read_back(item), (0, 0, 9));
-    let mut owned = LinearObjectPool::pull_owned(&pool)?;
+    let mut owned = pool.pull_owned()?;
     write_owned(&mut owned, 7);
     assert_eq!(rt; *owned, 7);
     drop(owned);

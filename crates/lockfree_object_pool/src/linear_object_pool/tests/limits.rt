@@ -41,7 +41,7 @@ fn held_owned(
 ) -> Result<Vec<LinearOwnedReusable<u32, CountedZeros, ToZero, Zero>>, PullError> {
     let mut items = Vec::with_capacity(alloc, count)?;
     for _ in 0..count {
-        items.push(LinearObjectPool::pull_owned(pool)?)?;
+        items.push(pool.pull_owned()?)?;
     }
     Ok(items)
 }
@@ -51,24 +51,27 @@ fn a_full_pool_refuses_owned_items(rt: HostRuntime) -> Result<(), Fail> {
     let calls = new_calls(rt.alloc())?;
     let pool = Arc::new(rt.alloc(), bounded(rt.alloc(), &calls, 1)?)?;
     let _before = held_owned(rt.alloc(), &pool, 7)?;
-    let seventh = LinearObjectPool::pull_owned(&pool)?;
+    let seventh = pool.pull_owned()?;
     let _behind = held_owned(rt.alloc(), &pool, 24)?;
-    let refused = LinearObjectPool::pull_owned(&pool).err();
+    let refused = pool.pull_owned().err();
     assert_eq!(rt; refused, Some(PullError::Limit));
     drop(seventh);
-    assert_eq!(rt; LinearObjectPool::pull_owned(&pool)?.page_id(), 7);
+    assert_eq!(rt; pool.pull_owned()?.page_id(), 7);
     assert_eq!(rt; calls.load(SeqCst), 32);
     Ok(())
 }
 
 #[test]
 fn a_return_to_an_early_page_is_found(rt: HostRuntime) -> Result<(), Fail> {
-    let pool = bounded(rt.alloc(), &new_calls(rt.alloc())?, 2)?;
+    let pool = Arc::new(rt.alloc(), bounded(rt.alloc(), &new_calls(rt.alloc())?, 2)?)?;
     let first = pool.pull()?;
     let _others = held(rt.alloc(), &pool, 63)?;
     assert_eq!(rt; pool.pull().err(), Some(PullError::Limit));
     drop(first);
     let item = pool.pull()?;
     assert_eq!(rt; (item.page_number(), item.page_id()), (0, 0));
+    drop(item);
+    let owned = pool.pull_owned()?;
+    assert_eq!(rt; (owned.page_number(), owned.page_id()), (0, 0));
     Ok(())
 }

@@ -37,6 +37,11 @@ fn one_item_is_pulled_again_and_again(rt: HostRuntime) -> Result<(), Fail> {
         *item = item.wrapping_add(1);
         assert_eq!(rt; (*item, item.page_number(), item.page_id()), (2, 0, 0));
     }
+    for _ in 0..2 {
+        let mut item = pool.pull()?;
+        assert_eq!(rt; *item, 0);
+        *item = item.wrapping_add(1);
+    }
     Ok(())
 }
 
@@ -54,7 +59,7 @@ fn two_items_are_pulled_again_and_again(rt: HostRuntime) -> Result<(), Fail> {
 #[test]
 fn a_full_page_is_followed_by_another(rt: HostRuntime) -> Result<(), Fail> {
     let calls = new_calls(rt.alloc())?;
-    let pool = cleared(rt.alloc(), &calls)?;
+    let pool = Arc::new(rt.alloc(), cleared(rt.alloc(), &calls)?)?;
     let first = pool.pull()?;
     let _of_first_page = held(rt.alloc(), &pool, 31)?;
     assert_eq!(rt; calls.load(SeqCst), 32);
@@ -67,6 +72,9 @@ fn a_full_page_is_followed_by_another(rt: HostRuntime) -> Result<(), Fail> {
     drop(first);
     let item = pool.pull()?;
     assert_eq!(rt; (item.page_number(), item.page_id()), (0, 0));
+    drop(item);
+    let owned = pool.pull_owned()?;
+    assert_eq!(rt; (owned.page_number(), owned.page_id()), (0, 0));
     assert_eq!(rt; calls.load(SeqCst), 64);
     Ok(())
 }

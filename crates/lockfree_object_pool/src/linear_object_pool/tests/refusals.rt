@@ -50,10 +50,10 @@ fn init_that_refuses_stops_an_owned_growth(rt: HostRuntime) -> Result<(), Fail> 
         let counts = Counts::new();
         let pool = Arc::new(rt.alloc(), counted(rt.alloc(), &counts, refused)?)?;
         let _items = full(rt.alloc(), &pool)?;
-        let refusal = LinearObjectPool::pull_owned(&pool).err();
+        let refusal = pool.pull_owned().err();
         assert_eq!(rt; refusal, Some(PullError::Init));
         assert_eq!(rt; counts.now(), (refused.saturating_add(1), refused - 32));
-        let item = LinearObjectPool::pull_owned(&pool)?;
+        let item = pool.pull_owned()?;
         assert_eq!(rt; (item.page_number(), item.page_id()), (1, 0));
     }
     Ok(())
@@ -120,15 +120,15 @@ fn owned_pulls_go_on_where_memory_was_refused(rt: HostRuntime) -> Result<(), Fai
     let pool = again(&|| shared_of_two(rt.alloc(), &counts))?;
     assert_eq!(rt; living(&counts), 32);
     forget_first_page(&pool)?;
-    let refusal = LinearObjectPool::pull_owned(&pool).err();
+    let refusal = pool.pull_owned().err();
     assert!(rt; matches!(refusal, None | Some(PullError::Memory)));
     let kept = if refusal.is_none() { 64 } else { 32 };
     assert_eq!(rt; living(&counts), kept);
-    let item = LinearObjectPool::pull_owned(&pool)?;
+    let item = pool.pull_owned()?;
     assert_eq!(rt; (item.page_number(), item.page_id()), (1, 0));
     assert_eq!(rt; living(&counts), 64);
     let call = item.call;
     drop(item);
-    assert_eq!(rt; LinearObjectPool::pull_owned(&pool)?.call, call);
+    assert_eq!(rt; pool.pull_owned()?.call, call);
     Ok(())
 }

@@ -104,29 +104,6 @@ fn eight_threads_see_reset_values(rt: HostRuntime) -> Result<(), Fail> {
     Ok(())
 }
 
-/// Writes a number to an item, and reads it.
-fn write_and_read(shared: &Shared, number: u32) -> Option<u32> {
-    let mut item = shared.pool.pull().ok()?;
-    *item = number;
-    Some(*item)
-}
-
-#[test]
-fn five_threads_write_and_read(rt: HostRuntime) -> Result<(), Fail> {
-    let shared = unbounded(rt.alloc(), &new_calls(rt.alloc())?)?;
-    let mut threads = Vec::with_capacity(rt.alloc(), 5)?;
-    for number in 0..5u32 {
-        let shared = Arc::try_clone(&shared)?;
-        threads.push(thread::spawn(&rt, move || write_and_read(&shared, number))?)?;
-    }
-    let mut number = 0u32;
-    for thread in threads {
-        assert_eq!(rt; thread.join(&rt), Some(number));
-        number = number.wrapping_add(1);
-    }
-    Ok(())
-}
-
 /// How many of eight pulls gave an item, and how many were refused by the limit. The items are held until five threads hold theirs.
 fn hold_eight(alloc: Global, shared: &Shared) -> Option<(usize, usize)> {
     let mut items = Vec::with_capacity(alloc, 8).ok()?;
@@ -163,25 +140,5 @@ fn five_threads_share_one_page(rt: HostRuntime) -> Result<(), Fail> {
         refused = refused.wrapping_add(counts.1);
     }
     assert_eq!(rt; (given, refused, calls.load(SeqCst)), (32, 8, 32));
-    Ok(())
-}
-
-#[test]
-fn owned_items_are_dropped_in_another_thread(rt: HostRuntime) -> Result<(), Fail> {
-    let calls = new_calls(rt.alloc())?;
-    let pool = Arc::new(rt.alloc(), cleared(rt.alloc(), &calls)?)?;
-    let mut items = Vec::with_capacity(rt.alloc(), 5)?;
-    for _ in 0..5 {
-        let mut item = LinearObjectPool::pull_owned(&pool)?;
-        *item = 7;
-        items.push(item)?;
-    }
-    thread::spawn(&rt, move || drop(items))?.join(&rt);
-    for id in 0..5u8 {
-        let item = pool.pull()?;
-        assert_eq!(rt; (item.page_number(), item.page_id(), *item), (0, id, 0));
-        std::mem::forget(item);
-    }
-    assert_eq!(rt; calls.load(SeqCst), 32);
     Ok(())
 }
