@@ -23,6 +23,7 @@ pub(super) struct Row<T, K: Clean<T>> {
 impl<T: Drop, K: Clean<T>> Row<T, K> {
     /// A row of links that lead nowhere yet.
     fn new(alloc: Global, len: usize) -> Result<Box<Row<T, K>>, PullError>
+        ensures len { IfOk result (λ row. length row.value.links.items ≡ len) }
         ensures refused { IfErr result (RefusesMaking ⊥) }
     {
         let mut links = Vec::with_capacity(alloc, len)?;
@@ -42,6 +43,8 @@ pub(super) struct Directory<T, K: Clean<T>> {
 }
 
 impl<T: Drop, K: Clean<T>> Directory<T, K> {
+    ghost use Rattle.lockfree_object_pool.specs.LinkRow.{IsPlaceOf};
+
     pub(super) fn new(alloc: Global) -> Result<Directory<T, K>, PullError>
         ensures refused { IfErr result (RefusesMaking ⊥) }
     {
@@ -59,6 +62,7 @@ impl<T: Drop, K: Clean<T>> Directory<T, K> {
     /// Where the link to a page lies.
     pub(super) fn place(&self, number: usize) -> LinkPlace<'_, T, K>
         requires { 0 < number }
+        ensures { IsPlaceOf self.now number result }
     {
         let row = number.ilog2();
         let len = 1 << row;
