@@ -1,7 +1,8 @@
-//! The first example of the README.
+//! The first example of the README, and the caller of CALLING.
+ghost use Rattle.std.specs.Prelude.{◌≡◌};
 
 use crate::clean::AnyValue;
-use crate::closures::{Copied, InitBy, Keep, Makes, ResetBy, Resets};
+use crate::closures::{Copied, InitBy, Keep, Makes, Reset, ResetBy, Resets};
 use crate::{LinearObjectPool, PullError};
 use std::alloc::Global;
 use std::test::Fail;
@@ -18,6 +19,32 @@ fn kept(alloc: Global) -> Result<u32, PullError> {
     drop(item); // it is in the pool again
     let again = pool.pull()?;
     Ok(*again)
+}
+
+/// A function object of one's own: a return leaves 0.
+#[derive(Drop)]
+struct ToZero;
+
+impl Reset<u32, AnyValue> for ToZero {
+    ghost leaves = { λ _ _ new. new ≡ 0 };
+
+    fn reset(&self, value: &mut u32) {
+        *value = 0;
+    }
+}
+
+/// Each item starts as 7, and is 0 when it comes again.
+fn cleared(alloc: Global) -> Result<(u32, u32), PullError> {
+    let pool: LinearObjectPool<u32, _, _, AnyValue> = LinearObjectPool::new(
+        alloc,
+        Copied::new(7),
+        ToZero,
+    )?;
+    let item = pool.pull()?;
+    let first = *item;
+    drop(item); // it is in the pool again
+    let again = pool.pull()?;
+    Ok((first, *again))
 }
 
 /// Any two closures: the code that names the pool is generic in them, and whoever has them calls it.
@@ -41,6 +68,7 @@ fn first_item<I: InitBy<u32>, R: ResetBy<u32>>(
 #[test]
 fn the_first_example(rt: HostRuntime) -> Result<(), Fail> {
     assert_eq!(rt; kept(rt.alloc())?, 5);
+    assert_eq!(rt; cleared(rt.alloc())?, (7, 0));
     let item = first_item(rt.alloc(), || Some(3), |value: &mut u32| *value = 0)?;
     assert_eq!(rt; item, 3);
     Ok(())

@@ -19,6 +19,23 @@ fn both_next<'c>(page: &ZeroPage<'c>) -> Option<(ZeroPage<'c>, ZeroPage<'c>)>
     Some((first, second))
 }
 
+/// The page that a call links or finds is the page that a note of the same link knows, whichever thread asked.
+fn linked_and_found<'c>(page: &ZeroPage<'c>) -> Option<(ZeroPage<'c>, ZeroPage<'c>)>
+    ensures { IfSome result (λ both. shown_page both.0 ≡ shown_page both.1) }
+{
+    let pass = PullPass::new();
+    let Allocated::Full(seen) = page.page().try_alloc(&pass).ok()? else {
+        return None;
+    };
+    let (mut note, mut other) = (page.next_note().ok()?, page.next_note().ok()?);
+    let linked = page
+        .get_or_create_next_as(seen, &|| Some(0), &mut note)
+        .ok()?;
+    let found = page.next_as(&mut other)?;
+    note.compare(other);
+    Some((linked, found))
+}
+
 /// The page behind one that is held as a whole for the time.
 fn grown<'c>(alloc: Global, page: &ZeroPage<'c>, calls: &AtomicUsize) -> Option<ZeroPage<'c>> {
     let slots = hold_all(alloc, page)?;
@@ -47,6 +64,8 @@ fn a_link_is_set_once(rt: HostRuntime) -> Result<(), Fail> {
     assert_eq!(rt; (again.number(), first_id(&again)), (1, Some(1)));
     let (one, other) = both_next(&first).ok_or("a page is linked")?;
     assert_eq!(rt; (first_id(&one), first_id(&other)), (Some(2), Some(3)));
+    let (linked, found) = linked_and_found(&first).ok_or("a page is linked")?;
+    assert_eq!(rt; (first_id(&linked), first_id(&found)), (Some(4), Some(5)));
     Ok(())
 }
 
