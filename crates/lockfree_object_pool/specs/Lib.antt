@@ -7,6 +7,7 @@ pub mod LinearPool
 pub mod LinkNote
 pub mod LinkRow
 pub mod Lock
+pub mod NonePool
 pub mod OneProof
 pub mod OwnedSlot
 pub mod Page

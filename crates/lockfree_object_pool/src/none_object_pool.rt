@@ -1,0 +1,47 @@
+//! A pool that keeps nothing: each pull makes an item, whose end drops it.
+ghost use Rattle.std.specs.Prelude.{◌≡◌, Some, None, IfOk, IfErr};
+ghost use Rattle.std.specs.Arc.{arc_value};
+ghost use Rattle.lockfree_object_pool.specs.NonePool.{none_init, none_value};
+ghost use Rattle.lockfree_object_pool.specs.declared.pull_error.PullError.TheVariants.{Init};
+
+use crate::PullError;
+use crate::none_reusable::NoneReusable;
+use std::sync::Arc;
+
+/// A pool to compare other pools with. A closure makes its items, and nothing is asked of what a return leaves.
+#[derive(Drop)]
+pub struct NoneObjectPool<T, I: Fn() -> Option<T>> {
+    init: I,
+}
+
+impl<T, I: Fn() -> Option<T>> NoneObjectPool<T, I> {
+    pub fn new(init: I) -> NoneObjectPool<T, I>
+        ensures { none_init result ≡ init }
+    {
+        NoneObjectPool { init }
+    }
+
+    /// An item that was made now.
+    pub fn pull(&self) -> Result<NoneReusable<T>, PullError>
+        requires callable { I.pre (none_init self.now) }
+        ensures made { IfOk result (λ item. I.post (none_init self.now) (Some (none_value item))) }
+        ensures refused { IfErr result (λ error. (error ≡ Init) × I.post (none_init self.now) None) }
+    {
+        match (self.init)() {
+            Some(value) => Ok(NoneReusable::new(value)),
+            None => Err(PullError::Init),
+        }
+    }
+
+    /// As `pull`, for a pool in an `Arc`. An item needs no owner of the pool, since it doesn't come back.
+    pub fn pull_owned(self: &Arc<Self>) -> Result<NoneReusable<T>, PullError>
+        requires callable { I.pre (none_init (arc_value self.now)) }
+        ensures made { IfOk result (λ item. I.post (none_init (arc_value self.now)) (Some (none_value item))) }
+        ensures refused { IfErr result (λ error. (error ≡ Init) × I.post (none_init (arc_value self.now)) None) }
+    {
+        self.pull()
+    }
+}
+
+#[cfg(test)]
+mod tests;

@@ -1,0 +1,47 @@
+//! A value that was pulled from a pool that keeps nothing.
+ghost use Rattle.std.specs.Prelude.{◌≡◌};
+
+use std::ops::{Deref, DerefMut};
+
+/// A pulled value. Its end drops it.
+#[derive(Drop)]
+pub struct NoneReusable<T> {
+    value: T,
+}
+
+impl<T> NoneReusable<T> {
+    ghost use Rattle.lockfree_object_pool.specs.NonePool.{none_value};
+
+    pub fn new(value: T) -> NoneReusable<T>
+        ensures { none_value result ≡ value }
+    {
+        NoneReusable { value }
+    }
+}
+
+impl<T> Deref for NoneReusable<T> {
+    type Target = T;
+
+    ghost use Rattle.lockfree_object_pool.specs.NonePool.{none_value};
+
+    ghost deref_gives = { λ reusable value. value ≡ none_value reusable };
+
+    fn deref(&self) -> &T {
+        &self.value
+    }
+}
+
+impl<T> DerefMut for NoneReusable<T> {
+    ghost use Rattle.std.specs.Borrow.{Lends, sem};
+    ghost use Rattle.lockfree_object_pool.specs.contracts.none_reusable.NoneReusable.{the_row};
+    ghost use Rattle.lockfree_object_pool.specs.NonePool.{none_value, none_with};
+
+    ghost deref_mut_gives = { λ reusable value. value ≡ none_value reusable };
+
+    fn deref_mut(&mut self) -> &mut T
+        ensures* writes_back { sem 𝓛 (Lends (the_row T.row) T.row self.entry result (none_with self.old)) }
+        ensures shows { result.now ≡ none_value self.old }
+    {
+        &mut self.value
+    }
+}
