@@ -7,6 +7,7 @@ pub mod LinearPool
 pub mod LinkNote
 pub mod LinkRow
 pub mod Lock
+pub mod MutexPool
 pub mod NonePool
 pub mod OneProof
 pub mod OwnedSlot
@@ -14,4 +15,5 @@ pub mod Page
 pub mod PageRule
 pub mod Refusal
 pub mod Slot
+pub mod SpinLockPool
 pub mod Word

@@ -1,4 +1,8 @@
-//! Values of the tests, which count how often they are made and dropped.
+//! Values of the tests, which count how often they are made and dropped, and what makes them for a pool.
+ghost use Rattle.std.specs.Prelude.{⊤};
+
+use crate::clean::AnyValue;
+use crate::closures::Init;
 use std::sync::atomic::AtomicUsize;
 use std::sync::atomic::Ordering::SeqCst;
 
@@ -55,3 +59,21 @@ impl Drop for Counted<'_> {
         counts.drops.fetch_add(1, SeqCst);
     }
 }
+
+/// Makes values that are counted, and refuses at one call, counted from 0.
+#[derive(Drop)]
+pub struct CountedValues<'c> {
+    pub counts: &'c Counts,
+    pub refused: usize,
+}
+
+impl<'c> Init<Counted<'c>, AnyValue> for CountedValues<'c> {
+    ghost answers = { λ _ _. ⊤ };
+
+    fn make(&self) -> Option<Counted<'c>> {
+        self.counts.make_but(self.refused)
+    }
+}
+
+/// A call that no test comes to.
+pub const NEVER: usize = usize::MAX;

@@ -7,21 +7,39 @@ pub mod clean;
 pub mod closures;
 #[cfg(test)]
 mod counted;
+#[cfg(test)]
+mod kept_items;
 mod lender;
 pub mod linear_object_pool;
 pub mod linear_owned_reusable;
 pub mod linear_page;
 pub mod linear_reusable;
+pub mod mutex_object_pool;
+pub mod mutex_owned_reusable;
+pub mod mutex_reusable;
 pub mod none_object_pool;
 pub mod none_reusable;
 pub mod page;
 mod pull_error;
+#[cfg(test)]
+mod refused;
 pub mod spin_lock;
+pub mod spin_lock_object_pool;
+pub mod spin_lock_owned_reusable;
+pub mod spin_lock_reusable;
 pub mod stack;
+#[cfg(test)]
+mod zeros;
 
 pub use linear_object_pool::LinearObjectPool;
 pub use linear_owned_reusable::LinearOwnedReusable;
 pub use linear_reusable::LinearReusable;
+pub use mutex_object_pool::MutexObjectPool;
+pub use mutex_owned_reusable::MutexOwnedReusable;
+pub use mutex_reusable::MutexReusable;
 pub use none_object_pool::NoneObjectPool;
 pub use none_reusable::NoneReusable;
 pub use pull_error::PullError;
+pub use spin_lock_object_pool::SpinLockObjectPool;
+pub use spin_lock_owned_reusable::SpinLockOwnedReusable;
+pub use spin_lock_reusable::SpinLockReusable;

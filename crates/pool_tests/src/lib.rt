@@ -4,4 +4,10 @@
 #[cfg(test)]
 mod channels;
 #[cfg(test)]
+mod counted_zeros;
+#[cfg(test)]
 mod linear_object_pool;
+#[cfg(test)]
+mod mutex_object_pool;
+#[cfg(test)]
+mod spin_lock_object_pool;

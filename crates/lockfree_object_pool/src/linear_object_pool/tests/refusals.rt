@@ -1,5 +1,6 @@
 //! Pools that are refused values or memory: nothing is lost, and what was refused can be asked for again.
 use super::*;
+use crate::refused::again;
 use std::mem;
 use std::test::Fail;
 
@@ -57,16 +58,6 @@ fn init_that_refuses_stops_an_owned_growth(rt: HostRuntime) -> Result<(), Fail> 
         assert_eq!(rt; (item.page_number(), item.page_id()), (1, 0));
     }
     Ok(())
-}
-
-/// The answer, where memory was refused that of a second try.
-fn again<X: Drop, F: Fn() -> Result<X, PullError>>(ask: &F) -> Result<X, PullError>
-    requires { F.pre ask.now }
-{
-    match ask() {
-        Err(PullError::Memory) => ask(),
-        answer => answer,
-    }
 }
 
 /// How many values are neither dropped nor refused.

@@ -1,0 +1,29 @@
+//! What makes the values of the tests.
+ghost use Rattle.std.specs.Prelude.{◌≡◌, Some};
+
+use lockfree_object_pool::clean::AnyValue;
+use lockfree_object_pool::closures::Init;
+use std::alloc::{AllocError, Global};
+use std::sync::Arc;
+use std::sync::atomic::AtomicUsize;
+use std::sync::atomic::Ordering::SeqCst;
+
+/// Makes zeros, and counts its calls.
+#[derive(Drop)]
+pub struct CountedZeros {
+    pub calls: Arc<AtomicUsize>,
+}
+
+impl Init<u32, AnyValue> for CountedZeros {
+    ghost answers = { λ _ answer. answer ≡ Some 0 };
+
+    fn make(&self) -> Option<u32> {
+        self.calls.fetch_add(1, SeqCst);
+        Some(0)
+    }
+}
+
+/// A count of calls that begins at 0.
+pub fn new_calls(alloc: Global) -> Result<Arc<AtomicUsize>, AllocError> {
+    Ok(Arc::new(alloc, AtomicUsize::new(0))?)
+}
