@@ -29,6 +29,8 @@ pub mod spin_lock_owned_reusable;
 pub mod spin_lock_reusable;
 pub mod stack;
 #[cfg(test)]
+mod waits_for_drop;
+#[cfg(test)]
 mod zeros;
 
 pub use linear_object_pool::LinearObjectPool;
