@@ -1,6 +1,7 @@
 //! A pool over a stack of kept values under a spin lock.
 //!
 //! A pull takes the value that was returned last, or makes one where none is kept. Pulls and returns wait for the lock.
+//! It isn't lock free: a thread that stops while it has the lock keeps all others waiting.
 ghost use Rattle.std.specs.Prelude.{◌≡◌, None, IfOk, IfErr, IfSome};
 ghost use Rattle.std.specs.Arc.{arc_value};
 
