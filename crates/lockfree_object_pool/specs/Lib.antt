@@ -7,7 +7,6 @@ pub mod LinearPool
 pub mod LinkNote
 pub mod LinkRow
 pub mod Lock
-pub mod MutexPool
 pub mod NonePool
 pub mod OneProof
 pub mod OwnedSlot
@@ -15,5 +14,6 @@ pub mod Page
 pub mod PageRule
 pub mod Refusal
 pub mod Slot
-pub mod SpinLockPool
+pub mod StackLends
+pub mod StackPool
 pub mod Word

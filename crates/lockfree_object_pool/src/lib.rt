@@ -7,8 +7,7 @@ pub mod clean;
 pub mod closures;
 #[cfg(test)]
 mod counted;
-#[cfg(test)]
-mod kept_items;
+pub mod free_list;
 mod lender;
 pub mod linear_object_pool;
 pub mod linear_owned_reusable;
@@ -28,8 +27,9 @@ pub mod spin_lock_object_pool;
 pub mod spin_lock_owned_reusable;
 pub mod spin_lock_reusable;
 pub mod stack;
-#[cfg(test)]
-mod waits_for_drop;
+pub mod stack_object_pool;
+pub mod stack_owned_reusable;
+pub mod stack_reusable;
 #[cfg(test)]
 mod zeros;
 

@@ -1,104 +1,24 @@
 //! A pool over a stack of kept values under a mutex.
-//!
-//! A pull takes the value that was returned last, or makes one where none is kept. Pulls and returns wait for the lock.
-ghost use Rattle.std.specs.Prelude.{◌≡◌, None, IfOk, IfErr, IfSome};
-ghost use Rattle.std.specs.Arc.{arc_value};
+ghost use Rattle.std.specs.Prelude.{◌≡◌};
 
-use crate::PullError;
 use crate::clean::Clean;
 use crate::closures::{Init, Reset};
-use crate::mutex_owned_reusable::MutexOwnedReusable;
-use crate::mutex_reusable::MutexReusable;
-use crate::stack::{Room, Stack};
+use crate::stack::Stack;
+use crate::stack_object_pool::StackObjectPool;
 use std::alloc::Global;
-use std::sync::{Arc, Mutex, Wait};
+use std::sync::Mutex;
 
 /// A pool whose kept values lie in a stack under a mutex.
-#[derive(Drop)]
-pub struct MutexObjectPool<T, I: Init<T, K>, R: Reset<T, K>, K: Clean<T>> {
-    alloc: Global,
-    init: I,
-    reset: R,
-    kept: Mutex<Stack<T, K>>,
-}
+pub type MutexObjectPool<T, I, R, K> = StackObjectPool<T, I, R, K, Mutex<Stack<T, K>>>;
 
 impl<T: Drop, I: Init<T, K>, R: Reset<T, K>, K: Clean<T>> MutexObjectPool<T, I, R, K> {
-    ghost use Rattle.lockfree_object_pool.specs.MutexPool.{mutex_init, mutex_reset, IsMutexPulledFrom, IsMutexOwnedPulledFrom};
-    ghost use Rattle.lockfree_object_pool.specs.Refusal.{RefusesMaking};
+    ghost use Rattle.lockfree_object_pool.specs.StackPool.{stack_init, stack_reset};
 
     /// A pool that keeps nothing yet. It takes no memory.
     pub fn new(alloc: Global, init: I, reset: R) -> MutexObjectPool<T, I, R, K>
-        ensures init { mutex_init result ≡ init }
-        ensures reset { mutex_reset result ≡ reset }
+        ensures init { stack_init result ≡ init }
+        ensures reset { stack_reset result ≡ reset }
     {
-        MutexObjectPool {
-            alloc,
-            init,
-            reset,
-            kept: Mutex::new(Stack::new()),
-        }
-    }
-
-    /// The value that was returned last, or one that is made now. `init` runs without the lock.
-    pub fn pull<W: Wait + Copy>(
-        &self,
-        rt: &W,
-    ) -> Result<MutexReusable<'_, T, I, R, K, W>, PullError>
-        ensures pulled { IfOk result (IsMutexPulledFrom K.meets self.now) }
-        ensures refused { IfErr result (RefusesMaking (I.answers (mutex_init self.now) None)) }
-    {
-        let (value, room) = self.item(rt)?;
-        Ok(MutexReusable::in_room(self, *rt, room, value))
-    }
-
-    /// As `pull`, with a reusable that owns the pool with others. The pool's owners grow by one before an item is taken.
-    pub fn pull_owned<W: Wait + Copy>(
-        self: &Arc<Self>,
-        rt: &W,
-    ) -> Result<MutexOwnedReusable<T, I, R, K, W>, PullError>
-        ensures pulled { IfOk result (IsMutexOwnedPulledFrom K.meets (arc_value self.now)) }
-        ensures refused { IfErr result (RefusesMaking (I.answers (mutex_init (arc_value self.now)) None)) }
-    {
-        let owner = Arc::try_clone(self)?;
-        let (value, room) = self.item(rt)?;
-        Ok(MutexOwnedReusable::in_room(owner, *rt, room, value))
-    }
-
-    /// A kept value with its room, or a new one of each.
-    fn item<W: Wait>(&self, rt: &W) -> Result<(T, Room<T>), PullError>
-        ensures meets { IfOk result (λ item. K.meets item.0) }
-        ensures refused { IfErr result (RefusesMaking (I.answers (mutex_init self.now) None)) }
-    {
-        if let Some(item) = self.take(rt) {
-            return Ok(item);
-        }
-        let room = self.room()?;
-        match self.init.make() {
-            Some(value) => Ok((value, room)),
-            None => Err(PullError::Init),
-        }
-    }
-
-    /// The kept value that was returned last. The lock is held for this alone.
-    fn take<W: Wait>(&self, rt: &W) -> Option<(T, Room<T>)>
-        ensures { IfSome result (λ item. K.meets item.0) }
-    {
-        self.kept.lock(rt).take()
-    }
-
-    /// A room for a return.
-    pub(crate) fn room(&self) -> Result<Room<T>, PullError>
-        ensures refused { IfErr result (RefusesMaking ⊥) }
-    {
-        Room::new(self.alloc)
-    }
-
-    /// Resets a value and keeps it.
-    pub(crate) fn give<W: Wait>(&self, rt: &W, room: Room<T>, mut value: T) {
-        self.reset.reset(&mut value);
-        self.kept.lock(rt).put(room, value);
+        StackObjectPool::over(alloc, init, reset, Mutex::new(Stack::new()))
     }
 }
-
-#[cfg(test)]
-mod tests;

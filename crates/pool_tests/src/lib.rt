@@ -8,6 +8,4 @@ mod counted_zeros;
 #[cfg(test)]
 mod linear_object_pool;
 #[cfg(test)]
-mod mutex_object_pool;
-#[cfg(test)]
-mod spin_lock_object_pool;
+mod stack_object_pools;

@@ -1,4 +1,5 @@
-//! What the tests of both stack pools share. Each is given how an item is pulled, so it serves for borrowed and for owned ones.
+//! What tests do with items. Each is given how an item is pulled, so it serves for borrowed and
+//! for owned ones.
 use crate::PullError;
 use std::ops::DerefMut;
 

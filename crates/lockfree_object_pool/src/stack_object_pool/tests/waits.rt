@@ -1,10 +1,13 @@
-//! What shows that a stack pool runs `init` without its lock: a call of `init` that waits until another thread has
-//! pulled from the same pool and dropped what it pulled.
+//! What makes or resets values and waits meanwhile for a second thread, which pulls and drops on
+//! the same pool.
+//!
+//! A pool that called it under its lock would keep that thread waiting. Each wait has a limit, so
+//! that the test ends.
 ghost use Rattle.std.specs.Prelude.{⊤};
 
 use crate::PullError;
 use crate::clean::AnyValue;
-use crate::closures::Init;
+use crate::closures::{Init, Reset};
 use std::ops::DerefMut;
 use std::sync::Arc;
 use std::sync::atomic::AtomicUsize;
@@ -14,7 +17,7 @@ use std::thread;
 /// A thread that still waits after so many turns gives up, and its test fails.
 const MOST_TURNS: u32 = 10_000_000;
 
-/// How far two threads are: calls of `init`, and items that the second one dropped.
+/// How far two threads are: calls of what waits, and items that the second one dropped.
 #[derive(Drop)]
 pub struct Steps {
     calls: AtomicUsize,
@@ -31,7 +34,7 @@ impl Steps {
 }
 
 /// Whether a count came to be at least 1.
-fn wait_for(count: &AtomicUsize) -> bool {
+pub fn wait_for(count: &AtomicUsize) -> bool {
     for _ in 0..MOST_TURNS {
         if count.load(SeqCst) > 0 {
             return true;
@@ -41,23 +44,38 @@ fn wait_for(count: &AtomicUsize) -> bool {
     false
 }
 
-/// Its first call waits until an item was dropped, and answers 1 where that came in time, else 2. Later calls answer 7.
+/// Its first call waits until an item was dropped, and answers 1 where that came in time, else 2.
+/// Later calls answer 7.
 #[derive(Drop)]
 pub struct WaitsForDrop {
     pub steps: Arc<Steps>,
+}
+
+impl WaitsForDrop {
+    fn answer(&self) -> u32 {
+        if self.steps.calls.fetch_add(1, SeqCst) > 0 {
+            7
+        } else if wait_for(&self.steps.drops) {
+            1
+        } else {
+            2
+        }
+    }
 }
 
 impl Init<u32, AnyValue> for WaitsForDrop {
     ghost answers = { λ _ _. ⊤ };
 
     fn make(&self) -> Option<u32> {
-        if self.steps.calls.fetch_add(1, SeqCst) > 0 {
-            Some(7)
-        } else if wait_for(&self.steps.drops) {
-            Some(1)
-        } else {
-            Some(2)
-        }
+        Some(self.answer())
+    }
+}
+
+impl Reset<u32, AnyValue> for WaitsForDrop {
+    ghost leaves = { λ _ _ _. ⊤ };
+
+    fn reset(&self, value: &mut u32) {
+        *value = self.answer();
     }
 }
 
@@ -67,7 +85,7 @@ pub fn shown<A: DerefMut<Target = u32> + Drop>(pulled: Result<A, PullError>) -> 
     Some(*item)
 }
 
-/// What a thread is shown that pulls and drops while the first call of `init` goes on.
+/// What a thread is shown that pulls and drops while the first call of what waits goes on.
 pub fn shown_meanwhile<A: DerefMut<Target = u32> + Drop, P: Fn() -> Result<A, PullError>>(
     pull: &P,
     steps: &Steps,

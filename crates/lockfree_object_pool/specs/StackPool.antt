@@ -1,0 +1,50 @@
+-- What a stack pool and its reusables show.
+use Rattle.std.specs.Prelude.{◌≡◌}
+use Rattle.std.specs.Arc.{arc_value}
+use Rattle.lockfree_object_pool.specs.declared.stack_object_pool.StackObjectPool.{StackObjectPool}
+use Rattle.lockfree_object_pool.specs.declared.stack_owned_reusable.StackOwnedReusable.{StackOwnedReusable}
+use Rattle.lockfree_object_pool.specs.declared.stack_reusable.StackReusable.{StackReusable}
+
+module _ {T I R K F : Type 0} where
+  -- what makes the pool's values
+  abbrev pub stack_init : StackObjectPool T I R K F → I
+  stack_init pool = pool.init
+
+  -- what resets the pool's values
+  abbrev pub stack_reset : StackObjectPool T I R K F → R
+  stack_reset pool = pool.reset
+
+module _ {T I R K F W : Type 0} where
+  -- which pool the value returns to
+  abbrev pub stack_pool : StackReusable T I R K F W → StackObjectPool T I R K F
+  stack_pool reusable = reusable.pool.now
+
+  abbrev pub stack_value : StackReusable T I R K F W → T
+  stack_value reusable = reusable.value
+
+  -- the same item with another value
+  abbrev pub stack_with : StackReusable T I R K F W → T → StackReusable T I R K F W
+  stack_with reusable value = record reusable { value = value }
+
+  -- which pool the value of an owned reusable returns to
+  abbrev pub stack_owned_pool : StackOwnedReusable T I R K F W → StackObjectPool T I R K F
+  stack_owned_pool reusable = arc_value reusable.pool
+
+  abbrev pub stack_owned_value : StackOwnedReusable T I R K F W → T
+  stack_owned_value reusable = reusable.value
+
+  -- the same item with another value
+  abbrev pub stack_owned_with : StackOwnedReusable T I R K F W → T → StackOwnedReusable T I R K F W
+  stack_owned_with reusable value = record reusable { value = value }
+
+  -- a reusable of this pool, with a value that meets the condition
+  pub record IsStackPulledFrom (meets : T → Type 0) (pool : StackObjectPool T I R K F)
+      (reusable : StackReusable T I R K F W) : Type 0 where
+    pub of_pool : stack_pool reusable ≡ pool
+    pub meets_condition : meets (stack_value reusable)
+
+  -- the same of an owned reusable
+  pub record IsStackOwnedPulledFrom (meets : T → Type 0) (pool : StackObjectPool T I R K F)
+      (reusable : StackOwnedReusable T I R K F W) : Type 0 where
+    pub of_pool : stack_owned_pool reusable ≡ pool
+    pub meets_condition : meets (stack_owned_value reusable)

@@ -1,0 +1,111 @@
+//! A pool over a free list, which is a stack behind a lock.
+//!
+//! A pull takes the value that was returned last, or makes one where none is kept. Pulls and
+//! returns wait for the lock.
+ghost use Rattle.std.specs.Prelude.{◌≡◌, None, IfOk, IfErr};
+ghost use Rattle.std.specs.Arc.{arc_value};
+
+use crate::PullError;
+use crate::clean::Clean;
+use crate::closures::{Init, Reset};
+use crate::free_list::FreeList;
+use crate::stack::Room;
+use crate::stack_owned_reusable::StackOwnedReusable;
+use crate::stack_reusable::StackReusable;
+use std::alloc::Global;
+use std::marker::PhantomData;
+use std::sync::{Arc, Mutex, Wait};
+
+/// A pool whose kept values lie in the free list `F`.
+///
+/// Its two kinds are [`MutexObjectPool`](crate::MutexObjectPool) and
+/// [`SpinLockObjectPool`](crate::SpinLockObjectPool).
+#[derive(Drop)]
+pub struct StackObjectPool<T, I: Init<T, K>, R: Reset<T, K>, K: Clean<T>, F: FreeList<T, K>> {
+    alloc: Global,
+    init: I,
+    reset: R,
+    kept: F,
+    marker: PhantomData<(Mutex<T>, Mutex<K>)>,
+}
+
+impl<T: Drop, I: Init<T, K>, R: Reset<T, K>, K: Clean<T>, F: FreeList<T, K>> StackObjectPool<
+    T,
+    I,
+    R,
+    K,
+    F,
+> {
+    ghost use Rattle.lockfree_object_pool.specs.StackPool.{stack_init, stack_reset, IsStackPulledFrom, IsStackOwnedPulledFrom};
+    ghost use Rattle.lockfree_object_pool.specs.Refusal.{RefusesMaking};
+
+    pub(crate) fn over(alloc: Global, init: I, reset: R, kept: F) -> StackObjectPool<T, I, R, K, F>
+        ensures init { stack_init result ≡ init }
+        ensures reset { stack_reset result ≡ reset }
+    {
+        StackObjectPool {
+            alloc,
+            init,
+            reset,
+            kept,
+            marker: PhantomData,
+        }
+    }
+
+    /// The value that was returned last, or one that is made now. `init` runs without the lock.
+    pub fn pull<W: Wait + Copy>(
+        &self,
+        rt: &W,
+    ) -> Result<StackReusable<'_, T, I, R, K, F, W>, PullError>
+        ensures pulled { IfOk result (IsStackPulledFrom K.meets self.now) }
+        ensures refused { IfErr result (RefusesMaking (I.answers (stack_init self.now) None)) }
+    {
+        let (value, room) = self.item(rt)?;
+        Ok(StackReusable::in_room(self, *rt, room, value))
+    }
+
+    /// As `pull`, with a reusable that owns the pool with others. The pool's owners grow by one
+    /// before an item is taken.
+    pub fn pull_owned<W: Wait + Copy>(
+        self: &Arc<Self>,
+        rt: &W,
+    ) -> Result<StackOwnedReusable<T, I, R, K, F, W>, PullError>
+        ensures pulled { IfOk result (IsStackOwnedPulledFrom K.meets (arc_value self.now)) }
+        ensures refused { IfErr result (RefusesMaking (I.answers (stack_init (arc_value self.now)) None)) }
+    {
+        let owner = Arc::try_clone(self)?;
+        let (value, room) = self.item(rt)?;
+        Ok(StackOwnedReusable::in_room(owner, *rt, room, value))
+    }
+
+    /// A kept value with its room, or a new one of each. The list is asked for the kept one alone.
+    fn item<W: Wait>(&self, rt: &W) -> Result<(T, Room<T>), PullError>
+        ensures meets { IfOk result (λ item. K.meets item.0) }
+        ensures refused { IfErr result (RefusesMaking (I.answers (stack_init self.now) None)) }
+    {
+        if let Some(item) = self.kept.take(rt) {
+            return Ok(item);
+        }
+        let room = self.room()?;
+        match self.init.make() {
+            Some(value) => Ok((value, room)),
+            None => Err(PullError::Init),
+        }
+    }
+
+    /// A room for a return.
+    pub(crate) fn room(&self) -> Result<Room<T>, PullError>
+        ensures refused { IfErr result (RefusesMaking ⊥) }
+    {
+        Room::new(self.alloc)
+    }
+
+    /// Resets a value and keeps it.
+    pub(crate) fn give<W: Wait>(&self, rt: &W, room: Room<T>, mut value: T) {
+        self.reset.reset(&mut value);
+        self.kept.put(rt, room, value);
+    }
+}
+
+#[cfg(test)]
+mod tests;

@@ -1,0 +1,96 @@
+//! Proved callers: what they know of a pulled value, of an attached one, and of a refusal.
+ghost use Rattle.std.specs.Prelude.{◌≡◌, IfOk, IfErr, IfSome};
+ghost use Rattle.lockfree_object_pool.specs.StackPool.{stack_with, stack_owned_with};
+ghost use Rattle.lockfree_object_pool.specs.declared.pull_error.PullError.TheVariants.{Memory};
+
+use super::*;
+use std::test::Fail;
+
+/// Whatever other threads do and attach, a pulled value meets the condition.
+fn pulled<K: Clean<u32>, I: Init<u32, K>, R: Reset<u32, K>, F: FreeList<u32, K>, W: Wait + Copy>(
+    rt: &W,
+    pool: &Arc<StackObjectPool<u32, I, R, K, F>>,
+) -> Option<u32>
+    ensures { IfSome result K.meets }
+{
+    let item = pool.pull(rt).ok()?;
+    Some(*item)
+}
+
+fn pulled_owned<
+    K: Clean<u32>,
+    I: Init<u32, K>,
+    R: Reset<u32, K>,
+    F: FreeList<u32, K>,
+    W: Wait + Copy,
+>(rt: &W, pool: &Arc<StackObjectPool<u32, I, R, K, F>>) -> Option<u32>
+    ensures { IfSome result K.meets }
+{
+    let item = pool.pull_owned(rt).ok()?;
+    Some(*item)
+}
+
+/// A write changes the value alone.
+fn write<K: Clean<u32>, I: Init<u32, K>, R: Reset<u32, K>, F: FreeList<u32, K>, W: Wait + Copy>(
+    item: &mut StackReusable<'_, u32, I, R, K, F, W>,
+    value: u32,
+)
+    ensures { item.new ≡ stack_with item.old value }
+{
+    **item = value;
+}
+
+fn write_owned<
+    K: Clean<u32>,
+    I: Init<u32, K>,
+    R: Reset<u32, K>,
+    F: FreeList<u32, K>,
+    W: Wait + Copy,
+>(item: &mut StackOwnedReusable<u32, I, R, K, F, W>, value: u32)
+    ensures { item.new ≡ stack_owned_with item.old value }
+{
+    **item = value;
+}
+
+/// An attached value is shown until it is written, also where it doesn't meet the condition; a
+/// refusal gives it back.
+fn attached<F: FreeList<u32, Zero>, W: Wait + Copy>(rt: &W, pool: &Cleared<F>) -> Result<u32, u32>
+    ensures shown { IfOk result (λ shown. shown ≡ 9) }
+    ensures back { IfErr result (λ back. back ≡ 9) }
+{
+    let item = StackReusable::new(rt, pool, 9)?;
+    Ok(*item)
+}
+
+/// Where `init` always has an answer, a pull is refused for memory alone.
+fn refusal<F: FreeList<u32, Zero>, W: Wait + Copy>(rt: &W, pool: &Cleared<F>) -> Option<PullError>
+    ensures { IfSome result (λ error. error ≡ Memory) }
+{
+    pool.pull(rt).err()
+}
+
+fn shows_what_its_callers_know<F: Kind<u32, Zero>, W: Abort + Wait + Copy>(
+    rt: &W,
+    alloc: Global,
+) -> Result<(), Fail> {
+    let pool = cleared::<F>(alloc, &new_calls(alloc)?)?;
+    let mut item = pool.pull(rt)?;
+    write(&mut item, 7);
+    assert_eq!(rt; *item, 7);
+    let mut owned = pool.pull_owned(rt)?;
+    write_owned(&mut owned, 8);
+    assert_eq!(rt; *owned, 8);
+    drop((item, owned));
+    assert_eq!(rt;
+        (pulled(rt, &pool), pulled_owned(rt, &pool)),
+        (Some(0), Some(0))
+    );
+    assert_eq!(rt; (attached(rt, &*pool), refusal(rt, &*pool)), (Ok(9), None));
+    Ok(())
+}
+
+#[test]
+fn a_value_is_written_and_read(rt: HostRuntime) -> Result<(), Fail> {
+    shows_what_its_callers_know::<UnderMutex<u32, Zero>, _>(&rt, rt.alloc())?;
+    shows_what_its_callers_know::<UnderSpinLock<u32, Zero>, _>(&rt, rt.alloc())
+}

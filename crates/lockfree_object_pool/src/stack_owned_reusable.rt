@@ -1,0 +1,119 @@
+//! A value that was pulled from a stack pool or attached to it, with an owner of the pool.
+ghost use Rattle.std.specs.Prelude.{◌≡◌, IfOk};
+ghost use Rattle.std.specs.Arc.{arc_value};
+
+use crate::clean::Clean;
+use crate::closures::{Init, Reset};
+use crate::free_list::FreeList;
+use crate::stack::Room;
+use crate::stack_object_pool::StackObjectPool;
+use std::ops::{Deref, DerefMut};
+use std::sync::{Arc, Wait};
+
+/// A value with the room for its return. Its end waits for the pool's lock, and brings it back
+/// reset.
+pub struct StackOwnedReusable<
+    T: Drop,
+    I: Init<T, K>,
+    R: Reset<T, K>,
+    K: Clean<T>,
+    F: FreeList<T, K>,
+    W: Wait + Copy,
+> {
+    pool: Arc<StackObjectPool<T, I, R, K, F>>,
+    rt: W,
+    room: Room<T>,
+    value: T,
+}
+
+impl<
+    T: Drop,
+    I: Init<T, K>,
+    R: Reset<T, K>,
+    K: Clean<T>,
+    F: FreeList<T, K>,
+    W: Wait + Copy,
+> StackOwnedReusable<T, I, R, K, F, W> {
+    ghost use Rattle.std.specs.Prelude.{MatchResult};
+    ghost use Rattle.lockfree_object_pool.specs.StackPool.{stack_owned_pool, stack_owned_value};
+
+    /// An item that `init` never made. Where there is no memory for its room, the value comes back.
+    pub fn new(
+        rt: &W,
+        pool: Arc<StackObjectPool<T, I, R, K, F>>,
+        value: T,
+    ) -> Result<StackOwnedReusable<T, I, R, K, F, W>, T>
+        ensures pool { IfOk result (λ item. stack_owned_pool item ≡ arc_value pool) }
+        ensures attached { MatchResult result (λ item. stack_owned_value item ≡ value) (λ back. back ≡ value) }
+    {
+        match pool.room() {
+            Ok(room) => Ok(StackOwnedReusable::in_room(pool, *rt, room, value)),
+            Err(_) => Err(value),
+        }
+    }
+
+    pub(crate) fn in_room(
+        pool: Arc<StackObjectPool<T, I, R, K, F>>,
+        rt: W,
+        room: Room<T>,
+        value: T,
+    ) -> StackOwnedReusable<T, I, R, K, F, W>
+        ensures pool { stack_owned_pool result ≡ arc_value pool }
+        ensures value { stack_owned_value result ≡ value }
+    {
+        StackOwnedReusable {
+            pool,
+            rt,
+            room,
+            value,
+        }
+    }
+}
+
+impl<T: Drop, I: Init<T, K>, R: Reset<T, K>, K: Clean<T>, F: FreeList<T, K>, W: Wait + Copy> Deref
+    for StackOwnedReusable<T, I, R, K, F, W> {
+    type Target = T;
+
+    ghost use Rattle.lockfree_object_pool.specs.StackPool.{stack_owned_value};
+
+    ghost deref_gives = { λ reusable value. value ≡ stack_owned_value reusable };
+
+    fn deref(&self) -> &T {
+        &self.value
+    }
+}
+
+impl<
+    T: Drop,
+    I: Init<T, K>,
+    R: Reset<T, K>,
+    K: Clean<T>,
+    F: FreeList<T, K>,
+    W: Wait + Copy,
+> DerefMut for StackOwnedReusable<T, I, R, K, F, W> {
+    ghost use Rattle.std.specs.Borrow.{sem};
+    ghost use Rattle.lockfree_object_pool.specs.StackLends.{LendsOwnedValue};
+    ghost use Rattle.lockfree_object_pool.specs.StackPool.{stack_owned_value};
+
+    ghost deref_mut_gives = { λ reusable value. value ≡ stack_owned_value reusable };
+
+    fn deref_mut(&mut self) -> &mut T
+        ensures* writes_back { sem 𝓛 (LendsOwnedValue T.row I.row R.row K.row F.row W.row self.entry result) }
+        ensures shows { result.now ≡ stack_owned_value self.old }
+    {
+        &mut self.value
+    }
+}
+
+impl<T: Drop, I: Init<T, K>, R: Reset<T, K>, K: Clean<T>, F: FreeList<T, K>, W: Wait + Copy> Drop
+    for StackOwnedReusable<T, I, R, K, F, W> {
+    fn drop(self) {
+        let StackOwnedReusable {
+            pool,
+            rt,
+            room,
+            value,
+        } = self;
+        pool.give(&rt, room, value);
+    }
+}

@@ -1,0 +1,124 @@
+//! A value that was pulled from a stack pool or attached to it, under a borrow of the pool.
+ghost use Rattle.std.specs.Prelude.{◌≡◌, IfOk};
+
+use crate::clean::Clean;
+use crate::closures::{Init, Reset};
+use crate::free_list::FreeList;
+use crate::lender::Lender;
+use crate::stack::Room;
+use crate::stack_object_pool::StackObjectPool;
+use std::ops::{Deref, DerefMut};
+use std::sync::Wait;
+
+/// A value with the room for its return. Its end waits for the pool's lock, and brings it back
+/// reset.
+pub struct StackReusable<
+    'p,
+    T: Drop,
+    I: Init<T, K>,
+    R: Reset<T, K>,
+    K: Clean<T>,
+    F: FreeList<T, K>,
+    W: Wait + Copy,
+> {
+    pool: &'p StackObjectPool<T, I, R, K, F>,
+    lender: Lender,
+    rt: W,
+    room: Room<T>,
+    value: T,
+}
+
+impl<
+    'p,
+    T: Drop,
+    I: Init<T, K>,
+    R: Reset<T, K>,
+    K: Clean<T>,
+    F: FreeList<T, K>,
+    W: Wait + Copy,
+> StackReusable<'p, T, I, R, K, F, W> {
+    ghost use Rattle.std.specs.Prelude.{MatchResult};
+    ghost use Rattle.lockfree_object_pool.specs.StackPool.{stack_pool, stack_value};
+
+    /// An item that `init` never made. Where there is no memory for its room, the value comes back.
+    pub fn new(
+        rt: &W,
+        pool: &'p StackObjectPool<T, I, R, K, F>,
+        value: T,
+    ) -> Result<StackReusable<'p, T, I, R, K, F, W>, T>
+        ensures pool { IfOk result (λ item. stack_pool item ≡ pool.now) }
+        ensures attached { MatchResult result (λ item. stack_value item ≡ value) (λ back. back ≡ value) }
+    {
+        match pool.room() {
+            Ok(room) => Ok(StackReusable::in_room(pool, *rt, room, value)),
+            Err(_) => Err(value),
+        }
+    }
+
+    pub(crate) fn in_room(
+        pool: &'p StackObjectPool<T, I, R, K, F>,
+        rt: W,
+        room: Room<T>,
+        value: T,
+    ) -> StackReusable<'p, T, I, R, K, F, W>
+        ensures pool { stack_pool result ≡ pool.now }
+        ensures value { stack_value result ≡ value }
+    {
+        StackReusable {
+            pool,
+            lender: Lender,
+            rt,
+            room,
+            value,
+        }
+    }
+}
+
+impl<T: Drop, I: Init<T, K>, R: Reset<T, K>, K: Clean<T>, F: FreeList<T, K>, W: Wait + Copy> Deref
+    for StackReusable<'_, T, I, R, K, F, W> {
+    type Target = T;
+
+    ghost use Rattle.lockfree_object_pool.specs.StackPool.{stack_value};
+
+    ghost deref_gives = { λ reusable value. value ≡ stack_value reusable };
+
+    fn deref(&self) -> &T {
+        &self.value
+    }
+}
+
+impl<
+    T: Drop,
+    I: Init<T, K>,
+    R: Reset<T, K>,
+    K: Clean<T>,
+    F: FreeList<T, K>,
+    W: Wait + Copy,
+> DerefMut for StackReusable<'_, T, I, R, K, F, W> {
+    ghost use Rattle.std.specs.Borrow.{sem};
+    ghost use Rattle.lockfree_object_pool.specs.StackLends.{LendsValue};
+    ghost use Rattle.lockfree_object_pool.specs.StackPool.{stack_value};
+
+    ghost deref_mut_gives = { λ reusable value. value ≡ stack_value reusable };
+
+    fn deref_mut(&mut self) -> &mut T
+        ensures* writes_back { sem 𝓛 (LendsValue T.row I.row R.row K.row F.row W.row self.entry result) }
+        ensures shows { result.now ≡ stack_value self.old }
+    {
+        &mut self.value
+    }
+}
+
+impl<T: Drop, I: Init<T, K>, R: Reset<T, K>, K: Clean<T>, F: FreeList<T, K>, W: Wait + Copy> Drop
+    for StackReusable<'_, T, I, R, K, F, W> {
+    fn drop(self) {
+        let StackReusable {
+            pool,
+            lender: _,
+            rt,
+            room,
+            value,
+        } = self;
+        pool.give(&rt, room, value);
+    }
+}
