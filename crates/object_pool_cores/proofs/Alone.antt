@@ -1,6 +1,6 @@
 -- Where an agent is that steps alone, after each of its steps.
 use Rattle.std.specs.Bool.{⊤}
-use Rattle.std.proofs.Common.{◌≡◌, inl, inr, ℕ, ◌+◌, ◌*◌, ◌<◌, ◌≤◌, ◌==◌, nat_lt, Bool, true, false, if◌then◌else◌, Option, Some, None, List, [], ◌∷◌, ◌++◌, length, slice_get, slice_set, Ok, Err, refl, ap, sym, ◌∙◌, subst, arith, length-append}
+use Rattle.std.proofs.Common.{◌≡◌, ◌≢◌, inl, inr, ℕ, ◌+◌, ◌*◌, ◌<◌, ◌≤◌, ◌==◌, nat_lt, Bool, true, false, if◌then◌else◌, Option, Some, None, List, [], ◌∷◌, ◌++◌, length, slice_get, slice_set, Ok, Err, refl, ap, sym, ◌∙◌, subst, arith, length-append}
 use Rattle.std.proofs.lemmas.Bool.{eq-eqb, ne_eqb, lt-ltb, false≢true, cases_eq, cases_Bool}
 use Rattle.lockfree_object_pool.specs.declared.pull_error.PullError.TheVariants.{Memory, Init, Limit}
 use Rattle.object_pool_cores.specs.declared.interleave.event.Event.{Event}
@@ -20,8 +20,20 @@ use Rattle.object_pool_cores.proofs.Bits.{has_bit-lowest}
 use Rattle.object_pool_cores.proofs.Readings.{get-set_same, get-push_old, get-push_new}
 use Rattle.object_pool_cores.proofs.WordSteps.{known}
 use Rattle.object_pool_cores.proofs.LinkSteps.{limit-is, is-limit}
-use Rattle.object_pool_cores.specs.World.OwnSteps.{is_idle}
-use Rattle.object_pool_cores.specs.World.Alone.{BringsPage, IsStepAlone, IsFirstFree, AllFull, HasMovedOut, EndsRefused, StepsAlone}
+use Rattle.object_pool_cores.specs.World.OwnSteps.{is_idle, names, own_steps}
+use Rattle.object_pool_cores.specs.World.Rows.{IsExact}
+use Rattle.object_pool_cores.specs.World.Alone.{BringsPage, BringsPages, IsStepAlone, IsAnswered, IsFirstFree, AllFull, HasMovedOut, StepsAlone}
+
+-- the event is this agent's, and something happened
+pub record IsBusyStep {T : Type 0} (a : ℕ) (e : Event T) (answer : Seen) : Type 0 where
+  pub own : agent_of e ≡ Some a
+  pub busy : is_idle answer ≡ false
+
+-- an idle answer is that the event isn't enabled, where no memory was missing
+idle-not_enabled : (answer : Seen) → is_idle answer ≡ true → answer ≢ seen.NoMemory → answer ≡ seen.NotEnabled
+idle-not_enabled seen.NotEnabled idle memory = refl
+idle-not_enabled seen.NoMemory idle memory = absurd (memory refl)
+idle-not_enabled _ idle memory = absurd (cc)
 
 module _ {T : Type 0} (Leaves : T → T → Type 0) (old : State T) (a : ℕ) (answer : Seen) (new : State T) where
   -- the row of an event, for an agent at this point
@@ -103,14 +115,14 @@ module _ {T : Type 0} (Leaves : T → T → Type 0) (old : State T) (a : ℕ) (a
   linking-row k values (event.MakePage b (Err Limit)) busy who row = busy-not busy row
   linking-row k values _ busy who row = busy-not busy row
 
-  making-row : (k : ℕ) (e : Event T) → is_idle answer ≡ false → agent_of e ≡ Some a → BringsPage e → RowAt (Some (Making k)) e → (values : List T) × Gives (make_page old a (Ok values) (Some (Making k))) answer new
+  making-row : (k : ℕ) (e : Event T) → is_idle answer ≡ false → agent_of e ≡ Some a → BringsPage e answer → RowAt (Some (Making k)) e → (values : List T) × Gives (make_page old a (Ok values) (Some (Making k))) answer new
   making-row k (event.MakePage b (Ok values)) busy who brings row = (values, row)
   making-row k event.Begin busy who brings row = absurd (cc)
-  making-row k (event.MakePage b (Err cause)) busy who brings row = absurd brings
+  making-row k (event.MakePage b (Err cause)) busy who brings row = absurd (let idle : is_idle answer ≡ true = ap is_idle brings in cc)
   making-row k _ busy who brings row = busy-not busy row
 
   -- a busy step is a row, since it didn't lack memory
-  pub alone-row : (e : Event T) → IsStepAlone a e answer → (found : Option (Point T)) → slice_get old.agents a ≡ found → Steps Leaves old e answer new → RowAt found e
+  pub alone-row : (e : Event T) → IsBusyStep a e answer → (found : Option (Point T)) → slice_get old.agents a ≡ found → Steps Leaves old e answer new → RowAt found e
   alone-row e alone found at (inl row) = row-at found e alone.own at row
   alone-row e alone found at (inr (may, lacks, same)) = absurd (let idle : is_idle answer ≡ true = ap is_idle lacks in let busy = alone.busy in cc)
 
@@ -121,21 +133,37 @@ no-limit (Some limit) pages count less allowed = ne_eqb limit count (λ is. absu
 
 module _ {T : Type 0} where
   -- where an agent is that has page k as the first with a free number, after n steps from its step c on
-  pub data Walk (pages : List (PageState T)) (k c n : ℕ) (world : State T) (found : Option (Point T)) : Type 0 where
-    AtWord : (j : ℕ) → j ≤ k → n ≡ c + 2 * j → found ≡ Some (Reading j) → world.pages ≡ pages → Walk pages k c n world found
-    AtChain : (j : ℕ) → j < k → n ≡ c + 2 * j + 1 → found ≡ Some (AtLink j) → world.pages ≡ pages → Walk pages k c n world found
-    AtBits : n ≡ c + 2 * k + 1 → found ≡ Some (Clearing k (word_of pages k)) → world.pages ≡ pages → Walk pages k c n world found
-    HasTaken : (id : ℕ) → n ≡ c + 2 * k + 2 → found ≡ Some (Taken k id) → Walk pages k c n world found
-    HasMoved : c + 2 * k + 3 ≤ n → (n ≡ c + 2 * k + 3 → HasMovedOut found) → Walk pages k c n world found
+  pub data Walk (pages : List (PageState T)) (k c n a : ℕ) (log : Log T) (world : State T) (found : Option (Point T)) : Type 0 where
+    AtWord : (j : ℕ) → j ≤ k → n ≡ c + 2 * j → found ≡ Some (Reading j) → world.pages ≡ pages → Walk pages k c n a log world found
+    AtChain : (j : ℕ) → j < k → n ≡ c + 2 * j + 1 → found ≡ Some (AtLink j) → world.pages ≡ pages → Walk pages k c n a log world found
+    AtBits : n ≡ c + 2 * k + 1 → found ≡ Some (Clearing k (word_of pages k)) → world.pages ≡ pages → Walk pages k c n a log world found
+    HasTaken : (id : ℕ) → n ≡ c + 2 * k + 2 → found ≡ Some (Taken k id) → Walk pages k c n a log world found
+    HasMoved : c + 2 * k + 3 ≤ n → IsAnswered log (seen.MovedOut a) → (n ≡ c + 2 * k + 3 → HasMovedOut found) → Walk pages k c n a log world found
 
   -- where an agent is that found all pages full, after the steps of the log
   pub data Chain (pages : List (PageState T)) (limit : Option ℕ) (a : ℕ) (log : Log T) (n : ℕ) (world : State T) (found : Option (Point T)) : Type 0 where
     FullWord : (j : ℕ) → j < length pages → n ≡ 2 * j → found ≡ Some (Reading j) → world.pages ≡ pages → world.limit ≡ limit → Chain pages limit a log n world found
     FullLink : (j : ℕ) → j < length pages → n ≡ 2 * j + 1 → found ≡ Some (AtLink j) → world.pages ≡ pages → world.limit ≡ limit → Chain pages limit a log n world found
-    FullMake : (k : ℕ) → length pages ≡ k + 1 → n ≡ 2 * length pages → found ≡ Some (Making k) → world.pages ≡ pages → (limit ≡ Some (length pages) → ⊥) → Chain pages limit a log n world found
-    FullMade : (k : ℕ) (values : List T) → length pages ≡ k + 1 → n ≡ 2 * length pages + 1 → found ≡ Some (Linking k values) → world.pages ≡ pages → Chain pages limit a log n world found
-    FullLinked : (values : List T) → 2 * length pages + 2 ≤ n → Walk (pages ++ linked_page values ∷ []) (length pages) 2 n world found → Chain pages limit a log n world found
-    FullRefused : limit ≡ Some (length pages) → 2 * length pages ≤ n → (n ≡ 2 * length pages → EndsRefused a log) → Chain pages limit a log n world found
+    FullMake : (k : ℕ) → length pages ≡ k + 1 → n ≡ 2 * length pages → found ≡ Some (Making k) → world.pages ≡ pages → limit ≢ Some (length pages) → Chain pages limit a log n world found
+    FullMade : (k : ℕ) (values : List T) → length pages ≡ k + 1 → n ≡ 2 * length pages + 1 → found ≡ Some (Linking k values) → world.pages ≡ pages → limit ≢ Some (length pages) → Chain pages limit a log n world found
+    FullLinked : (values : List T) → 2 * length pages + 2 ≤ n → limit ≢ Some (length pages) → Walk (pages ++ linked_page values ∷ []) (length pages) 2 n a log world found → Chain pages limit a log n world found
+    FullRefused : limit ≡ Some (length pages) → 2 * length pages ≤ n → IsAnswered log (seen.Refused a Limit) → Chain pages limit a log n world found
+
+  -- an entry more, with which nothing changes
+  walk-later : (pages : List (PageState T)) (k c n a : ℕ) (entry : Event T × Seen) (log : Log T) (world : State T) (found : Option (Point T)) → Walk pages k c n a log world found → Walk pages k c n a (entry ∷ log) world found
+  walk-later pages k c n a entry log world found (AtWord j below is at same) = AtWord j below is at same
+  walk-later pages k c n a entry log world found (AtChain j below is at same) = AtChain j below is at same
+  walk-later pages k c n a entry log world found (AtBits is at same) = AtBits is at same
+  walk-later pages k c n a entry log world found (HasTaken id is at) = HasTaken id is at
+  walk-later pages k c n a entry log world found (HasMoved past told holds) = HasMoved past (inr told) holds
+
+  chain-later : (pages : List (PageState T)) (limit : Option ℕ) (a : ℕ) (entry : Event T × Seen) (log : Log T) (n : ℕ) (world : State T) (found : Option (Point T)) → Chain pages limit a log n world found → Chain pages limit a (entry ∷ log) n world found
+  chain-later pages limit a entry log n world found (FullWord j below is at same bound) = FullWord j below is at same bound
+  chain-later pages limit a entry log n world found (FullLink j below is at same bound) = FullLink j below is at same bound
+  chain-later pages limit a entry log n world found (FullMake k last is at same other) = FullMake k last is at same other
+  chain-later pages limit a entry log n world found (FullMade k values last is at same other) = FullMade k values last is at same other
+  chain-later pages limit a entry log n world found (FullLinked values past other walk) = FullLinked values past other (walk-later (pages ++ linked_page values ∷ []) (length pages) 2 n a entry log world found walk)
+  chain-later pages limit a entry log n world found (FullRefused limited past told) = FullRefused limited past (inr told)
 
   -- a test that is known
   known-test : (test : Bool) (one other : Outcome T) (answer : Seen) (new : State T) → test ≡ true → Gives (if test then one else other) answer new → Gives one answer new
@@ -150,7 +178,7 @@ module _ {T : Type 0} where
   moved-to : (old new : State T) (a : ℕ) (from point : Point T) → slice_get old.agents a ≡ Some from → new.agents ≡ slice_set old.agents a point → slice_get new.agents a ≡ Some point
   moved-to old new a from point at moved = ap (λ all. slice_get all a) moved ∙ get-set_same old.agents a from point at
 
-module _ {T : Type 0} (Leaves : T → T → Type 0) (first : List T) (log : Log T) (acts : List (Act T)) (old : State T) (agrees : Agrees Leaves first log acts old) (a : ℕ) (e : Event T) (answer : Seen) (new : State T) (alone : IsStepAlone a e answer) (step : Steps Leaves old e answer new) where
+module _ {T : Type 0} (Leaves : T → T → Type 0) (first : List T) (log : Log T) (acts : List (Act T)) (old : State T) (agrees : Agrees Leaves first log acts old) (a : ℕ) (e : Event T) (answer : Seen) (new : State T) (alone : IsBusyStep a e answer) (step : Steps Leaves old e answer new) where
   -- an agent reads a word
   read-word : (j word : ℕ) → slice_get old.agents a ≡ Some (Reading j) → word_of old.pages j ≡ word → (slice_get new.agents a ≡ Some (tries j word)) × (new.pages ≡ old.pages) × (new.limit ≡ old.limit)
   read-word j word at is =
@@ -177,14 +205,14 @@ module _ {T : Type 0} (Leaves : T → T → Type 0) (first : List T) (log : Log 
   tries-some : (j word : ℕ) → 0 < word → tries {T = T} j word ≡ Clearing j word
   tries-some j word some = rw (ne_eqb word 0 (λ is. absurd (omega arith))) refl
 
-  taken-step : (k id : ℕ) → slice_get old.agents a ≡ Some (Taken k id) → (found : Option T) → Gives (takes old a k id found) answer new → HasMovedOut (slice_get new.agents a)
+  taken-step : (k id : ℕ) → slice_get old.agents a ≡ Some (Taken k id) → (found : Option T) → Gives (takes old a k id found) answer new → (answer ≡ seen.MovedOut a) × HasMovedOut (slice_get new.agents a)
   taken-step k id at None gives = busy-not Leaves old a answer new alone.busy gives
   taken-step k id at (Some value) gives =
       let P : Option (Point T) → Type 0 = HasMovedOut in
-      subst P (sym (moved-to old new a (Taken k id) (Holding k id value) at (ap (λ w. w.agents) gives.1))) tt
+      (gives.0, subst P (sym (moved-to old new a (Taken k id) (Holding k id value) at (ap (λ w. w.agents) gives.1))) tt)
 
-  pub walk-step : (pages : List (PageState T)) (k c n : ℕ) → IsFirstFree pages k → Walk pages k c n old (slice_get old.agents a) → Walk pages k c (n + 1) new (slice_get new.agents a)
-  walk-step pages k c n free (AtWord j below is at same) =
+  pub walk-step : (pages : List (PageState T)) (k c n : ℕ) (so_far : Log T) → IsFirstFree pages k → Walk pages k c n a so_far old (slice_get old.agents a) → Walk pages k c (n + 1) a ((e, answer) ∷ so_far) new (slice_get new.agents a)
+  walk-step pages k c n so_far free (AtWord j below is at same) =
       let (there, kept, limit) = read-word j (word_of pages j) at (ap (λ all. word_of all j) same) in
       elim (cases_eq j k) [
         | inl here ↦
@@ -194,12 +222,12 @@ module _ {T : Type 0} (Leaves : T → T → Type 0) (first : List T) (log : Log 
         | inr other ↦
             AtChain j (omega arith) (omega arith) (there ∙ ap Some (tries-none j (word_of pages j) (free.full j (omega arith)))) (kept ∙ same)
       ]
-  walk-step pages k c n free (AtChain j below is at same) =
+  walk-step pages k c n so_far free (AtChain j below is at same) =
       let linked = free.linked in
       let count : length old.pages ≡ length pages = ap length same in
       let (there, kept, limit) = go-on j at (omega arith) in
       AtWord (j + 1) (omega arith) (omega arith) there (kept ∙ same)
-  walk-step pages k c n free (AtBits is at same) =
+  walk-step pages k c n so_far free (AtBits is at same) =
       let word = word_of pages k in
       let bits = (known Leaves first log acts old agrees a (Clearing k word) at).1 in
       let some = bits.some in
@@ -211,10 +239,11 @@ module _ {T : Type 0} (Leaves : T → T → Type 0) (first : List T) (log : Log 
       let more = failed-test (word == 0) (not_enabled old) (clears old a k word (word_of old.pages k)) answer new (ne_eqb word 0 (λ none. absurd (omega arith))) gives in
       let set = known-test (has_bit (word_of old.pages k) id) one two answer new (ap (λ w. has_bit w id) now ∙ has_bit-lowest word some bits.in_word) more in
       HasTaken id (omega arith) (moved-to old new a (Clearing k word) (Taken k id) at (ap (λ w. w.agents) set.1))
-  walk-step pages k c n free (HasTaken id is at) =
+  walk-step pages k c n so_far free (HasTaken id is at) =
       let gives = taken-row Leaves old a answer new k id e alone.busy alone.own (alone-row Leaves old a answer new e alone (Some (Taken k id)) at step) in
-      HasMoved (omega arith) (λ now. taken-step k id at (value_at old.pages k id) gives)
-  walk-step pages k c n free (HasMoved past holds) = HasMoved (omega arith) (λ now. absurd (omega arith))
+      let taken = taken-step k id at (value_at old.pages k id) gives in
+      HasMoved (omega arith) (inl taken.0) (λ now. taken.1)
+  walk-step pages k c n so_far free (HasMoved past told holds) = HasMoved (omega arith) (inr told) (λ now. absurd (omega arith))
 
   -- the page that was linked is the first with a free number
   linked-free : (pages : List (PageState T)) (values : List T) → AllFull pages → IsFirstFree (pages ++ linked_page values ∷ []) (length pages)
@@ -224,11 +253,11 @@ module _ {T : Type 0} (Leaves : T → T → Type 0) (first : List T) (log : Log 
     free = let word : word_of (pages ++ linked_page values ∷ []) (length pages) ≡ 4294967295 = ap word_in (get-push_new pages (linked_page values)) in omega arith;
   }
 
-  pub chain-step : (pages : List (PageState T)) (limit : Option ℕ) (so_far : Log T) (n : ℕ) → AllFull pages → Chain pages limit a so_far n old (slice_get old.agents a) → Chain pages limit a ((e, answer) ∷ so_far) (n + 1) new (slice_get new.agents a)
-  chain-step pages limit so_far n all (FullWord j below is at same bound) =
+  pub chain-step : (pages : List (PageState T)) (limit : Option ℕ) (so_far : Log T) (n : ℕ) → AllFull pages → (limit ≢ Some (length pages) → BringsPage e answer) → Chain pages limit a so_far n old (slice_get old.agents a) → Chain pages limit a ((e, answer) ∷ so_far) (n + 1) new (slice_get new.agents a)
+  chain-step pages limit so_far n all brings (FullWord j below is at same bound) =
       let (there, kept, limit_kept) = read-word j (word_of pages j) at (ap (λ every. word_of every j) same) in
       FullLink j below (omega arith) (there ∙ ap Some (tries-none j (word_of pages j) (all.full j below))) (kept ∙ same) (limit_kept ∙ bound)
-  chain-step pages limit so_far n all (FullLink j below is at same bound) =
+  chain-step pages limit so_far n all brings (FullLink j below is at same bound) =
       let count : length old.pages ≡ length pages = ap length same in
       let one : Outcome T = (seen.Refused a Limit, at_point old a Ended) in
       let two : Outcome T = (seen.Next a false, at_point old a (Making j)) in
@@ -240,7 +269,7 @@ module _ {T : Type 0} (Leaves : T → T → Type 0) (first : List T) (log : Log 
         | inl last ↦ elim (cases_Bool (is_limit old.limit (j + 1))) [
           | inl at_limit ↦
               let refused = known-test (is_limit old.limit (j + 1)) one rest answer new at_limit there in
-              FullRefused (sym bound ∙ limit-is old.limit (j + 1) at_limit ∙ ap Some (sym last)) (omega arith) (λ now. refused.0)
+              FullRefused (sym bound ∙ limit-is old.limit (j + 1) at_limit ∙ ap Some (sym last)) (omega arith) (inl refused.0)
           | inr below_limit ↦
               let next = failed-test (is_limit old.limit (j + 1)) one rest answer new below_limit there in
               let makes = known-test (length old.pages == j + 1) two three answer new (eq-eqb (length old.pages) (j + 1) (omega arith)) next in
@@ -251,76 +280,118 @@ module _ {T : Type 0} (Leaves : T → T → Type 0) (first : List T) (log : Log 
             let (gone, kept, limit_kept) = go-on j at (omega arith) in
             FullWord (j + 1) (omega arith) (omega arith) gone (kept ∙ same) (limit_kept ∙ bound)
       ]
-  chain-step pages limit so_far n all (FullMake k last is at same unlimited) =
+  chain-step pages limit so_far n all brings (FullMake k last is at same unlimited) =
       let count : length old.pages ≡ length pages = ap length same in
-      let (values, gives) = making-row Leaves old a answer new k e alone.busy alone.own alone.brings (alone-row Leaves old a answer new e alone (Some (Making k)) at step) in
+      let (values, gives) = making-row Leaves old a answer new k e alone.busy alone.own (brings unlimited) (alone-row Leaves old a answer new e alone (Some (Making k)) at step) in
       let one : Outcome T = (seen.Made a, at_point old a (Linking k values)) in
       let made = known-test (nat_lt k (length old.pages)) one (not_enabled old) answer new (lt-ltb k (length old.pages) (omega arith)) gives in
-      FullMade k values last (omega arith) (moved-to old new a (Making k) (Linking k values) at (ap (λ w. w.agents) made.1)) (ap (λ w. w.pages) made.1 ∙ same)
-  chain-step pages limit so_far n all (FullMade k values last is at same) =
+      FullMade k values last (omega arith) (moved-to old new a (Making k) (Linking k values) at (ap (λ w. w.agents) made.1)) (ap (λ w. w.pages) made.1 ∙ same) unlimited
+  chain-step pages limit so_far n all brings (FullMade k values last is at same unlimited) =
       let count : length old.pages ≡ length pages = ap length same in
       let one : Outcome T = (seen.Linked a, at_point (with_pages old (old.pages ++ linked_page values ∷ [])) a (Reading (k + 1))) in
       let two : Outcome T = (seen.Lost a, at_point old a (Reading (k + 1))) in
       let gives = linking-row Leaves old a answer new k values e alone.busy alone.own (alone-row Leaves old a answer new e alone (Some (Linking k values)) at step) in
       let there = known-test (nat_lt k (length old.pages)) (if length old.pages == k + 1 then one else two) (not_enabled old) answer new (lt-ltb k (length old.pages) (omega arith)) gives in
       let linked = known-test (length old.pages == k + 1) one two answer new (eq-eqb (length old.pages) (k + 1) (omega arith)) there in
-      FullLinked values (omega arith)
+      FullLinked values (omega arith) unlimited
       (AtWord (k + 1) (omega arith) (omega arith) (moved-to old new a (Linking k values) (Reading (k + 1)) at (ap (λ w. w.agents) linked.1)) (ap (λ w. w.pages) linked.1 ∙ ap (λ every. every ++ linked_page values ∷ []) same))
-  chain-step pages limit so_far n all (FullLinked values past walk) =
-      FullLinked values (omega arith) (walk-step (pages ++ linked_page values ∷ []) (length pages) 2 n (linked-free pages values all) walk)
-  chain-step pages limit so_far n all (FullRefused limited past ends) = FullRefused limited (omega arith) (λ now. absurd (omega arith))
+  chain-step pages limit so_far n all brings (FullLinked values past unlimited walk) =
+      FullLinked values (omega arith) unlimited (walk-step (pages ++ linked_page values ∷ []) (length pages) 2 n so_far (linked-free pages values all) walk)
+  chain-step pages limit so_far n all brings (FullRefused limited past told) = FullRefused limited (omega arith) (inr told)
 
 -- ---- what an agent alone comes to
 module _ {T : Type 0} where
-  walk-takes : (pages : List (PageState T)) (k c n : ℕ) (world : State T) (found : Option (Point T)) → n ≡ c + 2 * k + 3 → Walk pages k c n world found → HasMovedOut found
-  walk-takes pages k c n world found now (AtWord j below is at same) = absurd (omega arith)
-  walk-takes pages k c n world found now (AtChain j below is at same) = absurd (omega arith)
-  walk-takes pages k c n world found now (AtBits is at same) = absurd (omega arith)
-  walk-takes pages k c n world found now (HasTaken id is at) = absurd (omega arith)
-  walk-takes pages k c n world found now (HasMoved past holds) = holds now
+  walk-takes : (pages : List (PageState T)) (k c n a : ℕ) (log : Log T) (world : State T) (found : Option (Point T)) → c + 2 * k + 3 ≤ n → Walk pages k c n a log world found → IsAnswered log (seen.MovedOut a) × (n ≡ c + 2 * k + 3 → HasMovedOut found)
+  walk-takes pages k c n a log world found now (AtWord j below is at same) = absurd (omega arith)
+  walk-takes pages k c n a log world found now (AtChain j below is at same) = absurd (omega arith)
+  walk-takes pages k c n a log world found now (AtBits is at same) = absurd (omega arith)
+  walk-takes pages k c n a log world found now (HasTaken id is at) = absurd (omega arith)
+  walk-takes pages k c n a log world found now (HasMoved past told holds) = (told, holds)
 
-  chain-links : (pages : List (PageState T)) (limit : Option ℕ) (a : ℕ) (log : Log T) (n : ℕ) (world : State T) (found : Option (Point T)) → (limit ≡ Some (length pages) → ⊥) → n ≡ 2 * length pages + 5 → Chain pages limit a log n world found → HasMovedOut found
+  chain-links : (pages : List (PageState T)) (limit : Option ℕ) (a : ℕ) (log : Log T) (n : ℕ) (world : State T) (found : Option (Point T)) → limit ≢ Some (length pages) → 2 * length pages + 5 ≤ n → Chain pages limit a log n world found → IsAnswered log (seen.MovedOut a) × (n ≡ 2 + 2 * length pages + 3 → HasMovedOut found)
   chain-links pages limit a log n world found unlimited now (FullWord j below is at same bound) = absurd (omega arith)
   chain-links pages limit a log n world found unlimited now (FullLink j below is at same bound) = absurd (omega arith)
   chain-links pages limit a log n world found unlimited now (FullMake k last is at same other) = absurd (omega arith)
-  chain-links pages limit a log n world found unlimited now (FullMade k values last is at same) = absurd (omega arith)
-  chain-links pages limit a log n world found unlimited now (FullLinked values past walk) = walk-takes (pages ++ linked_page values ∷ []) (length pages) 2 n world found (omega arith) walk
-  chain-links pages limit a log n world found unlimited now (FullRefused limited past ends) = absurd (unlimited limited)
+  chain-links pages limit a log n world found unlimited now (FullMade k values last is at same other) = absurd (omega arith)
+  chain-links pages limit a log n world found unlimited now (FullLinked values past other walk) = walk-takes (pages ++ linked_page values ∷ []) (length pages) 2 n a log world found (omega arith) walk
+  chain-links pages limit a log n world found unlimited now (FullRefused limited past told) = absurd (unlimited limited)
 
-  chain-refused : (pages : List (PageState T)) (limit : Option ℕ) (a : ℕ) (log : Log T) (n : ℕ) (world : State T) (found : Option (Point T)) → limit ≡ Some (length pages) → n ≡ 2 * length pages → Chain pages limit a log n world found → EndsRefused a log
+  chain-refused : (pages : List (PageState T)) (limit : Option ℕ) (a : ℕ) (log : Log T) (n : ℕ) (world : State T) (found : Option (Point T)) → limit ≡ Some (length pages) → 2 * length pages ≤ n → Chain pages limit a log n world found → IsAnswered log (seen.Refused a Limit)
   chain-refused pages limit a log n world found limited now (FullWord j below is at same bound) = absurd (omega arith)
   chain-refused pages limit a log n world found limited now (FullLink j below is at same bound) = absurd (omega arith)
   chain-refused pages limit a log n world found limited now (FullMake k last is at same other) = absurd (other limited)
-  chain-refused pages limit a log n world found limited now (FullMade k values last is at same) = absurd (omega arith)
-  chain-refused pages limit a log n world found limited now (FullLinked values past walk) = absurd (omega arith)
-  chain-refused pages limit a log n world found limited now (FullRefused same past ends) = ends now
+  chain-refused pages limit a log n world found limited now (FullMade k values last is at same other) = absurd (other limited)
+  chain-refused pages limit a log n world found limited now (FullLinked values past other walk) = absurd (other limited)
+  chain-refused pages limit a log n world found limited now (FullRefused same past told) = told
 
-  -- where an agent is after the steps of a log that are all its own
+  -- where an agent is after the events of a log that are all its own
   pub record Stands (old : State T) (log : Log T) (new : State T) (a : ℕ) : Type 0 where
-    pub walks : (k : ℕ) → IsFirstFree old.pages k → Walk old.pages k 0 (length log) new (slice_get new.agents a)
-    pub chains : AllFull old.pages → Chain old.pages old.limit a log (length log) new (slice_get new.agents a)
+    pub walks : (k : ℕ) → IsFirstFree old.pages k → Walk old.pages k 0 (own_steps log a) a log new (slice_get new.agents a)
+    pub chains : AllFull old.pages → (old.limit ≢ Some (length old.pages) → BringsPages log) → Chain old.pages old.limit a log (own_steps log a) new (slice_get new.agents a)
 
   pub stands-first : (old : State T) (a : ℕ) → slice_get old.agents a ≡ Some (Reading 0) → Stands old [] old a
   stands-first old a at = record {
     walks = λ k free. AtWord 0 (omega arith) refl at refl;
-    chains = λ all. FullWord 0 all.some refl at refl refl;
+    chains = λ all brings. FullWord 0 all.some refl at refl refl;
   }
 
-  pub stands-next : (Leaves : T → T → Type 0) (first : List T) (before : Log T) (acts : List (Act T)) (start old : State T) → Agrees Leaves first before acts old → (log : Log T) (a : ℕ) (e : Event T) (answer : Seen) (new : State T) → IsStepAlone a e answer → Steps Leaves old e answer new → Stands start log old a → Stands start ((e, answer) ∷ log) new a
-  stands-next Leaves first before acts start old agrees log a e answer new alone step stands =
-      let count : length log + 1 ≡ length ((e, answer) ∷ log) = omega arith in
+  -- by an event that isn't enabled
+  stands-idle : (start old : State T) (log : Log T) (a : ℕ) (e : Event T) (answer : Seen) (new : State T) → is_idle answer ≡ true → new ≡ old → Stands start log old a → Stands start ((e, answer) ∷ log) new a
+  stands-idle start old log a e answer new idle same stands =
+      let entry : Event T × Seen = (e, answer) in
+      let count : own_steps log a ≡ own_steps (entry ∷ log) a = sym (ap (λ i. if (if i then false else names (agent_of e) a) then own_steps log a + 1 else own_steps log a) idle) in
       record {
         walks = λ k free.
-            let P : ℕ → Type 0 = λ n. Walk start.pages k 0 n new (slice_get new.agents a) in
-            subst P count (walk-step Leaves first before acts old agrees a e answer new alone step start.pages k 0 (length log) free (stands.walks k free));
-        chains = λ all.
-            let P : ℕ → Type 0 = λ n. Chain start.pages start.limit a ((e, answer) ∷ log) n new (slice_get new.agents a) in
-            subst P count (chain-step Leaves first before acts old agrees a e answer new alone step start.pages start.limit log (length log) all (stands.chains all));
+            let P : ℕ → Type 0 = λ n. Walk start.pages k 0 n a (entry ∷ log) old (slice_get old.agents a) in
+            let Q : State T → Type 0 = λ world. Walk start.pages k 0 (own_steps (entry ∷ log) a) a (entry ∷ log) world (slice_get world.agents a) in
+            subst Q (sym same) (subst P count (walk-later start.pages k 0 (own_steps log a) a entry log old (slice_get old.agents a) (stands.walks k free)));
+        chains = λ all brings.
+            let P : ℕ → Type 0 = λ n. Chain start.pages start.limit a (entry ∷ log) n old (slice_get old.agents a) in
+            let Q : State T → Type 0 = λ world. Chain start.pages start.limit a (entry ∷ log) (own_steps (entry ∷ log) a) world (slice_get world.agents a) in
+            subst Q (sym same) (subst P count (chain-later start.pages start.limit a entry log (own_steps log a) old (slice_get old.agents a) (stands.chains all (λ other. (brings other).1))));
       }
 
+  -- by a step
+  stands-busy : (Leaves : T → T → Type 0) (first : List T) (before : Log T) (acts : List (Act T)) (start old : State T) → Agrees Leaves first before acts old → (log : Log T) (a : ℕ) (e : Event T) (answer : Seen) (new : State T) → IsBusyStep a e answer → Steps Leaves old e answer new → Stands start log old a → Stands start ((e, answer) ∷ log) new a
+  stands-busy Leaves first before acts start old agrees log a e answer new alone step stands =
+      let entry : Event T × Seen = (e, answer) in
+      let count : own_steps log a + 1 ≡ own_steps (entry ∷ log) a =
+      sym (ap (λ i. if (if i then false else names (agent_of e) a) then own_steps log a + 1 else own_steps log a) alone.busy
+      ∙ ap (λ b. if names b a then own_steps log a + 1 else own_steps log a) alone.own
+      ∙ ap (λ b. if b then own_steps log a + 1 else own_steps log a) (eq-eqb a a refl)) in
+      record {
+        walks = λ k free.
+            let P : ℕ → Type 0 = λ n. Walk start.pages k 0 n a (entry ∷ log) new (slice_get new.agents a) in
+            subst P count (walk-step Leaves first before acts old agrees a e answer new alone step start.pages k 0 (own_steps log a) log free (stands.walks k free));
+        chains = λ all brings.
+            let P : ℕ → Type 0 = λ n. Chain start.pages start.limit a (entry ∷ log) n new (slice_get new.agents a) in
+            subst P count (chain-step Leaves first before acts old agrees a e answer new alone step start.pages start.limit log (own_steps log a) all (λ other. (brings other).0) (stands.chains all (λ other. (brings other).1)));
+      }
+
+  pub stands-next : (Leaves : T → T → Type 0) (first : List T) (before : Log T) (acts : List (Act T)) (start old : State T) → Agrees Leaves first before acts old → (log : Log T) (a : ℕ) (e : Event T) (answer : Seen) (new : State T) → IsStepAlone a e answer → Steps Leaves old e answer new → IsExact old e answer new → Stands start log old a → Stands start ((e, answer) ∷ log) new a
+  stands-next Leaves first before acts start old agrees log a e answer new alone step exact stands =
+      elim (cases_Bool (is_idle answer)) [
+        | inl idle ↦ stands-idle start old log a e answer new idle (exact.unchanged (idle-not_enabled answer idle alone.memory)) stands
+        | inr busy ↦ stands-busy Leaves first before acts start old agrees log a e answer new (record { own = alone.own; busy = busy }) step stands
+      ]
+
   pub stands-alone : (old : State T) (log : Log T) (new : State T) (a : ℕ) → Stands old log new a → StepsAlone old log new a
-  stands-alone old log new a stands = record {
-    takes = λ k free now. walk-takes old.pages k 0 (length log) new (slice_get new.agents a) (omega arith) (stands.walks k free);
-    links = λ all unlimited now. chain-links old.pages old.limit a log (length log) new (slice_get new.agents a) unlimited now (stands.chains all);
-    refused = λ all limited now. chain-refused old.pages old.limit a log (length log) new (slice_get new.agents a) limited now (stands.chains all);
-  }
+  stands-alone old log new a stands =
+      let n = own_steps log a in
+      let point = slice_get new.agents a in
+      record {
+        takes = λ k free.
+            let walk = stands.walks k free in
+            record {
+              answered = λ many. (walk-takes old.pages k 0 n a log new point (omega arith) walk).0;
+              held = λ now. (walk-takes old.pages k 0 n a log new point (omega arith) walk).1 (omega arith);
+            };
+        links = λ all unlimited brings.
+            let chain = stands.chains all (λ other. brings) in
+            record {
+              answered = λ many. (chain-links old.pages old.limit a log n new point unlimited many chain).0;
+              held = λ now. (chain-links old.pages old.limit a log n new point unlimited (omega arith) chain).1 (omega arith);
+            };
+        refused = λ all limited many.
+            chain-refused old.pages old.limit a log n new point limited many (stands.chains all (λ other. absurd (other limited)));
+      }

@@ -14,8 +14,8 @@ use Rattle.object_pool_cores.specs.Run.{Act}
 use Rattle.object_pool_cores.specs.World.State.{State}
 use Rattle.object_pool_cores.specs.World.Machine.{Outcome, Gives, lowest, has_bit, with_word, without_bit, without_lowest, tries, at_point, with_pages, linked_page, is_limit, word_of, not_enabled, value_at, takes, clears, read_mask, clear_bit, read_next, make_page, exchange_next, move_out, write, or_mask, Row, Steps, MayGrow, MovesHome, point_of}
 use Rattle.object_pool_cores.specs.World.Visible.{Log}
-use Rattle.object_pool_cores.specs.World.Rows.{HasRow}
-use Rattle.object_pool_cores.specs.World.Reached.{IsReached, IsExact}
+use Rattle.object_pool_cores.specs.World.Rows.{HasRow, IsExact}
+use Rattle.object_pool_cores.specs.World.Reached.{IsReached}
 use Rattle.object_pool_cores.specs.World.Headline.{IsNew, Ran}
 use Rattle.object_pool_cores.specs.World.Invariant.{IsPast, IsAtEnd, Agrees}
 use Rattle.object_pool_cores.proofs.WordSteps.{known}
@@ -177,17 +177,9 @@ module _ {T : Type 0} where
   any-step Leaves old (event.Write a value) answer new (inl row) = inl row
   any-step Leaves old (event.OrMask a) answer new (inl row) = inl row
 
-  -- a new world is reached, and so is what a step leaves of one
+  -- a new world is reached
   pub reached-new : (world : State T) → IsNew world → IsReached world
   reached-new world is_new = record { start = world; is_new = is_new; log = []; ran = refl }
-
-  pub reached-step : (Leaves : T → T → Type 0) (old : State T) (e : Event T) (answer : Seen) (new : State T) → IsReached old → Steps Leaves old e answer new → IsReached new
-  reached-step Leaves old e answer new reached step = record {
-    start = reached.start;
-    is_new = reached.is_new;
-    log = (e, answer) ∷ reached.log;
-    ran = (old, reached.ran, any-step Leaves old e answer new step);
-  }
 
   -- what the invariant knows of a world that can be reached
   pub reached-agrees : (world : State T) (reached : IsReached world) → Shown (λ before kept. ⊤) reached.is_new.first reached.is_new.full reached.log world
@@ -201,3 +193,12 @@ module _ {T : Type 0} where
       let shown = reached-agrees old reached in
       let exact = step-exact (λ before kept. ⊤) reached.is_new.first reached.log shown.acts old shown.agrees answer new e (any-step Leaves old e answer new step) in
       record { enabled = (exact.never, exact.always); unchanged = exact.unchanged }
+
+  -- so is what a step leaves of a world that can be reached
+  pub reached-step : (Leaves : T → T → Type 0) (old : State T) (e : Event T) (answer : Seen) (new : State T) → IsReached old → Steps Leaves old e answer new → IsReached new
+  reached-step Leaves old e answer new reached step = record {
+    start = reached.start;
+    is_new = reached.is_new;
+    log = (e, answer) ∷ reached.log;
+    ran = (old, reached.ran, any-step Leaves old e answer new step, reached-exact Leaves old e answer new reached step);
+  }

@@ -6,12 +6,12 @@ use Rattle.object_pool_cores.specs.declared.interleave.event.Event.TheVariants a
 use Rattle.object_pool_cores.specs.declared.interleave.event.Seen.{Seen}
 use Rattle.object_pool_cores.specs.declared.interleave.event.Seen.TheVariants as seen
 use Rattle.object_pool_cores.specs.declared.interleave.point.Point.{Point}
-use Rattle.object_pool_cores.specs.declared.interleave.point.Point.TheVariants.{Holding}
+use Rattle.object_pool_cores.specs.declared.interleave.point.Point.TheVariants.{Taken, Holding, Home}
 use Rattle.object_pool_cores.specs.Pool.{Pool, Absent, IsSame, AllowsPages, free_with, opening, number}
 use Rattle.object_pool_cores.specs.Move.{grown}
 use Rattle.object_pool_cores.specs.Run.{Act, Holds, stage_of}
 use Rattle.object_pool_cores.specs.World.State.{State}
-use Rattle.object_pool_cores.specs.World.Machine.{Row, Steps, held_by, linked_page, opening_world}
+use Rattle.object_pool_cores.specs.World.Machine.{Row, Steps, item_of, number_out, linked_page, opening_world}
 use Rattle.object_pool_cores.specs.World.Reading.{reading}
 use Rattle.object_pool_cores.specs.World.Visible.{Log, made_by}
 use Rattle.object_pool_cores.specs.World.Headline.{IsRun, Ran, IsNew}
@@ -94,18 +94,34 @@ module _ {T : Type 0} (Leaves : T → T → Type 0) (first : List T) (full : len
   ran-agrees limit allowed [] new same =
       let P : State T → Type 0 = Shown [] in
       subst P (sym same) (record { acts = []; agrees = opening-agrees limit allowed })
-  ran-agrees limit allowed ((e, answer) ∷ log) new (between, ran, step) =
+  ran-agrees limit allowed ((e, answer) ∷ log) new (between, ran, step, exact) =
       let before = ran-agrees limit allowed log between ran in
       let goes = step-goes log before.acts between before.agrees e answer new step in
       record { acts = goes.acts; agrees = goes.agrees }
 
-  -- what an agent has in the world is what it holds in the run
-  held-is : (log : Log T) (acts : List (Act T)) (world : State T) → Agrees Leaves first log acts world → (a : ℕ) (value : T) (found : Option (Point T)) → slice_get world.agents a ≡ found → held_by found ≡ Some value → (n : ℕ) × (stage_of acts a ≡ Holds n value)
-  held-is log acts world agrees a value (Some (Holding k id has)) at held =
+  -- an agent that has an item in the world holds it in the run
+  held-is : (log : Log T) (acts : List (Act T)) (world : State T) → Agrees Leaves first log acts world → (a n : ℕ) (value : T) (found : Option (Point T)) → slice_get world.agents a ≡ found → item_of found ≡ Some (n, value) → stage_of acts a ≡ Holds n value
+  held-is log acts world agrees a n value (Some (Holding k id has)) at held =
       let holds : HoldsAt acts world a k id has = known Leaves first log acts world agrees a (Holding k id has) at in
-      let is : has ≡ value = cc in
-      (number k id, holds.stage ∙ ap (λ v. Holds (number k id) v) is)
-  held-is log acts world agrees a value _ at held = absurd (cc)
+      let both : ◌≡◌ {A = ℕ × T} (number k id, has) (n, value) = cc in
+      holds.stage ∙ ap (λ item. Holds item.0 item.1) both
+  held-is log acts world agrees a n value _ at held = absurd (cc)
+
+  -- an agent that has a number out in the world holds it in the run
+  out-is : (log : Log T) (acts : List (Act T)) (world : State T) → Agrees Leaves first log acts world → (a n : ℕ) (found : Option (Point T)) → slice_get world.agents a ≡ found → number_out found ≡ Some n → (value : T) × (stage_of acts a ≡ Holds n value)
+  out-is log acts world agrees a n (Some (Taken k id)) at out =
+      let (value, holds, lies) = known Leaves first log acts world agrees a (Taken k id) at in
+      let is : number k id ≡ n = cc in
+      (value, holds.stage ∙ ap (λ m. Holds m value) is)
+  out-is log acts world agrees a n (Some (Holding k id value)) at out =
+      let holds : HoldsAt acts world a k id value = known Leaves first log acts world agrees a (Holding k id value) at in
+      let is : number k id ≡ n = cc in
+      (value, holds.stage ∙ ap (λ m. Holds m value) is)
+  out-is log acts world agrees a n (Some (Home k id)) at out =
+      let (value, kept, holds, leaves, lies) = known Leaves first log acts world agrees a (Home k id) at in
+      let is : number k id ≡ n = cc in
+      (value, holds.stage ∙ ap (λ m. Holds m value) is)
+  out-is log acts world agrees a n _ at out = absurd (cc)
 
   pub agrees-run : (log : Log T) (acts : List (Act T)) (world : State T) → Agrees Leaves first log acts world → IsRun Leaves first log world
   agrees-run log acts world agrees =
@@ -120,7 +136,8 @@ module _ {T : Type 0} (Leaves : T → T → Type 0) (first : List T) (full : len
         allowed = agrees.allowed;
         whole = whole-run Leaves world.limit first full allowed acts agrees.run;
         holders = holders-run Leaves world.limit first full allowed acts agrees.run;
-        held = λ a value has. held-is log acts world agrees a value (slice_get world.agents a) refl has;
+        held = λ a n value has. held-is log acts world agrees a n value (slice_get world.agents a) refl has;
+        out = λ a n has. out-is log acts world agrees a n (slice_get world.agents a) refl has;
         found = agrees.found;
       }
 

@@ -8,8 +8,9 @@ use Rattle.object_pool_cores.specs.declared.run_error.RunError.{RunError}
 use Rattle.object_pool_cores.specs.World.State.{State}
 use Rattle.object_pool_cores.specs.World.Machine.{Steps, lowest}
 use Rattle.object_pool_cores.specs.World.Visible.{Log}
-use Rattle.object_pool_cores.specs.World.Headline.{Ran, Played}
+use Rattle.object_pool_cores.specs.World.Headline.{IsNew, Ran, Advances, SinceNew, Played}
 use Rattle.object_pool_cores.specs.World.Reached.{IsReached}
+use Rattle.object_pool_cores.specs.World.Rows.{IsExact}
 use Rattle.object_pool_cores.specs.World.OwnSteps.{own_steps, is_step_of, IsOnPage, IsLooking}
 use Rattle.object_pool_cores.specs.World.Invariant.{Knows}
 use Rattle.object_pool_cores.specs.declared.interleave.point.Point.{Point}
@@ -18,7 +19,7 @@ use Rattle.object_pool_cores.specs.Pool.{AllowsPages}
 use Rattle.object_pool_cores.proofs.Bits.{lowest-lt}
 use Rattle.object_pool_cores.proofs.WordSteps.{known}
 use Rattle.object_pool_cores.proofs.Headline.{ran-is_run}
-use Rattle.object_pool_cores.proofs.Enabled.{any-step, reached-step, reached-agrees}
+use Rattle.object_pool_cores.proofs.Enabled.{any-step, reached-new, reached-step, reached-agrees}
 use Rattle.object_pool_cores.specs.World.Alone.{IsAlone}
 use Rattle.object_pool_cores.proofs.Alone.{Stands, stands-first, stands-next, stands-alone}
 use Rattle.object_pool_cores.proofs.Progress.{start_of, AdvancedTo, effect-advances, none-advanced, step-does}
@@ -34,6 +35,11 @@ no-elements [] none = refl
 no-elements (x ∷ xs) none = absurd (omega arith)
 
 module _ {T : Type 0} where
+  -- in no entries there is no step
+  no-steps : (later earlier : Log T) (a : ℕ) → later ++ earlier ≡ [] → own_steps later a ≡ 0
+  no-steps [] earlier a none = refl
+  no-steps (entry ∷ later) earlier a none = absurd (cc)
+
   -- what is known of an agent in a world that can be reached
   known-reached : (new : State T) (reached : IsReached new) (a : ℕ) (point : Point T) → slice_get new.agents a ≡ Some point → Knows (λ before kept. ⊤) reached.is_new.first reached.log (reached-agrees new reached).acts new a point
   known-reached new reached a point at =
@@ -60,10 +66,6 @@ module _ {T : Type 0} where
       let equal : 36 * k ≡ sooner = cc in
       omega arith
   page-steps-at start new log a k reached is _ at advanced here = absurd here
-
-  page-steps : (start : Option (Point T)) (new : State T) (log : Log T) (a k : ℕ) → ((log ≡ []) ⊎ IsReached new) → start ≡ Some (Reading k) → AdvancedTo start (own_steps log a) (slice_get new.agents a) → IsOnPage k (slice_get new.agents a) → own_steps log a < 33
-  page-steps start new log a k (inl none) is advanced here = let zero : own_steps log a ≡ 0 = ap (λ all. own_steps all a) none in omega arith
-  page-steps start new log a k (inr reached) is advanced here = page-steps-at start new log a k reached is (slice_get new.agents a) refl advanced here
 
   -- the steps of an agent that began
   since-begun : (start : Option (Point T)) (n later : ℕ) → start ≡ None → (sooner : ℕ) → start_of start ≡ Some sooner → sooner + n ≤ later → n ≤ later
@@ -107,11 +109,86 @@ module _ {T : Type 0} where
       omega arith
   limit-steps-at start new log a limit reached is none _ at advanced looks = absurd looks
 
-  limit-steps : (start : Option (Point T)) (new : State T) (log : Log T) (a limit : ℕ) → ((slice_get new.agents a ≡ start) ⊎ IsReached new) → new.limit ≡ Some limit → start ≡ None → AdvancedTo start (own_steps log a) (slice_get new.agents a) → IsLooking (slice_get new.agents a) → own_steps log a < 36 * limit - 2
-  limit-steps start new log a limit (inl empty) is none advanced looks =
-      let P : Option (Point T) → Type 0 = IsLooking in
-      absurd (subst P (empty ∙ none) looks)
-  limit-steps start new log a limit (inr reached) is none advanced looks = limit-steps-at start new log a limit reached is none (slice_get new.agents a) refl advanced looks
+module _ {T : Type 0} (Leaves : T → T → Type 0) where
+  -- steps that follow others
+  ran-append : (old between : State T) (earlier : Log T) → Ran Leaves old earlier between → (later : Log T) (new : State T) → Ran Leaves between later new → Ran Leaves old (later ++ earlier) new
+  ran-append old between earlier before [] new same =
+      let P : State T → Type 0 = Ran Leaves old earlier in
+      subst P (sym same) before
+  ran-append old between earlier before ((e, answer) ∷ later) new (last, ran, step, exact) =
+      (last, ran-append old between earlier before later last ran, step, exact)
+
+  -- what steps lead to can be reached
+  ran-reached : (old : State T) → IsReached old → (log : Log T) (new : State T) → Ran Leaves old log new → IsReached new
+  ran-reached old reached [] new same =
+      let P : State T → Type 0 = IsReached in
+      subst P (sym same) reached
+  ran-reached old reached ((e, answer) ∷ log) new (between, ran, step, exact) =
+      reached-step Leaves between e answer new (ran-reached old reached log between ran) step
+
+  -- an agent goes on by its own steps
+  ran-advances : (old : State T) → IsReached old → (a : ℕ) (log : Log T) (new : State T) → Ran Leaves old log new → AdvancedTo (slice_get old.agents a) (own_steps log a) (slice_get new.agents a)
+  ran-advances old reached a [] new same =
+      let P : State T → Type 0 = λ world. AdvancedTo (slice_get old.agents a) 0 (slice_get world.agents a) in
+      subst P (sym same) (none-advanced (slice_get old.agents a))
+  ran-advances old reached a ((e, answer) ∷ log) new (between, ran, step, exact) =
+      let there = ran-reached old reached log between ran in
+      let shown = reached-agrees between there in
+      effect-advances (slice_get old.agents a) (slice_get between.agents a) (slice_get new.agents a) (own_steps log a) (is_step_of e answer a)
+      (step-does (λ before kept. ⊤) there.is_new.first there.log shown.acts between shown.agrees answer new e (any-step Leaves between e answer new step) a)
+      (ran-advances old reached a log between ran)
+
+  -- an agent that steps alone
+  ran-stands : (old : State T) → IsReached old → (a : ℕ) → slice_get old.agents a ≡ Some (Reading 0) → (log : Log T) (new : State T) → Ran Leaves old log new → IsAlone a log → Stands old log new a
+  ran-stands old reached a at [] new same alone =
+      let P : State T → Type 0 = λ world. Stands old [] world a in
+      subst P (sym same) (stands-first old a at)
+  ran-stands old reached a at ((e, answer) ∷ log) new (between, ran, step, exact) alone =
+      let there = ran-reached old reached log between ran in
+      let shown = reached-agrees between there in
+      stands-next (λ before kept. ⊤) there.is_new.first there.log shown.acts old between shown.agrees log a e answer new alone.0 (any-step Leaves between e answer new step) exact
+      (ran-stands old reached a at log between ran alone.1)
+
+  -- what own steps come to, from a world that can be reached
+  reached-leads : (old : State T) → IsReached old → (log : Log T) (new : State T) → Ran Leaves old log new → Advances Leaves old log new
+  reached-leads old reached log new ran = record {
+    per_page = λ between later on a k at here.
+        let there = ran-reached old reached on.earlier between on.before in
+        let end = ran-reached between there later new on.since in
+        page-steps-at (slice_get between.agents a) new later a k end at (slice_get new.agents a) refl (ran-advances between there a later new on.since) here;
+    alone = λ between later on a at only.
+        let there = ran-reached old reached on.earlier between on.before in
+        stands-alone between later new a (ran-stands between there a at later new on.since only);
+  }
+
+  -- no steps come to nothing
+  nothing-leads : (old new : State T) → Advances Leaves old [] new
+  nothing-leads old new = record {
+    per_page = λ between later on a k at here. let none = no-steps later on.earlier a on.parts in omega arith;
+    alone = λ between later on a at only.
+        let none = no-steps later on.earlier a on.parts in
+        record {
+          takes = λ k free. record { answered = λ many. absurd (omega arith); held = λ now. absurd (omega arith) };
+          links = λ all unlimited brings. record { answered = λ many. absurd (omega arith); held = λ now. absurd (omega arith) };
+          refused = λ all limited many. let some = all.some in absurd (omega arith);
+        };
+  }
+
+  -- an agent that hadn't begun
+  new-limit : (start : State T) → IsNew start → (a : ℕ) → slice_get start.agents a ≡ None
+  new-limit start is_new a = ap (λ world. slice_get world.agents a) is_new.same
+
+  -- all that was done since the world was new
+  pub ran-since_new : (start : State T) (is_new : IsNew start) (log : Log T) (new : State T) → Ran Leaves start log new → SinceNew Leaves start is_new.first log new
+  ran-since_new start is_new log new ran =
+      let reached = reached-new start is_new in
+      let end = ran-reached start reached log new ran in
+      record {
+        headline = ran-is_run Leaves start is_new log new ran;
+        bounded = λ a limit is looks.
+            limit-steps-at (slice_get start.agents a) new log a limit end is (new-limit start is_new a) (slice_get new.agents a) refl (ran-advances start reached a log new ran) looks;
+        advances = reached-leads start reached log new ran;
+      }
 
 module _ {T : Type 0} (Leaves : T → T → Type 0) (old : State T) (events : List (Event T)) (before : List Seen) where
   -- the events but the rest were done
@@ -120,9 +197,7 @@ module _ {T : Type 0} (Leaves : T → T → Type 0) (old : State T) (events : Li
     pub done : map (λ entry. entry.0) (reverse log) ++ rest ≡ events
     pub answers : before ++ map (λ entry. entry.1) (reverse log) ≡ after
     pub steps : Ran Leaves old log new
-    pub reached : ((log ≡ []) × (new ≡ old)) ⊎ IsReached new
-    pub advanced : (a : ℕ) → AdvancedTo (slice_get old.agents a) (own_steps log a) (slice_get new.agents a)
-    pub stands : (a : ℕ) → slice_get old.agents a ≡ Some (Reading 0) → IsAlone a log → Stands old log new a
+    pub reached : ((log ≡ []) × (new ≡ old)) ⊎ IsReached old
 
   pub replayed-none : Replayed events before old
   replayed-none = record {
@@ -131,18 +206,22 @@ module _ {T : Type 0} (Leaves : T → T → Type 0) (old : State T) (events : Li
     answers = append-nil before;
     steps = refl;
     reached = inl (refl, refl);
-    advanced = λ a. none-advanced (slice_get old.agents a);
-    stands = λ a at alone. stands-first old a at;
   }
 
+  -- the first world can be reached, since the one before a step can
+  first-reached : (log : Log T) (between : State T) → (((log ≡ []) × (between ≡ old)) ⊎ IsReached old) → IsReached between → IsReached old
+  first-reached log between (inl none) reached =
+      let P : State T → Type 0 = IsReached in
+      subst P none.1 reached
+  first-reached log between (inr first) reached = first
+
   -- one event more
-  pub replayed-more : (rest : List (Event T)) (after : List Seen) (between : State T) (e : Event T) (answer : Seen) (new : State T) → Replayed (e ∷ rest) after between → IsReached between → Steps Leaves between e answer new → Replayed rest (after ++ answer ∷ []) new
-  replayed-more rest after between e answer new replayed reached step =
+  pub replayed-more : (rest : List (Event T)) (after : List Seen) (between : State T) (e : Event T) (answer : Seen) (new : State T) → Replayed (e ∷ rest) after between → IsReached between → Steps Leaves between e answer new → IsExact between e answer new → Replayed rest (after ++ answer ∷ []) new
+  replayed-more rest after between e answer new replayed reached step exact =
       let log : Log T = replayed.log in
       let entry : Event T × Seen = (e, answer) in
       let events_so_far : List (Event T × Seen) → List (Event T) = map (λ entry. entry.0) in
       let answers_so_far : List (Event T × Seen) → List Seen = map (λ entry. entry.1) in
-      let shown = reached-agrees between reached in
       let turned : reverse (entry ∷ log) ≡ reverse log ++ entry ∷ [] = reverse-append (entry ∷ []) log in
       record {
         log = entry ∷ log;
@@ -156,43 +235,33 @@ module _ {T : Type 0} (Leaves : T → T → Type 0) (old : State T) (events : Li
             ∙ ap (λ all. before ++ all) (map-append (λ entry. entry.1) (reverse log) (entry ∷ []))
             ∙ sym (append_assoc before (answers_so_far (reverse log)) (answer ∷ []))
             ∙ ap (λ all. all ++ answer ∷ []) replayed.answers;
-        steps = (between, replayed.steps, step);
-        reached = inr (reached-step Leaves between e answer new reached step);
-        advanced = λ a.
-            effect-advances (slice_get old.agents a) (slice_get between.agents a) (slice_get new.agents a) (own_steps log a) (is_step_of e answer a)
-            (step-does (λ before kept. ⊤) reached.is_new.first reached.log shown.acts between shown.agrees answer new e (any-step Leaves between e answer new step) a)
-            (replayed.advanced a);
-        stands = λ a at alone.
-            stands-next (λ before kept. ⊤) reached.is_new.first reached.log shown.acts old between shown.agrees log a e answer new alone.0 (any-step Leaves between e answer new step)
-            (replayed.stands a at alone.1);
+        steps = (between, replayed.steps, step, exact);
+        reached = inr (first-reached log between replayed.reached reached);
       }
 
   -- the same, of a list whose last event is done next
-  pub replayed-next : (items rest : List (Event T)) (after later : List Seen) (between : State T) (e : Event T) (answer : Seen) (new : State T) → items ≡ rest ++ e ∷ [] → later ≡ after ++ answer ∷ [] → Replayed (reverse items) after between → IsReached between → Steps Leaves between e answer new → Replayed (reverse rest) later new
-  replayed-next items rest after later between e answer new last answered replayed reached step =
+  pub replayed-next : (items rest : List (Event T)) (after later : List Seen) (between : State T) (e : Event T) (answer : Seen) (new : State T) → items ≡ rest ++ e ∷ [] → later ≡ after ++ answer ∷ [] → Replayed (reverse items) after between → IsReached between → Steps Leaves between e answer new → IsExact between e answer new → Replayed (reverse rest) later new
+  replayed-next items rest after later between e answer new last answered replayed reached step exact =
       let P : List (Event T) → Type 0 = λ all. Replayed all after between in
       let Q : List Seen → Type 0 = λ all. Replayed (reverse rest) all new in
       let next : Replayed (e ∷ reverse rest) after between = subst P (ap reverse last ∙ reverse-append rest (e ∷ [])) replayed in
-      subst Q (sym answered) (replayed-more (reverse rest) after between e answer new next reached step)
+      subst Q (sym answered) (replayed-more (reverse rest) after between e answer new next reached step exact)
 
-  or-empty : {log : Log T} {new : State T} → (((log ≡ []) × (new ≡ old)) ⊎ IsReached new) → (log ≡ []) ⊎ IsReached new
-  or-empty (inl none) = inl none.0
-  or-empty (inr reached) = inr reached
+  -- what own steps come to in what was done
+  replayed-leads : (log : Log T) (new : State T) → Ran Leaves old log new → (((log ≡ []) × (new ≡ old)) ⊎ IsReached old) → Advances Leaves old log new
+  replayed-leads log new ran (inl none) =
+      let P : Log T → Type 0 = λ all. Advances Leaves old all new in
+      subst P (sym none.0) (nothing-leads Leaves old new)
+  replayed-leads log new ran (inr reached) = reached-leads Leaves old reached log new ran
 
-  or-same : {log : Log T} {new : State T} (a : ℕ) → (((log ≡ []) × (new ≡ old)) ⊎ IsReached new) → (slice_get new.agents a ≡ slice_get old.agents a) ⊎ IsReached new
-  or-same a (inl none) = inl (ap (λ world. slice_get world.agents a) none.1)
-  or-same a (inr reached) = inr reached
-
-  pub played-from : (rest : List (Event T)) (after : List Seen) (new : State T) (result : Result (Unit {0}) RunError) → Replayed rest after new → OnOk result (rest ≡ []) → Played Leaves old events before result after new
+  pub played-from : (rest : List (Event T)) (after : List Seen) (new : State T) (result : Result (Unit {0}) RunError) → Replayed rest after new → OnOk result (rest ≡ []) → Played Leaves (record { world = old; events = events; seen = before }) (record { world = new; seen = after; result = result })
   played-from rest after new result replayed all = record {
     log = replayed.log;
-    headline = λ start. ran-is_run Leaves old start replayed.log new replayed.steps;
+    since_new = λ past. ran-since_new Leaves past.start past.is_new (replayed.log ++ past.log) new (ran-append Leaves past.start old past.log past.ran replayed.log new replayed.steps);
     rest = rest;
     done = replayed.done;
     all = all;
     answers = replayed.answers;
     steps = replayed.steps;
-    per_page = λ a k start here. page-steps (slice_get old.agents a) new replayed.log a k (or-empty replayed.reached) start (replayed.advanced a) here;
-    alone = λ a at only. stands-alone old replayed.log new a (replayed.stands a at only);
-    bounded = λ a limit is none looks. limit-steps (slice_get old.agents a) new replayed.log a limit (or-same a replayed.reached) is none (replayed.advanced a) looks;
+    advances = replayed-leads replayed.log new replayed.steps replayed.reached;
   }

@@ -1,5 +1,5 @@
 -- An agent that steps alone.
-use Rattle.std.specs.Prelude.{◌≡◌, ℕ, ◌+◌, ◌*◌, ◌<◌, false, Option, Some, List, [], ◌∷◌, length, slice_get, Err, ⊤}
+use Rattle.std.specs.Prelude.{◌≡◌, ◌≢◌, ◌⊎◌, ℕ, ◌+◌, ◌*◌, ◌<◌, ◌≤◌, Option, Some, List, [], ◌∷◌, length, slice_get, Err, ⊤}
 use Rattle.lockfree_object_pool.specs.declared.pull_error.PullError.TheVariants.{Limit}
 use Rattle.object_pool_cores.specs.declared.interleave.event.Event.{Event}
 use Rattle.object_pool_cores.specs.declared.interleave.event.Event.TheVariants as event
@@ -11,24 +11,33 @@ use Rattle.object_pool_cores.specs.World.PageState.{PageState}
 use Rattle.object_pool_cores.specs.World.State.{State}
 use Rattle.object_pool_cores.specs.World.Machine.{word_of, agent_of}
 use Rattle.object_pool_cores.specs.World.Visible.{Log}
-use Rattle.object_pool_cores.specs.World.OwnSteps.{is_idle}
+use Rattle.object_pool_cores.specs.World.OwnSteps.{own_steps}
 
 module _ {T : Type 0} where
-  -- the page that an event brings was made
-  abbrev pub BringsPage : Event T → Type 0
-  BringsPage (event.MakePage a (Err cause)) = ⊥
-  BringsPage _ = ⊤
-
-  -- something happened, and it was a step of this agent, which was refused no page
+  -- the event is this agent's, and no memory was missing
   pub record IsStepAlone (a : ℕ) (e : Event T) (answer : Seen) : Type 0 where
     pub own : agent_of e ≡ Some a
-    pub busy : is_idle answer ≡ false
-    pub brings : BringsPage e
+    pub memory : answer ≢ seen.NoMemory
 
-  -- each of the steps is one of this agent's
+  -- each of the events is this agent's, those too that weren't enabled
   abbrev pub IsAlone : ℕ → Log T → Type 0
   IsAlone a [] = ⊤
   IsAlone a ((e, answer) ∷ log) = IsStepAlone a e answer × IsAlone a log
+
+  -- a page that the event doesn't bring wasn't asked for
+  abbrev pub BringsPage : Event T → Seen → Type 0
+  BringsPage (event.MakePage a (Err cause)) answer = answer ≡ seen.NotEnabled
+  BringsPage _ answer = ⊤
+
+  -- each page that was asked for was made
+  abbrev pub BringsPages : Log T → Type 0
+  BringsPages [] = ⊤
+  BringsPages ((e, answer) ∷ log) = BringsPage e answer × BringsPages log
+
+  -- one of the events was answered so
+  abbrev pub IsAnswered : Log T → Seen → Type 0
+  IsAnswered [] answer = ⊥
+  IsAnswered ((e, given) ∷ log) answer = (given ≡ answer) ⊎ IsAnswered log answer
 
   -- each page before this one has no free number, and this one has
   pub record IsFirstFree (pages : List (PageState T)) (k : ℕ) : Type 0 where
@@ -46,14 +55,14 @@ module _ {T : Type 0} where
   HasMovedOut (Some (Holding k id value)) = ⊤
   HasMovedOut _ = ⊥
 
-  -- the last answer is a refusal of the agent for the limit
-  abbrev pub EndsRefused : ℕ → Log T → Type 0
-  EndsRefused a [] = ⊥
-  EndsRefused a ((e, answer) ∷ log) = answer ≡ seen.Refused a Limit
+  -- the agent moves its value out by its own step of this count at the latest, and has it after just so many
+  pub record MovesOutBy (count : ℕ) (log : Log T) (new : State T) (a : ℕ) : Type 0 where
+    pub answered : count ≤ own_steps log a → IsAnswered log (seen.MovedOut a)
+    pub held : own_steps log a ≡ count → HasMovedOut (slice_get new.agents a)
 
 -- an agent that reads page 0 first and then steps alone has an item after two steps for each full page and three
 -- more, or after two more where it links a page, and is refused by the second step at the last page of a limit
 pub record StepsAlone {T : Type 0} (old : State T) (log : Log T) (new : State T) (a : ℕ) : Type 0 where
-  pub takes : (k : ℕ) → IsFirstFree old.pages k → length log ≡ 2 * k + 3 → HasMovedOut (slice_get new.agents a)
-  pub links : AllFull old.pages → (old.limit ≡ Some (length old.pages) → ⊥) → length log ≡ 2 * length old.pages + 5 → HasMovedOut (slice_get new.agents a)
-  pub refused : AllFull old.pages → old.limit ≡ Some (length old.pages) → length log ≡ 2 * length old.pages → EndsRefused a log
+  pub takes : (k : ℕ) → IsFirstFree old.pages k → MovesOutBy (2 * k + 3) log new a
+  pub links : AllFull old.pages → old.limit ≢ Some (length old.pages) → BringsPages log → MovesOutBy (2 * length old.pages + 5) log new a
+  pub refused : AllFull old.pages → old.limit ≡ Some (length old.pages) → 2 * length old.pages ≤ own_steps log a → IsAnswered log (seen.Refused a Limit)

@@ -1,5 +1,5 @@
 -- The headline: what agents do in a world, in any order of their steps, is a run of one pool.
-use Rattle.std.specs.Prelude.{◌≡◌, ℕ, ◌-◌, ◌*◌, ◌<◌, Some, None, List, [], ◌∷◌, ◌++◌, map, reverse, length, slice_get, Result, OnOk}
+use Rattle.std.specs.Prelude.{◌≡◌, ℕ, ◌-◌, ◌*◌, ◌<◌, Some, List, [], ◌∷◌, ◌++◌, map, reverse, length, slice_get, Result, OnOk}
 use Rattle.object_pool_cores.specs.declared.interleave.event.Event.{Event}
 use Rattle.object_pool_cores.specs.declared.interleave.event.Seen.{Seen}
 use Rattle.object_pool_cores.specs.declared.interleave.point.Point.TheVariants.{Reading}
@@ -7,7 +7,8 @@ use Rattle.object_pool_cores.specs.declared.run_error.RunError.{RunError}
 use Rattle.object_pool_cores.specs.Pool.{IsSame, AllowsPages}
 use Rattle.object_pool_cores.specs.Run.{Act, Holds, stage_of, pool_of, Run, Found, HasHolders, IsWhole, AtEachPlace}
 use Rattle.object_pool_cores.specs.World.State.{State}
-use Rattle.object_pool_cores.specs.World.Machine.{Steps, held_by, opening_world}
+use Rattle.object_pool_cores.specs.World.Machine.{Steps, item_of, number_out, opening_world}
+use Rattle.object_pool_cores.specs.World.Rows.{IsExact}
 use Rattle.object_pool_cores.specs.World.Reading.{reading}
 use Rattle.object_pool_cores.specs.World.Visible.{Log, Reads}
 use Rattle.object_pool_cores.specs.World.Alone.{IsAlone, StepsAlone}
@@ -27,8 +28,10 @@ pub record IsRun {T : Type 0} (Leaves : T → T → Type 0) (first : List T) (lo
   pub whole : AtEachPlace (IsWhole first world.limit) acts
   -- at each place of the run each number that is out has one holder, and each other number none
   pub holders : AtEachPlace (HasHolders first) acts
-  -- what an agent has in the world is what it holds there
-  pub held : (a : ℕ) (value : T) → held_by (slice_get world.agents a) ≡ Some value → (n : ℕ) × (stage_of acts a ≡ Holds n value)
+  -- an agent with an item in the world holds its number with its value there
+  pub held : (a n : ℕ) (value : T) → item_of (slice_get world.agents a) ≡ Some (n, value) → stage_of acts a ≡ Holds n value
+  -- so it is from its pull to its return
+  pub out : (a n : ℕ) → number_out (slice_get world.agents a) ≡ Some n → (value : T) × (stage_of acts a ≡ Holds n value)
   -- at each growth and each refusal the agent had found each earlier number out since it began
   pub found : Found first acts
 
@@ -39,29 +42,72 @@ pub record IsNew {T : Type 0} (world : State T) : Type 0 where
   pub allowed : AllowsPages world.limit 1
   pub same : world ≡ opening_world first world.limit
 
+-- a run's beginning: the world, the events that it is given, and the answers that were there
+pub record RunStart (T : Type 0) : Type 0 where
+  pub world : State T
+  pub events : List (Event T)
+  pub seen : List Seen
+
+-- a run's end: the world and the answers that it left, and its result
+pub record RunEnd (T : Type 0) : Type 0 where
+  pub world : State T
+  pub seen : List Seen
+  pub result : Result (Unit {0}) RunError
+
 module _ {T : Type 0} (Leaves : T → T → Type 0) where
   -- these events with these answers lead from one world to another, step by step
   abbrev pub Ran : State T → Log T → State T → Type 0
   Ran old [] new = new ≡ old
-  Ran old ((e, answer) ∷ log) new = (between : State T) × Ran old log between × Steps Leaves between e answer new
+  Ran old ((e, answer) ∷ log) new =
+      (between : State T) × Ran old log between × Steps Leaves between e answer new × IsExact between e answer new
+
+  -- what was done before: steps from a world in which no agent had begun
+  pub record Past (world : State T) : Type 0 where
+    pub start : State T
+    pub is_new : IsNew start
+    pub log : Log T
+    pub ran : Ran start log world
+
+  -- a world on the way from one to another, and the steps from there on
+  pub record OnTheWay (old : State T) (log : Log T) (new between : State T) (later : Log T) : Type 0 where
+    pub earlier : Log T
+    pub parts : later ++ earlier ≡ log
+    pub before : Ran old earlier between
+    pub since : Ran between later new
+
+  -- what an agent's own steps come to, from any world on the way
+  pub record Advances (old : State T) (log : Log T) (new : State T) : Type 0 where
+    -- an agent that reads page k is off it by its 33rd own step: while it is on the page it took fewer
+    pub per_page :
+        (between : State T) (later : Log T) → OnTheWay old log new between later → (a k : ℕ)
+        → slice_get between.agents a ≡ Some (Reading k) → IsOnPage k (slice_get new.agents a) → own_steps later a < 33
+    -- an agent that has begun, and alone steps, has an item or is refused after so many steps
+    pub alone :
+        (between : State T) (later : Log T) → OnTheWay old log new between later → (a : ℕ)
+        → slice_get between.agents a ≡ Some (Reading 0) → IsAlone a later → StepsAlone between later new a
+
+  -- all that was done since the world was new
+  pub record SinceNew (start : State T) (first : List T) (log : Log T) (world : State T) : Type 0 where
+    -- it is a run of one pool
+    pub headline : IsRun Leaves first log world
+    -- under a limit an agent is pulled or refused by its own step 36 * limit - 2: while it looks it took fewer
+    pub bounded :
+        (a limit : ℕ) → world.limit ≡ Some limit → IsLooking (slice_get world.agents a)
+        → own_steps log a < 36 * limit - 2
+    pub advances : Advances start log world
 
   -- the events were done from the first on, all of them unless memory ran out
-  pub record Played (old : State T) (events : List (Event T)) (before : List Seen) (result : Result (Unit {0}) RunError) (after : List Seen) (new : State T) : Type 0 where
+  pub record Played (before : RunStart T) (after : RunEnd T) : Type 0 where
     -- the events that were done, with their answers
     pub log : Log T
-    -- from a world in which no agent has begun they are a run
-    pub headline : (start : IsNew old) → IsRun Leaves start.first log new
+    -- whatever was done before, it and they together are a run since the world was new
+    pub since_new : (past : Past before.world) → SinceNew past.start past.is_new.first (log ++ past.log) after.world
     -- they are a beginning of the list, and after Ok the whole list
     pub rest : List (Event T)
-    pub done : map (λ entry. entry.0) (reverse log) ++ rest ≡ events
-    pub all : OnOk result (rest ≡ [])
+    pub done : map (λ entry. entry.0) (reverse log) ++ rest ≡ before.events
+    pub all : OnOk after.result (rest ≡ [])
     -- their answers follow the ones before
-    pub answers : before ++ map (λ entry. entry.1) (reverse log) ≡ after
-    -- each is a step of the machine
-    pub steps : Ran old log new
-    -- an agent that reads page k is off it by its 33rd own step: while it is on the page it took fewer
-    pub per_page : (a k : ℕ) → slice_get old.agents a ≡ Some (Reading k) → IsOnPage k (slice_get new.agents a) → own_steps log a < 33
-    -- under a limit an agent that begins is pulled or refused by its step 36 * limit - 2: while it looks it took fewer
-    pub bounded : (a limit : ℕ) → new.limit ≡ Some limit → slice_get old.agents a ≡ None → IsLooking (slice_get new.agents a) → own_steps log a < 36 * limit - 2
-    -- an agent that begins, and alone steps, has an item or is refused after so many steps
-    pub alone : (a : ℕ) → slice_get old.agents a ≡ Some (Reading 0) → IsAlone a log → StepsAlone old log new a
+    pub answers : before.seen ++ map (λ entry. entry.1) (reverse log) ≡ after.seen
+    -- each is a step of the machine, which isn't enabled exactly where the table has no row
+    pub steps : Ran before.world log after.world
+    pub advances : Advances before.world log after.world

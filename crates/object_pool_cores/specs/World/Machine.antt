@@ -102,6 +102,18 @@ module _ {T : Type 0} where
   held_by (Some (Holding k id value)) = Some value
   held_by _ = None
 
+  -- the number and the value of the item that an agent has
+  abbrev pub item_of : Option (Point T) → Option (ℕ × T)
+  item_of (Some (Holding k id value)) = Some (number k id, value)
+  item_of _ = None
+
+  -- the number that an agent has out, from its ClearBit until its OrMask
+  abbrev pub number_out : Option (Point T) → Option ℕ
+  number_out (Some (Taken k id)) = Some (number k id)
+  number_out (Some (Holding k id value)) = Some (number k id)
+  number_out (Some (Home k id)) = Some (number k id)
+  number_out _ = None
+
   -- the values that an agent has for a page of its own
   abbrev pub prepared_by : Option (Point T) → Option (List T)
   prepared_by (Some (Linking k values)) = Some values

@@ -3,7 +3,8 @@ ghost use Rattle.std.specs.Prelude.{◌≡◌, Option, option_map, option_copied
 ghost use Rattle.object_pool_cores.specs.Pool.{AllowsPages};
 ghost use Rattle.object_pool_cores.specs.World.Headline.{IsNew};
 ghost use Rattle.object_pool_cores.specs.World.Machine.{held_by, opening_world, value_at, Steps};
-ghost use Rattle.object_pool_cores.specs.World.Reached.{IsReached, IsExact};
+ghost use Rattle.object_pool_cores.specs.World.Reached.{IsReached};
+ghost use Rattle.object_pool_cores.specs.World.Rows.{IsExact};
 
 use crate::interleave::table::Table;
 use crate::interleave::{Event, Prepared, Seen};

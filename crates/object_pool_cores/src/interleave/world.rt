@@ -3,7 +3,8 @@ ghost use Rattle.std.specs.Prelude.{◌≡◌, ◌≤◌, Some, None, option_map
 ghost use Rattle.lockfree_object_pool.specs.declared.pull_error.PullError.TheVariants.{Memory};
 ghost use Rattle.object_pool_cores.specs.World.Headline.{IsNew, Played};
 ghost use Rattle.object_pool_cores.specs.World.Machine.{held_by, opening_world, value_at, Steps};
-ghost use Rattle.object_pool_cores.specs.World.Reached.{IsExact, IsReached};
+ghost use Rattle.object_pool_cores.specs.World.Reached.{IsReached};
+ghost use Rattle.object_pool_cores.specs.World.Rows.{IsExact};
 ghost use Rattle.object_pool_cores.specs.World.Reading.{reading};
 ghost use Rattle.object_pool_cores.specs.World.Shown.{world_reset, world_state};
 
@@ -103,7 +104,9 @@ impl<T: Drop, R: Reset<T, AnyValue>> World<T, R> {
     /// The events, one after another, each with its answer at the end of `seen`. An error leaves the answers of the
     /// events that were done, and the world after them; the others are dropped.
     pub fn run(&mut self, mut events: Vec<Event<T>>, seen: &mut Vec<Seen>) -> Result<(), RunError>
-        ensures played { Played (R.leaves (world_reset self.old)) (world_state self.old) events.items seen.old.items result seen.new.items (world_state self.new) }
+        ensures played { Played (R.leaves (world_reset self.old))
+            (record { world = world_state self.old; events = events.items; seen = seen.old.items })
+            (record { world = world_state self.new; seen = seen.new.items; result = result }) }
         ensures reset { world_reset self.new ≡ world_reset self.old }
     {
         events.reverse();

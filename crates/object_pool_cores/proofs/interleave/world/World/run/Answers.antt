@@ -23,7 +23,7 @@ loop-event-preserved g c =
     let same : c.reserve.new.self.items ≡ c.loop-event.seen.items = c.in_ok-reserve.ensures.items in
     rw (c.in_ok-push.ensures.items, same) refl in
     record {
-      replayed = replayed-next _ _ _ _ _ _ _ _ _ c.in-Some.event c.step-answer.result _ c.in-Some.ensures.items answered kept.replayed c.step-answer.ensures.reached (subst P kept.reset c.step-answer.ensures.step);
+      replayed = replayed-next _ _ _ _ _ _ _ _ _ c.in-Some.event c.step-answer.result _ c.in-Some.ensures.items answered kept.replayed c.step-answer.ensures.reached (subst P kept.reset c.step-answer.ensures.step) c.step-answer.ensures.exact;
       reset = c.step-answer.ensures.reset ∙ kept.reset;
     }
 
