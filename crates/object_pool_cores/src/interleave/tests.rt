@@ -10,6 +10,8 @@ use std::test::Fail;
 
 mod refusals;
 mod schedules;
+mod sizes;
+mod values;
 
 /// The word of a page all of whose items are free.
 const FULL: u32 = 4294967295;

@@ -94,6 +94,8 @@ fn a_run_goes_on_from_the_events_done(rt: HostRuntime) -> Result<(), Fail> {
     let mut seen = Vec::new(rt.alloc());
     let events = events_again(rt.alloc(), 0)?;
     if world.run(events, &mut seen).is_err() {
+        // It was the list of answers that couldn't grow: of the world's own tables an answer tells.
+        assert!(rt; seen.last() != Some(&Seen::NoMemory));
         let rest = events_again(rt.alloc(), seen.len())?;
         world.run(rest, &mut seen)?;
     }

@@ -1,0 +1,116 @@
+//! Many agents and many pages, and lists in which some events aren't enabled.
+use super::*;
+
+/// How many items a page has.
+const PAGE_ITEMS: usize = 32;
+
+/// How many pages are linked.
+const PAGES: usize = 40;
+
+/// The events of an agent that begins and passes so many full pages.
+fn passes(alloc: Global, agent: usize, pages: usize) -> Result<Vec<Event<u32>>, AllocError> {
+    let mut events = Vec::from_array(alloc, [Event::Begin])?;
+    for _ in 0..pages {
+        events.push(Event::ReadMask(agent))?;
+        events.push(Event::ReadNext(agent))?;
+    }
+    Ok(events)
+}
+
+/// The events of an agent that alone steps until it has an item, where as many are out as its number says.
+fn takes(alloc: Global, agent: usize) -> Result<Vec<Event<u32>>, PullError> {
+    let mut events = passes(alloc, agent, agent / PAGE_ITEMS)?;
+    if agent > 0 && agent % PAGE_ITEMS == 0 {
+        events.push(Event::MakePage(agent, Ok(zeros(alloc)?)))?;
+        events.push(Event::ExchangeNext(agent))?;
+    }
+    events.push(Event::ReadMask(agent))?;
+    events.push(Event::ClearBit(agent))?;
+    events.push(Event::MoveOut(agent))?;
+    Ok(events)
+}
+
+#[test]
+fn agents_alone_link_forty_pages_and_hold_each_number(rt: HostRuntime) -> Result<(), Fail> {
+    for limit in [None, Some(PAGES)] {
+        let first = zeros(rt.alloc())?;
+        let mut world = match limit {
+            Some(pages) => World::with_limit(rt.alloc(), first, Keep, pages)?,
+            None => World::new(rt.alloc(), first, Keep)?,
+        };
+        for agent in 0..PAGES * PAGE_ITEMS {
+            let mut seen = Vec::new(rt.alloc());
+            world.run(takes(rt.alloc(), agent)?, &mut seen)?;
+            let number = agent as u128;
+            assert_eq!(rt; seen.first(), Some(&Seen::Began(agent)));
+            let last = [Seen::Pulled(agent, number), Seen::MovedOut(agent)];
+            assert!(rt; seen.as_slice().ends_with(last.as_slice()));
+            assert_eq!(rt; world.held(agent), Some(&0));
+        }
+        assert_eq!(rt; (world.pages(), world.word(PAGES - 1)), (PAGES, Some(0)));
+        let last = PAGES * PAGE_ITEMS;
+        let mut seen = Vec::new(rt.alloc());
+        world.run(passes(rt.alloc(), last, PAGES)?, &mut seen)?;
+        let answer = match limit {
+            Some(_) => Seen::Refused(last, PullError::Limit),
+            None => Seen::Next(last, false),
+        };
+        assert_eq!(rt; seen.last(), Some(&answer));
+    }
+    Ok(())
+}
+
+#[test]
+fn three_hundred_agents_read_one_word_in_one_run(rt: HostRuntime) -> Result<(), Fail> {
+    let mut world = unbounded(rt.alloc())?;
+    let mut seen = Vec::new(rt.alloc());
+    let mut events = Vec::new(rt.alloc());
+    for _ in 0..300 {
+        events.push(Event::Begin)?;
+    }
+    for agent in 0..300 {
+        events.push(Event::ReadMask(agent))?;
+    }
+    world.run(events, &mut seen)?;
+    assert_eq!(rt; seen.len(), 600);
+    assert_eq!(rt; seen.get(299), Some(&Seen::Began(299)));
+    assert_eq!(rt; seen.last(), Some(&Seen::Word(299, FULL)));
+    Ok(())
+}
+
+#[test]
+fn a_run_goes_on_past_events_that_are_not_enabled(rt: HostRuntime) -> Result<(), Fail> {
+    let mut world = unbounded(rt.alloc())?;
+    let mut seen = Vec::from_array(rt.alloc(), [Seen::Began(7)])?;
+    let events = Vec::from_array(
+        rt.alloc(),
+        [
+            Event::Begin,
+            Event::MoveOut(0),
+            Event::ReadMask(1),
+            Event::ReadMask(0),
+            Event::MakePage(0, Err(PullError::Init)),
+            Event::ClearBit(0),
+            Event::MoveOut(0),
+            Event::Write(0, 5),
+            Event::OrMask(0),
+        ],
+    )?;
+    let result = world.run(events, &mut seen);
+    assert_eq!(rt; result, Ok(()));
+    let wanted = [
+        Seen::Began(7),
+        Seen::Began(0),
+        Seen::NotEnabled,
+        Seen::NotEnabled,
+        Seen::Word(0, FULL),
+        Seen::NotEnabled,
+        Seen::Pulled(0, 0),
+        Seen::MovedOut(0),
+        Seen::Wrote(0),
+        Seen::NotEnabled,
+    ];
+    assert_eq!(rt; seen.as_slice(), wanted.as_slice());
+    assert_eq!(rt; world.held(0), Some(&5));
+    Ok(())
+}

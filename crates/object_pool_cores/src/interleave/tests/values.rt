@@ -1,0 +1,80 @@
+//! Which value lies where, and when a value is dropped.
+use super::*;
+
+#[test]
+fn each_place_has_the_answer_that_init_gave_at_its_turn(rt: HostRuntime) -> Result<(), Fail> {
+    let calls = Cell::new(0u32);
+    let init = || {
+        let call = calls.get();
+        calls.set(call.saturating_add(1));
+        Some(call)
+    };
+    let first = Prepared::make(rt.alloc(), &init)?;
+    let second = Prepared::make(rt.alloc(), &init)?;
+    assert_eq!(rt; calls.get(), 64);
+    let mut world = World::new(rt.alloc(), first, Keep)?;
+    hold(&mut world, 32);
+    for agent in 0..32usize {
+        assert_eq!(rt; world.held(agent).copied(), Some(agent as u32));
+    }
+    play(
+        &rt,
+        rt.alloc(),
+        &mut world,
+        [
+            (Event::Begin, Seen::Began(32)),
+            (Event::ReadMask(32), Seen::Word(32, 0)),
+            (Event::ReadNext(32), Seen::Next(32, false)),
+            (Event::MakePage(32, Ok(second)), Seen::Made(32)),
+            (Event::ExchangeNext(32), Seen::Linked(32)),
+        ],
+    )?;
+    for id in 0..32u8 {
+        assert_eq!(rt; world.place(1, id).copied(), Some(32 + u32::from(id)));
+    }
+    Ok(())
+}
+
+#[test]
+fn a_write_drops_the_value_before_at_once(rt: HostRuntime) -> Result<(), Fail> {
+    let (made, ends) = (Cell::new(0), Cell::new(0));
+    let first = make_counted(rt.alloc(), &made, &ends)?;
+    let mut world = World::new(rt.alloc(), first, Keep)?;
+    hold(&mut world, 1);
+    assert_eq!(rt; ends.get(), 0);
+    for writes in 1..4u32 {
+        let seen = world.step(Event::Write(0, Counted { ends: &ends }));
+        assert_eq!(rt; (seen, ends.get()), (Seen::Wrote(0), writes));
+    }
+    give_back(&mut world, 0);
+    assert_eq!(rt; ends.get(), 3);
+    let seen = world.step(Event::Write(0, Counted { ends: &ends }));
+    assert_eq!(rt; (seen, ends.get()), (Seen::NotEnabled, 4));
+    drop(world);
+    assert_eq!(rt; (made.get(), ends.get()), (32, 36));
+    Ok(())
+}
+
+#[test]
+fn a_run_drops_the_values_of_events_that_are_not_enabled(rt: HostRuntime) -> Result<(), Fail> {
+    let (made, ends) = (Cell::new(0), Cell::new(0));
+    let first = make_counted(rt.alloc(), &made, &ends)?;
+    let second = make_counted(rt.alloc(), &made, &ends)?;
+    let mut world = World::new(rt.alloc(), first, Keep)?;
+    let mut seen = Vec::new(rt.alloc());
+    let events = Vec::from_array(
+        rt.alloc(),
+        [
+            Event::Begin,
+            Event::Write(0, Counted { ends: &ends }),
+            Event::MakePage(0, Ok(second)),
+        ],
+    )?;
+    world.run(events, &mut seen)?;
+    assert_eq!(rt;
+        seen.as_slice(),
+        [Seen::Began(0), Seen::NotEnabled, Seen::NotEnabled].as_slice()
+    );
+    assert_eq!(rt; (made.get(), ends.get()), (64, 33));
+    Ok(())
+}
