@@ -30,7 +30,7 @@ pub record IsBusyStep {T : Type 0} (a : ℕ) (e : Event T) (answer : Seen) : Typ
   pub busy : is_idle answer ≡ false
 
 -- an idle answer is that the event isn't enabled, where no memory was missing
-idle-not_enabled : (answer : Seen) → is_idle answer ≡ true → answer ≢ seen.NoMemory → answer ≡ seen.NotEnabled
+pub idle-not_enabled : (answer : Seen) → is_idle answer ≡ true → answer ≢ seen.NoMemory → answer ≡ seen.NotEnabled
 idle-not_enabled seen.NotEnabled idle memory = refl
 idle-not_enabled seen.NoMemory idle memory = absurd (memory refl)
 idle-not_enabled _ idle memory = absurd (cc)
@@ -335,6 +335,13 @@ module _ {T : Type 0} where
     chains = λ all brings. FullWord 0 all.some refl at refl refl;
   }
 
+  -- a step is counted
+  pub own_steps-busy : (log : Log T) (a : ℕ) (e : Event T) (answer : Seen) → IsBusyStep a e answer → own_steps ((e, answer) ∷ log) a ≡ own_steps log a + 1
+  own_steps-busy log a e answer alone =
+      ap (λ i. if (if i then false else names (agent_of e) a) then own_steps log a + 1 else own_steps log a) alone.busy
+      ∙ ap (λ b. if names b a then own_steps log a + 1 else own_steps log a) alone.own
+      ∙ ap (λ b. if b then own_steps log a + 1 else own_steps log a) (eq-eqb a a refl)
+
   -- by an event that isn't enabled
   stands-idle : (start old : State T) (log : Log T) (a : ℕ) (e : Event T) (answer : Seen) (new : State T) → is_idle answer ≡ true → new ≡ old → Stands start log old a → Stands start ((e, answer) ∷ log) new a
   stands-idle start old log a e answer new idle same stands =
@@ -355,10 +362,7 @@ module _ {T : Type 0} where
   stands-busy : (Leaves : T → T → Type 0) (first : List T) (before : Log T) (acts : List (Act T)) (start old : State T) → Agrees Leaves first before acts old → (log : Log T) (a : ℕ) (e : Event T) (answer : Seen) (new : State T) → IsBusyStep a e answer → Steps Leaves old e answer new → Stands start log old a → Stands start ((e, answer) ∷ log) new a
   stands-busy Leaves first before acts start old agrees log a e answer new alone step stands =
       let entry : Event T × Seen = (e, answer) in
-      let count : own_steps log a + 1 ≡ own_steps (entry ∷ log) a =
-      sym (ap (λ i. if (if i then false else names (agent_of e) a) then own_steps log a + 1 else own_steps log a) alone.busy
-      ∙ ap (λ b. if names b a then own_steps log a + 1 else own_steps log a) alone.own
-      ∙ ap (λ b. if b then own_steps log a + 1 else own_steps log a) (eq-eqb a a refl)) in
+      let count : own_steps log a + 1 ≡ own_steps (entry ∷ log) a = sym (own_steps-busy log a e answer alone) in
       record {
         walks = λ k free.
             let P : ℕ → Type 0 = λ n. Walk start.pages k 0 n a (entry ∷ log) new (slice_get new.agents a) in

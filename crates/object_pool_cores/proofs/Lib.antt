@@ -5,6 +5,7 @@ pub mod CommandWords
 pub mod Enabled
 pub mod Headline
 pub mod Holders
+pub mod InOrder
 pub mod LeastChoiceSteps
 pub mod LineSplits
 pub mod LinearTranscript
@@ -13,6 +14,7 @@ pub mod LinkSteps
 pub mod LowestBit
 pub mod PreparedValues
 pub mod Progress
+pub mod RanSteps
 pub mod Readings
 pub mod Replayed
 pub mod ReplyRuns

@@ -21,7 +21,9 @@ use Rattle.object_pool_cores.proofs.WordSteps.{known}
 use Rattle.object_pool_cores.proofs.Headline.{ran-is_run}
 use Rattle.object_pool_cores.proofs.Enabled.{any-step, reached-new, reached-step, reached-agrees}
 use Rattle.object_pool_cores.specs.World.Alone.{IsAlone}
-use Rattle.object_pool_cores.proofs.Alone.{Stands, stands-first, stands-next, stands-alone}
+use Rattle.object_pool_cores.proofs.Alone.{stands-alone}
+use Rattle.object_pool_cores.proofs.RanSteps.{ran-append, ran-reached, ran-advances, ran-stands}
+use Rattle.object_pool_cores.proofs.InOrder.{ran-in_order, none-in_order}
 use Rattle.object_pool_cores.proofs.Progress.{start_of, AdvancedTo, effect-advances, none-advanced, step-does}
 
 -- an error isn't Ok
@@ -39,6 +41,10 @@ module _ {T : Type 0} where
   no-steps : (later earlier : Log T) (a : ℕ) → later ++ earlier ≡ [] → own_steps later a ≡ 0
   no-steps [] earlier a none = refl
   no-steps (entry ∷ later) earlier a none = absurd (cc)
+
+  no-events : (later earlier : Log T) → later ++ earlier ≡ [] → later ≡ []
+  no-events [] earlier none = refl
+  no-events (entry ∷ later) earlier none = absurd (cc)
 
   -- what is known of an agent in a world that can be reached
   known-reached : (new : State T) (reached : IsReached new) (a : ℕ) (point : Point T) → slice_get new.agents a ≡ Some point → Knows (λ before kept. ⊤) reached.is_new.first reached.log (reached-agrees new reached).acts new a point
@@ -110,61 +116,36 @@ module _ {T : Type 0} where
   limit-steps-at start new log a limit reached is none _ at advanced looks = absurd looks
 
 module _ {T : Type 0} (Leaves : T → T → Type 0) where
-  -- steps that follow others
-  ran-append : (old between : State T) (earlier : Log T) → Ran Leaves old earlier between → (later : Log T) (new : State T) → Ran Leaves between later new → Ran Leaves old (later ++ earlier) new
-  ran-append old between earlier before [] new same =
-      let P : State T → Type 0 = Ran Leaves old earlier in
-      subst P (sym same) before
-  ran-append old between earlier before ((e, answer) ∷ later) new (last, ran, step, exact) =
-      (last, ran-append old between earlier before later last ran, step, exact)
-
-  -- what steps lead to can be reached
-  ran-reached : (old : State T) → IsReached old → (log : Log T) (new : State T) → Ran Leaves old log new → IsReached new
-  ran-reached old reached [] new same =
-      let P : State T → Type 0 = IsReached in
-      subst P (sym same) reached
-  ran-reached old reached ((e, answer) ∷ log) new (between, ran, step, exact) =
-      reached-step Leaves between e answer new (ran-reached old reached log between ran) step
-
-  -- an agent goes on by its own steps
-  ran-advances : (old : State T) → IsReached old → (a : ℕ) (log : Log T) (new : State T) → Ran Leaves old log new → AdvancedTo (slice_get old.agents a) (own_steps log a) (slice_get new.agents a)
-  ran-advances old reached a [] new same =
-      let P : State T → Type 0 = λ world. AdvancedTo (slice_get old.agents a) 0 (slice_get world.agents a) in
-      subst P (sym same) (none-advanced (slice_get old.agents a))
-  ran-advances old reached a ((e, answer) ∷ log) new (between, ran, step, exact) =
-      let there = ran-reached old reached log between ran in
-      let shown = reached-agrees between there in
-      effect-advances (slice_get old.agents a) (slice_get between.agents a) (slice_get new.agents a) (own_steps log a) (is_step_of e answer a)
-      (step-does (λ before kept. ⊤) there.is_new.first there.log shown.acts between shown.agrees answer new e (any-step Leaves between e answer new step) a)
-      (ran-advances old reached a log between ran)
-
-  -- an agent that steps alone
-  ran-stands : (old : State T) → IsReached old → (a : ℕ) → slice_get old.agents a ≡ Some (Reading 0) → (log : Log T) (new : State T) → Ran Leaves old log new → IsAlone a log → Stands old log new a
-  ran-stands old reached a at [] new same alone =
-      let P : State T → Type 0 = λ world. Stands old [] world a in
-      subst P (sym same) (stands-first old a at)
-  ran-stands old reached a at ((e, answer) ∷ log) new (between, ran, step, exact) alone =
-      let there = ran-reached old reached log between ran in
-      let shown = reached-agrees between there in
-      stands-next (λ before kept. ⊤) there.is_new.first there.log shown.acts old between shown.agrees log a e answer new alone.0 (any-step Leaves between e answer new step) exact
-      (ran-stands old reached a at log between ran alone.1)
+  none-goes : (old new : State T) (a : ℕ) (log : Log T) → log ≡ [] → Ran Leaves old log new → slice_get new.agents a ≡ slice_get old.agents a
+  none-goes old new a [] none same = ap (λ world. slice_get world.agents a) same
+  none-goes old new a (entry ∷ log) none ran = absurd (cc)
 
   -- what own steps come to, from a world that can be reached
   reached-leads : (old : State T) → IsReached old → (log : Log T) (new : State T) → Ran Leaves old log new → Advances Leaves old log new
   reached-leads old reached log new ran = record {
     per_page = λ between later on a k at here.
-        let there = ran-reached old reached on.earlier between on.before in
-        let end = ran-reached between there later new on.since in
-        page-steps-at (slice_get between.agents a) new later a k end at (slice_get new.agents a) refl (ran-advances between there a later new on.since) here;
+        let there = ran-reached Leaves old reached on.earlier between on.before in
+        let end = ran-reached Leaves between there later new on.since in
+        page-steps-at (slice_get between.agents a) new later a k end at (slice_get new.agents a) refl (ran-advances Leaves between there a later new on.since) here;
+    bounded = λ between later on a limit none is looks.
+        let there = ran-reached Leaves old reached on.earlier between on.before in
+        let end = ran-reached Leaves between there later new on.since in
+        limit-steps-at (slice_get between.agents a) new later a limit end is none (slice_get new.agents a) refl (ran-advances Leaves between there a later new on.since) looks;
     alone = λ between later on a at only.
-        let there = ran-reached old reached on.earlier between on.before in
-        stands-alone between later new a (ran-stands between there a at later new on.since only);
+        let there = ran-reached Leaves old reached on.earlier between on.before in
+        stands-alone between later new a (ran-stands Leaves between there a at later new on.since only);
+    in_order = λ between later on a at only.
+        let there = ran-reached Leaves old reached on.earlier between on.before in
+        ran-in_order Leaves between there a at later new on.since only;
   }
 
-  -- no steps come to nothing
+  -- where no steps were done the world on the way is the last, and no step leads on from it
   nothing-leads : (old new : State T) → Advances Leaves old [] new
   nothing-leads old new = record {
     per_page = λ between later on a k at here. let none = no-steps later on.earlier a on.parts in omega arith;
+    bounded = λ between later on a limit none is looks.
+        let P : Option (Point T) → Type 0 = IsLooking in
+        absurd (subst P (none-goes between new a later (no-events later on.earlier on.parts) on.since ∙ none) looks);
     alone = λ between later on a at only.
         let none = no-steps later on.earlier a on.parts in
         record {
@@ -172,6 +153,7 @@ module _ {T : Type 0} (Leaves : T → T → Type 0) where
           links = λ all unlimited brings. record { answered = λ many. absurd (omega arith); held = λ now. absurd (omega arith) };
           refused = λ all limited many. let some = all.some in absurd (omega arith);
         };
+    in_order = λ between later on a at only. none-in_order between later new a (no-events later on.earlier on.parts);
   }
 
   -- an agent that hadn't begun
@@ -182,11 +164,11 @@ module _ {T : Type 0} (Leaves : T → T → Type 0) where
   pub ran-since_new : (start : State T) (is_new : IsNew start) (log : Log T) (new : State T) → Ran Leaves start log new → SinceNew Leaves start is_new.first log new
   ran-since_new start is_new log new ran =
       let reached = reached-new start is_new in
-      let end = ran-reached start reached log new ran in
+      let end = ran-reached Leaves start reached log new ran in
       record {
         headline = ran-is_run Leaves start is_new log new ran;
         bounded = λ a limit is looks.
-            limit-steps-at (slice_get start.agents a) new log a limit end is (new-limit start is_new a) (slice_get new.agents a) refl (ran-advances start reached a log new ran) looks;
+            limit-steps-at (slice_get start.agents a) new log a limit end is (new-limit start is_new a) (slice_get new.agents a) refl (ran-advances Leaves start reached a log new ran) looks;
         advances = reached-leads start reached log new ran;
       }
 

@@ -1,5 +1,5 @@
 -- An agent that steps alone.
-use Rattle.std.specs.Prelude.{◌≡◌, ◌≢◌, ◌⊎◌, ℕ, ◌+◌, ◌*◌, ◌<◌, ◌≤◌, Option, Some, List, [], ◌∷◌, length, slice_get, Err, ⊤}
+use Rattle.std.specs.Prelude.{◌≡◌, ◌≢◌, ◌⊎◌, ℕ, zero, suc, ◌+◌, ◌*◌, ◌<◌, ◌≤◌, Option, Some, List, [], ◌∷◌, map, length, slice_get, Ok, Err, ⊤}
 use Rattle.lockfree_object_pool.specs.declared.pull_error.PullError.TheVariants.{Limit}
 use Rattle.object_pool_cores.specs.declared.interleave.event.Event.{Event}
 use Rattle.object_pool_cores.specs.declared.interleave.event.Event.TheVariants as event
@@ -60,9 +60,38 @@ module _ {T : Type 0} where
     pub answered : count ≤ own_steps log a → IsAnswered log (seen.MovedOut a)
     pub held : own_steps log a ≡ count → HasMovedOut (slice_get new.agents a)
 
+  -- the events with which an agent passes so many full pages, of which the last stands first
+  abbrev pub passing : ℕ → ℕ → List (Event T)
+  passing a zero = []
+  passing a (suc count) = event.ReadNext a ∷ event.ReadMask a ∷ passing a count
+
+  -- those with which it takes an item after these
+  abbrev pub taking : ℕ → List (Event T) → List (Event T)
+  taking a before = event.MoveOut a ∷ event.ClearBit a ∷ event.ReadMask a ∷ before
+
+  -- those with which it links a page of these values after these
+  abbrev pub linking : ℕ → List T → List (Event T) → List (Event T)
+  linking a values before = event.ExchangeNext a ∷ event.MakePage a (Ok values) ∷ before
+
+  -- the events of a log
+  abbrev pub events_of : Log T → List (Event T)
+  events_of log = map (λ entry. entry.0) log
+
 -- an agent that reads page 0 first and then steps alone has an item after two steps for each full page and three
 -- more, or after two more where it links a page, and is refused by the second step at the last page of a limit
 pub record StepsAlone {T : Type 0} (old : State T) (log : Log T) (new : State T) (a : ℕ) : Type 0 where
   pub takes : (k : ℕ) → IsFirstFree old.pages k → MovesOutBy (2 * k + 3) log new a
   pub links : AllFull old.pages → old.limit ≢ Some (length old.pages) → BringsPages log → MovesOutBy (2 * length old.pages + 5) log new a
   pub refused : AllFull old.pages → old.limit ≡ Some (length old.pages) → 2 * length old.pages ≤ own_steps log a → IsAnswered log (seen.Refused a Limit)
+
+-- so it is of an agent whose events come in the order of the table
+pub record StepsInOrder {T : Type 0} (old : State T) (log : Log T) (new : State T) (a : ℕ) : Type 0 where
+  pub takes :
+      (k : ℕ) → IsFirstFree old.pages k
+      → events_of log ≡ taking a (passing a k) → HasMovedOut (slice_get new.agents a)
+  pub links :
+      AllFull old.pages → old.limit ≢ Some (length old.pages) → (values : List T)
+      → events_of log ≡ taking a (linking a values (passing a (length old.pages))) → HasMovedOut (slice_get new.agents a)
+  pub refused :
+      AllFull old.pages → old.limit ≡ Some (length old.pages)
+      → events_of log ≡ passing a (length old.pages) → IsAnswered log (seen.Refused a Limit)

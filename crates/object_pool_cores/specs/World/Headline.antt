@@ -1,5 +1,5 @@
 -- The headline: what agents do in a world, in any order of their steps, is a run of one pool.
-use Rattle.std.specs.Prelude.{◌≡◌, ℕ, ◌-◌, ◌*◌, ◌<◌, Some, List, [], ◌∷◌, ◌++◌, map, reverse, length, slice_get, Result, OnOk}
+use Rattle.std.specs.Prelude.{◌≡◌, ℕ, ◌-◌, ◌*◌, ◌<◌, Some, None, List, [], ◌∷◌, ◌++◌, map, reverse, length, slice_get, Result, OnOk}
 use Rattle.object_pool_cores.specs.declared.interleave.event.Event.{Event}
 use Rattle.object_pool_cores.specs.declared.interleave.event.Seen.{Seen}
 use Rattle.object_pool_cores.specs.declared.interleave.point.Point.TheVariants.{Reading}
@@ -11,7 +11,7 @@ use Rattle.object_pool_cores.specs.World.Machine.{Steps, item_of, number_out, op
 use Rattle.object_pool_cores.specs.World.Rows.{IsExact}
 use Rattle.object_pool_cores.specs.World.Reading.{reading}
 use Rattle.object_pool_cores.specs.World.Visible.{Log, Reads}
-use Rattle.object_pool_cores.specs.World.Alone.{IsAlone, StepsAlone}
+use Rattle.object_pool_cores.specs.World.Alone.{IsAlone, StepsAlone, StepsInOrder}
 use Rattle.object_pool_cores.specs.World.OwnSteps.{own_steps, IsOnPage, IsLooking}
 
 -- what the events did, from a world of these first values in which no agent had begun, is a run of one pool
@@ -81,10 +81,19 @@ module _ {T : Type 0} (Leaves : T → T → Type 0) where
     pub per_page :
         (between : State T) (later : Log T) → OnTheWay old log new between later → (a k : ℕ)
         → slice_get between.agents a ≡ Some (Reading k) → IsOnPage k (slice_get new.agents a) → own_steps later a < 33
+    -- under a limit an agent that begins is pulled or refused by its own step 36 * limit - 2: while it looks it took fewer
+    pub bounded :
+        (between : State T) (later : Log T) → OnTheWay old log new between later → (a limit : ℕ)
+        → slice_get between.agents a ≡ None → new.limit ≡ Some limit → IsLooking (slice_get new.agents a)
+        → own_steps later a < 36 * limit - 2
     -- an agent that has begun, and alone steps, has an item or is refused after so many steps
     pub alone :
         (between : State T) (later : Log T) → OnTheWay old log new between later → (a : ℕ)
         → slice_get between.agents a ≡ Some (Reading 0) → IsAlone a later → StepsAlone between later new a
+    -- so it is where its events come in the order of the table
+    pub in_order :
+        (between : State T) (later : Log T) → OnTheWay old log new between later → (a : ℕ)
+        → slice_get between.agents a ≡ Some (Reading 0) → IsAlone a later → StepsInOrder between later new a
 
   -- all that was done since the world was new
   pub record SinceNew (start : State T) (first : List T) (log : Log T) (world : State T) : Type 0 where
