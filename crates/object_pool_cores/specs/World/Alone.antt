@@ -81,8 +81,12 @@ module _ {T : Type 0} where
 -- more, or after two more where it links a page, and is refused by the second step at the last page of a limit
 pub record StepsAlone {T : Type 0} (old : State T) (log : Log T) (new : State T) (a : ℕ) : Type 0 where
   pub takes : (k : ℕ) → IsFirstFree old.pages k → MovesOutBy (2 * k + 3) log new a
-  pub links : AllFull old.pages → old.limit ≢ Some (length old.pages) → BringsPages log → MovesOutBy (2 * length old.pages + 5) log new a
-  pub refused : AllFull old.pages → old.limit ≡ Some (length old.pages) → 2 * length old.pages ≤ own_steps log a → IsAnswered log (seen.Refused a Limit)
+  pub links :
+      AllFull old.pages → old.limit ≢ Some (length old.pages) → BringsPages log
+      → MovesOutBy (2 * length old.pages + 5) log new a
+  pub refused :
+      AllFull old.pages → old.limit ≡ Some (length old.pages)
+      → 2 * length old.pages ≤ own_steps log a → IsAnswered log (seen.Refused a Limit)
 
 -- so it is of an agent whose events come in the order of the table
 pub record StepsInOrder {T : Type 0} (old : State T) (log : Log T) (new : State T) (a : ℕ) : Type 0 where
@@ -91,7 +95,8 @@ pub record StepsInOrder {T : Type 0} (old : State T) (log : Log T) (new : State 
       → events_of log ≡ taking a (passing a k) → HasMovedOut (slice_get new.agents a)
   pub links :
       AllFull old.pages → old.limit ≢ Some (length old.pages) → (values : List T)
-      → events_of log ≡ taking a (linking a values (passing a (length old.pages))) → HasMovedOut (slice_get new.agents a)
+      → events_of log ≡ taking a (linking a values (passing a (length old.pages)))
+      → HasMovedOut (slice_get new.agents a)
   pub refused :
       AllFull old.pages → old.limit ≡ Some (length old.pages)
       → events_of log ≡ passing a (length old.pages) → IsAnswered log (seen.Refused a Limit)

@@ -29,9 +29,11 @@ pub record IsRun {T : Type 0} (Leaves : T → T → Type 0) (first : List T) (lo
   -- at each place of the run each number that is out has one holder, and each other number none
   pub holders : AtEachPlace (HasHolders first) acts
   -- an agent with an item in the world holds its number with its value there
-  pub held : (a n : ℕ) (value : T) → item_of (slice_get world.agents a) ≡ Some (n, value) → stage_of acts a ≡ Holds n value
-  -- so it is from its pull to its return
-  pub out : (a n : ℕ) → number_out (slice_get world.agents a) ≡ Some n → (value : T) × (stage_of acts a ≡ Holds n value)
+  pub held :
+      (a n : ℕ) (value : T) → item_of (slice_get world.agents a) ≡ Some (n, value) → stage_of acts a ≡ Holds n value
+  -- so it is of its number from its pull to its return
+  pub out :
+      (a n : ℕ) → number_out (slice_get world.agents a) ≡ Some n → (value : T) × (stage_of acts a ≡ Holds n value)
   -- at each growth and each refusal the agent had found each earlier number out since it began
   pub found : Found first acts
 
@@ -41,6 +43,12 @@ pub record IsNew {T : Type 0} (world : State T) : Type 0 where
   pub full : length first ≡ 32
   pub allowed : AllowsPages world.limit 1
   pub same : world ≡ opening_world first world.limit
+
+-- events with their answers, between two worlds
+pub record Stretch (T : Type 0) : Type 0 where
+  pub from : State T
+  pub log : Log T
+  pub to : State T
 
 -- a run's beginning: the world, the events that it is given, and the answers that were there
 pub record RunStart (T : Type 0) : Type 0 where
@@ -68,49 +76,57 @@ module _ {T : Type 0} (Leaves : T → T → Type 0) where
     pub log : Log T
     pub ran : Ran start log world
 
-  -- a world on the way from one to another, and the steps from there on
-  pub record OnTheWay (old : State T) (log : Log T) (new between : State T) (later : Log T) : Type 0 where
+  -- steps among others: those before them and those after them
+  pub record IsPart (part whole : Stretch T) : Type 0 where
     pub earlier : Log T
-    pub parts : later ++ earlier ≡ log
-    pub before : Ran old earlier between
-    pub since : Ran between later new
+    pub later : Log T
+    pub logs : later ++ part.log ++ earlier ≡ whole.log
+    pub before : Ran whole.from earlier part.from
+    pub steps : Ran part.from part.log part.to
+    pub after : Ran part.to later whole.to
 
-  -- what an agent's own steps come to, from any world on the way
-  pub record Advances (old : State T) (log : Log T) (new : State T) : Type 0 where
+  -- what an agent's own steps come to, on each part of a stretch
+  pub record Advances (whole : Stretch T) : Type 0 where
     -- an agent that reads page k is off it by its 33rd own step: while it is on the page it took fewer
     pub per_page :
-        (between : State T) (later : Log T) → OnTheWay old log new between later → (a k : ℕ)
-        → slice_get between.agents a ≡ Some (Reading k) → IsOnPage k (slice_get new.agents a) → own_steps later a < 33
-    -- under a limit an agent that begins is pulled or refused by its own step 36 * limit - 2: while it looks it took fewer
+        (part : Stretch T) → IsPart part whole → (a k : ℕ)
+        → slice_get part.from.agents a ≡ Some (Reading k) → IsOnPage k (slice_get part.to.agents a)
+        → own_steps part.log a < 33
+    -- under a limit an agent that begins is pulled or refused by its own step 36 * limit - 2: while it looks
+    -- it took fewer
     pub bounded :
-        (between : State T) (later : Log T) → OnTheWay old log new between later → (a limit : ℕ)
-        → slice_get between.agents a ≡ None → new.limit ≡ Some limit → IsLooking (slice_get new.agents a)
-        → own_steps later a < 36 * limit - 2
+        (part : Stretch T) → IsPart part whole → (a limit : ℕ)
+        → slice_get part.from.agents a ≡ None → part.to.limit ≡ Some limit → IsLooking (slice_get part.to.agents a)
+        → own_steps part.log a < 36 * limit - 2
     -- an agent that has begun, and alone steps, has an item or is refused after so many steps
     pub alone :
-        (between : State T) (later : Log T) → OnTheWay old log new between later → (a : ℕ)
-        → slice_get between.agents a ≡ Some (Reading 0) → IsAlone a later → StepsAlone between later new a
+        (part : Stretch T) → IsPart part whole → (a : ℕ)
+        → slice_get part.from.agents a ≡ Some (Reading 0) → IsAlone a part.log
+        → StepsAlone part.from part.log part.to a
     -- so it is where its events come in the order of the table
     pub in_order :
-        (between : State T) (later : Log T) → OnTheWay old log new between later → (a : ℕ)
-        → slice_get between.agents a ≡ Some (Reading 0) → IsAlone a later → StepsInOrder between later new a
+        (part : Stretch T) → IsPart part whole → (a : ℕ)
+        → slice_get part.from.agents a ≡ Some (Reading 0) → IsAlone a part.log
+        → StepsInOrder part.from part.log part.to a
 
   -- all that was done since the world was new
-  pub record SinceNew (start : State T) (first : List T) (log : Log T) (world : State T) : Type 0 where
+  pub record SinceNew (first : List T) (whole : Stretch T) : Type 0 where
     -- it is a run of one pool
-    pub headline : IsRun Leaves first log world
+    pub headline : IsRun Leaves first whole.log whole.to
     -- under a limit an agent is pulled or refused by its own step 36 * limit - 2: while it looks it took fewer
     pub bounded :
-        (a limit : ℕ) → world.limit ≡ Some limit → IsLooking (slice_get world.agents a)
-        → own_steps log a < 36 * limit - 2
-    pub advances : Advances start log world
+        (a limit : ℕ) → whole.to.limit ≡ Some limit → IsLooking (slice_get whole.to.agents a)
+        → own_steps whole.log a < 36 * limit - 2
+    pub advances : Advances whole
 
   -- the events were done from the first on, all of them unless memory ran out
-  pub record Played (before : RunStart T) (after : RunEnd T) : Type 0 where
+  pub record RunsEvents (before : RunStart T) (after : RunEnd T) : Type 0 where
     -- the events that were done, with their answers
     pub log : Log T
     -- whatever was done before, it and they together are a run since the world was new
-    pub since_new : (past : Past before.world) → SinceNew past.start past.is_new.first (log ++ past.log) after.world
+    pub since_new :
+        (past : Past before.world)
+        → SinceNew past.is_new.first (record { from = past.start; log = log ++ past.log; to = after.world })
     -- they are a beginning of the list, and after Ok the whole list
     pub rest : List (Event T)
     pub done : map (λ entry. entry.0) (reverse log) ++ rest ≡ before.events
@@ -119,4 +135,4 @@ module _ {T : Type 0} (Leaves : T → T → Type 0) where
     pub answers : before.seen ++ map (λ entry. entry.1) (reverse log) ≡ after.seen
     -- each is a step of the machine, which isn't enabled exactly where the table has no row
     pub steps : Ran before.world log after.world
-    pub advances : Advances before.world log after.world
+    pub advances : Advances (record { from = before.world; log = log; to = after.world })

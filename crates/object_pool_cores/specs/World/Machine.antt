@@ -151,7 +151,7 @@ module _ {T : Type 0} where
   make_page world a (Ok values) (Some (Making k)) = if_linked world k (seen.Made a, at_point world a (Linking k values))
   make_page world a (Err Memory) (Some (Making k)) = (seen.Refused a Memory, at_point world a Ended)
   make_page world a (Err Init) (Some (Making k)) = (seen.Refused a Init, at_point world a Ended)
-  make_page world a made _ = not_enabled world
+  make_page world a prepared _ = not_enabled world
 
   abbrev pub exchange_next : State T → ℕ → Option (Point T) → Outcome T
   exchange_next world a (Some (Linking k values)) =
@@ -191,8 +191,8 @@ module _ {T : Type 0} where
   begin world = (seen.Began (length world.agents), record { pages = world.pages; agents = world.agents ++ Reading 0 ∷ []; limit = world.limit })
 
   -- the answer and the world are those of the outcome
-  abbrev pub Gives : Outcome T → Seen → State T → Type 0
-  Gives outcome answer new = (answer ≡ outcome.0) × (new ≡ outcome.1)
+  abbrev pub IsOutcome : Outcome T → Seen → State T → Type 0
+  IsOutcome outcome answer new = (answer ≡ outcome.0) × (new ≡ outcome.1)
 
   -- the tables may have to grow for this event: a new agent, or the room of a page's link
   abbrev pub MayGrow : Event T → Option (Point T) → Type 0
@@ -211,7 +211,7 @@ module _ {T : Type 0} where
   agent_of (event.ReadMask a) = Some a
   agent_of (event.ClearBit a) = Some a
   agent_of (event.ReadNext a) = Some a
-  agent_of (event.MakePage a made) = Some a
+  agent_of (event.MakePage a prepared) = Some a
   agent_of (event.ExchangeNext a) = Some a
   agent_of (event.MoveOut a) = Some a
   agent_of (event.Write a value) = Some a
@@ -225,21 +225,21 @@ module _ {T : Type 0} where
 module _ {T : Type 0} (Leaves : T → T → Type 0) where
   -- reset runs on the agent's value, and may leave any value that it leaves of it
   abbrev pub MovesHome : State T → ℕ → Option (Point T) → Seen → State T → Type 0
-  MovesHome old a (Some (Holding k id value)) answer new = (kept : T) × Leaves value kept × Gives (puts old a k id kept) answer new
-  MovesHome old a _ answer new = Gives (not_enabled old) answer new
+  MovesHome old a (Some (Holding k id value)) answer new = (kept : T) × Leaves value kept × IsOutcome (puts old a k id kept) answer new
+  MovesHome old a _ answer new = IsOutcome (not_enabled old) answer new
 
   -- the row of the table for an event
   abbrev pub Row : State T → Event T → Seen → State T → Type 0
-  Row old event.Begin answer new = Gives (begin old) answer new
-  Row old (event.ReadMask a) answer new = Gives (read_mask old a (slice_get old.agents a)) answer new
-  Row old (event.ClearBit a) answer new = Gives (clear_bit old a (slice_get old.agents a)) answer new
-  Row old (event.ReadNext a) answer new = Gives (read_next old a (slice_get old.agents a)) answer new
-  Row old (event.MakePage a made) answer new = Gives (make_page old a made (slice_get old.agents a)) answer new
-  Row old (event.ExchangeNext a) answer new = Gives (exchange_next old a (slice_get old.agents a)) answer new × LinksWhole answer (prepared_by (slice_get old.agents a))
-  Row old (event.MoveOut a) answer new = Gives (move_out old a (slice_get old.agents a)) answer new
-  Row old (event.Write a value) answer new = Gives (write old a value (slice_get old.agents a)) answer new
+  Row old event.Begin answer new = IsOutcome (begin old) answer new
+  Row old (event.ReadMask a) answer new = IsOutcome (read_mask old a (slice_get old.agents a)) answer new
+  Row old (event.ClearBit a) answer new = IsOutcome (clear_bit old a (slice_get old.agents a)) answer new
+  Row old (event.ReadNext a) answer new = IsOutcome (read_next old a (slice_get old.agents a)) answer new
+  Row old (event.MakePage a prepared) answer new = IsOutcome (make_page old a prepared (slice_get old.agents a)) answer new
+  Row old (event.ExchangeNext a) answer new = IsOutcome (exchange_next old a (slice_get old.agents a)) answer new × LinksWhole answer (prepared_by (slice_get old.agents a))
+  Row old (event.MoveOut a) answer new = IsOutcome (move_out old a (slice_get old.agents a)) answer new
+  Row old (event.Write a value) answer new = IsOutcome (write old a value (slice_get old.agents a)) answer new
   Row old (event.MoveHome a) answer new = MovesHome old a (slice_get old.agents a) answer new
-  Row old (event.OrMask a) answer new = Gives (or_mask old a (slice_get old.agents a)) answer new
+  Row old (event.OrMask a) answer new = IsOutcome (or_mask old a (slice_get old.agents a)) answer new
 
   -- one step: the row of the table; or the tables had to grow and couldn't, and nothing changes
   abbrev pub Steps : State T → Event T → Seen → State T → Type 0

@@ -2,7 +2,7 @@
 ghost use Rattle.std.specs.Prelude.{slice_set, vec_len, vec_capacity, ◌++◌, ◌∷◌, [], ◌≡◌, ◌+◌, ◌<◌, ◌≤◌, ◌↔◌, ◌==◌, ◌⊎◌, Option, Some, None, option_map, option_copied, slice_get, length, IfOk, OnOk, IsTrue, bit_and};
 ghost use Rattle.object_pool_cores.specs.World.PageState.{PageState};
 ghost use Rattle.object_pool_cores.specs.World.Room.{NeedsNoRoom};
-ghost use Rattle.object_pool_cores.specs.World.Machine.{prepared_by, at_point, linked_page, lowest, without_lowest, has_bit, is_limit, word_of, value_at, with_word, with_value, opening_world, tries, read_mask, clear_bit, held_by, read_next, make_page, exchange_next, move_out, write, or_mask, begin, Gives, MayGrow, LinksWhole, MovesHome, Steps};
+ghost use Rattle.object_pool_cores.specs.World.Machine.{prepared_by, at_point, linked_page, lowest, without_lowest, has_bit, is_limit, word_of, value_at, with_word, with_value, opening_world, tries, read_mask, clear_bit, held_by, read_next, make_page, exchange_next, move_out, write, or_mask, begin, IsOutcome, MayGrow, LinksWhole, MovesHome, Steps};
 ghost use Rattle.object_pool_cores.specs.Pool.{number};
 ghost use Rattle.object_pool_cores.specs.declared.interleave.point.Point.TheVariants.{Reading};
 ghost use Rattle.object_pool_cores.specs.declared.interleave.event.Seen.TheVariants.{NoMemory};
@@ -248,7 +248,7 @@ impl<T: Drop> Table<T> {
             Event::ReadMask(agent) => self.read_mask(agent),
             Event::ClearBit(agent) => self.clear_bit(agent),
             Event::ReadNext(agent) => self.read_next(agent),
-            Event::MakePage(agent, made) => self.make_page(agent, made),
+            Event::MakePage(agent, prepared) => self.make_page(agent, prepared),
             Event::ExchangeNext(agent) => self.exchange_next(agent),
             Event::MoveOut(agent) => self.move_out(agent),
             Event::Write(agent, value) => self.write(agent, value),
@@ -267,7 +267,7 @@ impl<T: Drop> Table<T> {
     }
 
     fn begin(&mut self) -> Seen
-        ensures { Gives (begin self.old) result self.new ⊎ ((result ≡ NoMemory) × (self.new ≡ self.old)) }
+        ensures { IsOutcome (begin self.old) result self.new ⊎ ((result ≡ NoMemory) × (self.new ≡ self.old)) }
     {
         let agent = self.agents.len();
         match self.agents.push(Point::Reading(0)) {
@@ -277,7 +277,7 @@ impl<T: Drop> Table<T> {
     }
 
     fn read_mask(&mut self, agent: usize) -> Seen
-        ensures { Gives (read_mask self.old agent (slice_get self.old.agents agent)) result self.new }
+        ensures { IsOutcome (read_mask self.old agent (slice_get self.old.agents agent)) result self.new }
     {
         let page = match self.agents.get(agent) {
             Some(Point::Reading(page)) => *page,
@@ -289,7 +289,7 @@ impl<T: Drop> Table<T> {
     }
 
     fn clear_bit(&mut self, agent: usize) -> Seen
-        ensures { Gives (clear_bit self.old agent (slice_get self.old.agents agent)) result self.new }
+        ensures { IsOutcome (clear_bit self.old agent (slice_get self.old.agents agent)) result self.new }
     {
         let (page, mask) = match self.agents.get(agent) {
             Some(Point::Clearing(page, mask)) => (*page, *mask),
@@ -310,7 +310,7 @@ impl<T: Drop> Table<T> {
     }
 
     fn read_next(&mut self, agent: usize) -> Seen
-        ensures { Gives (read_next self.old agent (slice_get self.old.agents agent)) result self.new }
+        ensures { IsOutcome (read_next self.old agent (slice_get self.old.agents agent)) result self.new }
     {
         let page = match self.agents.get(agent) {
             Some(Point::AtLink(page)) => *page,
@@ -332,14 +332,14 @@ impl<T: Drop> Table<T> {
         Seen::Next(agent, true)
     }
 
-    fn make_page(&mut self, agent: usize, made: Result<Prepared<T>, PullError>) -> Seen
-        ensures { Gives (make_page self.old agent made (slice_get self.old.agents agent)) result self.new ⊎ (MayGrow (MakePage agent made) (slice_get self.old.agents agent) × (result ≡ NoMemory) × (self.new ≡ self.old)) }
+    fn make_page(&mut self, agent: usize, prepared: Result<Prepared<T>, PullError>) -> Seen
+        ensures { IsOutcome (make_page self.old agent prepared (slice_get self.old.agents agent)) result self.new ⊎ (MayGrow (MakePage agent prepared) (slice_get self.old.agents agent) × (result ≡ NoMemory) × (self.new ≡ self.old)) }
     {
         let page = match self.agents.get(agent) {
             Some(Point::Making(page)) => *page,
             _ => return Seen::NotEnabled,
         };
-        match made {
+        match prepared {
             Ok(values) => {
                 if page >= self.pages.len() {
                     return Seen::NotEnabled;
@@ -359,7 +359,7 @@ impl<T: Drop> Table<T> {
     }
 
     fn exchange_next(&mut self, agent: usize) -> Seen
-        ensures step { Gives (exchange_next self.old agent (slice_get self.old.agents agent)) result self.new }
+        ensures step { IsOutcome (exchange_next self.old agent (slice_get self.old.agents agent)) result self.new }
         ensures whole { LinksWhole result (prepared_by (slice_get self.old.agents agent)) }
     {
         let page = match self.agents.get(agent) {
@@ -384,7 +384,7 @@ impl<T: Drop> Table<T> {
     }
 
     fn move_out(&mut self, agent: usize) -> Seen
-        ensures { Gives (move_out self.old agent (slice_get self.old.agents agent)) result self.new }
+        ensures { IsOutcome (move_out self.old agent (slice_get self.old.agents agent)) result self.new }
     {
         let (page, id) = match self.agents.get(agent) {
             Some(Point::Taken(page, id)) => (*page, *id),
@@ -403,7 +403,7 @@ impl<T: Drop> Table<T> {
     }
 
     fn write(&mut self, agent: usize, value: T) -> Seen
-        ensures { Gives (write self.old agent value (slice_get self.old.agents agent)) result self.new }
+        ensures { IsOutcome (write self.old agent value (slice_get self.old.agents agent)) result self.new }
     {
         let (page, id) = match self.agents.get(agent) {
             Some(Point::Holding(page, id, _)) => (*page, *id),
@@ -430,7 +430,7 @@ impl<T: Drop> Table<T> {
     }
 
     fn or_mask(&mut self, agent: usize) -> Seen
-        ensures { Gives (or_mask self.old agent (slice_get self.old.agents agent)) result self.new }
+        ensures { IsOutcome (or_mask self.old agent (slice_get self.old.agents agent)) result self.new }
     {
         let (page, id) = match self.agents.get(agent) {
             Some(Point::Home(page, id)) => (*page, *id),

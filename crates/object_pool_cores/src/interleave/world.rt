@@ -1,7 +1,7 @@
 //! The world of agents.
 ghost use Rattle.std.specs.Prelude.{◌≡◌, ◌≤◌, Some, None, option_map, option_copied, slice_get, IfOk, IfErr};
 ghost use Rattle.lockfree_object_pool.specs.declared.pull_error.PullError.TheVariants.{Memory};
-ghost use Rattle.object_pool_cores.specs.World.Headline.{IsNew, Played};
+ghost use Rattle.object_pool_cores.specs.World.Headline.{IsNew, RunsEvents};
 ghost use Rattle.object_pool_cores.specs.World.Machine.{held_by, opening_world, value_at, Steps};
 ghost use Rattle.object_pool_cores.specs.World.Reached.{IsReached};
 ghost use Rattle.object_pool_cores.specs.World.Rows.{IsExact};
@@ -102,9 +102,10 @@ impl<T: Drop, R: Reset<T, AnyValue>> World<T, R> {
     }
 
     /// The events, one after another, each with its answer at the end of `seen`. An error leaves the answers of the
-    /// events that were done, and the world after them; the others are dropped.
+    /// events that were done, and the world after them; the others are dropped. What was done before, by other runs
+    /// or by steps, and this list together are one run, so it may go on after an error.
     pub fn run(&mut self, mut events: Vec<Event<T>>, seen: &mut Vec<Seen>) -> Result<(), RunError>
-        ensures played { Played (R.leaves (world_reset self.old))
+        ensures run { RunsEvents (R.leaves (world_reset self.old))
             (record { world = world_state self.old; events = events.items; seen = seen.old.items })
             (record { world = world_state self.new; seen = seen.new.items; result = result }) }
         ensures reset { world_reset self.new ≡ world_reset self.old }

@@ -1,5 +1,5 @@
 use Rattle.std.proofs.Common.{arith}
-use Rattle.object_pool_cores.proofs.LowestBit.{lowest_is}
+use Rattle.object_pool_cores.proofs.World.LowestBit.{lowest_is}
 use Rattle.object_pool_cores.proofs.interleave.table.split_lowest.Goals as goal
 
 pub returns-in-Some-clause-lowest : goal.returns-in-Some-clause-lowest

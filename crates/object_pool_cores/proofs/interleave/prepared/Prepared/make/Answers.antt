@@ -1,7 +1,7 @@
 use Rattle.std.proofs.Common.{◌≡◌, Some, [], ◌∷◌, ◌++◌, All, rules, length-append, arith}
 use Rattle.std.proofs.lemmas.List.Elements.{All-append}
 use Rattle.object_pool_cores.specs.World.Prepared.{values_of}
-use Rattle.object_pool_cores.proofs.PreparedValues.{values_of-push, full-push}
+use Rattle.object_pool_cores.proofs.World.Prepared.{values_of-push, full-push}
 use Rattle.object_pool_cores.proofs.interleave.prepared.Prepared.make.Goals as goal
 
 -- what holds of a value holds of each in a list of it alone

@@ -1,4 +1,4 @@
-use Rattle.object_pool_cores.proofs.Enabled.{reached-step, reached-exact}
+use Rattle.object_pool_cores.proofs.World.Rows.{reached-step, reached-exact}
 use Rattle.object_pool_cores.proofs.interleave.reached.Reached.step.Goals as goal
 
 pub invariant_of-self : goal.invariant_of-self

@@ -1,4 +1,4 @@
-use Rattle.object_pool_cores.proofs.LinkRoom.{room-moved}
+use Rattle.object_pool_cores.proofs.World.Room.{room-moved}
 use Rattle.object_pool_cores.proofs.interleave.table.Table.go.Goals as goal
 
 pub invariant_of-self : goal.invariant_of-self

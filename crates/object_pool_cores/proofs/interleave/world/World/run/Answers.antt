@@ -2,7 +2,7 @@ use Rattle.std.proofs.Common.{◌≡◌, ◌∙◌, ◌∷◌, [], ◌++◌, ref
 use Rattle.std.proofs.lemmas.List.{reverse-reverse}
 use Rattle.object_pool_cores.specs.World.Machine.{Steps}
 use Rattle.object_pool_cores.specs.World.Shown.{world_state}
-use Rattle.object_pool_cores.proofs.Replayed.{replayed-none, replayed-next, played-from, on-err, no-elements}
+use Rattle.object_pool_cores.proofs.World.RunsEvents.{replayed-none, replayed-next, runs_events-from, on-err, no-elements}
 use Rattle.object_pool_cores.proofs.interleave.world.World.run.Goals as goal
 
 pub loop-event-init : goal.loop-event-init
@@ -10,10 +10,10 @@ loop-event-init g c =
     let turned : reverse c.reverse.new.self.items ≡ c.args.events.items = search (rules, reverse-reverse) in
     record { replayed = rw turned (replayed-none _ _ _ _); reset = refl }
 
-pub returns-in_err-reserve-clause-played : goal.returns-in_err-reserve-clause-played
-returns-in_err-reserve-clause-played g c =
+pub returns-in_err-reserve-clause-run : goal.returns-in_err-reserve-clause-run
+returns-in_err-reserve-clause-run g c =
     rw c.in_err-reserve.ensures.items
-    (played-from _ _ _ _ _ _ _ _ c.loop-event.invariant.replayed (on-err _ _ c.from_residual.ensures.0))
+    (runs_events-from _ _ _ _ _ _ _ _ c.loop-event.invariant.replayed (on-err _ _ c.from_residual.ensures.0))
 
 pub loop-event-preserved : goal.loop-event-preserved
 loop-event-preserved g c =
@@ -27,7 +27,7 @@ loop-event-preserved g c =
       reset = c.step-answer.ensures.reset ∙ kept.reset;
     }
 
-pub returns-clause-played : goal.returns-clause-played
-returns-clause-played g c =
+pub returns-clause-run : goal.returns-clause-run
+returns-clause-run g c =
     let none : length c.loop-event.events.items ≡ 0 = grind (arith, c.in_default.ensures.cases) in
-    played-from _ _ _ _ _ _ _ _ c.loop-event.invariant.replayed (no-elements _ none)
+    runs_events-from _ _ _ _ _ _ _ _ c.loop-event.invariant.replayed (no-elements _ none)

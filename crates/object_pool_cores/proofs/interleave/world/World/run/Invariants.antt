@@ -1,6 +1,6 @@
 use Rattle.std.proofs.Common.{◌≡◌, reverse, length}
 use Rattle.object_pool_cores.specs.World.Shown.{world_reset, world_state}
-use Rattle.object_pool_cores.proofs.Replayed.{Replayed}
+use Rattle.object_pool_cores.proofs.World.RunsEvents.{Replayed}
 use Rattle.object_pool_cores.proofs.interleave.world.World.run.Given as goal
 
 abbrev pub invariant-loop-event : goal.invariant-loop-event

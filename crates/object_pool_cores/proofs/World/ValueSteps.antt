@@ -12,14 +12,14 @@ use Rattle.object_pool_cores.specs.Pool.{IsOut, number}
 use Rattle.object_pool_cores.specs.Run.{Act, Opens, Writes, NotBegun, Holds, after_write, stage_of, pool_of}
 use Rattle.object_pool_cores.specs.World.PageState.{PageState}
 use Rattle.object_pool_cores.specs.World.State.{State}
-use Rattle.object_pool_cores.specs.World.Machine.{Gives, has_bit, value_at, with_value, takes, move_out, write, puts, begin, MovesHome}
+use Rattle.object_pool_cores.specs.World.Machine.{IsOutcome, has_bit, value_at, with_value, takes, move_out, write, puts, begin, MovesHome}
 use Rattle.object_pool_cores.specs.World.Reading.{place_of}
 use Rattle.object_pool_cores.specs.World.Visible.{Log}
 use Rattle.object_pool_cores.specs.World.Invariant.{HoldsAt, KnowsIf, Agrees}
 use Rattle.object_pool_cores.proofs.Runs.{stage_of-own, stage_of-other, since-later, other-opens, free_with-in}
-use Rattle.object_pool_cores.proofs.Readings.{get-some, get-push_old, get-push_new, length-changed, changed-all, value-put_same, value-put_other, same-moved}
-use Rattle.object_pool_cores.proofs.Carried.{GoesOn, StepsPages, pages-stay, hidden-step, shown-step, from-gives, sound-of, allows-fewer, pages-some, Carries, known-carried}
-use Rattle.object_pool_cores.proofs.WordSteps.{known, lies-at, disabled}
+use Rattle.object_pool_cores.proofs.World.Reading.{get-some, get-push_old, get-push_new, length-changed, changed-all, value-put_same, value-put_other, same-moved}
+use Rattle.object_pool_cores.proofs.World.Invariant.{GoesOn, StepsPages, pages-stay, hidden-step, shown-step, from-gives, sound-of, allows-fewer, pages-some, Carries, known-carried}
+use Rattle.object_pool_cores.proofs.World.WordSteps.{known, lies-at, disabled}
 
 module _ {T : Type 0} (Leaves : T → T → Type 0) (first : List T) (log : Log T) (acts : List (Act T)) (old : State T) (agrees : Agrees Leaves first log acts old) where
   -- the bit of a number that an agent holds is clear
@@ -60,7 +60,7 @@ module _ {T : Type 0} (Leaves : T → T → Type 0) (first : List T) (log : Log 
       omega arith
 
   -- the value goes to the agent
-  moved-out : length first ≡ 32 → (a k id : ℕ) → slice_get old.agents a ≡ Some (Taken k id) → (found : Option T) → value_at old.pages k id ≡ found → (answer : Seen) (new : State T) → Gives (takes old a k id found) answer new → GoesOn Leaves first log (event.MoveOut a) answer new
+  moved-out : length first ≡ 32 → (a k id : ℕ) → slice_get old.agents a ≡ Some (Taken k id) → (found : Option T) → value_at old.pages k id ≡ found → (answer : Seen) (new : State T) → IsOutcome (takes old a k id found) answer new → GoesOn Leaves first log (event.MoveOut a) answer new
   moved-out full a k id at None none answer new gives = disabled Leaves first log acts old agrees (event.MoveOut a) (λ b. refl) answer new gives
   moved-out full a k id at (Some taken) some answer new gives =
       let (value, holds, lies) = known Leaves first log acts old agrees a (Taken k id) at in
@@ -76,11 +76,11 @@ module _ {T : Type 0} (Leaves : T → T → Type 0) (first : List T) (log : Log 
       })
       gives
 
-  pub move_out-goes : length first ≡ 32 → (a : ℕ) (found : Option (Point T)) → slice_get old.agents a ≡ found → (answer : Seen) (new : State T) → Gives (move_out old a found) answer new → GoesOn Leaves first log (event.MoveOut a) answer new
+  pub move_out-goes : length first ≡ 32 → (a : ℕ) (found : Option (Point T)) → slice_get old.agents a ≡ found → (answer : Seen) (new : State T) → IsOutcome (move_out old a found) answer new → GoesOn Leaves first log (event.MoveOut a) answer new
   move_out-goes full a (Some (Taken k id)) at answer new gives = moved-out full a k id at (value_at old.pages k id) refl answer new gives
   move_out-goes full a _ at answer new gives = disabled Leaves first log acts old agrees (event.MoveOut a) (λ b. refl) answer new gives
 
-  pub write-goes : (a : ℕ) (value : T) (found : Option (Point T)) → slice_get old.agents a ≡ found → (answer : Seen) (new : State T) → Gives (write old a value found) answer new → GoesOn Leaves first log (event.Write a value) answer new
+  pub write-goes : (a : ℕ) (value : T) (found : Option (Point T)) → slice_get old.agents a ≡ found → (answer : Seen) (new : State T) → IsOutcome (write old a value found) answer new → GoesOn Leaves first log (event.Write a value) answer new
   write-goes a value (Some (Holding k id before)) at answer new gives =
       let holds : HoldsAt acts old a k id before = known Leaves first log acts old agrees a (Holding k id before) at in
       let act : Act T = Writes a value in
@@ -116,7 +116,7 @@ module _ {T : Type 0} (Leaves : T → T → Type 0) (first : List T) (log : Log 
   move_home-goes full a _ at answer new gives = disabled Leaves first log acts old agrees (event.MoveHome a) (λ b. refl) answer new gives
 
   -- a new agent begins
-  pub begin-goes : (answer : Seen) (new : State T) → Gives (begin old) answer new → GoesOn Leaves first log event.Begin answer new
+  pub begin-goes : (answer : Seen) (new : State T) → IsOutcome (begin old) answer new → GoesOn Leaves first log event.Begin answer new
   begin-goes answer new gives =
       let a = length old.agents in
       let act : Act T = Opens a in

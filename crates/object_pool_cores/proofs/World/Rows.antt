@@ -12,14 +12,14 @@ use Rattle.object_pool_cores.specs.declared.interleave.point.Point.TheVariants.{
 use Rattle.object_pool_cores.specs.Pool.{number}
 use Rattle.object_pool_cores.specs.Run.{Act}
 use Rattle.object_pool_cores.specs.World.State.{State}
-use Rattle.object_pool_cores.specs.World.Machine.{Outcome, Gives, lowest, has_bit, with_word, without_bit, without_lowest, tries, at_point, with_pages, linked_page, is_limit, word_of, not_enabled, value_at, takes, clears, read_mask, clear_bit, read_next, make_page, exchange_next, move_out, write, or_mask, Row, Steps, MayGrow, MovesHome, point_of}
+use Rattle.object_pool_cores.specs.World.Machine.{Outcome, IsOutcome, lowest, has_bit, with_word, without_bit, without_lowest, tries, at_point, with_pages, linked_page, is_limit, word_of, not_enabled, value_at, takes, clears, read_mask, clear_bit, read_next, make_page, exchange_next, move_out, write, or_mask, Row, Steps, MayGrow, MovesHome, point_of}
 use Rattle.object_pool_cores.specs.World.Visible.{Log}
 use Rattle.object_pool_cores.specs.World.Rows.{HasRow, IsExact}
 use Rattle.object_pool_cores.specs.World.Reached.{IsReached}
 use Rattle.object_pool_cores.specs.World.Headline.{IsNew, Ran}
 use Rattle.object_pool_cores.specs.World.Invariant.{IsPast, IsAtEnd, Agrees}
-use Rattle.object_pool_cores.proofs.WordSteps.{known}
-use Rattle.object_pool_cores.proofs.Headline.{ran-agrees, Shown}
+use Rattle.object_pool_cores.proofs.World.WordSteps.{known}
+use Rattle.object_pool_cores.proofs.World.Headline.{ran-agrees, Shown}
 
 module _ {T : Type 0} (old : State T) (answer : Seen) (new : State T) where
   -- exact, of an event with a row or without one
@@ -33,31 +33,31 @@ module _ {T : Type 0} (old : State T) (answer : Seen) (new : State T) where
   row-there HasRowHere row other = record { never = λ is here. other is; always = λ none. absurd (none row); unchanged = λ is. absurd (other is) }
 
   -- the table has no row
-  row-missing : (HasRowHere : Type 0) → (HasRowHere → ⊥) → Gives (not_enabled old) answer new → ExactAt HasRowHere
+  row-missing : (HasRowHere : Type 0) → (HasRowHere → ⊥) → IsOutcome (not_enabled old) answer new → ExactAt HasRowHere
   row-missing HasRowHere none gives = record { never = λ is here. none here; always = λ none. gives.0; unchanged = λ is. gives.1 }
 
   -- the outcome of a test
-  by-test : (test : Bool) (one other : Outcome T) → Gives (if test then one else other) answer new → (test ≡ true → answer ≡ one.0 → answer ≢ seen.NotEnabled) → (test ≡ false → answer ≡ other.0 → answer ≢ seen.NotEnabled) → answer ≢ seen.NotEnabled
+  by-test : (test : Bool) (one other : Outcome T) → IsOutcome (if test then one else other) answer new → (test ≡ true → answer ≡ one.0 → answer ≢ seen.NotEnabled) → (test ≡ false → answer ≡ other.0 → answer ≢ seen.NotEnabled) → answer ≢ seen.NotEnabled
   by-test true one other gives then_is else_is = then_is refl gives.0
   by-test false one other gives then_is else_is = else_is refl gives.0
 
-  by-test-2 : (test : Bool) (one other : Outcome T) → Gives (if test then one else other) answer new → (test ≡ true → Gives one answer new → answer ≢ seen.NotEnabled) → (test ≡ false → Gives other answer new → answer ≢ seen.NotEnabled) → answer ≢ seen.NotEnabled
+  by-test-2 : (test : Bool) (one other : Outcome T) → IsOutcome (if test then one else other) answer new → (test ≡ true → IsOutcome one answer new → answer ≢ seen.NotEnabled) → (test ≡ false → IsOutcome other answer new → answer ≢ seen.NotEnabled) → answer ≢ seen.NotEnabled
   by-test-2 true one other gives then_is else_is = then_is refl gives
   by-test-2 false one other gives then_is else_is = else_is refl gives
 
 module _ {T : Type 0} (Leaves : T → T → Type 0) (first : List T) (log : Log T) (acts : List (Act T)) (old : State T) (agrees : Agrees Leaves first log acts old) (answer : Seen) (new : State T) where
-  read_mask-exact : (a : ℕ) (found : Option (Point T)) → Gives (read_mask old a found) answer new → ExactAt old answer new (HasRow (event.ReadMask a) found)
+  read_mask-exact : (a : ℕ) (found : Option (Point T)) → IsOutcome (read_mask old a found) answer new → ExactAt old answer new (HasRow (event.ReadMask a) found)
   read_mask-exact a (Some (Reading k)) gives = row-there old answer new _ tt (λ is. let word = gives.0 in cc)
   read_mask-exact a _ gives = row-missing old answer new _ (λ row. row) gives
 
-  clears-answers : (a k mask word : ℕ) → Gives (clears old a k mask word) answer new → answer ≢ seen.NotEnabled
+  clears-answers : (a k mask word : ℕ) → IsOutcome (clears old a k mask word) answer new → answer ≢ seen.NotEnabled
   clears-answers a k mask word gives =
       let id = lowest mask in
       let one : Outcome T = (seen.Pulled a (number k id), at_point (with_pages old (with_word old.pages k (without_bit word id))) a (Taken k id)) in
       let two : Outcome T = (seen.Found a word, at_point old a (tries k (without_lowest mask))) in
       by-test old answer new (has_bit word id) one two gives (λ set is no_row. cc) (λ clear is no_row. cc)
 
-  clear_bit-exact : (a : ℕ) (found : Option (Point T)) → slice_get old.agents a ≡ found → Gives (clear_bit old a found) answer new → ExactAt old answer new (HasRow (event.ClearBit a) found)
+  clear_bit-exact : (a : ℕ) (found : Option (Point T)) → slice_get old.agents a ≡ found → IsOutcome (clear_bit old a found) answer new → ExactAt old answer new (HasRow (event.ClearBit a) found)
   clear_bit-exact a (Some (Clearing k mask)) at gives =
       let bits = (known Leaves first log acts old agrees a (Clearing k mask) at).1 in
       let some = bits.some in
@@ -67,7 +67,7 @@ module _ {T : Type 0} (Leaves : T → T → Type 0) (first : List T) (log : Log 
       (λ more gave. clears-answers a k mask (word_of old.pages k) gave))
   clear_bit-exact a _ at gives = row-missing old answer new _ (λ row. row) gives
 
-  read_next-exact : (a : ℕ) (found : Option (Point T)) → slice_get old.agents a ≡ found → Gives (read_next old a found) answer new → ExactAt old answer new (HasRow (event.ReadNext a) found)
+  read_next-exact : (a : ℕ) (found : Option (Point T)) → slice_get old.agents a ≡ found → IsOutcome (read_next old a found) answer new → ExactAt old answer new (HasRow (event.ReadNext a) found)
   read_next-exact a (Some (AtLink k)) at gives =
       let past : IsPast first acts old a k = known Leaves first log acts old agrees a (AtLink k) at in
       let linked = past.linked in
@@ -83,7 +83,7 @@ module _ {T : Type 0} (Leaves : T → T → Type 0) (first : List T) (log : Log 
       (λ beyond gave. let none = ltb-false k (length old.pages) beyond in absurd (omega arith)))
   read_next-exact a _ at gives = row-missing old answer new _ (λ row. row) gives
 
-  make_page-exact : (a : ℕ) (made : Result (List T) _) (found : Option (Point T)) → slice_get old.agents a ≡ found → Gives (make_page old a made found) answer new → ExactAt old answer new (HasRow (event.MakePage a made) found)
+  make_page-exact : (a : ℕ) (made : Result (List T) _) (found : Option (Point T)) → slice_get old.agents a ≡ found → IsOutcome (make_page old a made found) answer new → ExactAt old answer new (HasRow (event.MakePage a made) found)
   make_page-exact a (Ok values) (Some (Making k)) at gives =
       let end : IsAtEnd first acts old a k = known Leaves first log acts old agrees a (Making k) at in
       let linked = end.past.linked in
@@ -96,7 +96,7 @@ module _ {T : Type 0} (Leaves : T → T → Type 0) (first : List T) (log : Log 
   make_page-exact a (Err Memory) _ at gives = row-missing old answer new _ (λ row. row) gives
   make_page-exact a (Err Init) _ at gives = row-missing old answer new _ (λ row. row) gives
 
-  exchange_next-exact : (a : ℕ) (found : Option (Point T)) → slice_get old.agents a ≡ found → Gives (exchange_next old a found) answer new → ExactAt old answer new (HasRow (event.ExchangeNext a) found)
+  exchange_next-exact : (a : ℕ) (found : Option (Point T)) → slice_get old.agents a ≡ found → IsOutcome (exchange_next old a found) answer new → ExactAt old answer new (HasRow (event.ExchangeNext a) found)
   exchange_next-exact a (Some (Linking k values)) at gives =
       let end = (known Leaves first log acts old agrees a (Linking k values) at).0 in
       let linked = end.past.linked in
@@ -108,17 +108,17 @@ module _ {T : Type 0} (Leaves : T → T → Type 0) (first : List T) (log : Log 
       (λ beyond gave. let none = ltb-false k (length old.pages) beyond in absurd (omega arith)))
   exchange_next-exact a _ at gives = row-missing old answer new _ (λ row. row) gives
 
-  takes-answers : (a k id : ℕ) (value : T) (found : Option T) → found ≡ Some value → Gives (takes old a k id found) answer new → answer ≢ seen.NotEnabled
+  takes-answers : (a k id : ℕ) (value : T) (found : Option T) → found ≡ Some value → IsOutcome (takes old a k id found) answer new → answer ≢ seen.NotEnabled
   takes-answers a k id value None some gives is = cc
   takes-answers a k id value (Some other) some gives is = let out = gives.0 in cc
 
-  move_out-exact : (a : ℕ) (found : Option (Point T)) → slice_get old.agents a ≡ found → Gives (move_out old a found) answer new → ExactAt old answer new (HasRow (event.MoveOut a) found)
+  move_out-exact : (a : ℕ) (found : Option (Point T)) → slice_get old.agents a ≡ found → IsOutcome (move_out old a found) answer new → ExactAt old answer new (HasRow (event.MoveOut a) found)
   move_out-exact a (Some (Taken k id)) at gives =
       let (value, holds, lies) = known Leaves first log acts old agrees a (Taken k id) at in
       row-there old answer new _ tt (takes-answers a k id value (value_at old.pages k id) lies gives)
   move_out-exact a _ at gives = row-missing old answer new _ (λ row. row) gives
 
-  write-exact : (a : ℕ) (value : T) (found : Option (Point T)) → Gives (write old a value found) answer new → ExactAt old answer new (HasRow (event.Write a value) found)
+  write-exact : (a : ℕ) (value : T) (found : Option (Point T)) → IsOutcome (write old a value found) answer new → ExactAt old answer new (HasRow (event.Write a value) found)
   write-exact a value (Some (Holding k id before)) gives = row-there old answer new _ tt (λ is. let wrote = gives.0 in cc)
   write-exact a value _ gives = row-missing old answer new _ (λ row. row) gives
 
@@ -127,7 +127,7 @@ module _ {T : Type 0} (Leaves : T → T → Type 0) (first : List T) (log : Log 
   move_home-exact a None gives = row-missing old answer new _ (λ row. row) gives
   move_home-exact a _ gives = row-missing old answer new _ (λ row. row) gives
 
-  or_mask-exact : (a : ℕ) (found : Option (Point T)) → slice_get old.agents a ≡ found → Gives (or_mask old a found) answer new → ExactAt old answer new (HasRow (event.OrMask a) found)
+  or_mask-exact : (a : ℕ) (found : Option (Point T)) → slice_get old.agents a ≡ found → IsOutcome (or_mask old a found) answer new → ExactAt old answer new (HasRow (event.OrMask a) found)
   or_mask-exact a (Some (Home k id)) at gives =
       let (value, kept, holds, leaves, lies) = known Leaves first log acts old agrees a (Home k id) at in
       let within = holds.in_page in

@@ -8,23 +8,22 @@ use Rattle.object_pool_cores.specs.declared.run_error.RunError.{RunError}
 use Rattle.object_pool_cores.specs.World.State.{State}
 use Rattle.object_pool_cores.specs.World.Machine.{Steps, lowest}
 use Rattle.object_pool_cores.specs.World.Visible.{Log}
-use Rattle.object_pool_cores.specs.World.Headline.{IsNew, Ran, Advances, SinceNew, Played}
+use Rattle.object_pool_cores.specs.World.Headline.{IsNew, Ran, Stretch, Advances, SinceNew, RunsEvents}
 use Rattle.object_pool_cores.specs.World.Reached.{IsReached}
 use Rattle.object_pool_cores.specs.World.Rows.{IsExact}
-use Rattle.object_pool_cores.specs.World.OwnSteps.{own_steps, is_step_of, IsOnPage, IsLooking}
+use Rattle.object_pool_cores.specs.World.OwnSteps.{own_steps, IsOnPage, IsLooking}
 use Rattle.object_pool_cores.specs.World.Invariant.{Knows}
 use Rattle.object_pool_cores.specs.declared.interleave.point.Point.{Point}
 use Rattle.object_pool_cores.specs.declared.interleave.point.Point.TheVariants.{Reading, Clearing, AtLink, Making, Linking}
 use Rattle.object_pool_cores.specs.Pool.{AllowsPages}
-use Rattle.object_pool_cores.proofs.Bits.{lowest-lt}
-use Rattle.object_pool_cores.proofs.WordSteps.{known}
-use Rattle.object_pool_cores.proofs.Headline.{ran-is_run}
-use Rattle.object_pool_cores.proofs.Enabled.{any-step, reached-new, reached-step, reached-agrees}
-use Rattle.object_pool_cores.specs.World.Alone.{IsAlone}
-use Rattle.object_pool_cores.proofs.Alone.{stands-alone}
-use Rattle.object_pool_cores.proofs.RanSteps.{ran-append, ran-reached, ran-advances, ran-stands}
-use Rattle.object_pool_cores.proofs.InOrder.{ran-in_order, none-in_order}
-use Rattle.object_pool_cores.proofs.Progress.{start_of, AdvancedTo, effect-advances, none-advanced, step-does}
+use Rattle.object_pool_cores.proofs.World.Bits.{lowest-lt}
+use Rattle.object_pool_cores.proofs.World.WordSteps.{known}
+use Rattle.object_pool_cores.proofs.World.Headline.{ran-is_run}
+use Rattle.object_pool_cores.proofs.World.Rows.{reached-new, reached-agrees}
+use Rattle.object_pool_cores.proofs.World.Alone.{stands-alone}
+use Rattle.object_pool_cores.proofs.World.Reached.{ran-append, ran-reached, ran-advances, ran-stands}
+use Rattle.object_pool_cores.proofs.World.InOrder.{ran-in_order, none-in_order}
+use Rattle.object_pool_cores.proofs.World.OwnSteps.{start_of, AdvancedTo}
 
 -- an error isn't Ok
 pub on-err : {A E : Type 0} (result : Result A E) (P : Type 0) → IsErr result → OnOk result P
@@ -37,14 +36,14 @@ no-elements [] none = refl
 no-elements (x ∷ xs) none = absurd (omega arith)
 
 module _ {T : Type 0} where
-  -- in no entries there is no step
-  no-steps : (later earlier : Log T) (a : ℕ) → later ++ earlier ≡ [] → own_steps later a ≡ 0
-  no-steps [] earlier a none = refl
-  no-steps (entry ∷ later) earlier a none = absurd (cc)
+  -- no entries have no part
+  no-events : (later part earlier : Log T) → later ++ part ++ earlier ≡ [] → part ≡ []
+  no-events [] [] earlier none = refl
+  no-events [] (entry ∷ part) earlier none = absurd (cc)
+  no-events (entry ∷ later) part earlier none = absurd (cc)
 
-  no-events : (later earlier : Log T) → later ++ earlier ≡ [] → later ≡ []
-  no-events [] earlier none = refl
-  no-events (entry ∷ later) earlier none = absurd (cc)
+  no-steps : (later part earlier : Log T) (a : ℕ) → later ++ part ++ earlier ≡ [] → own_steps part a ≡ 0
+  no-steps later part earlier a none = ap (λ log. own_steps log a) (no-events later part earlier none)
 
   -- what is known of an agent in a world that can be reached
   known-reached : (new : State T) (reached : IsReached new) (a : ℕ) (point : Point T) → slice_get new.agents a ≡ Some point → Knows (λ before kept. ⊤) reached.is_new.first reached.log (reached-agrees new reached).acts new a point
@@ -121,39 +120,39 @@ module _ {T : Type 0} (Leaves : T → T → Type 0) where
   none-goes old new a (entry ∷ log) none ran = absurd (cc)
 
   -- what own steps come to, from a world that can be reached
-  reached-leads : (old : State T) → IsReached old → (log : Log T) (new : State T) → Ran Leaves old log new → Advances Leaves old log new
-  reached-leads old reached log new ran = record {
-    per_page = λ between later on a k at here.
-        let there = ran-reached Leaves old reached on.earlier between on.before in
-        let end = ran-reached Leaves between there later new on.since in
-        page-steps-at (slice_get between.agents a) new later a k end at (slice_get new.agents a) refl (ran-advances Leaves between there a later new on.since) here;
-    bounded = λ between later on a limit none is looks.
-        let there = ran-reached Leaves old reached on.earlier between on.before in
-        let end = ran-reached Leaves between there later new on.since in
-        limit-steps-at (slice_get between.agents a) new later a limit end is none (slice_get new.agents a) refl (ran-advances Leaves between there a later new on.since) looks;
-    alone = λ between later on a at only.
-        let there = ran-reached Leaves old reached on.earlier between on.before in
-        stands-alone between later new a (ran-stands Leaves between there a at later new on.since only);
-    in_order = λ between later on a at only.
-        let there = ran-reached Leaves old reached on.earlier between on.before in
-        ran-in_order Leaves between there a at later new on.since only;
+  reached-leads : (whole : Stretch T) → IsReached whole.from → Advances Leaves whole
+  reached-leads whole reached = record {
+    per_page = λ part is a k at here.
+        let there = ran-reached Leaves whole.from reached is.earlier part.from is.before in
+        let end = ran-reached Leaves part.from there part.log part.to is.steps in
+        page-steps-at (slice_get part.from.agents a) part.to part.log a k end at (slice_get part.to.agents a) refl (ran-advances Leaves part.from there a part.log part.to is.steps) here;
+    bounded = λ part is a limit none limited looks.
+        let there = ran-reached Leaves whole.from reached is.earlier part.from is.before in
+        let end = ran-reached Leaves part.from there part.log part.to is.steps in
+        limit-steps-at (slice_get part.from.agents a) part.to part.log a limit end limited none (slice_get part.to.agents a) refl (ran-advances Leaves part.from there a part.log part.to is.steps) looks;
+    alone = λ part is a at only.
+        let there = ran-reached Leaves whole.from reached is.earlier part.from is.before in
+        stands-alone part.from part.log part.to a (ran-stands Leaves part.from there a at part.log part.to is.steps only);
+    in_order = λ part is a at only.
+        let there = ran-reached Leaves whole.from reached is.earlier part.from is.before in
+        ran-in_order Leaves part.from there a at part.log part.to is.steps only;
   }
 
-  -- where no steps were done the world on the way is the last, and no step leads on from it
-  nothing-leads : (old new : State T) → Advances Leaves old [] new
-  nothing-leads old new = record {
-    per_page = λ between later on a k at here. let none = no-steps later on.earlier a on.parts in omega arith;
-    bounded = λ between later on a limit none is looks.
+  -- where no steps were done there is none on any part
+  nothing-leads : (whole : Stretch T) → whole.log ≡ [] → Advances Leaves whole
+  nothing-leads whole empty = record {
+    per_page = λ part is a k at here. let none = no-steps is.later part.log is.earlier a (is.logs ∙ empty) in omega arith;
+    bounded = λ part is a limit begins limited looks.
         let P : Option (Point T) → Type 0 = IsLooking in
-        absurd (subst P (none-goes between new a later (no-events later on.earlier on.parts) on.since ∙ none) looks);
-    alone = λ between later on a at only.
-        let none = no-steps later on.earlier a on.parts in
+        absurd (subst P (none-goes part.from part.to a part.log (no-events is.later part.log is.earlier (is.logs ∙ empty)) is.steps ∙ begins) looks);
+    alone = λ part is a at only.
+        let none = no-steps is.later part.log is.earlier a (is.logs ∙ empty) in
         record {
           takes = λ k free. record { answered = λ many. absurd (omega arith); held = λ now. absurd (omega arith) };
           links = λ all unlimited brings. record { answered = λ many. absurd (omega arith); held = λ now. absurd (omega arith) };
           refused = λ all limited many. let some = all.some in absurd (omega arith);
         };
-    in_order = λ between later on a at only. none-in_order between later new a (no-events later on.earlier on.parts);
+    in_order = λ part is a at only. none-in_order part.from part.log part.to a (no-events is.later part.log is.earlier (is.logs ∙ empty));
   }
 
   -- an agent that hadn't begun
@@ -161,7 +160,7 @@ module _ {T : Type 0} (Leaves : T → T → Type 0) where
   new-limit start is_new a = ap (λ world. slice_get world.agents a) is_new.same
 
   -- all that was done since the world was new
-  pub ran-since_new : (start : State T) (is_new : IsNew start) (log : Log T) (new : State T) → Ran Leaves start log new → SinceNew Leaves start is_new.first log new
+  pub ran-since_new : (start : State T) (is_new : IsNew start) (log : Log T) (new : State T) → Ran Leaves start log new → SinceNew Leaves is_new.first (record { from = start; log = log; to = new })
   ran-since_new start is_new log new ran =
       let reached = reached-new start is_new in
       let end = ran-reached Leaves start reached log new ran in
@@ -169,7 +168,7 @@ module _ {T : Type 0} (Leaves : T → T → Type 0) where
         headline = ran-is_run Leaves start is_new log new ran;
         bounded = λ a limit is looks.
             limit-steps-at (slice_get start.agents a) new log a limit end is (new-limit start is_new a) (slice_get new.agents a) refl (ran-advances Leaves start reached a log new ran) looks;
-        advances = reached-leads start reached log new ran;
+        advances = reached-leads (record { from = start; log = log; to = new }) reached;
       }
 
 module _ {T : Type 0} (Leaves : T → T → Type 0) (old : State T) (events : List (Event T)) (before : List Seen) where
@@ -230,14 +229,12 @@ module _ {T : Type 0} (Leaves : T → T → Type 0) (old : State T) (events : Li
       subst Q (sym answered) (replayed-more (reverse rest) after between e answer new next reached step exact)
 
   -- what own steps come to in what was done
-  replayed-leads : (log : Log T) (new : State T) → Ran Leaves old log new → (((log ≡ []) × (new ≡ old)) ⊎ IsReached old) → Advances Leaves old log new
-  replayed-leads log new ran (inl none) =
-      let P : Log T → Type 0 = λ all. Advances Leaves old all new in
-      subst P (sym none.0) (nothing-leads Leaves old new)
-  replayed-leads log new ran (inr reached) = reached-leads Leaves old reached log new ran
+  replayed-leads : (log : Log T) (new : State T) → (((log ≡ []) × (new ≡ old)) ⊎ IsReached old) → Advances Leaves (record { from = old; log = log; to = new })
+  replayed-leads log new (inl none) = nothing-leads Leaves (record { from = old; log = log; to = new }) none.0
+  replayed-leads log new (inr reached) = reached-leads Leaves (record { from = old; log = log; to = new }) reached
 
-  pub played-from : (rest : List (Event T)) (after : List Seen) (new : State T) (result : Result (Unit {0}) RunError) → Replayed rest after new → OnOk result (rest ≡ []) → Played Leaves (record { world = old; events = events; seen = before }) (record { world = new; seen = after; result = result })
-  played-from rest after new result replayed all = record {
+  pub runs_events-from : (rest : List (Event T)) (after : List Seen) (new : State T) (result : Result (Unit {0}) RunError) → Replayed rest after new → OnOk result (rest ≡ []) → RunsEvents Leaves (record { world = old; events = events; seen = before }) (record { world = new; seen = after; result = result })
+  runs_events-from rest after new result replayed all = record {
     log = replayed.log;
     since_new = λ past. ran-since_new Leaves past.start past.is_new (replayed.log ++ past.log) new (ran-append Leaves past.start old past.log past.ran replayed.log new replayed.steps);
     rest = rest;
@@ -245,5 +242,5 @@ module _ {T : Type 0} (Leaves : T → T → Type 0) (old : State T) (events : Li
     all = all;
     answers = replayed.answers;
     steps = replayed.steps;
-    advances = replayed-leads replayed.log new replayed.steps replayed.reached;
+    advances = replayed-leads replayed.log new replayed.reached;
   }

@@ -11,15 +11,15 @@ use Rattle.object_pool_cores.specs.declared.interleave.point.Point.{Point}
 use Rattle.object_pool_cores.specs.declared.interleave.point.Point.TheVariants.{Reading, Clearing, AtLink, Making, Linking, Taken, Holding, Ended}
 use Rattle.object_pool_cores.specs.World.PageState.{PageState}
 use Rattle.object_pool_cores.specs.World.State.{State}
-use Rattle.object_pool_cores.specs.World.Machine.{Outcome, Gives, not_enabled, at_point, with_pages, linked_page, tries, clears, takes, read_mask, clear_bit, read_next, make_page, exchange_next, move_out, write, or_mask, MovesHome, Row, Steps, agent_of, word_of, word_in, is_limit, lowest, has_bit, without_lowest, without_bit, with_word, value_at}
+use Rattle.object_pool_cores.specs.World.Machine.{Outcome, IsOutcome, not_enabled, at_point, with_pages, linked_page, tries, clears, takes, read_mask, clear_bit, read_next, make_page, exchange_next, move_out, write, or_mask, MovesHome, Row, Steps, agent_of, word_of, word_in, is_limit, lowest, has_bit, without_lowest, without_bit, with_word, value_at}
 use Rattle.object_pool_cores.specs.Pool.{AllowsPages, number}
 use Rattle.object_pool_cores.specs.Run.{Act}
 use Rattle.object_pool_cores.specs.World.Visible.{Log}
 use Rattle.object_pool_cores.specs.World.Invariant.{Agrees}
-use Rattle.object_pool_cores.proofs.Bits.{has_bit-lowest}
-use Rattle.object_pool_cores.proofs.Readings.{get-set_same, get-push_old, get-push_new}
-use Rattle.object_pool_cores.proofs.WordSteps.{known}
-use Rattle.object_pool_cores.proofs.LinkSteps.{limit-is, is-limit}
+use Rattle.object_pool_cores.proofs.World.Bits.{has_bit-lowest}
+use Rattle.object_pool_cores.proofs.World.Reading.{get-set_same, get-push_old, get-push_new}
+use Rattle.object_pool_cores.proofs.World.WordSteps.{known}
+use Rattle.object_pool_cores.proofs.World.LinkSteps.{limit-is, is-limit}
 use Rattle.object_pool_cores.specs.World.OwnSteps.{is_idle, names, own_steps}
 use Rattle.object_pool_cores.specs.World.Rows.{IsExact}
 use Rattle.object_pool_cores.specs.World.Alone.{BringsPage, BringsPages, IsStepAlone, IsAnswered, IsFirstFree, AllFull, HasMovedOut, StepsAlone}
@@ -39,15 +39,15 @@ module _ {T : Type 0} (Leaves : T → T → Type 0) (old : State T) (a : ℕ) (a
   -- the row of an event, for an agent at this point
   abbrev pub RowAt : Option (Point T) → Event T → Type 0
   RowAt found event.Begin = ⊤
-  RowAt found (event.ReadMask b) = Gives (read_mask old a found) answer new
-  RowAt found (event.ClearBit b) = Gives (clear_bit old a found) answer new
-  RowAt found (event.ReadNext b) = Gives (read_next old a found) answer new
-  RowAt found (event.MakePage b made) = Gives (make_page old a made found) answer new
-  RowAt found (event.ExchangeNext b) = Gives (exchange_next old a found) answer new
-  RowAt found (event.MoveOut b) = Gives (move_out old a found) answer new
-  RowAt found (event.Write b value) = Gives (write old a value found) answer new
+  RowAt found (event.ReadMask b) = IsOutcome (read_mask old a found) answer new
+  RowAt found (event.ClearBit b) = IsOutcome (clear_bit old a found) answer new
+  RowAt found (event.ReadNext b) = IsOutcome (read_next old a found) answer new
+  RowAt found (event.MakePage b made) = IsOutcome (make_page old a made found) answer new
+  RowAt found (event.ExchangeNext b) = IsOutcome (exchange_next old a found) answer new
+  RowAt found (event.MoveOut b) = IsOutcome (move_out old a found) answer new
+  RowAt found (event.Write b value) = IsOutcome (write old a value found) answer new
   RowAt found (event.MoveHome b) = MovesHome Leaves old a found answer new
-  RowAt found (event.OrMask b) = Gives (or_mask old a found) answer new
+  RowAt found (event.OrMask b) = IsOutcome (or_mask old a found) answer new
 
   named : (b : ℕ) → ◌≡◌ {A = Option ℕ} (Some b) (Some a) → b ≡ a
   named b same = cc
@@ -55,22 +55,22 @@ module _ {T : Type 0} (Leaves : T → T → Type 0) (old : State T) (a : ℕ) (a
   -- a step of the agent is the row for its point
   row-at : (found : Option (Point T)) (e : Event T) → agent_of e ≡ Some a → slice_get old.agents a ≡ found → Row Leaves old e answer new → RowAt found e
   row-at found event.Begin who at row = tt
-  row-at found (event.ReadMask b) who at row = let P : ℕ → Type 0 = λ c. Gives (read_mask old c (slice_get old.agents c)) answer new in let Q : Option (Point T) → Type 0 = λ f. Gives (read_mask old a f) answer new in subst Q at (subst P (named b who) row)
-  row-at found (event.ClearBit b) who at row = let P : ℕ → Type 0 = λ c. Gives (clear_bit old c (slice_get old.agents c)) answer new in let Q : Option (Point T) → Type 0 = λ f. Gives (clear_bit old a f) answer new in subst Q at (subst P (named b who) row)
-  row-at found (event.ReadNext b) who at row = let P : ℕ → Type 0 = λ c. Gives (read_next old c (slice_get old.agents c)) answer new in let Q : Option (Point T) → Type 0 = λ f. Gives (read_next old a f) answer new in subst Q at (subst P (named b who) row)
-  row-at found (event.MakePage b made) who at row = let P : ℕ → Type 0 = λ c. Gives (make_page old c made (slice_get old.agents c)) answer new in let Q : Option (Point T) → Type 0 = λ f. Gives (make_page old a made f) answer new in subst Q at (subst P (named b who) row)
-  row-at found (event.ExchangeNext b) who at row = let P : ℕ → Type 0 = λ c. Gives (exchange_next old c (slice_get old.agents c)) answer new in let Q : Option (Point T) → Type 0 = λ f. Gives (exchange_next old a f) answer new in subst Q at (subst P (named b who) row.0)
-  row-at found (event.MoveOut b) who at row = let P : ℕ → Type 0 = λ c. Gives (move_out old c (slice_get old.agents c)) answer new in let Q : Option (Point T) → Type 0 = λ f. Gives (move_out old a f) answer new in subst Q at (subst P (named b who) row)
-  row-at found (event.Write b value) who at row = let P : ℕ → Type 0 = λ c. Gives (write old c value (slice_get old.agents c)) answer new in let Q : Option (Point T) → Type 0 = λ f. Gives (write old a value f) answer new in subst Q at (subst P (named b who) row)
+  row-at found (event.ReadMask b) who at row = let P : ℕ → Type 0 = λ c. IsOutcome (read_mask old c (slice_get old.agents c)) answer new in let Q : Option (Point T) → Type 0 = λ f. IsOutcome (read_mask old a f) answer new in subst Q at (subst P (named b who) row)
+  row-at found (event.ClearBit b) who at row = let P : ℕ → Type 0 = λ c. IsOutcome (clear_bit old c (slice_get old.agents c)) answer new in let Q : Option (Point T) → Type 0 = λ f. IsOutcome (clear_bit old a f) answer new in subst Q at (subst P (named b who) row)
+  row-at found (event.ReadNext b) who at row = let P : ℕ → Type 0 = λ c. IsOutcome (read_next old c (slice_get old.agents c)) answer new in let Q : Option (Point T) → Type 0 = λ f. IsOutcome (read_next old a f) answer new in subst Q at (subst P (named b who) row)
+  row-at found (event.MakePage b made) who at row = let P : ℕ → Type 0 = λ c. IsOutcome (make_page old c made (slice_get old.agents c)) answer new in let Q : Option (Point T) → Type 0 = λ f. IsOutcome (make_page old a made f) answer new in subst Q at (subst P (named b who) row)
+  row-at found (event.ExchangeNext b) who at row = let P : ℕ → Type 0 = λ c. IsOutcome (exchange_next old c (slice_get old.agents c)) answer new in let Q : Option (Point T) → Type 0 = λ f. IsOutcome (exchange_next old a f) answer new in subst Q at (subst P (named b who) row.0)
+  row-at found (event.MoveOut b) who at row = let P : ℕ → Type 0 = λ c. IsOutcome (move_out old c (slice_get old.agents c)) answer new in let Q : Option (Point T) → Type 0 = λ f. IsOutcome (move_out old a f) answer new in subst Q at (subst P (named b who) row)
+  row-at found (event.Write b value) who at row = let P : ℕ → Type 0 = λ c. IsOutcome (write old c value (slice_get old.agents c)) answer new in let Q : Option (Point T) → Type 0 = λ f. IsOutcome (write old a value f) answer new in subst Q at (subst P (named b who) row)
   row-at found (event.MoveHome b) who at row = let P : ℕ → Type 0 = λ c. MovesHome Leaves old c (slice_get old.agents c) answer new in let Q : Option (Point T) → Type 0 = λ f. MovesHome Leaves old a f answer new in subst Q at (subst P (named b who) row)
-  row-at found (event.OrMask b) who at row = let P : ℕ → Type 0 = λ c. Gives (or_mask old c (slice_get old.agents c)) answer new in let Q : Option (Point T) → Type 0 = λ f. Gives (or_mask old a f) answer new in subst Q at (subst P (named b who) row)
+  row-at found (event.OrMask b) who at row = let P : ℕ → Type 0 = λ c. IsOutcome (or_mask old c (slice_get old.agents c)) answer new in let Q : Option (Point T) → Type 0 = λ f. IsOutcome (or_mask old a f) answer new in subst Q at (subst P (named b who) row)
 
   -- a busy step isn't one that isn't enabled
-  busy-not : {R : Type 0} → is_idle answer ≡ false → Gives (not_enabled old) answer new → R
+  busy-not : {R : Type 0} → is_idle answer ≡ false → IsOutcome (not_enabled old) answer new → R
   busy-not busy gives = absurd (let idle : is_idle answer ≡ true = ap is_idle gives.0 in cc)
 
   -- what the only busy step of an agent does, by its point
-  reading-row : (k : ℕ) (e : Event T) → is_idle answer ≡ false → agent_of e ≡ Some a → RowAt (Some (Reading k)) e → Gives (read_mask old a (Some (Reading k))) answer new
+  reading-row : (k : ℕ) (e : Event T) → is_idle answer ≡ false → agent_of e ≡ Some a → RowAt (Some (Reading k)) e → IsOutcome (read_mask old a (Some (Reading k))) answer new
   reading-row k (event.ReadMask b) busy who row = row
   reading-row k event.Begin busy who row = absurd (cc)
   reading-row k (event.MakePage b (Ok values)) busy who row = busy-not busy row
@@ -79,7 +79,7 @@ module _ {T : Type 0} (Leaves : T → T → Type 0) (old : State T) (a : ℕ) (a
   reading-row k (event.MakePage b (Err Limit)) busy who row = busy-not busy row
   reading-row k _ busy who row = busy-not busy row
 
-  link-row : (k : ℕ) (e : Event T) → is_idle answer ≡ false → agent_of e ≡ Some a → RowAt (Some (AtLink k)) e → Gives (read_next old a (Some (AtLink k))) answer new
+  link-row : (k : ℕ) (e : Event T) → is_idle answer ≡ false → agent_of e ≡ Some a → RowAt (Some (AtLink k)) e → IsOutcome (read_next old a (Some (AtLink k))) answer new
   link-row k (event.ReadNext b) busy who row = row
   link-row k event.Begin busy who row = absurd (cc)
   link-row k (event.MakePage b (Ok values)) busy who row = busy-not busy row
@@ -88,7 +88,7 @@ module _ {T : Type 0} (Leaves : T → T → Type 0) (old : State T) (a : ℕ) (a
   link-row k (event.MakePage b (Err Limit)) busy who row = busy-not busy row
   link-row k _ busy who row = busy-not busy row
 
-  clearing-row : (k mask : ℕ) (e : Event T) → is_idle answer ≡ false → agent_of e ≡ Some a → RowAt (Some (Clearing k mask)) e → Gives (clear_bit old a (Some (Clearing k mask))) answer new
+  clearing-row : (k mask : ℕ) (e : Event T) → is_idle answer ≡ false → agent_of e ≡ Some a → RowAt (Some (Clearing k mask)) e → IsOutcome (clear_bit old a (Some (Clearing k mask))) answer new
   clearing-row k mask (event.ClearBit b) busy who row = row
   clearing-row k mask event.Begin busy who row = absurd (cc)
   clearing-row k mask (event.MakePage b (Ok values)) busy who row = busy-not busy row
@@ -97,7 +97,7 @@ module _ {T : Type 0} (Leaves : T → T → Type 0) (old : State T) (a : ℕ) (a
   clearing-row k mask (event.MakePage b (Err Limit)) busy who row = busy-not busy row
   clearing-row k mask _ busy who row = busy-not busy row
 
-  taken-row : (k id : ℕ) (e : Event T) → is_idle answer ≡ false → agent_of e ≡ Some a → RowAt (Some (Taken k id)) e → Gives (move_out old a (Some (Taken k id))) answer new
+  taken-row : (k id : ℕ) (e : Event T) → is_idle answer ≡ false → agent_of e ≡ Some a → RowAt (Some (Taken k id)) e → IsOutcome (move_out old a (Some (Taken k id))) answer new
   taken-row k id (event.MoveOut b) busy who row = row
   taken-row k id event.Begin busy who row = absurd (cc)
   taken-row k id (event.MakePage b (Ok values)) busy who row = busy-not busy row
@@ -106,7 +106,7 @@ module _ {T : Type 0} (Leaves : T → T → Type 0) (old : State T) (a : ℕ) (a
   taken-row k id (event.MakePage b (Err Limit)) busy who row = busy-not busy row
   taken-row k id _ busy who row = busy-not busy row
 
-  linking-row : (k : ℕ) (values : List T) (e : Event T) → is_idle answer ≡ false → agent_of e ≡ Some a → RowAt (Some (Linking k values)) e → Gives (exchange_next old a (Some (Linking k values))) answer new
+  linking-row : (k : ℕ) (values : List T) (e : Event T) → is_idle answer ≡ false → agent_of e ≡ Some a → RowAt (Some (Linking k values)) e → IsOutcome (exchange_next old a (Some (Linking k values))) answer new
   linking-row k values (event.ExchangeNext b) busy who row = row
   linking-row k values event.Begin busy who row = absurd (cc)
   linking-row k values (event.MakePage b (Ok other)) busy who row = busy-not busy row
@@ -115,7 +115,7 @@ module _ {T : Type 0} (Leaves : T → T → Type 0) (old : State T) (a : ℕ) (a
   linking-row k values (event.MakePage b (Err Limit)) busy who row = busy-not busy row
   linking-row k values _ busy who row = busy-not busy row
 
-  making-row : (k : ℕ) (e : Event T) → is_idle answer ≡ false → agent_of e ≡ Some a → BringsPage e answer → RowAt (Some (Making k)) e → (values : List T) × Gives (make_page old a (Ok values) (Some (Making k))) answer new
+  making-row : (k : ℕ) (e : Event T) → is_idle answer ≡ false → agent_of e ≡ Some a → BringsPage e answer → RowAt (Some (Making k)) e → (values : List T) × IsOutcome (make_page old a (Ok values) (Some (Making k))) answer new
   making-row k (event.MakePage b (Ok values)) busy who brings row = (values, row)
   making-row k event.Begin busy who brings row = absurd (cc)
   making-row k (event.MakePage b (Err cause)) busy who brings row = absurd (let idle : is_idle answer ≡ true = ap is_idle brings in cc)
@@ -166,11 +166,11 @@ module _ {T : Type 0} where
   chain-later pages limit a entry log n world found (FullRefused limited past told) = FullRefused limited past (inr told)
 
   -- a test that is known
-  known-test : (test : Bool) (one other : Outcome T) (answer : Seen) (new : State T) → test ≡ true → Gives (if test then one else other) answer new → Gives one answer new
+  known-test : (test : Bool) (one other : Outcome T) (answer : Seen) (new : State T) → test ≡ true → IsOutcome (if test then one else other) answer new → IsOutcome one answer new
   known-test true one other answer new is gives = gives
   known-test false one other answer new is gives = absurd (cc)
 
-  failed-test : (test : Bool) (one other : Outcome T) (answer : Seen) (new : State T) → test ≡ false → Gives (if test then one else other) answer new → Gives other answer new
+  failed-test : (test : Bool) (one other : Outcome T) (answer : Seen) (new : State T) → test ≡ false → IsOutcome (if test then one else other) answer new → IsOutcome other answer new
   failed-test false one other answer new is gives = gives
   failed-test true one other answer new is gives = absurd (cc)
 
@@ -205,7 +205,7 @@ module _ {T : Type 0} (Leaves : T → T → Type 0) (first : List T) (log : Log 
   tries-some : (j word : ℕ) → 0 < word → tries {T = T} j word ≡ Clearing j word
   tries-some j word some = rw (ne_eqb word 0 (λ is. absurd (omega arith))) refl
 
-  taken-step : (k id : ℕ) → slice_get old.agents a ≡ Some (Taken k id) → (found : Option T) → Gives (takes old a k id found) answer new → (answer ≡ seen.MovedOut a) × HasMovedOut (slice_get new.agents a)
+  taken-step : (k id : ℕ) → slice_get old.agents a ≡ Some (Taken k id) → (found : Option T) → IsOutcome (takes old a k id found) answer new → (answer ≡ seen.MovedOut a) × HasMovedOut (slice_get new.agents a)
   taken-step k id at None gives = busy-not Leaves old a answer new alone.busy gives
   taken-step k id at (Some value) gives =
       let P : Option (Point T) → Type 0 = HasMovedOut in

@@ -10,7 +10,7 @@ use Rattle.object_pool_cores.specs.World.PageState.{PageState}
 use Rattle.object_pool_cores.specs.World.State.{State}
 use Rattle.object_pool_cores.specs.World.Machine.{has_bit, with_bit, without_bit, value_in, value_at, with_page, with_word, with_value, linked_page}
 use Rattle.object_pool_cores.specs.World.Reading.{place_of, place_on, reading}
-use Rattle.object_pool_cores.proofs.Bits.{has_bit-all, has_bit-set_same, has_bit-set_other, has_bit-clear_same, has_bit-clear_other}
+use Rattle.object_pool_cores.proofs.World.Bits.{has_bit-all, has_bit-set_same, has_bit-set_other, has_bit-clear_same, has_bit-clear_other}
 pub use Rattle.object_pool_cores.specs.Laws.NumberedPlaces.{slice_get-set_other as get-set_other}
 
 -- ---- lists by index

@@ -12,14 +12,14 @@ use Rattle.object_pool_cores.specs.Move.{Pull, Return}
 use Rattle.object_pool_cores.specs.Run.{Act, Moves, pool_of, FoundOut}
 use Rattle.object_pool_cores.specs.World.PageState.{PageState}
 use Rattle.object_pool_cores.specs.World.State.{State}
-use Rattle.object_pool_cores.specs.World.Machine.{Outcome, Gives, not_enabled, has_bit, with_bit, without_bit, lowest, without_lowest, word_in, word_of, value_at, with_word, tries, clears, read_mask, clear_bit, or_mask}
+use Rattle.object_pool_cores.specs.World.Machine.{Outcome, IsOutcome, not_enabled, has_bit, with_bit, without_bit, lowest, without_lowest, word_in, word_of, value_at, with_word, tries, clears, read_mask, clear_bit, or_mask}
 use Rattle.object_pool_cores.specs.World.Reading.{place_of, reading}
 use Rattle.object_pool_cores.specs.World.Visible.{Log, made_by}
 use Rattle.object_pool_cores.specs.World.Invariant.{LooksOn, IsPast, Knows, KnowsIf, Agrees}
 use Rattle.object_pool_cores.proofs.Runs.{since-now, stage_of-own}
-use Rattle.object_pool_cores.proofs.Bits.{has_bit-none, has_bit-without_lowest, lowest-lt, with_bit-lt, without_bit-lt, without_lowest-lt}
-use Rattle.object_pool_cores.proofs.Readings.{get-some, length-changed, changed-all, reads-number, value-word, same-cleared, same-set}
-use Rattle.object_pool_cores.proofs.Carried.{GoesOn, StepsPages, moved, pages-stay, hidden-step, shown-step, from-gives, from-if, idle, sound-of, allows-fewer}
+use Rattle.object_pool_cores.proofs.World.Bits.{has_bit-none, has_bit-without_lowest, lowest-lt, with_bit-lt, without_bit-lt, without_lowest-lt}
+use Rattle.object_pool_cores.proofs.World.Reading.{get-some, length-changed, changed-all, reads-number, value-word, same-cleared, same-set}
+use Rattle.object_pool_cores.proofs.World.Invariant.{GoesOn, StepsPages, moved, pages-stay, hidden-step, shown-step, from-gives, from-if, idle, sound-of, allows-fewer}
 
 module _ {T : Type 0} (Leaves : T → T → Type 0) (first : List T) where
   -- an agent that has some bits to try, or none
@@ -73,10 +73,10 @@ module _ {T : Type 0} (Leaves : T → T → Type 0) (first : List T) (log : Log 
       by (value_at old.pages k id) refl
 
   -- an event that isn't enabled
-  pub disabled : (e : Event T) → ((b : ℕ) → made_by e seen.NotEnabled b ≡ None) → (answer : Seen) (new : State T) → Gives (not_enabled old) answer new → GoesOn Leaves first log e answer new
+  pub disabled : (e : Event T) → ((b : ℕ) → made_by e seen.NotEnabled b ≡ None) → (answer : Seen) (new : State T) → IsOutcome (not_enabled old) answer new → GoesOn Leaves first log e answer new
   disabled e made answer new gives = from-gives Leaves first log e (not_enabled old) answer new (idle Leaves first log acts old e seen.NotEnabled agrees tt made) gives
 
-  pub read_mask-goes : (a : ℕ) (found : Option (Point T)) → slice_get old.agents a ≡ found → (answer : Seen) (new : State T) → Gives (read_mask old a found) answer new → GoesOn Leaves first log (event.ReadMask a) answer new
+  pub read_mask-goes : (a : ℕ) (found : Option (Point T)) → slice_get old.agents a ≡ found → (answer : Seen) (new : State T) → IsOutcome (read_mask old a found) answer new → GoesOn Leaves first log (event.ReadMask a) answer new
   read_mask-goes a (Some (Reading k)) at answer new gives =
       let looks : LooksOn first acts old a k = known a (Reading k) at in
       let (page, here) = get-some old.pages k looks.linked in
@@ -158,7 +158,7 @@ module _ {T : Type 0} (Leaves : T → T → Type 0) (first : List T) (log : Log 
             ]));
       }
 
-  pub clear_bit-goes : length first ≡ 32 → (a : ℕ) (found : Option (Point T)) → slice_get old.agents a ≡ found → (answer : Seen) (new : State T) → Gives (clear_bit old a found) answer new → GoesOn Leaves first log (event.ClearBit a) answer new
+  pub clear_bit-goes : length first ≡ 32 → (a : ℕ) (found : Option (Point T)) → slice_get old.agents a ≡ found → (answer : Seen) (new : State T) → IsOutcome (clear_bit old a found) answer new → GoesOn Leaves first log (event.ClearBit a) answer new
   clear_bit-goes full a (Some (Clearing k mask)) at answer new gives =
       let e : Event T = event.ClearBit a in
       let id = lowest mask in
@@ -194,7 +194,7 @@ module _ {T : Type 0} (Leaves : T → T → Type 0) (first : List T) (log : Log 
             tt;
       }
 
-  pub or_mask-goes : length first ≡ 32 → (a : ℕ) (found : Option (Point T)) → slice_get old.agents a ≡ found → (answer : Seen) (new : State T) → Gives (or_mask old a found) answer new → GoesOn Leaves first log (event.OrMask a) answer new
+  pub or_mask-goes : length first ≡ 32 → (a : ℕ) (found : Option (Point T)) → slice_get old.agents a ≡ found → (answer : Seen) (new : State T) → IsOutcome (or_mask old a found) answer new → GoesOn Leaves first log (event.OrMask a) answer new
   or_mask-goes full a (Some (Home k id)) at answer new gives =
       let e : Event T = event.OrMask a in
       let yes : Outcome T = (seen.Returned a (number k id), moved Leaves first old (with_word old.pages k (with_bit (word_of old.pages k) id)) a Ended) in

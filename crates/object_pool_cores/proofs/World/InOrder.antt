@@ -1,12 +1,9 @@
 -- Of an agent alone whose events come in the order of the table each event is a step.
-use Rattle.std.specs.Bool.{⊤}
-use Rattle.std.proofs.Common.{◌≡◌, ◌≢◌, inl, inr, ℕ, zero, suc, false, true, ◌+◌, ◌*◌, ◌<◌, ◌≤◌, Some, List, [], ◌∷◌, ◌++◌, length, slice_get, Option, Ok, refl, ap, sym, ◌∙◌, subst, arith}
+use Rattle.std.proofs.Common.{◌≡◌, ◌≢◌, inl, inr, ℕ, zero, suc, false, ◌+◌, ◌*◌, ◌<◌, ◌≤◌, Some, List, [], ◌∷◌, ◌++◌, length, slice_get, Option, Ok, ap, sym, ◌∙◌, subst, arith}
 use Rattle.std.proofs.lemmas.Bool.{cases_Bool}
-use Rattle.lockfree_object_pool.specs.declared.pull_error.PullError.TheVariants.{Limit}
 use Rattle.object_pool_cores.specs.declared.interleave.event.Event.{Event}
 use Rattle.object_pool_cores.specs.declared.interleave.event.Event.TheVariants as event
 use Rattle.object_pool_cores.specs.declared.interleave.event.Seen.{Seen}
-use Rattle.object_pool_cores.specs.declared.interleave.event.Seen.TheVariants as seen
 use Rattle.object_pool_cores.specs.declared.interleave.point.Point.{Point}
 use Rattle.object_pool_cores.specs.declared.interleave.point.Point.TheVariants.{Reading, Clearing, AtLink, Making, Linking, Taken}
 use Rattle.object_pool_cores.specs.World.PageState.{PageState}
@@ -17,9 +14,9 @@ use Rattle.object_pool_cores.specs.World.Headline.{Ran}
 use Rattle.object_pool_cores.specs.World.Reached.{IsReached}
 use Rattle.object_pool_cores.specs.World.Rows.{HasRow, IsExact}
 use Rattle.object_pool_cores.specs.World.OwnSteps.{own_steps, is_idle}
-use Rattle.object_pool_cores.specs.World.Alone.{BringsPage, BringsPages, IsStepAlone, IsAlone, IsFirstFree, AllFull, HasMovedOut, StepsAlone, StepsInOrder, IsAnswered, passing, taking, linking, events_of}
-use Rattle.object_pool_cores.proofs.Alone.{IsBusyStep, Walk, AtWord, AtChain, AtBits, HasTaken, HasMoved, Chain, FullWord, FullLink, FullMake, FullMade, FullLinked, FullRefused, Stands, idle-not_enabled, own_steps-busy, stands-alone}
-use Rattle.object_pool_cores.proofs.RanSteps.{ran-stands}
+use Rattle.object_pool_cores.specs.World.Alone.{BringsPage, BringsPages, IsStepAlone, IsAlone, IsFirstFree, AllFull, StepsInOrder, passing, taking, linking, events_of}
+use Rattle.object_pool_cores.proofs.World.Alone.{Walk, AtWord, AtChain, AtBits, HasTaken, HasMoved, Chain, FullWord, FullLink, FullMake, FullMade, FullLinked, FullRefused, Stands, idle-not_enabled, own_steps-busy, stands-alone}
+use Rattle.object_pool_cores.proofs.World.Reached.{ran-stands}
 
 module _ {T : Type 0} where
   -- where an agent is by the count of its steps

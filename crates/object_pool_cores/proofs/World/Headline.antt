@@ -18,11 +18,11 @@ use Rattle.object_pool_cores.specs.World.Headline.{IsRun, Ran, IsNew}
 use Rattle.object_pool_cores.specs.World.Invariant.{HoldsAt, Agrees}
 use Rattle.object_pool_cores.specs.Laws.PoolSteps.{grown-new}
 use Rattle.object_pool_cores.proofs.Holders.{holders-run, whole-run}
-use Rattle.object_pool_cores.proofs.Readings.{same-grown, pushed-all}
-use Rattle.object_pool_cores.proofs.Carried.{GoesOn, idle, pages-some, allows-fewer}
-use Rattle.object_pool_cores.proofs.WordSteps.{read_mask-goes, clear_bit-goes, or_mask-goes, known}
-use Rattle.object_pool_cores.proofs.ValueSteps.{move_out-goes, write-goes, move_home-goes, begin-goes}
-use Rattle.object_pool_cores.proofs.LinkSteps.{read_next-goes, make_page-goes, exchange_next-goes}
+use Rattle.object_pool_cores.proofs.World.Reading.{same-grown, pushed-all}
+use Rattle.object_pool_cores.proofs.World.Invariant.{GoesOn, idle, pages-some, allows-fewer}
+use Rattle.object_pool_cores.proofs.World.WordSteps.{read_mask-goes, clear_bit-goes, or_mask-goes, known}
+use Rattle.object_pool_cores.proofs.World.ValueSteps.{move_out-goes, write-goes, move_home-goes, begin-goes}
+use Rattle.object_pool_cores.proofs.World.LinkSteps.{read_next-goes, make_page-goes, exchange_next-goes}
 
 module _ {T : Type 0} where
   -- nothing is made where memory is missing

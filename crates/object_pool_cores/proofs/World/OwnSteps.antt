@@ -15,13 +15,13 @@ use Rattle.object_pool_cores.specs.declared.interleave.point.Point.TheVariants.{
 use Rattle.object_pool_cores.specs.Pool.{number}
 use Rattle.object_pool_cores.specs.Run.{Act}
 use Rattle.object_pool_cores.specs.World.State.{State}
-use Rattle.object_pool_cores.specs.World.Machine.{Outcome, Gives, not_enabled, lowest, without_lowest, has_bit, without_bit, with_bit, with_word, word_of, value_at, linked_page, with_pages, at_point, tries, takes, clears, puts, read_mask, clear_bit, read_next, make_page, exchange_next, move_out, write, or_mask, begin, is_limit, Row, Steps, MovesHome, agent_of}
+use Rattle.object_pool_cores.specs.World.Machine.{Outcome, IsOutcome, not_enabled, lowest, without_lowest, has_bit, without_bit, with_bit, with_word, word_of, value_at, linked_page, with_pages, at_point, tries, takes, clears, puts, read_mask, clear_bit, read_next, make_page, exchange_next, move_out, write, or_mask, begin, is_limit, Row, Steps, MovesHome, agent_of}
 use Rattle.object_pool_cores.specs.World.Visible.{Log}
 use Rattle.object_pool_cores.specs.World.OwnSteps.{is_idle, names, is_step_of}
 use Rattle.object_pool_cores.specs.World.Invariant.{Agrees}
-use Rattle.object_pool_cores.proofs.Readings.{get-set_same, get-set_other, get-push_old, get-push_new}
-use Rattle.object_pool_cores.proofs.Bits.{lowest-lt, without_lowest-lt}
-use Rattle.object_pool_cores.proofs.WordSteps.{known}
+use Rattle.object_pool_cores.proofs.World.Reading.{get-set_same, get-set_other, get-push_old, get-push_new}
+use Rattle.object_pool_cores.proofs.World.Bits.{lowest-lt, without_lowest-lt}
+use Rattle.object_pool_cores.proofs.World.WordSteps.{known}
 
 -- ---- the bits that are tried go up
 pub lowest-grows : (mask : ℕ) → 0 < mask → mask < 2 ^ 32 → without_lowest mask < 2 ^ 32 → 0 < without_lowest mask → lowest mask < lowest (without_lowest mask)
@@ -103,7 +103,7 @@ module _ {T : Type 0} where
   stays e old new answer idle same a = Stays (ap (λ idle. if idle then false else names (agent_of e) a) idle) (ap (λ world. slice_get world.agents a) same)
 
   -- by the outcome of a test
-  by-test : (P : Type 0) (test : Bool) (one other : Outcome T) (answer : Seen) (new : State T) → Gives (if test then one else other) answer new → (test ≡ true → Gives one answer new → P) → (test ≡ false → Gives other answer new → P) → P
+  by-test : (P : Type 0) (test : Bool) (one other : Outcome T) (answer : Seen) (new : State T) → IsOutcome (if test then one else other) answer new → (test ≡ true → IsOutcome one answer new → P) → (test ≡ false → IsOutcome other answer new → P) → P
   by-test P true one other answer new gives then_is else_is = then_is refl gives
   by-test P false one other answer new gives then_is else_is = else_is refl gives
 
@@ -112,21 +112,21 @@ module _ {T : Type 0} (Leaves : T → T → Type 0) (first : List T) (log : Log 
   Does e = (a : ℕ) → Effect (slice_get old.agents a) (slice_get new.agents a) (is_step_of e answer a)
 
   -- the event isn't enabled
-  idles : (e : Event T) → Gives (not_enabled old) answer new → Does e
+  idles : (e : Event T) → IsOutcome (not_enabled old) answer new → Does e
   idles e gives = stays e old new answer (ap is_idle gives.0) gives.1
 
   -- its agent moves
-  moves : (e : Event T) (b : ℕ) (from point : Point T) (outcome : Outcome T) → agent_of e ≡ Some b → is_idle outcome.0 ≡ false → slice_get old.agents b ≡ Some from → outcome.1.agents ≡ slice_set old.agents b point → Advances from point → Gives outcome answer new → Does e
+  moves : (e : Event T) (b : ℕ) (from point : Point T) (outcome : Outcome T) → agent_of e ≡ Some b → is_idle outcome.0 ≡ false → slice_get old.agents b ≡ Some from → outcome.1.agents ≡ slice_set old.agents b point → Advances from point → IsOutcome outcome answer new → Does e
   moves e b from point outcome who busy at moved further gives =
       goes e old new answer b from point who (ap is_idle gives.0 ∙ busy) at (ap (λ world. world.agents) gives.1 ∙ moved) further
 
-  read_mask-does : (b : ℕ) (found : Option (Point T)) → slice_get old.agents b ≡ found → Gives (read_mask old b found) answer new → Does (event.ReadMask b)
+  read_mask-does : (b : ℕ) (found : Option (Point T)) → slice_get old.agents b ≡ found → IsOutcome (read_mask old b found) answer new → Does (event.ReadMask b)
   read_mask-does b (Some (Reading k)) at gives =
       moves (event.ReadMask b) b (Reading k) (tries k (word_of old.pages k)) (read_mask old b (Some (Reading k))) refl refl at refl
       (advances-tries (Reading k) k (word_of old.pages k) (36 * k) refl (omega arith) (λ some. omega arith)) gives
   read_mask-does b _ at gives = idles (event.ReadMask b) gives
 
-  clear_bit-does : (b : ℕ) (found : Option (Point T)) → slice_get old.agents b ≡ found → Gives (clear_bit old b found) answer new → Does (event.ClearBit b)
+  clear_bit-does : (b : ℕ) (found : Option (Point T)) → slice_get old.agents b ≡ found → IsOutcome (clear_bit old b found) answer new → Does (event.ClearBit b)
   clear_bit-does b (Some (Clearing k mask)) at gives =
       let e : Event T = event.ClearBit b in
       let bits = (known Leaves first log acts old agrees b (Clearing k mask) at).1 in
@@ -147,7 +147,7 @@ module _ {T : Type 0} (Leaves : T → T → Type 0) (first : List T) (log : Log 
       (λ left. let up = lowest-grows mask some fits (without_lowest-lt mask fits) left in omega arith)) given))
   clear_bit-does b _ at gives = idles (event.ClearBit b) gives
 
-  read_next-does : (b : ℕ) (found : Option (Point T)) → slice_get old.agents b ≡ found → Gives (read_next old b found) answer new → Does (event.ReadNext b)
+  read_next-does : (b : ℕ) (found : Option (Point T)) → slice_get old.agents b ≡ found → IsOutcome (read_next old b found) answer new → Does (event.ReadNext b)
   read_next-does b (Some (AtLink k)) at gives =
       let e : Event T = event.ReadNext b in
       let one : Outcome T = (seen.Refused b Limit, at_point old b Ended) in
@@ -163,7 +163,7 @@ module _ {T : Type 0} (Leaves : T → T → Type 0) (first : List T) (log : Log 
       (λ beyond gave. idles e gave)
   read_next-does b _ at gives = idles (event.ReadNext b) gives
 
-  make_page-does : (b : ℕ) (made : Result (List T) _) (found : Option (Point T)) → slice_get old.agents b ≡ found → Gives (make_page old b made found) answer new → Does (event.MakePage b made)
+  make_page-does : (b : ℕ) (made : Result (List T) _) (found : Option (Point T)) → slice_get old.agents b ≡ found → IsOutcome (make_page old b made found) answer new → Does (event.MakePage b made)
   make_page-does b (Ok values) (Some (Making k)) at gives =
       let e : Event T = event.MakePage b (Ok values) in
       let one : Outcome T = (seen.Made b, at_point old b (Linking k values)) in
@@ -177,7 +177,7 @@ module _ {T : Type 0} (Leaves : T → T → Type 0) (first : List T) (log : Log 
   make_page-does b (Err Memory) _ at gives = idles (event.MakePage b (Err Memory)) gives
   make_page-does b (Err Init) _ at gives = idles (event.MakePage b (Err Init)) gives
 
-  exchange_next-does : (b : ℕ) (found : Option (Point T)) → slice_get old.agents b ≡ found → Gives (exchange_next old b found) answer new → Does (event.ExchangeNext b)
+  exchange_next-does : (b : ℕ) (found : Option (Point T)) → slice_get old.agents b ≡ found → IsOutcome (exchange_next old b found) answer new → Does (event.ExchangeNext b)
   exchange_next-does b (Some (Linking k values)) at gives =
       let e : Event T = event.ExchangeNext b in
       let one : Outcome T = (seen.Linked b, at_point (with_pages old (old.pages ++ linked_page values ∷ [])) b (Reading (k + 1))) in
@@ -190,15 +190,15 @@ module _ {T : Type 0} (Leaves : T → T → Type 0) (first : List T) (log : Log 
       (λ beyond gave. idles e gave)
   exchange_next-does b _ at gives = idles (event.ExchangeNext b) gives
 
-  takes-does : (b k id : ℕ) → slice_get old.agents b ≡ Some (Taken k id) → (found : Option T) → Gives (takes old b k id found) answer new → Does (event.MoveOut b)
+  takes-does : (b k id : ℕ) → slice_get old.agents b ≡ Some (Taken k id) → (found : Option T) → IsOutcome (takes old b k id found) answer new → Does (event.MoveOut b)
   takes-does b k id at None gives = idles (event.MoveOut b) gives
   takes-does b k id at (Some value) gives = moves (event.MoveOut b) b (Taken k id) (Holding k id value) (takes old b k id (Some value)) refl refl at refl (advances-past {T = T} (Taken k id) (Holding k id value) refl) gives
 
-  move_out-does : (b : ℕ) (found : Option (Point T)) → slice_get old.agents b ≡ found → Gives (move_out old b found) answer new → Does (event.MoveOut b)
+  move_out-does : (b : ℕ) (found : Option (Point T)) → slice_get old.agents b ≡ found → IsOutcome (move_out old b found) answer new → Does (event.MoveOut b)
   move_out-does b (Some (Taken k id)) at gives = takes-does b k id at (value_at old.pages k id) gives
   move_out-does b _ at gives = idles (event.MoveOut b) gives
 
-  write-does : (b : ℕ) (value : T) (found : Option (Point T)) → slice_get old.agents b ≡ found → Gives (write old b value found) answer new → Does (event.Write b value)
+  write-does : (b : ℕ) (value : T) (found : Option (Point T)) → slice_get old.agents b ≡ found → IsOutcome (write old b value found) answer new → Does (event.Write b value)
   write-does b value (Some (Holding k id before)) at gives = moves (event.Write b value) b (Holding k id before) (Holding k id value) (write old b value (Some (Holding k id before))) refl refl at refl (advances-past {T = T} (Holding k id before) (Holding k id value) refl) gives
   write-does b value _ at gives = idles (event.Write b value) gives
 
@@ -207,7 +207,7 @@ module _ {T : Type 0} (Leaves : T → T → Type 0) (first : List T) (log : Log 
   move_home-does b None at gives = idles (event.MoveHome b) gives
   move_home-does b _ at gives = idles (event.MoveHome b) gives
 
-  or_mask-does : (b : ℕ) (found : Option (Point T)) → slice_get old.agents b ≡ found → Gives (or_mask old b found) answer new → Does (event.OrMask b)
+  or_mask-does : (b : ℕ) (found : Option (Point T)) → slice_get old.agents b ≡ found → IsOutcome (or_mask old b found) answer new → Does (event.OrMask b)
   or_mask-does b (Some (Home k id)) at gives =
       let e : Event T = event.OrMask b in
       let one : Outcome T = (seen.Returned b (number k id), at_point (with_pages old (with_word old.pages k (with_bit (word_of old.pages k) id))) b Ended) in
@@ -216,7 +216,7 @@ module _ {T : Type 0} (Leaves : T → T → Type 0) (first : List T) (log : Log 
       (λ beyond gave. idles e gave)
   or_mask-does b _ at gives = idles (event.OrMask b) gives
 
-  begin-does : Gives (begin old) answer new → Does event.Begin
+  begin-does : IsOutcome (begin old) answer new → Does event.Begin
   begin-does gives a =
       let agents : new.agents ≡ old.agents ++ Reading 0 ∷ [] = ap (λ world. world.agents) gives.1 in
       let own : is_step_of {T = T} event.Begin answer a ≡ false = ap (λ idle. if idle then false else false) (ap is_idle gives.0) in

@@ -10,13 +10,13 @@ use Rattle.object_pool_cores.specs.Move.{Pull, Return, Growth, Refusal}
 use Rattle.object_pool_cores.specs.Run.{Act, Opens, Writes, Moves, Holds, agent_of, stage_of, pool_of, FoundOut, HadPages, MayCome, FoundBefore}
 use Rattle.object_pool_cores.specs.World.PageState.{PageState}
 use Rattle.object_pool_cores.specs.World.State.{State}
-use Rattle.object_pool_cores.specs.World.Machine.{Outcome, Gives, value_at}
+use Rattle.object_pool_cores.specs.World.Machine.{Outcome, IsOutcome, value_at}
 use Rattle.object_pool_cores.specs.World.Reading.{reading}
 use Rattle.object_pool_cores.specs.World.Visible.{Log, IsHidden, made_by, or_else, last_made, Shows}
 use Rattle.object_pool_cores.specs.World.Invariant.{LooksOn, IsPast, IsAtEnd, HoldsAt, Knows, KnowsIf, Agrees}
 use Rattle.object_pool_cores.proofs.Runs.{since-later, other-opens, stage_of-other}
 use Rattle.object_pool_cores.proofs.Holders.{IsSound, sound-run}
-use Rattle.object_pool_cores.proofs.Readings.{get-set_same, get-set_other}
+use Rattle.object_pool_cores.proofs.World.Reading.{get-set_same, get-set_other}
 
 -- fewer pages are allowed too
 pub allows-fewer : (limit : Option ℕ) (fewer pages : ℕ) → fewer ≤ pages → AllowsPages limit pages → AllowsPages limit fewer
@@ -193,13 +193,13 @@ module _ {T : Type 0} (Leaves : T → T → Type 0) (first : List T) where
     pub agrees : Agrees Leaves first ((e, answer) ∷ log) acts new
 
   -- an answer and a world are those of an outcome
-  pub from-gives : (log : Log T) (e : Event T) (outcome : Outcome T) (answer : Seen) (new : State T) → GoesOn log e outcome.0 outcome.1 → Gives outcome answer new → GoesOn log e answer new
+  pub from-gives : (log : Log T) (e : Event T) (outcome : Outcome T) (answer : Seen) (new : State T) → GoesOn log e outcome.0 outcome.1 → IsOutcome outcome answer new → GoesOn log e answer new
   from-gives log e outcome answer new goes gives =
       let P : Seen → Type 0 = λ seen. GoesOn log e seen outcome.1 in
       let Q : State T → Type 0 = λ world. GoesOn log e answer world in
       subst Q (sym gives.1) (subst P (sym gives.0) goes)
 
-  pub from-if : (log : Log T) (e : Event T) (test : Bool) (one other : Outcome T) (answer : Seen) (new : State T) → (test ≡ true → Gives one answer new → GoesOn log e answer new) → (test ≡ false → Gives other answer new → GoesOn log e answer new) → Gives (if test then one else other) answer new → GoesOn log e answer new
+  pub from-if : (log : Log T) (e : Event T) (test : Bool) (one other : Outcome T) (answer : Seen) (new : State T) → (test ≡ true → IsOutcome one answer new → GoesOn log e answer new) → (test ≡ false → IsOutcome other answer new → GoesOn log e answer new) → IsOutcome (if test then one else other) answer new → GoesOn log e answer new
   from-if log e true one other answer new then_goes else_goes gives = then_goes refl gives
   from-if log e false one other answer new then_goes else_goes gives = else_goes refl gives
 

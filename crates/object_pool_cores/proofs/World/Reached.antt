@@ -8,9 +8,9 @@ use Rattle.object_pool_cores.specs.World.Headline.{Ran}
 use Rattle.object_pool_cores.specs.World.Reached.{IsReached}
 use Rattle.object_pool_cores.specs.World.OwnSteps.{own_steps, is_step_of}
 use Rattle.object_pool_cores.specs.World.Alone.{IsAlone}
-use Rattle.object_pool_cores.proofs.Enabled.{any-step, reached-step, reached-agrees}
-use Rattle.object_pool_cores.proofs.Alone.{Stands, stands-first, stands-next}
-use Rattle.object_pool_cores.proofs.Progress.{AdvancedTo, effect-advances, none-advanced, step-does}
+use Rattle.object_pool_cores.proofs.World.Rows.{any-step, reached-step, reached-agrees}
+use Rattle.object_pool_cores.proofs.World.Alone.{Stands, stands-first, stands-next}
+use Rattle.object_pool_cores.proofs.World.OwnSteps.{AdvancedTo, effect-advances, none-advanced, step-does}
 
 module _ {T : Type 0} (Leaves : T → T → Type 0) where
   -- steps that follow others

@@ -15,13 +15,13 @@ use Rattle.object_pool_cores.specs.Move.{Growth, Refusal}
 use Rattle.object_pool_cores.specs.Run.{Act, Opens, Moves, Looking, stage_of, pool_of, FoundPages, HadPages, MayCome}
 use Rattle.object_pool_cores.specs.World.PageState.{PageState}
 use Rattle.object_pool_cores.specs.World.State.{State}
-use Rattle.object_pool_cores.specs.World.Machine.{Outcome, Gives, not_enabled, is_limit, linked_page, value_in, prepared_by, read_next, make_page, exchange_next, LinksWhole}
+use Rattle.object_pool_cores.specs.World.Machine.{Outcome, IsOutcome, not_enabled, is_limit, linked_page, value_in, prepared_by, read_next, make_page, exchange_next, LinksWhole}
 use Rattle.object_pool_cores.specs.World.Visible.{Log, IsHidden, made_by, or_else, last_made}
 use Rattle.object_pool_cores.specs.World.Invariant.{IsPast, IsAtEnd, Agrees}
 use Rattle.object_pool_cores.proofs.Runs.{since-now, since-later, stage_of-own}
-use Rattle.object_pool_cores.proofs.Readings.{get-push_old, pushed-all, same-grown}
-use Rattle.object_pool_cores.proofs.Carried.{GoesOn, moved, pages-stay, hidden-step, shown-step, from-gives, from-if, allows-fewer}
-use Rattle.object_pool_cores.proofs.WordSteps.{known, disabled}
+use Rattle.object_pool_cores.proofs.World.Reading.{get-push_old, pushed-all, same-grown}
+use Rattle.object_pool_cores.proofs.World.Invariant.{GoesOn, moved, pages-stay, hidden-step, shown-step, from-gives, from-if, allows-fewer}
+use Rattle.object_pool_cores.proofs.World.WordSteps.{known, disabled}
 
 -- there is this limit
 pub is-limit : (limit : Option ℕ) (count : ℕ) → limit ≡ Some count → is_limit limit count ≡ true
@@ -92,7 +92,7 @@ module _ {T : Type 0} (Leaves : T → T → Type 0) (first : List T) (log : Log 
             (record { looking = past.looking; linked = omega arith; found = past.found });
       }
 
-  pub read_next-goes : (a : ℕ) (found : Option (Point T)) → slice_get old.agents a ≡ found → (answer : Seen) (new : State T) → Gives (read_next old a found) answer new → GoesOn Leaves first log (event.ReadNext a) answer new
+  pub read_next-goes : (a : ℕ) (found : Option (Point T)) → slice_get old.agents a ≡ found → (answer : Seen) (new : State T) → IsOutcome (read_next old a found) answer new → GoesOn Leaves first log (event.ReadNext a) answer new
   read_next-goes a (Some (AtLink k)) at answer new gives =
       let e : Event T = event.ReadNext a in
       let past : IsPast first acts old a k = known Leaves first log acts old agrees a (AtLink k) at in
@@ -131,7 +131,7 @@ module _ {T : Type 0} (Leaves : T → T → Type 0) (first : List T) (log : Log 
             );
       }
 
-  pub make_page-goes : (a : ℕ) (made_is : Result (List T) PullError) (found : Option (Point T)) → slice_get old.agents a ≡ found → (answer : Seen) (new : State T) → Gives (make_page old a made_is found) answer new → GoesOn Leaves first log (event.MakePage a made_is) answer new
+  pub make_page-goes : (a : ℕ) (made_is : Result (List T) PullError) (found : Option (Point T)) → slice_get old.agents a ≡ found → (answer : Seen) (new : State T) → IsOutcome (make_page old a made_is found) answer new → GoesOn Leaves first log (event.MakePage a made_is) answer new
   make_page-goes a (Ok values) (Some (Making k)) at answer new gives =
       let e : Event T = event.MakePage a (Ok values) in
       let one : Outcome T = (seen.Made a, moved Leaves first old old.pages a (Linking k values)) in
@@ -183,7 +183,7 @@ module _ {T : Type 0} (Leaves : T → T → Type 0) (first : List T) (log : Log 
             });
       }
 
-  pub exchange_next-goes : (a : ℕ) (found : Option (Point T)) → slice_get old.agents a ≡ found → (answer : Seen) (new : State T) → Gives (exchange_next old a found) answer new → LinksWhole answer (prepared_by found) → GoesOn Leaves first log (event.ExchangeNext a) answer new
+  pub exchange_next-goes : (a : ℕ) (found : Option (Point T)) → slice_get old.agents a ≡ found → (answer : Seen) (new : State T) → IsOutcome (exchange_next old a found) answer new → LinksWhole answer (prepared_by found) → GoesOn Leaves first log (event.ExchangeNext a) answer new
   exchange_next-goes a (Some (Linking k values)) at answer new gives whole =
       let e : Event T = event.ExchangeNext a in
       let (end, last) = known Leaves first log acts old agrees a (Linking k values) at in

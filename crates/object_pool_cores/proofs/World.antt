@@ -1,0 +1,16 @@
+pub mod Alone
+pub mod Bits
+pub mod Headline
+pub mod InOrder
+pub mod Invariant
+pub mod LinkSteps
+pub mod LowestBit
+pub mod OwnSteps
+pub mod Prepared
+pub mod Reached
+pub mod Reading
+pub mod Room
+pub mod Rows
+pub mod RunsEvents
+pub mod ValueSteps
+pub mod WordSteps
