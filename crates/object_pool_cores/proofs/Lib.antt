@@ -1,4 +1,5 @@
 pub mod CommandWords
+pub mod Cores
 pub mod Holders
 pub mod LeastChoiceSteps
 pub mod LineSplits

@@ -9,10 +9,13 @@ pub mod Laws
 pub mod LeastChoice
 pub mod Linear
 pub mod Lines
+pub mod Looks
 pub mod MadePage
 pub mod Move
 pub mod Numbered
+pub mod OnePage
 pub mod Opens
+pub mod PageWord
 pub mod Pool
 pub mod Replies
 pub mod ReplyText

@@ -17,6 +17,10 @@ module _ {T I R K : Type 0} where
   abbrev pub limit_of : LinearCore T I R K → Option ℕ
   limit_of core = core.items.limit
 
+  -- how many pages its pulls looked at
+  abbrev pub looked_of : LinearCore T I R K → ℕ
+  looked_of core = core.items.looked
+
   abbrev pub init_of : LinearCore T I R K → I
   init_of core = core.init
 

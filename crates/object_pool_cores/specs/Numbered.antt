@@ -1,12 +1,16 @@
 -- The items of a linear pool of one owner, listed by their numbers.
-use Rattle.std.specs.Prelude.{◌≡◌, ℕ, ◌/◌, ◌%◌, Option, Some, None, List, length, slice_get, All, [], ◌∷◌}
+use Rattle.std.specs.Prelude.{◌≡◌, ℕ, ◌+◌, ◌*◌, ◌/◌, ◌%◌, ◌<◌, ◌≤◌, Option, Some, None, List, length, slice_get, All, [], ◌∷◌, ◌++◌}
 use Rattle.object_pool_cores.specs.Pool.{Pool, Place, Absent, Free, Out, IsSame, AllowsPages}
 use Rattle.object_pool_cores.specs.Move.{Growth, IsLawful, after}
+use Rattle.object_pool_cores.specs.LeastChoice.{IsExhausted, TakesLeast}
 
--- at each number the value of a free item, or none where it is out; and how many pages there may be
+-- at each number the value of a free item, or none where it is out; how many pages there may be; the page at which the
+-- next pull starts, and how many pages were looked at
 pub record Numbered (T : Type 0) : Type 0 where
   pub places : List (Option T)
   pub limit : Option ℕ
+  pub start : ℕ
+  pub looked : ℕ
 
 module _ {T : Type 0} where
   -- what lies at a place of the list
@@ -19,11 +23,43 @@ module _ {T : Type 0} where
   abbrev pub pool_of : Numbered T → Pool T
   pool_of items = record { pages = length items.places / 32; at = λ n. place_of (slice_get items.places n) }
 
-  -- the list has whole pages, as many as there may be, and each value meets the condition
+  -- the places of the pages, one page behind another
+  abbrev pub laid_out : List (List (Option T)) → List (Option T)
+  laid_out [] = []
+  laid_out (page ∷ pages) = page ++ laid_out pages
+
+  -- each page has 32 places
+  abbrev pub AreWhole : List (List (Option T)) → Type 0
+  AreWhole pages = All (λ page. length page ≡ 32) pages
+
+  -- no number below this one is free
+  abbrev pub HasNoneBelow : List (Option T) → ℕ → Type 0
+  HasNoneBelow places below = (n : ℕ) (v : T) → n < below → slice_get places n ≡ Some (Some v) → ⊥
+
+  -- the list has whole pages, as many as there may be, each value meets the condition, and no page in front of the one
+  -- at which a pull starts has a free number
   pub record IsSound (meets : T → Type 0) (items : Numbered T) : Type 0 where
     pub whole : length items.places % 32 ≡ 0
     pub allowed : AllowsPages items.limit (length items.places / 32)
     pub clean : (n : ℕ) (v : T) → slice_get items.places n ≡ Some (Some v) → meets v
+    pub starts : items.start ≤ length items.places / 32
+    pub passed : HasNoneBelow items.places (32 * items.start)
+
+  -- the least free number was taken, and the next pull starts at its page
+  pub record TakesLeastOf (old : Numbered T) (n : ℕ) (v : T) (new : Numbered T) : Type 0 where
+    pub takes : TakesLeast (pool_of old) n v (pool_of new)
+    pub starts : new.start ≡ n / 32
+
+  -- no number is free, and the next pull starts behind the pages
+  pub record FindsNone (old new : Numbered T) : Type 0 where
+    pub exhausted : IsExhausted (pool_of old)
+    pub places : new.places ≡ old.places
+    pub starts : new.start ≡ length old.places / 32
+
+  -- one look at each page that was passed, and one at a page that wasn't full
+  pub record Looks (old : Numbered T) (found : ℕ) (new : Numbered T) : Type 0 where
+    pub more : old.looked ≤ new.looked
+    pub each : new.looked + old.start ≤ old.looked + new.start + found
 
   -- the pool grew by a page of answers of init
   pub record Grows (limit : Option ℕ) (answers : Option T → Type 0) (old new : Pool T) : Type 0 where

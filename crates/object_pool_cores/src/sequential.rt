@@ -2,6 +2,7 @@
 
 mod attach_error;
 mod command;
+mod core_page;
 mod item;
 mod linear_core;
 mod numbered_items;
@@ -12,6 +13,7 @@ mod sequential_pool;
 pub use crate::run_error::RunError;
 pub use attach_error::AttachError;
 pub use command::Command;
+pub use core_page::CorePage;
 pub use item::Item;
 pub use linear_core::LinearCore;
 pub use player::Player;

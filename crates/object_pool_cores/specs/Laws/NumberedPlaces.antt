@@ -1,21 +1,14 @@
 -- The places of a list of numbered items, and the pool that the list stands for.
-use Rattle.std.proofs.Common.{◌≡◌, ◌≢◌, ℕ, ◌+◌, ◌-◌, ◌<◌, ◌≤◌, suc, zero, Option, Some, None, List, [], ◌∷◌, length, refl, sym, ap, subst, ◌∙◌, arith, add-suc, MatchOption, is_some, map, slice_set, ◌/◌, ◌++◌, length-append, length-set, inl, inr, ◌*◌}
+use Rattle.std.proofs.Common.{◌≡◌, ◌≢◌, ℕ, ◌+◌, ◌-◌, ◌<◌, ◌≤◌, suc, zero, Option, Some, None, List, [], ◌∷◌, length, refl, sym, ap, subst, ◌∙◌, arith, add-suc, map, slice_set, ◌/◌, ◌++◌, length-append, length-set, inl, inr, ◌*◌}
 use Rattle.std.specs.Prelude.{All}
-use Rattle.std.specs.List.{position, position_from, slice_get}
+use Rattle.std.specs.List.{slice_get}
 use Rattle.std.proofs.lemmas.Bool.{cases_lt, cases_eq}
 use Rattle.std.proofs.lemmas.List.{length-map}
 use Rattle.std.proofs.lemmas.Option.{get_or_from_slice_get, slice_get_within, slice_get_cases, slice_get_past}
-use Rattle.std.proofs.lemmas.Iterator.Adapters.{position_from-zero}
 use Rattle.object_pool_cores.specs.Pool.{IsPool, IsSame, with_place, free_with, AllowsPages, Absent, Free, Out}
 use Rattle.object_pool_cores.specs.Move.{grown}
 use Rattle.object_pool_cores.specs.Laws.PoolSteps.{with_place-same, with_place-other, grown-old, grown-new}
-use Rattle.object_pool_cores.specs.LeastChoice.{IsExhausted, IsLeastFree}
 use Rattle.object_pool_cores.specs.Numbered.{Numbered, IsSound, Grows, place_of, pool_of}
-
--- facts of either case, each led to another
-pub MatchOption-map : {X : Type 0} (o : Option X) {P P' : Type 0} {Q Q' : X → Type 0} → (P → P') → ((x : X) → Q x → Q' x) → MatchOption o P Q → MatchOption o P' Q'
-MatchOption-map None none some h = none h
-MatchOption-map (Some x) none some h = some x h
 
 module _ {T : Type 0} where
   -- a free place has that value
@@ -23,46 +16,6 @@ module _ {T : Type 0} where
   place_of-free None v e = cc
   place_of-free (Some None) v e = cc
   place_of-free (Some (Some w)) v e = cc
-
-  -- the first value of a list
-  pub record IsFirst (places : List (Option T)) (n : ℕ) (v : T) : Type 0 where
-    pub at : slice_get places n ≡ Some (Some v)
-    pub first : (m : ℕ) (w : T) → slice_get places m ≡ Some (Some w) → n ≤ m
-
-  abbrev pub HasNone : List (Option T) → Type 0
-  HasNone places = (n : ℕ) (v : T) → slice_get places n ≡ Some (Some v) → ⊥
-
-  -- nothing stands in front of the first value
-  IsFirst-behind : (places : List (Option T)) (n : ℕ) (v : T) → IsFirst places n v → IsFirst (None ∷ places) (suc n) v
-  IsFirst-behind places n v it = record { at = it.at; first = λ m w e. behind m w e }
-    where
-      behind : (m : ℕ) (w : T) → slice_get (None ∷ places) m ≡ Some (Some w) → suc n ≤ m
-      behind zero w e = cc
-      behind (suc m) w e = omega (arith, it.first m w e)
-
-  HasNone-behind : (places : List (Option T)) → HasNone places → HasNone (None ∷ places)
-  HasNone-behind places none zero v e = cc
-  HasNone-behind places none (suc n) v e = none n v e
-
-  -- what position gives, counted from k
-  pub first_value : (k : ℕ) (places : List (Option T)) → MatchOption (position_from is_some k places) (HasNone places) (λ i. (n : ℕ) × (i ≡ n + k) × ((v : T) × IsFirst places n v))
-  first_value k [] = λ n v e. cc
-  first_value k (Some v ∷ places) = (0, omega arith, (v, record { at = refl; first = λ m w e. omega arith }))
-  first_value k (None ∷ places) =
-      MatchOption-map (position_from is_some (k + 1) places) (HasNone-behind places)
-      (λ i it. (suc it.0, omega (arith, it.1), (it.2.0, IsFirst-behind places it.0 it.2.0 it.2.1)))
-      (first_value (k + 1) places)
-
-  -- the position of the first value is the least free number
-  pub least_free_value : (items : Numbered T) → MatchOption (position is_some items.places) (IsExhausted (pool_of items)) (λ n. (v : T) × IsLeastFree (pool_of items) n v)
-  least_free_value items =
-      rw position_from-zero (MatchOption-map (position_from is_some 0 items.places)
-      (λ none n v e. none n v (place_of-free (slice_get items.places n) v e))
-      (λ i it.
-      let same : it.0 ≡ i = omega (arith, it.1) in
-      let found = subst (λ (n : ℕ). IsFirst items.places n it.2.0) same it.2.1 in
-      (it.2.0, record { free = ap place_of found.at; least = λ m w e. found.first m w (place_of-free (slice_get items.places m) w e) }))
-      (first_value 0 items.places))
 
 -- what lies at a place of a list that was set at one place, or that another list comes behind
 module _ {X : Type 0} where
@@ -94,7 +47,7 @@ AllowsPages-more (Some most) pages allowed other = let below : most ≢ pages = 
 
 module _ {T : Type 0} where
   -- a value of a page
-  value_of-page : (values : List T) (n : ℕ) (v : T) → slice_get (map Some values) n ≡ Some (Some v) → slice_get values n ≡ Some v
+  pub value_of-page : (values : List T) (n : ℕ) (v : T) → slice_get (map Some values) n ≡ Some (Some v) → slice_get values n ≡ Some v
   value_of-page [] n v e = cc
   value_of-page (w ∷ values) zero v e = cc
   value_of-page (w ∷ values) (suc n) v e = value_of-page values n v e
@@ -119,6 +72,11 @@ module _ {T : Type 0} where
           let value = value_of-page values (n - length items.places) v here in
           subst meets (get_or_from_slice_get values (n - length items.places) v v value) (clean (n - length items.places) v (slice_get_within values (n - length items.places) v value))
     ];
+    starts = let more = length-grown items values count in let starts = sound.starts in omega arith;
+    passed = λ n v below e.
+        let starts = sound.starts in
+        let front : n < length items.places = omega arith in
+        sound.passed n v below (sym (slice_get-append_front items.places (map Some values) n front) ∙ e);
   }
 
 module _ {T : Type 0} where

@@ -4,7 +4,7 @@ use Rattle.std.specs.List.{slice_get}
 use Rattle.std.proofs.lemmas.Bool.{cases_lt, cases_eq, eq-eqb, ne_eqb, lt-ltb, le-ltb}
 use Rattle.object_pool_cores.specs.Pool.{Pool, Place, Free, IsFree, IsSame, free_with, with_place}
 use Rattle.object_pool_cores.specs.Move.{grown}
-use Rattle.object_pool_cores.specs.LeastChoice.{IsExhausted, IsLeastFree}
+use Rattle.object_pool_cores.specs.LeastChoice.{IsExhausted}
 
 module _ {T : Type 0} where
   -- a place that changes, and one that doesn't
@@ -55,7 +55,3 @@ module _ {T : Type 0} where
       free_with-value : (o : Option T) (w : T) → free_with o ≡ Free w → o ≡ Some w
       free_with-value None w e = cc
       free_with-value (Some u) w e = cc
-
-  -- the first number of a page more is the least that is free, where none was free before
-  pub IsLeastFree-grown : (pool : Pool T) (values : List T) (v : T) → IsExhausted pool → IsFree (grown pool values) (32 * pool.pages) v → IsLeastFree (grown pool values) (32 * pool.pages) v
-  IsLeastFree-grown pool values v exhausted free = record { free = free; least = λ m w e. (free-grown pool values m w exhausted e).0 }

@@ -2,7 +2,8 @@
 ghost use Rattle.std.specs.Prelude.{◌≡◌, ◌≢◌, ◌≤◌, ◌↔◌, ◌/◌, ℕ, Option, Some, None, List, Result, Ok, Err, IfOk, OnErr, [], IsTrue, IsErrOf, IsErr};
 ghost use Rattle.object_pool_cores.specs.Item.{item_value};
 ghost use Rattle.object_pool_cores.specs.Attach.{RefusesAttach};
-ghost use Rattle.object_pool_cores.specs.Linear.{pool_of, limit_of, init_of, reset_of, IsOpening, Pulls, Gives, HeldTogether, IsOutOf};
+ghost use Rattle.object_pool_cores.specs.Looks.{LooksAtFew};
+ghost use Rattle.object_pool_cores.specs.Linear.{pool_of, limit_of, looked_of, init_of, reset_of, IsOpening, Pulls, Gives, HeldTogether, IsOutOf};
 
 use crate::sequential::numbered_items::NumberedItems;
 use crate::sequential::{AttachError, Item, SequentialPool};
@@ -25,6 +26,7 @@ impl<T: Drop, I: Init<T, K>, R: Reset<T, K>, K: Clean<T>> LinearCore<T, I, R, K>
         ensures opening { IfOk result (λ core. IsOpening (I.answers init) None core) }
         ensures init { IfOk result (λ core. init_of core ≡ init) }
         ensures reset { IfOk result (λ core. reset_of core ≡ reset) }
+        ensures looked { IfOk result (λ core. looked_of core ≡ 0) }
         ensures refused { result ≡ Err PullError.Init → I.answers init None }
         ensures unlimited { result ≢ Err PullError.Limit }
     {
@@ -42,6 +44,7 @@ impl<T: Drop, I: Init<T, K>, R: Reset<T, K>, K: Clean<T>> LinearCore<T, I, R, K>
         ensures opening { IfOk result (λ core. IsOpening (I.answers init) (Some pages) core) }
         ensures init { IfOk result (λ core. init_of core ≡ init) }
         ensures reset { IfOk result (λ core. reset_of core ≡ reset) }
+        ensures looked { IfOk result (λ core. looked_of core ≡ 0) }
         ensures refused { result ≡ Err PullError.Init → I.answers init None }
         ensures within { result ≢ Err PullError.Limit }
     {
@@ -55,9 +58,11 @@ impl<T: Drop, I: Init<T, K>, R: Reset<T, K>, K: Clean<T>> LinearCore<T, I, R, K>
     ) -> Result<LinearCore<T, I, R, K>, PullError>
         requires empty { items.places ≡ [] }
         requires allowed { items.limit ≢ Some 0 }
+        requires looked { items.looked ≡ 0 }
         ensures opening { IfOk result (λ core. IsOpening (I.answers init) items.limit core) }
         ensures init { IfOk result (λ core. init_of core ≡ init) }
         ensures reset { IfOk result (λ core. reset_of core ≡ reset) }
+        ensures looked { IfOk result (λ core. looked_of core ≡ 0) }
         ensures refused { result ≡ Err PullError.Init → I.answers init None }
         ensures within { result ≢ Err PullError.Limit }
     {
@@ -77,6 +82,14 @@ impl<T: Drop, I: Init<T, K>, R: Reset<T, K>, K: Clean<T>> LinearCore<T, I, R, K>
         ensures { result ≡ (pool_of self.now).pages }
     {
         self.items.pages()
+    }
+
+    /// How many pages the pulls have looked at. A pull looks once at each page from the one at which it starts, up to
+    /// the one that it takes from. At `u64::MAX` the count stays.
+    pub fn pages_looked(&self) -> u64
+        ensures { result ≡ looked_of self.now }
+    {
+        self.items.pages_looked()
     }
 }
 
@@ -103,20 +116,22 @@ impl<T: Drop, I: Init<T, K>, R: Reset<T, K>, K: Clean<T>> SequentialPool<T>
     fn pull(&mut self) -> Result<Item<T>, PullError>
         ensures step { Pulls (I.answers (init_of self.old)) self.old result self.new }
         ensures meets { IfOk result (λ item. K.meets (item_value item)) }
+        ensures looks { LooksAtFew (pool_of self.old) (looked_of self.old) (looked_of self.new) }
     {
-        match self.items.least_free() {
-            Some(number) => Ok(self.items.take(number)),
-            None => {
-                let number = self.items.count();
-                self.items.grow(&self.init)?;
-                Ok(self.items.take(number))
-            }
+        if let Some(item) = self.items.take_least() {
+            return Ok(item);
+        }
+        self.items.grow(&self.init)?;
+        match self.items.take_least() {
+            Some(item) => Ok(item),
+            None => unreachable!(),
         }
     }
 
     fn give(&mut self, item: Item<T>)
         requires { IsOutOf self.old item }
-        ensures { Gives (R.leaves (reset_of self.old)) self.old item self.new }
+        ensures step { Gives (R.leaves (reset_of self.old)) self.old item self.new }
+        ensures looked { looked_of self.new ≡ looked_of self.old }
     {
         let Some(number) = item.number() else {
             unreachable!()
@@ -165,3 +180,6 @@ impl<T: Drop, I: Init<T, K>, R: Reset<T, K>, K: Clean<T>> SequentialPool<T>
 
     ghost together_after_write = { λ core held index item value together here. HeldTogether-written core held index item value together here };
 }
+
+#[cfg(test)]
+mod tests;

@@ -1,54 +1,57 @@
 //! The items of a linear pool of one owner, by their numbers.
-ghost use Rattle.std.specs.Prelude.{◌≡◌, ◌↔◌, ◌*◌, ◌≢◌, [], Option, Some, None, Err, MatchOption, OnOk, OnErr, IsErrOf, IfOk, IsTrue, length, map, slice_get, slice_set, position, is_some};
+ghost use Rattle.std.specs.Prelude.{◌≡◌, ◌≤◌, ◌↔◌, ◌*◌, ◌+◌, [], Option, Some, None, Err, OnOk, OnErr, IfSome, IfNone, MatchOption, ◌<◌, IsTrue, IfOk, IfErr, ℕ, nat_lt, length, slice_get, is_some, if◌then◌else◌};
 ghost use Rattle.object_pool_cores.specs.Item.{item_value, item_number};
-ghost use Rattle.object_pool_cores.specs.Pool.{IsFree, IsOut, IsPool, IsSame};
-ghost use Rattle.object_pool_cores.specs.Move.{Pull, Return, after};
-ghost use Rattle.object_pool_cores.specs.LeastChoice.{IsExhausted, IsLeastFree};
 ghost use Rattle.object_pool_cores.specs.MadePage.{IsMadePage};
+ghost use Rattle.object_pool_cores.specs.Numbered.{AreWhole, HasNoneBelow, laid_out};
+ghost use Rattle.lockfree_object_pool.specs.Refusal.{RefusesMaking};
+ghost use Rattle.object_pool_cores.specs.OnePage.{HasNoFreeId};
+ghost use Rattle.object_pool_cores.specs.Pool.{IsOut, IsPool, IsSame};
+ghost use Rattle.object_pool_cores.specs.Move.{Return, after};
 
-use crate::sequential::Item;
+use crate::sequential::{CorePage, Item};
 use lockfree_object_pool::PullError;
 use lockfree_object_pool::clean::Clean;
 use lockfree_object_pool::closures::Init;
+use lockfree_object_pool::page::PageId;
 use std::alloc::Global;
-use std::marker::{Model, PhantomData};
-use std::sync::Mutex;
+use std::marker::Model;
 
 /// How many items a page has.
-const PAGE: usize = 32;
+const PAGE_ITEMS: u128 = 32;
 
-/// The value of each free item at its number, and nothing where an item is out.
+/// Pages in order. No page in front of `start` has a free number.
 #[derive(Drop)]
 pub(crate) struct NumberedItems<T, K: Clean<T>> {
-    places: Vec<Option<T>>,
+    pages: Vec<CorePage<T, K>>,
     limit: Option<usize>,
-    condition: PhantomData<Mutex<K>>,
+    start: usize,
+    looked: u64,
 }
 
 impl<T, K: Clean<T>> Model for NumberedItems<T, K> {
-    ghost use Rattle.object_pool_cores.specs.Numbered.{Numbered};
+    ghost use Rattle.object_pool_cores.specs.Numbered.{AreWhole, Numbered, IsSound, laid_out};
 
     ghost Value = { Numbered T };
 
-    ghost use Rattle.object_pool_cores.specs.Numbered.{IsSound};
+    ghost view = { λ items. record { places = laid_out items.pages.items; limit = items.limit; start = items.start; looked = items.looked } };
 
-    ghost view = { λ items. record { places = items.places.items; limit = items.limit } };
-
-    ghost invariant = { λ items. IsSound K.meets (record { places = items.places.items; limit = items.limit }) };
+    ghost invariant = { λ items. AreWhole items.pages.items × IsSound K.meets (record { places = laid_out items.pages.items; limit = items.limit; start = items.start; looked = items.looked }) };
 }
 
 impl<T: Drop, K: Clean<T>> NumberedItems<T, K> {
-    ghost use Rattle.object_pool_cores.specs.Numbered.{pool_of, Grows};
+    ghost use Rattle.object_pool_cores.specs.Numbered.{pool_of, FindsNone, Grows, Looks, TakesLeastOf};
 
     /// No items yet.
     pub(crate) fn new(alloc: Global, limit: Option<usize>) -> NumberedItems<T, K>
         ensures places { result.places ≡ [] }
         ensures limit { result.limit ≡ limit }
+        ensures looked { result.looked ≡ 0 }
     {
         NumberedItems {
-            places: Vec::new(alloc),
+            pages: Vec::new(alloc),
             limit,
-            condition: PhantomData,
+            start: 0,
+            looked: 0,
         }
     }
 
@@ -58,39 +61,34 @@ impl<T: Drop, K: Clean<T>> NumberedItems<T, K> {
         self.limit
     }
 
-    /// How many items there are, free or out.
-    pub(crate) fn count(&self) -> usize
-        ensures { result ≡ 32 * (pool_of self.now).pages }
-    {
-        self.places.len()
-    }
-
     pub(crate) fn pages(&self) -> usize
         ensures { result ≡ (pool_of self.now).pages }
     {
-        self.places.len() / PAGE
+        self.pages.len()
     }
 
-    /// The least number that is free.
-    pub(crate) fn least_free(&self) -> Option<usize>
-        ensures pool { IsPool self.now.limit (pool_of self.now) }
-        ensures least { MatchOption result (IsExhausted (pool_of self.now)) (λ n. (v : T) × IsLeastFree (pool_of self.now) n v) }
+    pub(crate) fn pages_looked(&self) -> u64
+        ensures { result ≡ self.now.looked }
     {
-        first_some(&self.places)
+        self.looked
     }
 
-    /// Takes the item at a free number, which is out from then on.
-    pub(crate) fn take(&mut self, number: usize) -> Item<T>
-        requires { (v : T) × IsFree (pool_of self.old) number v }
-        ensures number { item_number result ≡ Some number }
-        ensures free { IsFree (pool_of self.old) number (item_value result) }
-        ensures pulled { IsSame (pool_of self.new) (after (pool_of self.old) (Pull number (item_value result))) }
+    /// Takes the item at the least free number, which is out from then on.
+    pub(crate) fn take_least(&mut self) -> Option<Item<T>>
+        ensures before { IsPool self.old.limit (pool_of self.old) }
+        ensures after { IsPool self.new.limit (pool_of self.new) }
         ensures limit { self.new.limit ≡ self.old.limit }
-        ensures pool { IsPool self.new.limit (pool_of self.new) }
-        ensures meets { K.meets (item_value result) }
+        ensures least { IfSome result (λ item. (n : ℕ) × (item_number item ≡ Some n) × TakesLeastOf self.old n (item_value item) self.new) }
+        ensures meets { IfSome result (λ item. K.meets (item_value item)) }
+        ensures none { IfNone result (FindsNone self.old self.new) }
+        ensures looks { Looks self.old (if is_some result then 1 else 0) self.new }
     {
-        match self.places[number].take() {
-            Some(value) => Item::numbered(value, number as u128),
+        self.start = first_open(&self.pages, self.start, &mut self.looked);
+        if self.start == self.pages.len() {
+            return None;
+        }
+        match self.pages[self.start].alloc() {
+            Some((id, value)) => Some(Item::numbered(value, number(self.start, id))),
             None => unreachable!(),
         }
     }
@@ -99,9 +97,9 @@ impl<T: Drop, K: Clean<T>> NumberedItems<T, K> {
     pub(crate) fn is_out(&self, number: u128) -> bool
         ensures { IsTrue result ↔ IsOut (pool_of self.now) number }
     {
-        match usize::try_from(number) {
-            Ok(index) => is_empty_at(&self.places, index),
-            Err(_) => false,
+        match page_and_id(number, self.pages.len()) {
+            Some((page, id)) => self.pages[page].is_out(id),
+            None => false,
         }
     }
 
@@ -111,16 +109,23 @@ impl<T: Drop, K: Clean<T>> NumberedItems<T, K> {
         requires meets { K.meets value }
         ensures returned { IsSame (pool_of self.new) (after (pool_of self.old) (Return number value)) }
         ensures limit { self.new.limit ≡ self.old.limit }
+        ensures looked { self.new.looked ≡ self.old.looked }
         ensures before { IsPool self.old.limit (pool_of self.old) }
         ensures after { IsPool self.new.limit (pool_of self.new) }
     {
-        self.places[number as usize] = Some(value);
+        let Some((page, id)) = page_and_id(number, self.pages.len()) else {
+            unreachable!()
+        };
+        self.pages[page].free(id, value);
+        self.start = self.start.min(page);
     }
 
     /// Adds a page of values that `init` makes, or changes nothing. The room comes first.
     pub(crate) fn grow<I: Init<T, K>>(&mut self, init: &I) -> Result<(), PullError>
         ensures ok { OnOk result (Grows self.old.limit (I.answers init.now) (pool_of self.old) (pool_of self.new)) }
         ensures kept { self.new.limit ≡ self.old.limit }
+        ensures start { self.new.start ≡ self.old.start }
+        ensures looked { self.new.looked ≡ self.old.looked }
         ensures err { OnErr result (self.new ≡ self.old) }
         ensures limit { result ≡ Err PullError.Limit ↔ (self.old.limit ≡ Some (pool_of self.old).pages) }
         ensures init { result ≡ Err PullError.Init → I.answers init.now None }
@@ -128,51 +133,66 @@ impl<T: Drop, K: Clean<T>> NumberedItems<T, K> {
         if self.limit == Some(self.pages()) {
             return Err(PullError::Limit);
         }
-        self.places.reserve(PAGE)?;
-        let mut page = made_page(*self.places.allocator(), init)?;
-        if self.places.append(&mut page).is_err() {
+        self.pages.reserve(1)?;
+        let page = made_page(*self.pages.allocator(), init)?;
+        if self.pages.push(page).is_err() {
             unreachable!()
         }
         Ok(())
     }
 }
 
-/// A page of values that `init` makes. It stops at the first `None`.
+/// A page of values that `init` makes.
 fn made_page<T: Drop, I: Init<T, K>, K: Clean<T>>(
     alloc: Global,
     init: &I,
-) -> Result<Vec<Option<T>>, PullError>
-    ensures ok { IfOk result (λ page. IsMadePage (I.answers init.now) K.meets page.items) }
-    ensures limit { result ≢ Err PullError.Limit }
-    ensures init { result ≡ Err PullError.Init → I.answers init.now None }
+) -> Result<CorePage<T, K>, PullError>
+    ensures ok { IfOk result (IsMadePage (I.answers init.now) K.meets) }
+    ensures refused { IfErr result (RefusesMaking (I.answers init.now None)) }
 {
-    let mut page = Vec::with_capacity(alloc, PAGE)?;
-    for _id in 0..PAGE {
-        match init.make() {
-            Some(value) => {
-                if page.push(Some(value)).is_err() {
-                    unreachable!()
-                }
-            }
-            None => return Err(PullError::Init),
+    CorePage::new(alloc, &|| init.make())
+}
+
+/// The first page from `start` on that isn't full, or the count of pages. Each look at a page is counted.
+fn first_open<T: Drop, K: Clean<T>>(
+    pages: &[CorePage<T, K>],
+    start: usize,
+    looked: &mut u64,
+) -> usize
+    requires start { start ≤ length pages.now }
+    requires whole { AreWhole pages.now }
+    requires passed { HasNoneBelow (laid_out pages.now) (32 * start) }
+    ensures pages { (start ≤ result) × (result ≤ length pages.now) }
+    ensures passed { HasNoneBelow (laid_out pages.now) (32 * result) }
+    ensures open { (page : _) → slice_get pages.now result ≡ Some page → HasNoFreeId page → ⊥ }
+    ensures more { looked.old ≤ looked.new }
+    ensures each { looked.new + start ≤ looked.old + result + (if nat_lt result (length pages.now) then 1 else 0) }
+{
+    let mut at = start;
+    while at < pages.len() {
+        *looked = looked.saturating_add(1);
+        if !pages[at].is_full() {
+            return at;
         }
+        at += 1;
     }
-    Ok(page)
+    at
 }
 
-/// The index of the first value that is there.
-fn first_some<T>(places: &[Option<T>]) -> Option<usize>
-    ensures { result ≡ position is_some places.now }
+/// The number of an item, by its page and its id there.
+fn number(page: usize, id: PageId) -> u128
+    ensures { result ≡ 32 * page + id }
 {
-    places.iter().position(|place| place.is_some())
+    PAGE_ITEMS * page as u128 + u128::from(id)
 }
 
-/// Whether there is a place at the index, with no value in it.
-fn is_empty_at<T>(places: &[Option<T>], index: usize) -> bool
-    ensures { IsTrue result ↔ (slice_get places.now index ≡ Some None) }
+/// The page and the id of a number, where it is below the end of so many pages.
+fn page_and_id(number: u128, pages: usize) -> Option<(usize, PageId)>
+    ensures { MatchOption result (32 * pages ≤ number) (λ at. (number ≡ 32 * at.0 + at.1) × (at.1 < 32) × (at.0 < pages)) }
 {
-    match places.get(index) {
-        Some(place) => place.is_none(),
-        None => false,
+    let page = usize::try_from(number / PAGE_ITEMS).ok()?;
+    if page >= pages {
+        return None;
     }
+    Some((page, (number % PAGE_ITEMS) as PageId))
 }

@@ -1,18 +1,9 @@
-use Rattle.std.proofs.Common.{◌+◌, ◌∷◌, ◌++◌, [], ap, ◌∙◌, sym, arith, length-append, Some}
-use Rattle.std.proofs.lemmas.List.{map-append}
-use Rattle.std.proofs.lemmas.List.Elements.{All-push}
+use Rattle.std.proofs.Common.{rules}
+use Rattle.std.proofs.lemmas.Result.{IfOk-weaker}
+use Rattle.object_pool_cores.specs.MadePage.{IsMadePage}
+use Rattle.object_pool_cores.proofs.Cores.KeptWord.{IsMadePage-map}
 use Rattle.object_pool_cores.proofs.sequential.numbered_items.made_page.Goals as goal
 
-pub loop-id-preserved : goal.loop-id-preserved
-loop-id-preserved g c =
-    let so_far = c.loop-id.invariant.1 in
-    let items = rw c.if-is_err.ensures.negation at c.push.ensures.items in (
-      omega (arith, c.loop-id.invariant.0, c.push.ensures.capacity),
-      (
-        so_far.0 ++ c.in-Some.value ∷ [],
-        items ∙ ap (λ page. page ++ Some c.in-Some.value ∷ []) so_far.1 ∙ sym (map-append Some so_far.0 (c.in-Some.value ∷ [])),
-        length-append so_far.0 (c.in-Some.value ∷ []) ∙ ap (λ n. n + 1) so_far.2,
-        All-push (λ v. g.I.Init.answers c.args.init.now (Some v)) so_far.0 c.in-Some.value so_far.3 c.in-Some.ensures.gives,
-        All-push g.K.Clean.meets so_far.0 c.in-Some.value so_far.4 c.in-Some.ensures.meets,
-      ),
-    )
+pub returns-clause-ok : goal.returns-clause-ok
+returns-clause-ok g c =
+    IfOk-weaker c.new.result _ (IsMadePage (g.I.Init.answers c.args.init.now) g.K.Clean.meets) (λ page made. IsMadePage-map _ _ g.K.Clean.meets page (λ v given. search rules) made) c.new.ensures.made

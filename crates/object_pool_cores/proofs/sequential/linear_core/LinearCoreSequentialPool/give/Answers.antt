@@ -12,8 +12,8 @@ put-requires-clause-out g c =
     let number : c.requires.0 ≡ c.in-Some.number = cc in
     subst (λ (n : ℕ). IsOut (pool_of c.args.self.now.items) n) number c.requires.2
 
-pub returns : goal.returns
-returns g c =
+pub returns-clause-step : goal.returns-clause-step
+returns-clause-step g c =
     record {
       step = record { before = c.put.ensures.before; after = c.put.ensures.after; limit = c.put.ensures.limit; init = refl; reset = refl };
       returned = record {

@@ -1,0 +1,4 @@
+pub mod KeptWord
+pub mod PagedPlaces
+pub mod NumberedSteps
+pub mod FewLooks

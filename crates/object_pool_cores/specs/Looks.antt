@@ -1,0 +1,22 @@
+-- How many pages a pull looks at.
+use Rattle.std.specs.Prelude.{ℕ, ◌+◌, ◌*◌, ◌/◌, ◌≤◌, zero, suc}
+use Rattle.object_pool_cores.specs.Pool.{Pool, Place, Absent, Free, Out}
+
+module _ {T : Type 0} where
+  abbrev pub one_if_out : Place T → ℕ
+  one_if_out Absent = 0
+  one_if_out (Free v) = 0
+  one_if_out Out = 1
+
+  -- how many of the numbers below n are out
+  abbrev pub out_below : Pool T → ℕ → ℕ
+  out_below pool zero = 0
+  out_below pool (suc n) = out_below pool n + one_if_out (pool.at n)
+
+  -- how many numbers are out, forgotten ones too
+  abbrev pub out_count : Pool T → ℕ
+  out_count pool = out_below pool (32 * pool.pages)
+
+  -- no more looks than pages that the numbers out fill, and one
+  abbrev pub LooksAtFew : Pool T → ℕ → ℕ → Type 0
+  LooksAtFew pool before after = (before ≤ after) × (after ≤ before + out_count pool / 32 + 1)

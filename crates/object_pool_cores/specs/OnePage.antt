@@ -1,0 +1,27 @@
+-- A page of one owner: a map from free ids to values. It is written as the list of what lies at each of its 32 ids.
+use Rattle.std.specs.Prelude.{◌≡◌, ℕ, ◌<◌, ◌↔◌, Option, Some, None, List, slice_get, slice_set}
+use Rattle.std.specs.Int.{bit_at}
+
+module _ {T : Type 0} where
+  -- the id is free with this value
+  abbrev pub IsFreeId : List (Option T) → ℕ → T → Type 0
+  IsFreeId page id v = slice_get page id ≡ Some (Some v)
+
+  -- the id is out
+  abbrev pub IsOutId : List (Option T) → ℕ → Type 0
+  IsOutId page id = slice_get page id ≡ Some None
+
+  -- no id is free
+  abbrev pub HasNoFreeId : List (Option T) → Type 0
+  HasNoFreeId page = (id : ℕ) (v : T) → IsFreeId page id v → ⊥
+
+  -- the least free id is taken, with its value
+  pub record TakesLeastId (old : List (Option T)) (id : ℕ) (v : T) (new : List (Option T)) : Type 0 where
+    pub in_page : id < 32
+    pub free : IsFreeId old id v
+    pub least : (lower : ℕ) (w : T) → lower < id → IsFreeId old lower w → ⊥
+    pub taken : new ≡ slice_set old id None
+
+  -- the set bits of the word are the free ids
+  abbrev pub IsMask : List (Option T) → ℕ → Type 0
+  IsMask page word = (id : ℕ) → id < 32 → (bit_at word id ≡ 1) ↔ ((v : T) × IsFreeId page id v)
