@@ -2,3 +2,4 @@ pub mod KeptWord
 pub mod PagedPlaces
 pub mod NumberedSteps
 pub mod FewLooks
+pub mod HeldTableSteps

@@ -4,6 +4,7 @@ pub mod Buffered
 pub mod CommandText
 pub mod Engine
 pub mod Held
+pub mod HeldTable
 pub mod Item
 pub mod Laws
 pub mod LeastChoice

@@ -3,6 +3,7 @@
 mod attach_error;
 mod command;
 mod core_page;
+mod held_items;
 mod item;
 mod linear_core;
 mod numbered_items;

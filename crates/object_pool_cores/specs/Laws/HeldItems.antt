@@ -1,15 +1,9 @@
 -- What a table holds at an index, after one change.
-use Rattle.std.proofs.Common.{◌≡◌, ◌≢◌, ℕ, ◌<◌, suc, zero, Option, Some, None, List, [], ◌∷◌, ◌++◌, length, get_or, slice_set, refl, sym, ap, ◌∙◌, inl, inr, ◌⊎◌, length-set, arith}
+use Rattle.std.proofs.Common.{◌≡◌, ◌≢◌, ℕ, ◌<◌, suc, zero, Option, Some, None, List, [], ◌∷◌, ◌++◌, length, slice_set, refl, sym, ap, ◌∙◌, inl, inr, ◌⊎◌, length-set, arith}
 use Rattle.std.specs.List.{slice_get}
 use Rattle.std.proofs.lemmas.Bool.{cases_eq}
-use Rattle.std.proofs.lemmas.Option.{unwrap_or-slice_get, get_or_from_slice_get, slice_get-get_or, slice_get_within}
-use Rattle.object_pool_cores.specs.declared.sequential.item.Item.{Item}
-use Rattle.object_pool_cores.specs.Held.{held_at}
+use Rattle.std.proofs.lemmas.Option.{slice_get_within}
 use Rattle.object_pool_cores.specs.Laws.NumberedPlaces.{slice_get-set_same, slice_get-set_other}
-
--- a place of the table that holds nothing
-pub held_at-empty : {T : Type 0} (held : List (Option (Item T))) (index : ℕ) (other : Option (Item T)) → index < length held → get_or held index other ≡ None → held_at held index ≡ None
-held_at-empty held index other within empty = unwrap_or-slice_get held index None ∙ get_or_from_slice_get held index (get_or held index other) None (slice_get-get_or held index other within) ∙ empty
 
 module _ {X : Type 0} where
   -- what is read of a list that was set at one place

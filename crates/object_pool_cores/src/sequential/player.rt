@@ -4,7 +4,8 @@ ghost use Rattle.std.specs.Option.{option_copied};
 ghost use Rattle.object_pool_cores.specs.Held.{held_at, value_of, IsReplaced};
 ghost use Rattle.object_pool_cores.specs.Replies.{Plays, Ran, NeedsRoom, AfterWrite, AfterReturn, AfterForget};
 
-use crate::sequential::{Command, Item, Reply, RunError, SequentialPool};
+use crate::sequential::held_items::HeldItems;
+use crate::sequential::{Command, Reply, RunError, SequentialPool};
 use std::alloc::Global;
 use std::marker::Model;
 
@@ -12,7 +13,7 @@ use std::marker::Model;
 #[derive(Drop)]
 pub struct Player<T, P: SequentialPool<T>> {
     pool: P,
-    held: Vec<Option<Item<T>>>,
+    held: HeldItems<T>,
 }
 
 impl<T, P: SequentialPool<T>> Model for Player<T, P> {
@@ -34,7 +35,7 @@ impl<T: Drop, P: SequentialPool<T>> Player<T, P> {
     {
         Player {
             pool,
-            held: Vec::new(alloc),
+            held: HeldItems::new(alloc),
         }
     }
 
@@ -42,8 +43,7 @@ impl<T: Drop, P: SequentialPool<T>> Player<T, P> {
     pub fn held(&self, index: usize) -> Option<&T>
         ensures { option_copied result ≡ value_of (held_at self.now.held index) }
     {
-        let item = self.held.get(index)?.as_ref()?;
-        Some(item)
+        self.held.get(index)
     }
 
     /// Does one command.
@@ -84,11 +84,11 @@ impl<T: Drop, P: SequentialPool<T>> Player<T, P> {
         ensures ok { IfOk result (λ reply. Plays P.pulls P.gives P.attaches self.old Command.Pull reply self.new) }
         ensures err { OnErr result (self.new ≡ self.old) }
     {
-        self.held.reserve(1)?;
+        self.held.reserve()?;
         match self.pool.pull() {
             Ok(item) => {
                 let number = item.number();
-                Ok(Reply::Pulled(hold(&mut self.held, item), number))
+                Ok(Reply::Pulled(self.held.hold(item), number))
             }
             Err(cause) => Ok(Reply::Refused(cause)),
         }
@@ -98,9 +98,9 @@ impl<T: Drop, P: SequentialPool<T>> Player<T, P> {
         ensures ok { IfOk result (λ reply. Plays P.pulls P.gives P.attaches self.old (Command.Attach value) reply self.new) }
         ensures err { OnErr result (self.new ≡ self.old) }
     {
-        self.held.reserve(1)?;
+        self.held.reserve()?;
         match self.pool.attach(value) {
-            Ok(item) => Ok(Reply::Attached(hold(&mut self.held, item))),
+            Ok(item) => Ok(Reply::Attached(self.held.hold(item))),
             Err(error) => Ok(Reply::AttachRefused(error)),
         }
     }
@@ -108,7 +108,7 @@ impl<T: Drop, P: SequentialPool<T>> Player<T, P> {
     fn write(&mut self, index: usize, value: T) -> Reply<T>
         ensures { Plays P.pulls P.gives P.attaches self.old (Command.Write index value) result self.new }
     {
-        if replace(&mut self.held, index, value) {
+        if self.held.replace(index, value) {
             Reply::Written
         } else {
             Reply::NoSuchHolder
@@ -118,7 +118,7 @@ impl<T: Drop, P: SequentialPool<T>> Player<T, P> {
     fn give(&mut self, index: usize) -> Reply<T>
         ensures { Plays P.pulls P.gives P.attaches self.old (Command.Return index) result self.new }
     {
-        match let_go(&mut self.held, index) {
+        match self.held.let_go(index) {
             Some(item) => {
                 self.pool.give(item);
                 Reply::Returned
@@ -130,50 +130,9 @@ impl<T: Drop, P: SequentialPool<T>> Player<T, P> {
     fn forget(&mut self, index: usize) -> Reply<T>
         ensures { Plays P.pulls P.gives P.attaches self.old (Command.Forget index) result self.new }
     {
-        match let_go(&mut self.held, index) {
+        match self.held.let_go(index) {
             Some(_) => Reply::Forgotten,
             None => Reply::NoSuchHolder,
         }
-    }
-}
-
-/// Holds an item at the next index, which it answers.
-fn hold<T: Drop>(held: &mut Vec<Option<Item<T>>>, item: Item<T>) -> usize
-    requires { vec_len held.old < vec_capacity held.old }
-    ensures held { held.new.items ≡ held.old.items ++ Some item ∷ [] }
-    ensures index { result ≡ length held.old.items }
-{
-    let index = held.len();
-    if held.push(Some(item)).is_err() {
-        unreachable!()
-    }
-    index
-}
-
-/// Takes the item at an index out of the table.
-fn let_go<T>(held: &mut [Option<Item<T>>], index: usize) -> Option<Item<T>>
-    ensures item { result ≡ held_at held.old index }
-    ensures held { OnSome result (held.new ≡ slice_set held.old index None) }
-    ensures none { IfNone result (held.new ≡ held.old) }
-{
-    if index >= held.len() {
-        return None;
-    }
-    held[index].take()
-}
-
-/// Replaces the value that is held at an index, and answers whether there is one.
-fn replace<T: Drop>(held: &mut [Option<Item<T>>], index: usize, value: T) -> bool
-    ensures { IsReplaced held.old index value (held_at held.old index) result held.new }
-{
-    if index >= held.len() {
-        return false;
-    }
-    match &mut held[index] {
-        Some(item) => {
-            **item = value;
-            true
-        }
-        None => false,
     }
 }
