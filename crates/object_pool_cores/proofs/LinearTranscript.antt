@@ -20,7 +20,7 @@ use Rattle.object_pool_cores.specs.Linear.{pool_of, limit_of, init_of, reset_of,
 use Rattle.object_pool_cores.specs.Opens.{Opens}
 use Rattle.object_pool_cores.specs.Pool.{Pool, IsSame, opening}
 use Rattle.object_pool_cores.specs.Replies.{Plays, AfterWrite, AfterReturn, AfterForget}
-use Rattle.object_pool_cores.specs.Served.{Serves, ServesAll, ServesFront, ServesPart}
+use Rattle.object_pool_cores.specs.Served.{Serves, ServesAll, ServesAllInPart, ServesFront, ServesPart, StopsWriting}
 use Rattle.object_pool_cores.specs.Transcript.{Answers, Transcript}
 
 module _ {I R K : Type 0} (answers : I → Option ℕ → Type 0) (leaves : R → ℕ → ℕ → Type 0) where
@@ -169,23 +169,34 @@ module _ {R K : Type 0} (leaves : R → ℕ → ℕ → Type 0) (limit : Option 
     },
   )
 
-  pub WrotePart-shown : ServesPart (pulls by_copy leaves) (gives by_copy leaves) (attaches by_copy leaves) old before bytes after → WrotePart limit (leaves reset) before bytes after
-  WrotePart-shown served = (
-    shown by_copy leaves old,
-    first_shown,
-    record {
-      front = served.front;
-      back = served.back;
-      lines = served.lines;
-      rest = served.rest;
-      text = served.text;
-      last = shown by_copy leaves served.last;
-      cut = served.cut;
-      split = served.split;
-      told = told_shown (with_last_line served.lines served.rest) served.text served.last served.told;
-      written = served.written;
-    },
-  )
+  part_shown : ServesPart (pulls by_copy leaves) (gives by_copy leaves) (attaches by_copy leaves) old before bytes after → ServesPart (PullsItem limit makes_zero) (ReturnsItem (leaves reset)) RefusesAttach (shown by_copy leaves old) before bytes after
+  part_shown served = record {
+    front = served.front;
+    back = served.back;
+    lines = served.lines;
+    rest = served.rest;
+    text = served.text;
+    last = shown by_copy leaves served.last;
+    cut = served.cut;
+    split = served.split;
+    told = told_shown served.lines served.text served.last served.told;
+    written = served.written;
+  }
+
+  all_in_part_shown : ServesAllInPart (pulls by_copy leaves) (gives by_copy leaves) (attaches by_copy leaves) old before bytes after → ServesAllInPart (PullsItem limit makes_zero) (ReturnsItem (leaves reset)) RefusesAttach (shown by_copy leaves old) before bytes after
+  all_in_part_shown served = record {
+    lines = served.lines;
+    rest = served.rest;
+    text = served.text;
+    last = shown by_copy leaves served.last;
+    split = served.split;
+    told = told_shown (with_last_line served.lines served.rest) served.text served.last served.told;
+    written = served.written;
+  }
+
+  pub WrotePart-shown : (all_read : Type 0) → StopsWriting (pulls by_copy leaves) (gives by_copy leaves) (attaches by_copy leaves) all_read old before bytes after → WrotePart limit (leaves reset) before bytes after all_read
+  WrotePart-shown all_read (inl served) = (shown by_copy leaves old, first_shown, inl (part_shown served))
+  WrotePart-shown all_read (inr served) = (shown by_copy leaves old, first_shown, inr (served.0, all_in_part_shown served.1))
 
 -- nothing was read, and nothing written
 pub WroteFront-none : (limit : Option ℕ) (leaves : ℕ → ℕ → Type 0) (before : Option (List ℕ)) → WroteFront limit leaves before [] before

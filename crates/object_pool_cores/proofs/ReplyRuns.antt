@@ -1,5 +1,5 @@
 -- A run of commands with their replies goes on by one.
-use Rattle.std.proofs.Common.{◌≡◌, List, [], ◌∷◌, ◌++◌, Result, IsErr, Ok, Err, OnOk, refl, ap, subst, ◌∙◌, append_assoc}
+use Rattle.std.proofs.Common.{◌≡◌, List, [], ◌∷◌, ◌++◌, Result, IsErr, Ok, Err, OnOk, OnErr, refl, ap, subst, ◌∙◌, append_assoc}
 use Rattle.lockfree_object_pool.specs.declared.pull_error.PullError.{PullError}
 use Rattle.object_pool_cores.specs.declared.sequential.item.Item.{Item}
 use Rattle.object_pool_cores.specs.declared.sequential.attach_error.AttachError.{AttachError}
@@ -40,3 +40,13 @@ module _ {P T : Type 0} (pulls : P → Result (Item T) PullError → P → Type 
 pub OnOk-map : {V E : Type 0} {P Q : Type 0} (result : Result V E) → (P → Q) → OnOk result P → OnOk result Q
 OnOk-map (Ok v) leads h = leads h
 OnOk-map (Err e) leads h = tt
+
+-- what holds, holds of an error
+pub OnErr-always : {V E : Type 0} {P : Type 0} (result : Result V E) → P → OnErr result P
+OnErr-always (Ok v) p = tt
+OnErr-always (Err e) p = p
+
+-- a result is an Ok or an error
+pub by_result : {V E : Type 0} {A B : Type 0} (C : Type 0) (result : Result V E) → OnOk result A → OnErr result B → (A → C) → (B → C) → C
+by_result C (Ok v) ok err from_ok from_err = from_ok ok
+by_result C (Err e) ok err from_ok from_err = from_err err

@@ -1,5 +1,5 @@
 -- What was served goes on.
-use Rattle.std.proofs.Common.{◌≡◌, ◌≢◌, ℕ, Option, List, [], ◌∷◌, ◌++◌, Result, refl, sym, ap, subst, ◌∙◌, append_assoc, append-nil}
+use Rattle.std.proofs.Common.{◌≡◌, ◌≢◌, ℕ, Option, Some, List, [], ◌∷◌, ◌++◌, Result, refl, sym, ap, subst, ◌∙◌, append_assoc, append-nil}
 use Rattle.std.specs.Prelude.{flat_map}
 use Rattle.std.specs.Io.KnownBytes.{Appends, Keeps}
 use Rattle.std.proofs.KnownBytes.{Appends-nil, Appends-trans, Appends-kept}
@@ -9,7 +9,7 @@ use Rattle.object_pool_cores.specs.declared.sequential.attach_error.AttachError.
 use Rattle.object_pool_cores.specs.Held.{Playing}
 use Rattle.object_pool_cores.specs.Lines.{ended, HasNoLineFeed, with_last_line}
 use Rattle.object_pool_cores.specs.Transcript.{Answers, Transcript}
-use Rattle.object_pool_cores.specs.Served.{AppendsPart, Serves, ServesAll, ServesFront, ServesPart, AnswersLast, AnswersLastInPart}
+use Rattle.object_pool_cores.specs.Served.{AppendsPart, Serves, ServesAll, ServesFront, ServesPart, ServesAllInPart, AnswersLast, AnswersLastInPart}
 use Rattle.object_pool_cores.proofs.LineSplits.{IsLines-rest, IsLines-byte, IsLines-feed, IsLines-join, IsLines-front}
 
 -- a part of what comes behind a text
@@ -72,21 +72,6 @@ module _ {P : Type 0} (pulls : P → Result (Item ℕ) PullError → P → Type 
       written = Appends-trans before between after served.text next.text served.written next.written;
     }
 
-    -- the answer to the line that a line feed ended was written in part
-    pub ServesPart-line : (bytes rest text all back : List ℕ) (middle last : Playing P ℕ) (between after : Option (List ℕ)) → Serves pulls gives attaches old before bytes rest middle between → Answers pulls gives attaches middle rest text last → AppendsPart between after text → all ≡ (bytes ++ 10 ∷ []) ++ back → ServesPart pulls gives attaches old before all after
-    ServesPart-line bytes rest text all back middle last between after served answer part cut = record {
-      front = bytes ++ 10 ∷ [];
-      back = back;
-      lines = served.lines ++ rest ∷ [];
-      rest = [];
-      text = served.text ++ text;
-      last = last;
-      cut = cut;
-      split = IsLines-feed bytes served.lines rest served.split;
-      told = Transcript-join old middle last served.lines (rest ∷ []) served.text text served.told (Transcript-line middle last rest text answer);
-      written = AppendsPart-behind before between after served.text text served.written part;
-    }
-
     -- nothing more was written
     pub ServesFront-kept : (bytes rest all back : List ℕ) (last : Playing P ℕ) (between after : Option (List ℕ)) → Serves pulls gives attaches old before bytes rest last between → Keeps between after → all ≡ bytes ++ back → ServesFront pulls gives attaches old before all after
     ServesFront-kept bytes rest all back last between after served kept cut = record {
@@ -116,9 +101,7 @@ module _ {P : Type 0} (pulls : P → Result (Item ℕ) PullError → P → Type 
           last = part.last;
           cut = behind.1;
           split = behind.0;
-          told =
-              rw with_last_line-join
-              (Transcript-join old middle part.last served.lines (with_last_line part.lines part.rest) served.text part.text served.told part.told);
+          told = Transcript-join old middle part.last served.lines part.lines served.text part.text served.told part.told;
           written = AppendsPart-behind before between after served.text part.text served.written part.written;
         }
 
@@ -157,15 +140,12 @@ module _ {P : Type 0} (pulls : P → Result (Item ℕ) PullError → P → Type 
       written = Appends-trans before between after served.text last.text served.written last.written;
     }
 
-    pub ServesPart-last : (bytes rest : List ℕ) (middle : Playing P ℕ) (between after : Option (List ℕ)) → Serves pulls gives attaches old before bytes rest middle between → AnswersLastInPart pulls gives attaches middle between rest after → ServesPart pulls gives attaches old before bytes after
-    ServesPart-last bytes rest middle between after served last = record {
-      front = bytes;
-      back = [];
+    pub ServesAllInPart-last : (bytes rest : List ℕ) (middle : Playing P ℕ) (between after : Option (List ℕ)) → Serves pulls gives attaches old before bytes rest middle between → AnswersLastInPart pulls gives attaches middle between rest after → ServesAllInPart pulls gives attaches old before bytes after
+    ServesAllInPart-last bytes rest middle between after served last = record {
       lines = served.lines;
       rest = rest;
       text = served.text ++ last.text;
       last = last.last;
-      cut = sym (append-nil bytes);
       split = served.split;
       told =
           subst (λ (lines : List (List ℕ)). Transcript pulls gives attaches old lines (served.text ++ last.text) last.last) (sym (last_line served.lines rest))
@@ -195,4 +175,52 @@ module _ {P : Type 0} (pulls : P → Result (Item ℕ) PullError → P → Type 
       split = rw append-nil (IsLines-rest rest clear);
       told = (refl, refl);
       written = Appends-nil before;
+    }
+
+    -- what was gathered is written, whole or in part
+    pub Serves-written : (bytes rest text : List ℕ) (new : Playing P ℕ) (after : Option (List ℕ)) → Serves pulls gives attaches old (Some []) bytes rest new (Some text) → Appends before after text → Serves pulls gives attaches old before bytes rest new after
+    Serves-written bytes rest text new after served written = record {
+      lines = served.lines;
+      text = served.text;
+      split = served.split;
+      told = served.told;
+      written = subst (Appends before after) served.written written;
+    }
+
+    pub ServesPart-written : (bytes rest text : List ℕ) (new : Playing P ℕ) (after : Option (List ℕ)) → Serves pulls gives attaches old (Some []) bytes rest new (Some text) → AppendsPart before after text → ServesPart pulls gives attaches old before bytes after
+    ServesPart-written bytes rest text new after served part = record {
+      front = bytes;
+      back = [];
+      lines = served.lines;
+      rest = rest;
+      text = served.text;
+      last = new;
+      cut = sym (append-nil bytes);
+      split = served.split;
+      told = served.told;
+      written = subst (AppendsPart before after) served.written part;
+    }
+
+    pub ServesFront-written : (bytes text : List ℕ) (after : Option (List ℕ)) → ServesFront pulls gives attaches old (Some []) bytes (Some text) → Appends before after text → ServesFront pulls gives attaches old before bytes after
+    ServesFront-written bytes text after stopped written = record {
+      front = stopped.front;
+      back = stopped.back;
+      rest = stopped.rest;
+      last = stopped.last;
+      cut = stopped.cut;
+      served = Serves-written stopped.front stopped.rest text stopped.last after stopped.served written;
+    }
+
+    pub ServesPart-front : (bytes text : List ℕ) (after : Option (List ℕ)) → ServesFront pulls gives attaches old (Some []) bytes (Some text) → AppendsPart before after text → ServesPart pulls gives attaches old before bytes after
+    ServesPart-front bytes text after stopped part = record {
+      front = stopped.front;
+      back = stopped.back;
+      lines = stopped.served.lines;
+      rest = stopped.rest;
+      text = stopped.served.text;
+      last = stopped.last;
+      cut = stopped.cut;
+      split = stopped.served.split;
+      told = stopped.served.told;
+      written = subst (AppendsPart before after) stopped.served.written part;
     }

@@ -8,7 +8,7 @@ use Rattle.object_pool_cores.specs.Attach.{RefusesAttach}
 use Rattle.object_pool_cores.specs.Held.{Playing}
 use Rattle.object_pool_cores.specs.LeastChoice.{PullsItem, ReturnsItem}
 use Rattle.object_pool_cores.specs.Pool.{Pool, IsSame, opening}
-use Rattle.object_pool_cores.specs.Served.{Serves, ServesAll, ServesFront, ServesPart}
+use Rattle.object_pool_cores.specs.Served.{Serves, ServesAll, ServesFront, StopsWriting}
 
 -- a linear pool, with a limit of 1 page or more where it has one
 abbrev pub IsLinear : Kind → Type 0
@@ -52,6 +52,7 @@ module _ (limit : Option ℕ) (leaves : ℕ → ℕ → Type 0) (before : Option
   abbrev pub WroteFront : Type 0
   WroteFront = (first : Playing (Pool ℕ) ℕ) × IsFirst first × ServesFront (PullsItem limit makes_zero) (ReturnsItem leaves) RefusesAttach first before bytes after
 
-  -- a beginning of the replies to the lines of a beginning of the bytes
-  abbrev pub WrotePart : Type 0
-  WrotePart = (first : Playing (Pool ℕ) ℕ) × IsFirst first × ServesPart (PullsItem limit makes_zero) (ReturnsItem leaves) RefusesAttach first before bytes after
+  -- a beginning of the replies to the lines whose line feed is in a beginning of the bytes, or, only where all was read, to
+  -- all lines
+  abbrev pub WrotePart : Type 0 → Type 0
+  WrotePart all_read = (first : Playing (Pool ℕ) ℕ) × IsFirst first × StopsWriting (PullsItem limit makes_zero) (ReturnsItem leaves) RefusesAttach all_read first before bytes after

@@ -1,5 +1,5 @@
 -- What an engine wrote for the bytes that it read; the bytes that a writer holds are said where they are known.
-use Rattle.std.specs.Prelude.{◌≡◌, ℕ, Option, List, ◌++◌, [], Result}
+use Rattle.std.specs.Prelude.{◌≡◌, ℕ, Option, List, ◌++◌, [], Result, ◌⊎◌}
 use Rattle.std.specs.Io.KnownBytes.{Appends}
 use Rattle.lockfree_object_pool.specs.declared.pull_error.PullError.{PullError}
 use Rattle.object_pool_cores.specs.declared.sequential.item.Item.{Item}
@@ -43,7 +43,7 @@ module _ {P : Type 0} (pulls : P → Result (Item ℕ) PullError → P → Type 
     pub cut : bytes ≡ front ++ back
     pub served : Serves old before front rest last after
 
-  -- a beginning of the answers to the lines of a beginning of the bytes was written
+  -- a beginning of the answers to the lines of a beginning of the bytes was written; each line's line feed is in the bytes
   pub record ServesPart (old : Playing P ℕ) (before : Option (List ℕ)) (bytes : List ℕ) (after : Option (List ℕ)) : Type 0 where
     pub front : List ℕ
     pub back : List ℕ
@@ -53,8 +53,22 @@ module _ {P : Type 0} (pulls : P → Result (Item ℕ) PullError → P → Type 
     pub last : Playing P ℕ
     pub cut : bytes ≡ front ++ back
     pub split : IsLines front lines rest
+    pub told : Transcript pulls gives attaches old lines text last
+    pub written : AppendsPart before after text
+
+  -- a beginning of the answers to all lines of the bytes was written, a last line without a line feed too
+  pub record ServesAllInPart (old : Playing P ℕ) (before : Option (List ℕ)) (bytes : List ℕ) (after : Option (List ℕ)) : Type 0 where
+    pub lines : List (List ℕ)
+    pub rest : List ℕ
+    pub text : List ℕ
+    pub last : Playing P ℕ
+    pub split : IsLines bytes lines rest
     pub told : Transcript pulls gives attaches old (with_last_line lines rest) text last
     pub written : AppendsPart before after text
+
+  -- the writing stopped: at the lines whose line feed was read, or, only where all was read, at the last line without one
+  abbrev pub StopsWriting : Type 0 → Playing P ℕ → Option (List ℕ) → List ℕ → Option (List ℕ) → Type 0
+  StopsWriting all_read old before bytes after = ServesPart old before bytes after ⊎ (all_read × ServesAllInPart old before bytes after)
 
   -- what stands behind the last line feed was answered, where there is anything
   pub record AnswersLast (old : Playing P ℕ) (before : Option (List ℕ)) (rest : List ℕ) (after : Option (List ℕ)) : Type 0 where

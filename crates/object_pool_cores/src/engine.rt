@@ -42,7 +42,7 @@ pub fn run<H: Wait, R: Read, W: Write>(
     ensures read { result ≡ Err EngineError.Read → (bytes : List ℕ) × Consumes (R.remaining input.old) (R.remaining input.new) bytes
         × WroteLines (limit_of kind) (leaves_of reset) (W.contents output.old) bytes (W.contents output.new) }
     ensures write { result ≡ Err EngineError.Write → (bytes : List ℕ) × Consumes (R.remaining input.old) (R.remaining input.new) bytes
-        × WrotePart (limit_of kind) (leaves_of reset) (W.contents output.old) bytes (W.contents output.new) }
+        × WrotePart (limit_of kind) (leaves_of reset) (W.contents output.old) bytes (W.contents output.new) (IsAtEnd (R.remaining input.new)) }
     ensures memory { result ≡ Err EngineError.Memory → (bytes : List ℕ) × Consumes (R.remaining input.old) (R.remaining input.new) bytes
         × WroteFront (limit_of kind) (leaves_of reset) (W.contents output.old) bytes (W.contents output.new) }
 {
@@ -68,7 +68,7 @@ fn run_linear<H: Wait, S: lockfree_object_pool::closures::Reset<u32, AnyValue>, 
     ensures read { result ≡ Err EngineError.Read → (bytes : List ℕ) × Consumes (R.remaining input.old) (R.remaining input.new) bytes
         × WroteLines (limit_of kind) (S.leaves reset) (W.contents output.old) bytes (W.contents output.new) }
     ensures write { result ≡ Err EngineError.Write → (bytes : List ℕ) × Consumes (R.remaining input.old) (R.remaining input.new) bytes
-        × WrotePart (limit_of kind) (S.leaves reset) (W.contents output.old) bytes (W.contents output.new) }
+        × WrotePart (limit_of kind) (S.leaves reset) (W.contents output.old) bytes (W.contents output.new) (IsAtEnd (R.remaining input.new)) }
     ensures memory { result ≡ Err EngineError.Memory → (bytes : List ℕ) × Consumes (R.remaining input.old) (R.remaining input.new) bytes
         × WroteFront (limit_of kind) (S.leaves reset) (W.contents output.old) bytes (W.contents output.new) }
 {

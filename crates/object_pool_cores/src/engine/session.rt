@@ -1,20 +1,27 @@
 //! The engine on any pool of one owner: it reads lines, plays their commands and writes the replies.
-ghost use Rattle.std.specs.Prelude.{◌≡◌, ◌≢◌, ◌++◌, ℕ, List, Err, IfOk, OnOk, OnErr};
+ghost use Rattle.std.specs.Prelude.{◌≡◌, ◌≢◌, ◌≤◌, ◌++◌, ℕ, List, [], Some, Err, IfOk, OnOk, OnErr, length};
 ghost use Rattle.std.specs.Io.KnownBytes.{Appends, Consumes, IsAtEnd, Keeps};
 ghost use Rattle.object_pool_cores.specs.Buffered.{IsBuffered, IsOpenLine};
 ghost use Rattle.object_pool_cores.specs.Transcript.{Answers, named_index, pulled_value};
-ghost use Rattle.object_pool_cores.specs.Served.{AnswersLast, AnswersLastInPart, AppendsPart, Serves, ServesAll, ServesFront, ServesPart};
+ghost use Rattle.object_pool_cores.specs.Served.{AnswersLast, AnswersLastInPart, AppendsPart, Serves, ServesAll, ServesFront, ServesPart, StopsWriting};
 
 use crate::engine::EngineError;
 use crate::engine::line_buffer::LineBuffer;
 use crate::engine::output::write_whole;
 use crate::engine::reply_text::{ReplyText, line_of, plain_line};
 use crate::sequential::{Command, Player, Reply, RunError, SequentialPool};
+use arrayvec::ArrayVec;
 use std::io::{Read, Write};
 use std::sync::Wait;
 
 /// How many bytes are read at most at a time.
 const CHUNK: usize = 1024;
+
+/// How many bytes the replies to the lines of one read have at most: a longest reply for each byte.
+const GATHERED: usize = 94208;
+
+/// The replies to the lines of one read.
+type Replies = ArrayVec<u8, GATHERED>;
 
 const LINE_FEED: u8 = b'\n';
 
@@ -32,12 +39,13 @@ pub(super) fn serve<H: Wait, P: SequentialPool<u32>, R: Read, W: Write>(
         × Consumes (R.remaining input.old) (R.remaining input.new) bytes
         × Serves P.pulls P.gives P.attaches player.old (W.contents output.old) bytes rest last (W.contents output.new) }
     ensures write { result ≡ Err EngineError.Write → (bytes : List ℕ) × Consumes (R.remaining input.old) (R.remaining input.new) bytes
-        × ServesPart P.pulls P.gives P.attaches player.old (W.contents output.old) bytes (W.contents output.new) }
+        × StopsWriting P.pulls P.gives P.attaches (IsAtEnd (R.remaining input.new)) player.old (W.contents output.old) bytes (W.contents output.new) }
     ensures memory { result ≡ Err EngineError.Memory → (bytes : List ℕ) × Consumes (R.remaining input.old) (R.remaining input.new) bytes
         × ServesFront P.pulls P.gives P.attaches player.old (W.contents output.old) bytes (W.contents output.new) }
 {
     let mut line = LineBuffer::new();
     let mut chunk = [0u8; CHUNK];
+    let mut replies = Replies::new();
     'reads: for _ in rt.forever() {
         let count = match input.read(&mut chunk) {
             Ok(count) => count,
@@ -46,18 +54,20 @@ pub(super) fn serve<H: Wait, P: SequentialPool<u32>, R: Read, W: Write>(
         if count == 0 {
             return serve_last(player, &line, output);
         }
-        feed(player, &mut line, &chunk[..count], output)?;
+        serve_chunk(player, &mut line, &chunk[..count], &mut replies, output)?;
     }
     unreachable!()
 }
 
-/// Takes more bytes, and answers each line that they end.
-fn feed<P: SequentialPool<u32>, W: Write>(
+/// Takes more bytes, and answers the lines that they end. The replies are gathered, and written as one.
+fn serve_chunk<P: SequentialPool<u32>, W: Write>(
     player: &mut Player<u32, P>,
     line: &mut LineBuffer,
     bytes: &[u8],
+    replies: &mut Replies,
     output: &mut W,
 ) -> Result<(), EngineError>
+    requires { length bytes.now ≤ 1024 }
     ensures ok { OnOk result ((rest : List ℕ) → IsOpenLine rest line.old → (more : List ℕ) × IsOpenLine more line.new
         × Serves P.pulls P.gives P.attaches player.old (W.contents output.old) (rest ++ bytes.now) more player.new (W.contents output.new)) }
     ensures write { result ≡ Err EngineError.Write → (rest : List ℕ) → IsOpenLine rest line.old
@@ -66,9 +76,37 @@ fn feed<P: SequentialPool<u32>, W: Write>(
         → ServesFront P.pulls P.gives P.attaches player.old (W.contents output.old) (rest ++ bytes.now) (W.contents output.new) }
     ensures read { result ≢ Err EngineError.Read }
 {
+    replies.clear();
+    let fed = feed(player, line, bytes, replies);
+    let Ok(()) = write_whole(output, replies) else {
+        return Err(EngineError::Write);
+    };
+    match fed {
+        Ok(()) => Ok(()),
+        Err(RunError::Memory) => Err(EngineError::Memory),
+    }
+}
+
+/// Takes more bytes, and gathers the replies to the lines that they end.
+fn feed<P: SequentialPool<u32>>(
+    player: &mut Player<u32, P>,
+    line: &mut LineBuffer,
+    bytes: &[u8],
+    replies: &mut Replies,
+) -> Result<(), RunError>
+    requires bytes { length bytes.now ≤ 1024 }
+    requires replies { replies.old.items ≡ [] }
+    ensures ok { OnOk result ((rest : List ℕ) → IsOpenLine rest line.old → (more : List ℕ) × IsOpenLine more line.new
+        × Serves P.pulls P.gives P.attaches player.old (Some []) (rest ++ bytes.now) more player.new (Some replies.new.items)) }
+    ensures err { OnErr result ((rest : List ℕ) → IsOpenLine rest line.old
+        → ServesFront P.pulls P.gives P.attaches player.old (Some []) (rest ++ bytes.now) (Some replies.new.items)) }
+{
     for byte in bytes {
         if *byte == LINE_FEED {
-            serve_line(player, line, output)?;
+            let text = answer(player, line)?;
+            let Ok(()) = replies.try_extend_from_slice(text.as_str().as_bytes()) else {
+                unreachable!()
+            };
             *line = LineBuffer::new();
         } else {
             line.push(*byte);

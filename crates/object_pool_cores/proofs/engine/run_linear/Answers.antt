@@ -19,7 +19,7 @@ returns-clause-read g c = λ e.
 pub returns-clause-write : goal.returns-clause-write
 returns-clause-write g c = λ e.
     let served = c.serve.ensures.write e in
-    (served.0, served.1, WrotePart-shown g.S.Reset.leaves _ c.args.reset _ c.in-Some.ensures.opens c.in-Some.ensures.held _ served.0 _ served.2)
+    (served.0, served.1, WrotePart-shown g.S.Reset.leaves _ c.args.reset _ c.in-Some.ensures.opens c.in-Some.ensures.held _ served.0 _ _ served.2)
 
 pub returns-clause-memory : goal.returns-clause-memory
 returns-clause-memory g c = λ e.
