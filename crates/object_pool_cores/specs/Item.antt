@@ -1,13 +1,28 @@
--- What an item shows: its value, and its number where its pool numbers its items.
-use Rattle.std.specs.Prelude.{ℕ, Option}
+-- What an item shows: its value, its number where its pool numbers its items, and whether it brings a room.
+use Rattle.std.specs.Prelude.{ℕ, Option, Some, None, Bool, true, false}
 use Rattle.object_pool_cores.specs.declared.sequential.item.Item.{Item}
+use Rattle.object_pool_cores.specs.declared.sequential.item.Home.{Home}
+use Rattle.object_pool_cores.specs.declared.sequential.item.Home.TheVariants.{Number, Room, Nowhere}
 
 module _ {T : Type 0} where
   abbrev pub item_value : Item T → T
   item_value item = item.value
 
+  abbrev pub number_of : Home T → Option ℕ
+  number_of (Number n) = Some n
+  number_of (Room room) = None
+  number_of Nowhere = None
+
   abbrev pub item_number : Item T → Option ℕ
-  item_number item = item.number
+  item_number item = number_of item.home
+
+  abbrev pub is_room : Home T → Bool
+  is_room (Number n) = false
+  is_room (Room room) = true
+  is_room Nowhere = false
+
+  abbrev pub has_room : Item T → Bool
+  has_room item = is_room item.home
 
   -- the item with another value
   abbrev pub with_value : Item T → T → Item T

@@ -5,3 +5,5 @@ pub mod FreeValues
 pub mod HeldItems
 pub mod LinearBag
 pub mod LinearTogether
+pub mod StackLaws
+pub mod FreshBag

@@ -3,9 +3,11 @@ pub mod Bag
 pub mod Buffered
 pub mod CommandText
 pub mod Engine
+pub mod Fresh
 pub mod Held
 pub mod HeldTable
 pub mod Item
+pub mod LastIn
 pub mod Laws
 pub mod LeastChoice
 pub mod Linear
@@ -13,6 +15,7 @@ pub mod Lines
 pub mod Looks
 pub mod MadePage
 pub mod Move
+pub mod NoPool
 pub mod Numbered
 pub mod OnePage
 pub mod Opens
@@ -22,5 +25,6 @@ pub mod Replies
 pub mod ReplyText
 pub mod Run
 pub mod Served
+pub mod Stack
 pub mod Transcript
 pub mod World

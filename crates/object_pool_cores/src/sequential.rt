@@ -6,10 +6,12 @@ mod core_page;
 mod held_items;
 mod item;
 mod linear_core;
+mod none_core;
 mod numbered_items;
 mod player;
 mod reply;
 mod sequential_pool;
+mod stack_core;
 
 pub use crate::run_error::RunError;
 pub use attach_error::AttachError;
@@ -17,9 +19,11 @@ pub use command::Command;
 pub use core_page::CorePage;
 pub use item::Item;
 pub use linear_core::LinearCore;
+pub use none_core::NoneCore;
 pub use player::Player;
 pub use reply::Reply;
 pub use sequential_pool::SequentialPool;
+pub use stack_core::StackCore;
 
 #[cfg(test)]
 mod tests;

@@ -1,15 +1,27 @@
 //! One item, while it is out of its pool.
-ghost use Rattle.std.specs.Prelude.{◌≡◌};
+ghost use Rattle.std.specs.Prelude.{◌≡◌, IsTrue, IsSome, Some, None};
 ghost use Rattle.std.specs.Borrow.{Lends, sem};
-ghost use Rattle.object_pool_cores.specs.Item.{item_value, item_number, with_value};
+ghost use Rattle.object_pool_cores.specs.Item.{item_value, item_number, has_room, with_value};
 
+use lockfree_object_pool::stack::Room;
 use std::ops::{Deref, DerefMut};
 
 /// An item that a pool of one owner gave.
-#[derive(Debug, PartialEq, Eq, Drop)]
+#[derive(Drop)]
 pub struct Item<T> {
     value: T,
-    number: Option<u128>,
+    home: Home<T>,
+}
+
+/// What an item brings back to its pool.
+#[derive(Drop)]
+enum Home<T> {
+    /// Its number.
+    Number(u128),
+    /// The room that it will lie in.
+    Room(Room<T>),
+    /// Nothing: it doesn't come back.
+    Nowhere,
 }
 
 impl<T> Item<T> {
@@ -19,21 +31,69 @@ impl<T> Item<T> {
     {
         Item {
             value,
-            number: Some(number),
+            home: Home::Number(number),
         }
     }
 
-    pub(crate) fn into_value(self) -> T
-        ensures { result ≡ item_value self }
+    pub(crate) fn with_room(value: T, room: Room<T>) -> Item<T>
+        ensures value { item_value result ≡ value }
+        ensures number { item_number result ≡ None }
+        ensures room { IsTrue (has_room result) }
     {
-        self.value
+        Item {
+            value,
+            home: Home::Room(room),
+        }
+    }
+
+    pub(crate) fn fresh(value: T) -> Item<T>
+        ensures value { item_value result ≡ value }
+        ensures number { item_number result ≡ None }
+    {
+        Item {
+            value,
+            home: Home::Nowhere,
+        }
+    }
+
+    /// Whether the item brings a room.
+    pub(crate) fn has_room(&self) -> bool
+        ensures { result ≡ has_room self.now }
+    {
+        match self.home {
+            Home::Room(_) => true,
+            Home::Number(_) | Home::Nowhere => false,
+        }
     }
 
     /// The item's number, where its pool numbers its items: 32 times its page, and its place there.
     pub fn number(&self) -> Option<u128>
         ensures { result ≡ item_number self.now }
     {
-        self.number
+        match self.home {
+            Home::Number(number) => Some(number),
+            Home::Room(_) | Home::Nowhere => None,
+        }
+    }
+}
+
+impl<T: Drop> Item<T> {
+    pub(crate) fn into_value(self) -> T
+        ensures { result ≡ item_value self }
+    {
+        self.value
+    }
+
+    /// The value, and the room that the item brings.
+    pub(crate) fn into_parts(self) -> (T, Option<Room<T>>)
+        ensures value { result.0 ≡ item_value self }
+        ensures room { IsTrue (has_room self) → IsSome result.1 }
+    {
+        let Item { value, home } = self;
+        match home {
+            Home::Room(room) => (value, Some(room)),
+            Home::Number(_) | Home::Nowhere => (value, None),
+        }
     }
 }
 

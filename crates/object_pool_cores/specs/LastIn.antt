@@ -1,0 +1,28 @@
+-- A stack: a list of kept values, last returned first.
+use Rattle.std.specs.Prelude.{◌≡◌, Option, Some, None, List, Result, Ok, Err, ◌⊎◌}
+use Rattle.lockfree_object_pool.specs.declared.pull_error.PullError.{PullError}
+use Rattle.lockfree_object_pool.specs.LastIn.{TakesFirst, StaysEmpty, PutsInFront}
+use Rattle.lockfree_object_pool.specs.Refusal.{RefusesMaking}
+use Rattle.object_pool_cores.specs.declared.sequential.item.Item.{Item}
+use Rattle.object_pool_cores.specs.declared.sequential.attach_error.AttachError.{AttachError}
+use Rattle.object_pool_cores.specs.declared.sequential.attach_error.AttachError.TheVariants.{Memory}
+use Rattle.object_pool_cores.specs.Item.{item_value, item_number}
+
+module _ {T : Type 0} where
+  -- the first value is taken, or where nothing is kept an answer of init is given
+  abbrev pub TakesLast : (Option T → Type 0) → List T → T → List T → Type 0
+  TakesLast answers old v new = TakesFirst old v new ⊎ (StaysEmpty old new × answers (Some v))
+
+  -- a pull gives an item without a number, or, only where nothing is kept, is refused
+  abbrev pub PullsLast : (Option T → Type 0) → List T → Result (Item T) PullError → List T → Type 0
+  PullsLast answers old (Ok item) new = (item_number item ≡ None) × TakesLast answers old (item_value item) new
+  PullsLast answers old (Err cause) new = StaysEmpty old new × RefusesMaking (answers None) cause
+
+  -- a return puts what reset left in front
+  abbrev pub ReturnsLast : (T → T → Type 0) → List T → Item T → List T → Type 0
+  ReturnsLast leaves old item new = (kept : T) × leaves (item_value item) kept × PutsInFront old kept new
+
+  -- an attach gives an item with the value, or is refused for memory; the list stays
+  abbrev pub AttachesLast : List T → T → Result (Item T) (AttachError T) → List T → Type 0
+  AttachesLast old v (Ok item) new = (item_number item ≡ None) × (item_value item ≡ v) × (new ≡ old)
+  AttachesLast old v (Err error) new = (error ≡ Memory v) × (new ≡ old)

@@ -1,0 +1,13 @@
+-- A fresh pull is a case of the common relation, with a bag that is always empty.
+use Rattle.std.proofs.Common.{◌≡◌, Option, Some, [], Result, Ok, Err, refl, inr}
+use Rattle.std.proofs.lemmas.List.Elements.{All-nil}
+use Rattle.lockfree_object_pool.specs.declared.pull_error.PullError.{PullError}
+use Rattle.object_pool_cores.specs.declared.sequential.item.Item.{Item}
+use Rattle.object_pool_cores.specs.declared.sequential.none_core.NoneCore.{NoneCore}
+use Rattle.object_pool_cores.specs.Bag.{PullsFromBag, pulled_value}
+use Rattle.object_pool_cores.specs.NoPool.{Pulls}
+
+module _ {T I : Type 0} where
+  pub Pulls-from_bag : (answers : Option T → Type 0) (old new : NoneCore T I) (answer : Result (Item T) PullError) → Pulls answers old answer new → PullsFromBag answers [] (pulled_value answer) []
+  Pulls-from_bag answers old new (Ok item) pulls = inr (record { none = refl; answer = pulls.1.1; further = All-nil (λ w. answers (Some w)) })
+  Pulls-from_bag answers old new (Err cause) pulls = (refl, refl)

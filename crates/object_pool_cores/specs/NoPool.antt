@@ -1,0 +1,14 @@
+-- The steps of the core that keeps nothing.
+use Rattle.std.specs.Prelude.{◌≡◌, Option, Result}
+use Rattle.lockfree_object_pool.specs.declared.pull_error.PullError.{PullError}
+use Rattle.object_pool_cores.specs.declared.sequential.item.Item.{Item}
+use Rattle.object_pool_cores.specs.declared.sequential.none_core.NoneCore.{NoneCore}
+use Rattle.object_pool_cores.specs.Fresh.{PullsFresh}
+
+module _ {T I : Type 0} where
+  abbrev pub init_of : NoneCore T I → I
+  init_of core = core.init
+
+  -- a pull is fresh, and what makes the values stays
+  abbrev pub Pulls : (Option T → Type 0) → NoneCore T I → Result (Item T) PullError → NoneCore T I → Type 0
+  Pulls answers old answer new = (new ≡ old) × PullsFresh answers answer

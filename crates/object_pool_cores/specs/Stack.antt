@@ -1,0 +1,45 @@
+-- The steps of the stack core: last in, first out.
+use Rattle.std.specs.Prelude.{◌≡◌, ℕ, Option, Some, List, Result, IsTrue, IfOk, slice_get}
+use Rattle.lockfree_object_pool.specs.declared.pull_error.PullError.{PullError}
+use Rattle.object_pool_cores.specs.declared.sequential.item.Item.{Item}
+use Rattle.object_pool_cores.specs.declared.sequential.attach_error.AttachError.{AttachError}
+use Rattle.object_pool_cores.specs.declared.sequential.stack_core.StackCore.{StackCore}
+use Rattle.object_pool_cores.specs.Item.{has_room}
+use Rattle.object_pool_cores.specs.LastIn.{PullsLast, ReturnsLast, AttachesLast}
+
+module _ {T I R K : Type 0} where
+  -- the kept values, last returned first
+  abbrev pub kept_of : StackCore T I R K → List T
+  kept_of core = core.kept
+
+  abbrev pub init_of : StackCore T I R K → I
+  init_of core = core.init
+
+  abbrev pub reset_of : StackCore T I R K → R
+  reset_of core = core.reset
+
+  -- what makes and resets the values stays
+  pub record IsStep (old new : StackCore T I R K) : Type 0 where
+    pub init : init_of new ≡ init_of old
+    pub reset : reset_of new ≡ reset_of old
+
+  -- a pull is that of a stack, and its item brings a room
+  pub record Pulls (answers : Option T → Type 0) (old : StackCore T I R K) (answer : Result (Item T) PullError) (new : StackCore T I R K) : Type 0 where
+    pub step : IsStep old new
+    pub room : IfOk answer (λ item. IsTrue (has_room item))
+    pub pulled : PullsLast answers (kept_of old) answer (kept_of new)
+
+  -- a return is that of a stack
+  pub record Gives (leaves : T → T → Type 0) (old : StackCore T I R K) (item : Item T) (new : StackCore T I R K) : Type 0 where
+    pub step : IsStep old new
+    pub returned : ReturnsLast leaves (kept_of old) item (kept_of new)
+
+  -- an attach is that of a stack, and its item brings a room
+  pub record Attaches (old : StackCore T I R K) (value : T) (answer : Result (Item T) (AttachError T)) (new : StackCore T I R K) : Type 0 where
+    pub same : new ≡ old
+    pub room : IfOk answer (λ item. IsTrue (has_room item))
+    pub attached : AttachesLast (kept_of old) value answer (kept_of new)
+
+-- items that are held together each bring a room
+abbrev pub HoldRooms : {T : Type 0} → List (Option (Item T)) → Type 0
+HoldRooms held = (index : ℕ) (item : _) → slice_get held index ≡ Some (Some item) → IsTrue (has_room item)

@@ -1,0 +1,98 @@
+//! A pool that keeps nothing, to compare others with.
+ghost use Rattle.std.specs.Prelude.{◌≡◌, ◌↔◌, [], ⊤};
+ghost use Rattle.std.proofs.Common.{inr, refl};
+ghost use Rattle.object_pool_cores.specs.Attach.{RefusesAttach};
+ghost use Rattle.object_pool_cores.specs.NoPool.{init_of, Pulls};
+
+use crate::sequential::{AttachError, Item, SequentialPool};
+use lockfree_object_pool::PullError;
+use lockfree_object_pool::clean::AnyValue;
+use lockfree_object_pool::closures::Init;
+use std::marker::PhantomData;
+use std::sync::Mutex;
+
+/// A pool whose items are fresh. A return drops the item.
+#[derive(Drop)]
+pub struct NoneCore<T, I: Init<T, AnyValue>> {
+    init: I,
+    marker: PhantomData<Mutex<T>>,
+}
+
+impl<T: Drop, I: Init<T, AnyValue>> NoneCore<T, I> {
+    pub fn new(init: I) -> NoneCore<T, I>
+        ensures { init_of result ≡ init }
+    {
+        NoneCore {
+            init,
+            marker: PhantomData,
+        }
+    }
+}
+
+impl<T: Drop, I: Init<T, AnyValue>> SequentialPool<T> for NoneCore<T, I> {
+    ghost pulls = { λ old answer new. Pulls (I.answers (init_of old)) old answer new };
+
+    ghost gives = { λ old _ new. new ≡ old };
+
+    ghost attaches = { λ old value answer new. RefusesAttach old value answer new };
+
+    ghost owns = { λ _ _. ⊤ };
+
+    ghost together = { λ _ _. ⊤ };
+
+    ghost kept = { λ _. [] };
+
+    ghost answers = { λ core answer. I.answers (init_of core) answer };
+
+    ghost leaves = { λ _ _ _. ⊥ };
+
+    fn pull(&mut self) -> Result<Item<T>, PullError>
+        ensures { Pulls (I.answers (init_of self.old)) self.old result self.new }
+    {
+        match self.init.make() {
+            Some(value) => Ok(Item::fresh(value)),
+            None => Err(PullError::Init),
+        }
+    }
+
+    fn give(&mut self, item: Item<T>)
+        ensures { self.new ≡ self.old }
+    {
+        drop(item);
+    }
+
+    fn attach(&mut self, value: T) -> Result<Item<T>, AttachError<T>>
+        ensures { RefusesAttach self.old value result self.new }
+    {
+        Err(AttachError::NotOffered(value))
+    }
+
+    fn is_mine(&self, item: &Item<T>) -> bool {
+        let _ = item;
+        true
+    }
+
+    ghost use Rattle.object_pool_cores.specs.Laws.FreshBag.{Pulls-from_bag};
+
+    ghost pull_from_bag = { λ old new answer pulls. Pulls-from_bag (I.answers (init_of old)) old new answer pulls };
+
+    ghost return_to_bag = { λ old new item owned gives. inr refl };
+
+    ghost attach_beside_bag = { λ old new value answer refused. refl };
+
+    ghost together_at_first = { λ core. tt };
+
+    ghost together_is_owned = { λ core held index item together here. tt };
+
+    ghost together_after_pull = { λ old new held item together pulls. tt };
+
+    ghost together_after_refusal = { λ old new held cause together pulls. tt };
+
+    ghost together_after_attach = { λ old new held value item together refused. tt };
+
+    ghost together_after_give = { λ old new held index item together here gives. tt };
+
+    ghost together_after_forget = { λ core held index together. tt };
+
+    ghost together_after_write = { λ core held index item value together here. tt };
+}
