@@ -3,7 +3,6 @@ pub mod Cores
 pub mod Holders
 pub mod LeastChoiceSteps
 pub mod LineSplits
-pub mod LinearTranscript
 pub mod ReplyRuns
 pub mod Runs
 pub mod TranscriptRuns

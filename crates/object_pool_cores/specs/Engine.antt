@@ -1,28 +1,34 @@
--- What an engine wrote, told by the replies of commands on a linear pool of numbers.
-use Rattle.std.specs.Prelude.{◌≡◌, ◌≤◌, ℕ, Option, Some, None, List, [], replicate, ⊤}
+-- What an engine wrote, told by the replies of commands on a new pool of numbers.
+use Rattle.std.specs.Prelude.{◌≡◌, ◌≤◌, ℕ, Option, Some, None, List, [], Result, Ok, Err, OnOk, replicate, ⊤}
+use Rattle.std.specs.Io.KnownBytes.{Consumes, IsAtEnd}
+use Rattle.lockfree_object_pool.specs.declared.pull_error.PullError.{PullError}
+use Rattle.object_pool_cores.specs.declared.engine.engine_error.EngineError.{EngineError}
+use Rattle.object_pool_cores.specs.declared.engine.engine_error.EngineError.TheVariants.{Read, Write, Memory}
 use Rattle.object_pool_cores.specs.declared.engine.kind.Kind.{Kind}
 use Rattle.object_pool_cores.specs.declared.engine.kind.Kind.TheVariants as kind
 use Rattle.object_pool_cores.specs.declared.engine.kind.Reset.{Reset}
 use Rattle.object_pool_cores.specs.declared.engine.kind.Reset.TheVariants.{Zero, Keep}
+use Rattle.object_pool_cores.specs.declared.sequential.item.Item.{Item}
+use Rattle.object_pool_cores.specs.declared.sequential.attach_error.AttachError.{AttachError}
 use Rattle.object_pool_cores.specs.Attach.{RefusesAttach}
+use Rattle.object_pool_cores.specs.Fresh.{PullsFresh}
 use Rattle.object_pool_cores.specs.Held.{Playing}
+use Rattle.object_pool_cores.specs.LastIn.{PullsLast, ReturnsLast, AttachesLast}
 use Rattle.object_pool_cores.specs.LeastChoice.{PullsItem, ReturnsItem}
 use Rattle.object_pool_cores.specs.Pool.{Pool, IsSame, opening}
 use Rattle.object_pool_cores.specs.Served.{Serves, ServesAll, ServesFront, StopsWriting}
 
--- a linear pool, with a limit of 1 page or more where it has one
-abbrev pub IsLinear : Kind → Type 0
-IsLinear kind.Linear = ⊤
-IsLinear (kind.Bounded pages) = 1 ≤ pages
-IsLinear kind.Stack = ⊥
-IsLinear kind.None = ⊥
+-- a limit is of 1 page or more
+abbrev pub IsPlayable : Kind → Type 0
+IsPlayable kind.Linear = ⊤
+IsPlayable (kind.Bounded pages) = 1 ≤ pages
+IsPlayable kind.Stack = ⊤
+IsPlayable kind.None = ⊤
 
--- how many pages a pool may have
-abbrev pub limit_of : Kind → Option ℕ
-limit_of kind.Linear = None
-limit_of (kind.Bounded pages) = Some pages
-limit_of kind.Stack = None
-limit_of kind.None = None
+-- a linear pool, within a limit where there is one
+abbrev pub linear_kind : Option ℕ → Kind
+linear_kind None = kind.Linear
+linear_kind (Some pages) = kind.Bounded pages
 
 -- what a return leaves of a value
 abbrev pub leaves_of : Reset → ℕ → ℕ → Type 0
@@ -38,21 +44,56 @@ pub record IsFirst (first : Playing (Pool ℕ) ℕ) : Type 0 where
   pub pool : IsSame first.pool (opening (replicate 32 0))
   pub held : first.held ≡ []
 
-module _ (limit : Option ℕ) (leaves : ℕ → ℕ → Type 0) (before : Option (List ℕ)) (bytes : List ℕ) (after : Option (List ℕ)) where
+-- what is told of the steps of a pool and of what is played first
+abbrev pub Telling : Type 1
+Telling = (P : Type 0) → (P → Result (Item ℕ) PullError → P → Type 0) → (P → Item ℕ → P → Type 0) → (P → ℕ → Result (Item ℕ) (AttachError ℕ) → P → Type 0) → Playing P ℕ → Type 0
+
+module _ (leaves : ℕ → ℕ → Type 0) where
+  -- told of a linear pool within a limit: its pulls are by least choice
+  abbrev pub OnLinear : Option ℕ → Telling → Type 0
+  OnLinear limit tells = (first : Playing (Pool ℕ) ℕ) × IsFirst first × tells (Pool ℕ) (PullsItem limit makes_zero) (ReturnsItem leaves) RefusesAttach first
+
+  -- told of the pool of a kind: the stack begins with nothing kept, and without a pool each item is fresh
+  abbrev pub OnKind : Kind → Telling → Type 0
+  OnKind kind.Linear tells = OnLinear None tells
+  OnKind (kind.Bounded pages) tells = OnLinear (Some pages) tells
+  OnKind kind.Stack tells = tells (List ℕ) (PullsLast makes_zero) (ReturnsLast leaves) AttachesLast (record { pool = []; held = [] })
+  OnKind kind.None tells = tells (Unit {0}) (λ old answer new. PullsFresh makes_zero answer) (λ old item new. ⊤) RefusesAttach (record { pool = tt; held = [] })
+
+module _ (before : Option (List ℕ)) (bytes : List ℕ) (after : Option (List ℕ)) where
+  abbrev pub tells_all : Telling
+  tells_all P pulls gives attaches first = ServesAll pulls gives attaches first before bytes after
+
+  abbrev pub tells_lines : Telling
+  tells_lines P pulls gives attaches first = (rest : List ℕ) × (last : Playing P ℕ) × Serves pulls gives attaches first before bytes rest last after
+
+  abbrev pub tells_front : Telling
+  tells_front P pulls gives attaches first = ServesFront pulls gives attaches first before bytes after
+
+  abbrev pub tells_part : Type 0 → Telling
+  tells_part all_read P pulls gives attaches first = StopsWriting pulls gives attaches all_read first before bytes after
+
+module _ (kind : Kind) (leaves : ℕ → ℕ → Type 0) (before : Option (List ℕ)) (bytes : List ℕ) (after : Option (List ℕ)) where
   -- the replies to all lines of the bytes, a last one without a line feed too
   abbrev pub WroteAll : Type 0
-  WroteAll = (first : Playing (Pool ℕ) ℕ) × IsFirst first × ServesAll (PullsItem limit makes_zero) (ReturnsItem leaves) RefusesAttach first before bytes after
+  WroteAll = OnKind leaves kind (tells_all before bytes after)
 
   -- the replies to the lines whose line feed is in the bytes
   abbrev pub WroteLines : Type 0
-  WroteLines = (first : Playing (Pool ℕ) ℕ) × IsFirst first
-      × ((rest : List ℕ) × (last : Playing (Pool ℕ) ℕ) × Serves (PullsItem limit makes_zero) (ReturnsItem leaves) RefusesAttach first before bytes rest last after)
+  WroteLines = OnKind leaves kind (tells_lines before bytes after)
 
   -- the replies to the lines of a beginning of the bytes
   abbrev pub WroteFront : Type 0
-  WroteFront = (first : Playing (Pool ℕ) ℕ) × IsFirst first × ServesFront (PullsItem limit makes_zero) (ReturnsItem leaves) RefusesAttach first before bytes after
+  WroteFront = OnKind leaves kind (tells_front before bytes after)
 
   -- a beginning of the replies to the lines whose line feed is in a beginning of the bytes, or, only where all was read, to
   -- all lines
   abbrev pub WrotePart : Type 0 → Type 0
-  WrotePart all_read = (first : Playing (Pool ℕ) ℕ) × IsFirst first × StopsWriting (PullsItem limit makes_zero) (ReturnsItem leaves) RefusesAttach all_read first before bytes after
+  WrotePart all_read = OnKind leaves kind (tells_part before bytes after all_read)
+
+-- what an engine read and wrote, by how it ended
+pub record Ends (kind : Kind) (leaves : ℕ → ℕ → Type 0) (result : Result (Unit {0}) EngineError) (unread rest before after : Option (List ℕ)) : Type 0 where
+  pub ok : OnOk result ((bytes : List ℕ) × Consumes unread rest bytes × IsAtEnd rest × WroteAll kind leaves before bytes after)
+  pub read : result ≡ Err Read → (bytes : List ℕ) × Consumes unread rest bytes × WroteLines kind leaves before bytes after
+  pub write : result ≡ Err Write → (bytes : List ℕ) × Consumes unread rest bytes × WrotePart kind leaves before bytes after (IsAtEnd rest)
+  pub memory : result ≡ Err Memory → (bytes : List ℕ) × Consumes unread rest bytes × WroteFront kind leaves before bytes after

@@ -1,7 +1,7 @@
 //! Lines of commands in, lines of replies out, on a pool of numbers.
-ghost use Rattle.std.specs.Prelude.{◌≡◌, ◌≢◌, ℕ, Option, Some, None, List, [], Err, IfSome, OnOk};
+ghost use Rattle.std.specs.Prelude.{◌≡◌, ◌≤◌, ℕ, List, [], Err, IfSome, OnOk};
 ghost use Rattle.std.specs.Io.KnownBytes.{Consumes, IsAtEnd};
-ghost use Rattle.object_pool_cores.specs.Engine.{IsLinear, limit_of, leaves_of, WroteAll, WroteLines, WroteFront, WrotePart};
+ghost use Rattle.object_pool_cores.specs.Engine.{Ends, IsPlayable, leaves_of, linear_kind, WroteAll, WroteLines, WroteFront, WrotePart};
 ghost use Rattle.object_pool_cores.specs.Opens.{Opens};
 
 mod command_text;
@@ -12,19 +12,20 @@ mod output;
 mod reply_text;
 mod session;
 
-use crate::sequential::{LinearCore, Player};
+use crate::sequential::{LinearCore, NoneCore, Player, StackCore};
 pub use engine_error::EngineError;
 pub use kind::{Kind, Reset};
 use lockfree_object_pool::PullError;
 use lockfree_object_pool::clean::AnyValue;
+use lockfree_object_pool::closures;
 use lockfree_object_pool::closures::{Copied, Keep};
 use session::serve;
 use std::alloc::Global;
 use std::io::{Read, Write};
 use std::sync::Wait;
 
-/// Plays the lines of `input` on a new pool whose items are made as 0, and writes a reply for each line to `output`
-/// as soon as the line was read. It reads until there is no more, so it may wait.
+/// Plays the lines of `input` on a new pool whose items are made as 0, and writes a reply for each line to `output`.
+/// The replies to the lines of one read go out before the next read. It reads until there is no more, so it may wait.
 pub fn run<H: Wait, R: Read, W: Write>(
     rt: &H,
     alloc: Global,
@@ -33,27 +34,25 @@ pub fn run<H: Wait, R: Read, W: Write>(
     input: &mut R,
     output: &mut W,
 ) -> Result<(), EngineError>
-    // The stack of kept items and the fresh items aren't played yet.
-    requires { IsLinear kind }
-
+    requires { IsPlayable kind }
     ensures ok { OnOk result ((bytes : List ℕ) × Consumes (R.remaining input.old) (R.remaining input.new) bytes
         × IsAtEnd (R.remaining input.new)
-        × WroteAll (limit_of kind) (leaves_of reset) (W.contents output.old) bytes (W.contents output.new)) }
+        × WroteAll kind (leaves_of reset) (W.contents output.old) bytes (W.contents output.new)) }
     ensures read { result ≡ Err EngineError.Read → (bytes : List ℕ) × Consumes (R.remaining input.old) (R.remaining input.new) bytes
-        × WroteLines (limit_of kind) (leaves_of reset) (W.contents output.old) bytes (W.contents output.new) }
+        × WroteLines kind (leaves_of reset) (W.contents output.old) bytes (W.contents output.new) }
     ensures write { result ≡ Err EngineError.Write → (bytes : List ℕ) × Consumes (R.remaining input.old) (R.remaining input.new) bytes
-        × WrotePart (limit_of kind) (leaves_of reset) (W.contents output.old) bytes (W.contents output.new) (IsAtEnd (R.remaining input.new)) }
+        × WrotePart kind (leaves_of reset) (W.contents output.old) bytes (W.contents output.new) (IsAtEnd (R.remaining input.new)) }
     ensures memory { result ≡ Err EngineError.Memory → (bytes : List ℕ) × Consumes (R.remaining input.old) (R.remaining input.new) bytes
-        × WroteFront (limit_of kind) (leaves_of reset) (W.contents output.old) bytes (W.contents output.new) }
+        × WroteFront kind (leaves_of reset) (W.contents output.old) bytes (W.contents output.new) }
 {
     match reset {
-        Reset::Zero => run_linear(rt, alloc, kind, Copied::new(0), input, output),
-        Reset::Keep => run_linear(rt, alloc, kind, Keep, input, output),
+        Reset::Zero => run_on(rt, alloc, kind, Copied::new(0), input, output),
+        Reset::Keep => run_on(rt, alloc, kind, Keep, input, output),
     }
 }
 
-/// Plays on a linear pool whose items are reset so.
-fn run_linear<H: Wait, S: lockfree_object_pool::closures::Reset<u32, AnyValue>, R: Read, W: Write>(
+/// Plays on a pool whose items are reset so.
+fn run_on<H: Wait, S: closures::Reset<u32, AnyValue>, R: Read, W: Write>(
     rt: &H,
     alloc: Global,
     kind: Kind,
@@ -61,43 +60,84 @@ fn run_linear<H: Wait, S: lockfree_object_pool::closures::Reset<u32, AnyValue>, 
     input: &mut R,
     output: &mut W,
 ) -> Result<(), EngineError>
-    requires { IsLinear kind }
-    ensures ok { OnOk result ((bytes : List ℕ) × Consumes (R.remaining input.old) (R.remaining input.new) bytes
-        × IsAtEnd (R.remaining input.new)
-        × WroteAll (limit_of kind) (S.leaves reset) (W.contents output.old) bytes (W.contents output.new)) }
-    ensures read { result ≡ Err EngineError.Read → (bytes : List ℕ) × Consumes (R.remaining input.old) (R.remaining input.new) bytes
-        × WroteLines (limit_of kind) (S.leaves reset) (W.contents output.old) bytes (W.contents output.new) }
-    ensures write { result ≡ Err EngineError.Write → (bytes : List ℕ) × Consumes (R.remaining input.old) (R.remaining input.new) bytes
-        × WrotePart (limit_of kind) (S.leaves reset) (W.contents output.old) bytes (W.contents output.new) (IsAtEnd (R.remaining input.new)) }
-    ensures memory { result ≡ Err EngineError.Memory → (bytes : List ℕ) × Consumes (R.remaining input.old) (R.remaining input.new) bytes
-        × WroteFront (limit_of kind) (S.leaves reset) (W.contents output.old) bytes (W.contents output.new) }
+    requires { IsPlayable kind }
+    ensures { Ends kind (S.leaves reset) result (R.remaining input.old) (R.remaining input.new) (W.contents output.old) (W.contents output.new) }
 {
-    let Some(mut player) = player_of(alloc, kind, reset) else {
+    match kind {
+        Kind::Linear => run_linear(rt, alloc, None, reset, input, output),
+        Kind::Bounded(pages) => run_linear(rt, alloc, Some(pages), reset, input, output),
+        Kind::Stack => run_stack(rt, alloc, reset, input, output),
+        Kind::None => run_none::<H, S, R, W>(rt, alloc, reset, input, output),
+    }
+}
+
+/// Plays on a linear pool, of at most so many pages where there is a limit.
+fn run_linear<H: Wait, S: closures::Reset<u32, AnyValue>, R: Read, W: Write>(
+    rt: &H,
+    alloc: Global,
+    limit: Option<usize>,
+    reset: S,
+    input: &mut R,
+    output: &mut W,
+) -> Result<(), EngineError>
+    requires { IfSome limit (λ pages. 1 ≤ pages) }
+    ensures { Ends (linear_kind limit) (S.leaves reset) result (R.remaining input.old) (R.remaining input.new) (W.contents output.old) (W.contents output.new) }
+{
+    let Some(mut player) = player_of(alloc, limit, reset) else {
         return Err(EngineError::Memory);
     };
     serve(rt, &mut player, input, output)
 }
 
 /// A player on a new linear pool. There is none only where there is no memory for its first page.
-fn player_of<S: lockfree_object_pool::closures::Reset<u32, AnyValue>>(
+fn player_of<S: closures::Reset<u32, AnyValue>>(
     alloc: Global,
-    kind: Kind,
+    limit: Option<usize>,
     reset: S,
 ) -> Option<Player<u32, LinearCore<u32, Copied<u32, AnyValue>, S, AnyValue>>>
-    requires { IsLinear kind }
-    ensures opens { IfSome result (λ player. Opens (limit_of kind) reset player.pool) }
+    requires { IfSome limit (λ pages. 1 ≤ pages) }
+    ensures opens { IfSome result (λ player. Opens limit reset player.pool) }
     ensures held { IfSome result (λ player. player.held ≡ []) }
 {
     let init = Copied::new(0);
-    let core = match kind {
-        Kind::Bounded(pages) => LinearCore::with_limit(alloc, init, reset, pages),
-        _ => LinearCore::new(alloc, init, reset),
+    let core = match limit {
+        Some(pages) => LinearCore::with_limit(alloc, init, reset, pages),
+        None => LinearCore::new(alloc, init, reset),
     };
     match core {
         Ok(core) => Some(Player::new(alloc, core)),
         Err(PullError::Memory) => None,
         Err(PullError::Init | PullError::Limit) => unreachable!(),
     }
+}
+
+/// Plays on a stack of kept items.
+fn run_stack<H: Wait, S: closures::Reset<u32, AnyValue>, R: Read, W: Write>(
+    rt: &H,
+    alloc: Global,
+    reset: S,
+    input: &mut R,
+    output: &mut W,
+) -> Result<(), EngineError>
+    ensures { Ends Kind.Stack (S.leaves reset) result (R.remaining input.old) (R.remaining input.new) (W.contents output.old) (W.contents output.new) }
+{
+    let core = StackCore::<u32, _, _, AnyValue>::new(alloc, Copied::new(0), reset);
+    serve(rt, &mut Player::new(alloc, core), input, output)
+}
+
+/// Plays on fresh items, which nothing resets.
+fn run_none<H: Wait, S: closures::Reset<u32, AnyValue>, R: Read, W: Write>(
+    rt: &H,
+    alloc: Global,
+    reset: S,
+    input: &mut R,
+    output: &mut W,
+) -> Result<(), EngineError>
+    ensures { Ends Kind.None (S.leaves reset) result (R.remaining input.old) (R.remaining input.new) (W.contents output.old) (W.contents output.new) }
+{
+    drop(reset);
+    let core = NoneCore::new(Copied::new(0));
+    serve(rt, &mut Player::new(alloc, core), input, output)
 }
 
 #[cfg(test)]

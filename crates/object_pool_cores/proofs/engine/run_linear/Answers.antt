@@ -1,27 +1,24 @@
 use Rattle.std.proofs.Common.{[]}
 use Rattle.std.proofs.KnownBytes.{Consumes-nil}
-use Rattle.object_pool_cores.proofs.LinearTranscript.{WroteAll-shown, WroteLines-shown, WroteFront-shown, WrotePart-shown, WroteFront-none}
-use Rattle.object_pool_cores.proofs.ReplyRuns.{OnOk-map}
+use Rattle.object_pool_cores.specs.Linear.{pool_of}
+use Rattle.object_pool_cores.proofs.Cores.EngineKinds.{IsSetLinear, linear_pull, linear_give, linear_attach, linear_set, on_linear, WroteFront-none}
+use Rattle.object_pool_cores.proofs.Cores.ShownTranscript.{Ends-served}
 use Rattle.object_pool_cores.proofs.engine.run_linear.Goals as goal
 
-pub returns-in_default-clause-memory : goal.returns-in_default-clause-memory
-returns-in_default-clause-memory g c = λ _. ([], Consumes-nil _, WroteFront-none _ _ _)
+pub returns-in_default : goal.returns-in_default
+returns-in_default g c = record {
+  ok = tt;
+  read = λ e. absurd cc;
+  write = λ e. absurd cc;
+  memory = λ e. ([], Consumes-nil _, WroteFront-none (g.S.Reset.leaves c.args.reset) c.args.limit _);
+}
 
-pub returns-clause-ok : goal.returns-clause-ok
-returns-clause-ok g c = OnOk-map c.serve.result (λ served.
-    (served.0, served.1, served.2, WroteAll-shown g.S.Reset.leaves _ c.args.reset _ c.in-Some.ensures.opens c.in-Some.ensures.held _ served.0 _ served.3)) c.serve.ensures.ok
-
-pub returns-clause-read : goal.returns-clause-read
-returns-clause-read g c = λ e.
-    let served = c.serve.ensures.read e in
-    (served.0, served.3, WroteLines-shown g.S.Reset.leaves _ c.args.reset _ c.in-Some.ensures.opens c.in-Some.ensures.held _ served.0 _ served.1 served.2 served.4)
-
-pub returns-clause-write : goal.returns-clause-write
-returns-clause-write g c = λ e.
-    let served = c.serve.ensures.write e in
-    (served.0, served.1, WrotePart-shown g.S.Reset.leaves _ c.args.reset _ c.in-Some.ensures.opens c.in-Some.ensures.held _ served.0 _ _ served.2)
-
-pub returns-clause-memory : goal.returns-clause-memory
-returns-clause-memory g c = λ e.
-    let served = c.serve.ensures.memory e in
-    (served.0, served.1, WroteFront-shown g.S.Reset.leaves _ c.args.reset _ c.in-Some.ensures.opens c.in-Some.ensures.held _ served.0 _ served.2)
+pub returns : goal.returns
+returns g c =
+    let leaves = g.S.Reset.leaves in
+    let limit = c.args.limit in
+    let reset = c.args.reset in
+    let player = c.in-Some.player in
+    let opens = c.in-Some.ensures.opens in
+    Ends-served pool_of (IsSetLinear leaves limit reset) _ _ _ _ _ _ (linear_pull leaves limit reset) (linear_give leaves limit reset) (linear_attach leaves limit reset) player (linear_set leaves limit reset player.pool opens)
+        _ _ (on_linear leaves limit reset player opens c.in-Some.ensures.held) _ _ _ _ _ c.serve.ensures.ok c.serve.ensures.read c.serve.ensures.write c.serve.ensures.memory
