@@ -1,6 +1,9 @@
 //! What the program is told by its arguments.
-ghost use Rattle.std.specs.Prelude.{◌≤◌, IfSome};
-ghost use Rattle.object_pool_cores.specs.Engine.{IsLinear};
+ghost use Rattle.std.specs.Prelude.{◌≤◌, IfSome, MatchOption};
+ghost use Rattle.object_pool_cores.specs.Engine.{IsPlayable};
+
+ghost use Rattle.object_pool_cores.specs.declared.engine.kind.Reset.{Reset};
+ghost use Rattle.pools.specs.Arguments.{IsReset};
 
 use object_pool_cores::engine::{Kind, Reset};
 
@@ -14,23 +17,38 @@ pub struct Arguments {
     pub reset: Reset,
 }
 
-/// The arguments of these words. Only linear pools are played on so far.
+/// The arguments of these words, of which the third is the number of pages.
 pub fn arguments_of(kind: &str, reset: &str, pages: Option<&str>) -> Option<Arguments>
-    ensures { IfSome result (λ arguments. IsLinear arguments.kind) }
+    ensures { IfSome result (λ arguments. IsPlayable arguments.kind) }
 {
-    if kind != "linear" {
-        return None;
+    Some(Arguments {
+        kind: kind_of(kind, pages)?,
+        reset: reset_of(reset)?,
+    })
+}
+
+/// The pool that a word names. A number of pages comes with a linear pool alone.
+fn kind_of(word: &str, pages: Option<&str>) -> Option<Kind>
+    ensures { IfSome result IsPlayable }
+{
+    match (word, pages) {
+        ("linear", None) => Some(Kind::Linear),
+        ("linear", Some(pages)) => Some(Kind::Bounded(pages_of(pages)?)),
+        ("stack", None) => Some(Kind::Stack),
+        ("none", None) => Some(Kind::None),
+        _ => None,
     }
-    let kind = match pages {
-        Some(pages) => Kind::Bounded(pages_of(pages)?),
-        None => Kind::Linear,
-    };
-    let reset = match reset {
-        "zero" => Reset::Zero,
-        "keep" => Reset::Keep,
-        _ => return None,
-    };
-    Some(Arguments { kind, reset })
+}
+
+/// What a return leaves, by its word.
+fn reset_of(word: &str) -> Option<Reset>
+    ensures { MatchOption result ((reset : Reset) → IsReset word.now reset → ⊥) (IsReset word.now) }
+{
+    match word {
+        "zero" => Some(Reset::Zero),
+        "keep" => Some(Reset::Keep),
+        _ => None,
+    }
 }
 
 /// A number of pages: 1 to 10 digits, from 1 to 4294967295.
@@ -82,11 +100,24 @@ mod tests {
     }
 
     #[test]
+    fn understands_the_pools_without_pages(rt: HostRuntime) {
+        for (word, kind) in [("stack", Kind::Stack), ("none", Kind::None)] {
+            for (reset_word, reset) in [("zero", Reset::Zero), ("keep", Reset::Keep)] {
+                assert_eq!(rt;
+                    arguments_of(word, reset_word, None),
+                    Some(Arguments { kind, reset }),
+                    "{word} {reset_word}"
+                );
+            }
+        }
+    }
+
+    #[test]
     fn refuses_other_words(rt: HostRuntime) {
         for (kind, reset, pages) in [
-            ("stack", "zero", None),
-            ("none", "keep", None),
             ("stack", "zero", Some("1")),
+            ("none", "keep", Some("1")),
+            ("heap", "keep", None),
             ("Linear", "zero", None),
             ("linear", "zeros", None),
             ("linear", "", None),

@@ -2,7 +2,7 @@
 #![tactic(auto)]
 
 ghost use Rattle.std.specs.Prelude.{IfOk};
-ghost use Rattle.object_pool_cores.specs.Engine.{IsLinear};
+ghost use Rattle.object_pool_cores.specs.Engine.{IsPlayable};
 
 mod arguments;
 
@@ -53,7 +53,7 @@ fn main(rt: HostRuntime) -> ExitCode {
 
 /// The arguments behind the program's name.
 fn read_arguments<R: Env + AllocGlobal>(rt: &R) -> Result<Arguments, StartError>
-    ensures { IfOk result (λ arguments. IsLinear arguments.kind) }
+    ensures { IfOk result (λ arguments. IsPlayable arguments.kind) }
 {
     let mut words = match env::args(rt) {
         Ok(words) => words,
