@@ -96,8 +96,11 @@ module _ {T : Type 0} where
       rw (unwrap_or-listed at n index past) (by_item (at index) refl found here)
     where
       by_item : (o : Option (Item T)) → at index ≡ o → there ≡ is_some o → other index ≡ option_map (λ item. with_value item value) o → IsReplaced (listed at n) index value o there (listed other n)
-      by_item None none found same = (found, listed-same at other n (λ k within. elim (cases_eq k index) [
-        | inl here ↦ ap other here ∙ same ∙ sym none ∙ sym (ap at here)
-        | inr differ ↦ apart k differ
-      ]))
+      by_item None none found same = (
+        found,
+        listed-same at other n (λ k within. elim (cases_eq k index) [
+          | inl here ↦ ap other here ∙ same ∙ sym none ∙ sym (ap at here)
+          | inr differ ↦ apart k differ
+        ]),
+      )
       by_item (Some item) some found same = (found, listed-set at other n index (Some (with_value item value)) same apart)

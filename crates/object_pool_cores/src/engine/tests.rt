@@ -4,7 +4,7 @@ use std::test::Fail;
 
 mod devices;
 
-use devices::{Device, Source};
+use devices::{Device, Interrupted, Source};
 
 /// What the engine answers to an input, on a pool of at most so many pages where there is a limit.
 fn output_of<H: Wait>(
@@ -107,6 +107,73 @@ fn a_bounded_pool_refuses_at_its_limit(rt: HostRuntime) -> Result<(), Fail> {
     let output = output_of(&rt, rt.alloc(), 1, Reset::Keep, input.as_str())?;
     assert_eq!(rt; output.as_slice(), expected.as_bytes());
     Ok(())
+}
+
+#[test]
+fn plays_a_stack_and_fresh_items(rt: HostRuntime) -> Result<(), Fail> {
+    let rows = [
+        (
+            Kind::Stack,
+            "attach 9\nreturn 0\npull\nforget 1\npull\n",
+            "attached 0\nreturned 0\npulled 1 value 9\nforgotten 1\npulled 2 value 0\n",
+        ),
+        (
+            Kind::None,
+            "pull\nwrite 0 5\nreturn 0\npull\nattach 1\n",
+            "pulled 0 value 0\nwritten 0\nreturned 0\npulled 1 value 0\nnot offered\n",
+        ),
+        (Kind::None, "", ""),
+    ];
+    for (kind, input, expected) in rows {
+        let mut output = Vec::new(rt.alloc());
+        let mut bytes = input.as_bytes();
+        run(&rt, rt.alloc(), kind, Reset::Keep, &mut bytes, &mut output)?;
+        assert_eq!(rt; output.as_slice(), expected.as_bytes(), "{input:?}");
+    }
+    Ok(())
+}
+
+#[test]
+fn replies_to_one_read_are_one_write(rt: HostRuntime) {
+    let mut input = SESSION;
+    let mut output = Device::new(1024, 1024);
+    let result = run(
+        &rt,
+        rt.alloc(),
+        Kind::Linear,
+        Reset::Keep,
+        &mut input,
+        &mut output,
+    );
+    assert_eq!(rt; result, Ok(()));
+    // One write for the read, and one for the line that has no line feed.
+    assert_eq!(rt; (output.bytes(), output.calls()), (REPLIES, 2));
+}
+
+#[test]
+fn an_interrupted_read_or_write_is_a_failed_one(rt: HostRuntime) {
+    let mut input = Interrupted { is_next: false };
+    let mut output = Device::new(1024, 1024);
+    let result = run(
+        &rt,
+        rt.alloc(),
+        Kind::Stack,
+        Reset::Zero,
+        &mut input,
+        &mut output,
+    );
+    assert_eq!(rt; result, Err(EngineError::Read));
+    let mut input = SESSION;
+    let mut output = Interrupted { is_next: false };
+    let result = run(
+        &rt,
+        rt.alloc(),
+        Kind::Stack,
+        Reset::Zero,
+        &mut input,
+        &mut output,
+    );
+    assert_eq!(rt; result, Err(EngineError::Write));
 }
 
 const SESSION: &[u8] = b"pull\nwrite 0 5\nreturn 0\npull";

@@ -72,9 +72,7 @@ impl<T: Drop, I: Init<T, K>, R: Reset<T, K>, K: Clean<T>> SequentialPool<T>
         ensures { Gives (R.leaves (reset_of self.old)) self.old item self.new }
     {
         let (mut value, room) = item.into_parts();
-        let Some(room) = room else {
-            unreachable!()
-        };
+        let Some(room) = room else { unreachable!() };
         self.reset.reset(&mut value);
         self.kept.put(room, value);
     }

@@ -10,6 +10,8 @@ use std::cell::Cell;
 use std::process::Abort;
 use std::test::Fail;
 
+mod kept_and_fresh;
+
 /// Makes zeros, counts its calls, and may refuse one of them.
 #[derive(Drop)]
 struct Zeros<'a> {

@@ -35,6 +35,7 @@ pub(super) struct Device {
     bytes: ArrayVec<u8, 1024>,
     room: usize,
     most: usize,
+    calls: usize,
 }
 
 impl Device {
@@ -43,16 +44,23 @@ impl Device {
             bytes: ArrayVec::new(),
             room,
             most,
+            calls: 0,
         }
     }
 
     pub(super) fn bytes(&self) -> &[u8] {
         &self.bytes
     }
+
+    /// How often it was written to.
+    pub(super) fn calls(&self) -> usize {
+        self.calls
+    }
 }
 
 impl Write for Device {
     fn write(&mut self, buf: &[u8]) -> io::Result<usize> {
+        self.calls = self.calls.saturating_add(1);
         if self.room <= self.bytes.len() {
             return Err(io::Error::from(ErrorKind::Other));
         }
@@ -63,6 +71,38 @@ impl Write for Device {
             }
         }
         Ok(count)
+    }
+
+    fn flush(&mut self) -> io::Result<()> {
+        Ok(())
+    }
+}
+
+/// Is interrupted once, and would then do well.
+#[derive(Drop)]
+pub(super) struct Interrupted {
+    pub(super) is_next: bool,
+}
+
+impl Interrupted {
+    fn answer(&mut self, count: usize) -> io::Result<usize> {
+        if self.is_next {
+            return Ok(count);
+        }
+        self.is_next = true;
+        Err(io::Error::from(ErrorKind::Interrupted))
+    }
+}
+
+impl Read for Interrupted {
+    fn read(&mut self, _buf: &mut [u8]) -> io::Result<usize> {
+        self.answer(0)
+    }
+}
+
+impl Write for Interrupted {
+    fn write(&mut self, buf: &[u8]) -> io::Result<usize> {
+        self.answer(buf.len())
     }
 
     fn flush(&mut self) -> io::Result<()> {

@@ -18,31 +18,31 @@ returns-in_err-text-clause-err g c = OnErr-always c.from_residual.result (λ res
 
 pub loop-byte-preserved : goal.loop-byte-preserved
 loop-byte-preserved g c = elim c.if-byte-eq-LINE_FEED.branch [
-    | then-byte-eq-LINE_FEED+in_ok-text+in-Ok w ↦
-        let gathered = rw (w.as_bytes.ensures.value, w.as_str.ensures.value) at w.in-Ok.ensures.ok in
-        let longer = length-append c.loop-byte.replies.items w.in_ok-text.text.bytes in (
-          rw (w.replies-is, gathered) (omega (arith, c.loop-byte.invariant.0, longer, rw w.as_str.ensures.value at w.as_str.ensures.fits)),
-          λ rest opens.
-              let served = c.loop-byte.invariant.1 rest opens in
-              let answer = w.in_ok-text.ensures.ok served.0 served.1.0 in
-              let behind = take_behind rest c.args.bytes.now c.loop-byte.byte-index 10 c.loop-byte-test.true w.if-byte-eq-LINE_FEED.true in (
-                [],
-                (rw w.line-is w.new.ensures, All-nil _),
-                rw (w.player-is, w.replies-is, behind) (Serves-line _ _ _ _ _ _ served.0 _ _ _ _ _ served.2 answer gathered),
-              ),
-        )
-    | else-byte-eq-LINE_FEED w ↦ (
-        rw w.replies-is (omega (arith, c.loop-byte.invariant.0)),
+  | then-byte-eq-LINE_FEED+in_ok-text+in-Ok w ↦
+      let gathered = rw (w.as_bytes.ensures.value, w.as_str.ensures.value) at w.in-Ok.ensures.ok in
+      let longer = length-append c.loop-byte.replies.items w.in_ok-text.text.bytes in (
+        rw (w.replies-is, gathered) (omega (arith, c.loop-byte.invariant.0, longer, rw w.as_str.ensures.value at w.as_str.ensures.fits)),
         λ rest opens.
             let served = c.loop-byte.invariant.1 rest opens in
-            let byte = get_or c.args.bytes.now c.loop-byte.byte-index 0 in
-            let behind = take_behind rest c.args.bytes.now c.loop-byte.byte-index byte c.loop-byte-test.true refl in (
-              served.0 ++ byte ∷ [],
-              (rw w.line-is (w.push.ensures served.0 served.1.0), All-push (λ b. b ≢ 10) served.0 byte served.1.1 w.if-byte-eq-LINE_FEED.false),
-              rw (w.player-is, w.replies-is, behind) (Serves-byte _ _ _ _ _ _ served.0 _ _ byte w.if-byte-eq-LINE_FEED.false served.2),
+            let answer = w.in_ok-text.ensures.ok served.0 served.1.0 in
+            let behind = take_behind rest c.args.bytes.now c.loop-byte.byte-index 10 c.loop-byte-test.true w.if-byte-eq-LINE_FEED.true in (
+              [],
+              (rw w.line-is w.new.ensures, All-nil _),
+              rw (w.player-is, w.replies-is, behind) (Serves-line _ _ _ _ _ _ served.0 _ _ _ _ _ served.2 answer gathered),
             ),
       )
-  ]
+  | else-byte-eq-LINE_FEED w ↦ (
+    rw w.replies-is (omega (arith, c.loop-byte.invariant.0)),
+    λ rest opens.
+        let served = c.loop-byte.invariant.1 rest opens in
+        let byte = get_or c.args.bytes.now c.loop-byte.byte-index 0 in
+        let behind = take_behind rest c.args.bytes.now c.loop-byte.byte-index byte c.loop-byte-test.true refl in (
+          served.0 ++ byte ∷ [],
+          (rw w.line-is (w.push.ensures served.0 served.1.0), All-push (λ b. b ≢ 10) served.0 byte served.1.1 w.if-byte-eq-LINE_FEED.false),
+          rw (w.player-is, w.replies-is, behind) (Serves-byte _ _ _ _ _ _ served.0 _ _ byte w.if-byte-eq-LINE_FEED.false served.2),
+        ),
+  )
+]
 
 pub returns-clause-ok : goal.returns-clause-ok
 returns-clause-ok g c = λ rest opens.

@@ -9,5 +9,5 @@ invariant-loop-byte g l =
     let pool = g.P.SequentialPool in
     (length l.replies.items ≤ 92 * l.byte-index)
     × ((rest : List ℕ) → IsOpenLine rest l.fn.line
-      → (more : List ℕ) × IsOpenLine more l.line
-      × Serves pool.pulls pool.gives pool.attaches l.fn.player (Some []) (rest ++ take l.byte-index l.bytes) more l.player (Some l.replies.items))
+    → (more : List ℕ) × IsOpenLine more l.line
+    × Serves pool.pulls pool.gives pool.attaches l.fn.player (Some []) (rest ++ take l.byte-index l.bytes) more l.player (Some l.replies.items))
