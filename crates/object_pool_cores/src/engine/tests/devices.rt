@@ -85,24 +85,29 @@ pub(super) struct Interrupted {
 }
 
 impl Interrupted {
-    fn answer(&mut self, count: usize) -> io::Result<usize> {
-        if self.is_next {
-            return Ok(count);
-        }
+    /// Whether this call is the one that is interrupted.
+    fn interrupts(&mut self) -> bool {
+        let is_first = !self.is_next;
         self.is_next = true;
-        Err(io::Error::from(ErrorKind::Interrupted))
+        is_first
     }
 }
 
 impl Read for Interrupted {
     fn read(&mut self, _buf: &mut [u8]) -> io::Result<usize> {
-        self.answer(0)
+        if self.interrupts() {
+            return Err(io::Error::from(ErrorKind::Interrupted));
+        }
+        Ok(0)
     }
 }
 
 impl Write for Interrupted {
     fn write(&mut self, buf: &[u8]) -> io::Result<usize> {
-        self.answer(buf.len())
+        if self.interrupts() {
+            return Err(io::Error::from(ErrorKind::Interrupted));
+        }
+        Ok(buf.len())
     }
 
     fn flush(&mut self) -> io::Result<()> {
