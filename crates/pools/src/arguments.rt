@@ -1,9 +1,9 @@
 //! What the program is told by its arguments.
-ghost use Rattle.std.specs.Prelude.{◌≤◌, IfSome, MatchOption};
+ghost use Rattle.std.specs.Prelude.{◌≡◌, ℕ, IfSome, MatchOption, map};
+ghost use Rattle.object_pool_cores.specs.CommandText.{IsNumber};
 ghost use Rattle.object_pool_cores.specs.Engine.{IsPlayable};
-
 ghost use Rattle.object_pool_cores.specs.declared.engine.kind.Reset.{Reset};
-ghost use Rattle.pools.specs.Arguments.{IsReset};
+ghost use Rattle.pools.specs.Arguments.{reset_word, IsPages, AreArguments, AreOther};
 
 use object_pool_cores::engine::{Kind, Reset};
 
@@ -17,32 +17,27 @@ pub struct Arguments {
     pub reset: Reset,
 }
 
-/// The arguments of these words, of which the third is the number of pages.
-pub fn arguments_of(kind: &str, reset: &str, pages: Option<&str>) -> Option<Arguments>
-    ensures { IfSome result (λ arguments. IsPlayable arguments.kind) }
+/// The arguments that the words behind the program's name are.
+pub fn arguments_of(words: &[&str]) -> Option<Arguments>
+    ensures judged { MatchOption result (AreOther (map (λ word. word.now) words.now))
+        (λ arguments. AreArguments (map (λ word. word.now) words.now) arguments.kind arguments.reset) }
+    ensures playable { IfSome result (λ arguments. IsPlayable arguments.kind) }
 {
-    Some(Arguments {
-        kind: kind_of(kind, pages)?,
-        reset: reset_of(reset)?,
-    })
-}
-
-/// The pool that a word names. A number of pages comes with a linear pool alone.
-fn kind_of(word: &str, pages: Option<&str>) -> Option<Kind>
-    ensures { IfSome result IsPlayable }
-{
-    match (word, pages) {
-        ("linear", None) => Some(Kind::Linear),
-        ("linear", Some(pages)) => Some(Kind::Bounded(pages_of(pages)?)),
-        ("stack", None) => Some(Kind::Stack),
-        ("none", None) => Some(Kind::None),
-        _ => None,
-    }
+    let (kind, reset) = match words {
+        ["linear", reset] => (Kind::Linear, reset),
+        ["linear", reset, pages] => (Kind::Bounded(pages_of(pages)?), reset),
+        ["stack", reset] => (Kind::Stack, reset),
+        ["none", reset] => (Kind::None, reset),
+        _ => return None,
+    };
+    let reset = reset_of(reset)?;
+    Some(Arguments { kind, reset })
 }
 
 /// What a return leaves, by its word.
 fn reset_of(word: &str) -> Option<Reset>
-    ensures { MatchOption result ((reset : Reset) → IsReset word.now reset → ⊥) (IsReset word.now) }
+    ensures { MatchOption result ((reset : Reset) → word.now ≡ reset_word reset → ⊥)
+        (λ reset. word.now ≡ reset_word reset) }
 {
     match word {
         "zero" => Some(Reset::Zero),
@@ -51,19 +46,25 @@ fn reset_of(word: &str) -> Option<Reset>
     }
 }
 
-/// A number of pages: 1 to 10 digits, from 1 to 4294967295.
-fn pages_of(text: &str) -> Option<usize>
-    ensures { IfSome result (λ pages. 1 ≤ pages) }
+/// A number of pages.
+fn pages_of(word: &str) -> Option<usize>
+    ensures { MatchOption result ((pages : ℕ) → IsPages word.now pages → ⊥) (IsPages word.now) }
 {
-    let digits = text.as_bytes();
+    match number_of(word)? {
+        0 => None,
+        pages => Some(pages as usize),
+    }
+}
+
+/// The number that at most ten digits write.
+fn number_of(word: &str) -> Option<u32>
+    ensures { MatchOption result ((n : ℕ) → IsNumber word.now n → ⊥) (IsNumber word.now) }
+{
+    let digits = word.as_bytes();
     if digits.len() > MOST_DIGITS || !digits.iter().all(u8::is_ascii_digit) {
         return None;
     }
-    let pages = text.parse::<u32>().ok()?;
-    if pages == 0 {
-        return None;
-    }
-    Some(pages as usize)
+    word.parse().ok()
 }
 
 #[cfg(test)]
@@ -71,68 +72,67 @@ mod tests {
     use super::*;
 
     #[test]
-    fn understands_the_linear_pool(rt: HostRuntime) {
-        let unlimited = |reset| {
-            Some(Arguments {
-                kind: Kind::Linear,
-                reset,
-            })
-        };
-        assert_eq!(rt;
-            arguments_of("linear", "zero", None),
-            unlimited(Reset::Zero)
-        );
-        assert_eq!(rt;
-            arguments_of("linear", "keep", None),
-            unlimited(Reset::Keep)
-        );
-        for (pages, limit) in [("1", 1), ("0000000002", 2), ("4294967295", 4294967295)] {
-            let bounded = Arguments {
-                kind: Kind::Bounded(limit),
+    fn a_number_of_pages_bounds_a_linear_pool(rt: HostRuntime) {
+        let rows = [
+            ("1", 1),
+            ("0000000002", 2),
+            ("33", 33),
+            ("4294967295", 4294967295),
+        ];
+        for (word, pages) in rows {
+            let arguments = Arguments {
+                kind: Kind::Bounded(pages),
                 reset: Reset::Keep,
             };
             assert_eq!(rt;
-                arguments_of("linear", "keep", Some(pages)),
-                Some(bounded),
-                "{pages}"
+                arguments_of(&["linear", "keep", word]),
+                Some(arguments),
+                "{word}"
             );
         }
     }
 
     #[test]
-    fn understands_the_pools_without_pages(rt: HostRuntime) {
-        for (word, kind) in [("stack", Kind::Stack), ("none", Kind::None)] {
-            for (reset_word, reset) in [("zero", Reset::Zero), ("keep", Reset::Keep)] {
+    fn each_pool_is_reset_to_zero_or_kept(rt: HostRuntime) {
+        for (pool, kind) in [
+            ("linear", Kind::Linear),
+            ("stack", Kind::Stack),
+            ("none", Kind::None),
+        ] {
+            for (word, reset) in [("zero", Reset::Zero), ("keep", Reset::Keep)] {
                 assert_eq!(rt;
-                    arguments_of(word, reset_word, None),
+                    arguments_of(&[pool, word]),
                     Some(Arguments { kind, reset }),
-                    "{word} {reset_word}"
+                    "{pool} {word}"
                 );
             }
         }
     }
 
     #[test]
-    fn refuses_other_words(rt: HostRuntime) {
-        for (kind, reset, pages) in [
-            ("stack", "zero", Some("1")),
-            ("none", "keep", Some("1")),
-            ("heap", "keep", None),
-            ("Linear", "zero", None),
-            ("linear", "zeros", None),
-            ("linear", "", None),
-            ("linear", "zero", Some("0")),
-            ("linear", "zero", Some("")),
-            ("linear", "zero", Some("+1")),
-            ("linear", "zero", Some("1 ")),
-            ("linear", "zero", Some("4294967296")),
-            ("linear", "zero", Some("00000000001")),
-        ] {
-            assert_eq!(rt;
-                arguments_of(kind, reset, pages),
-                None,
-                "{kind} {reset} {pages:?}"
-            );
+    fn other_words_are_no_arguments(rt: HostRuntime) {
+        let rows: [&[&str]; 18] = [
+            &[],
+            &["linear"],
+            &["zero", "linear"],
+            &["heap", "keep"],
+            &["Linear", "zero"],
+            &["linear", "zeros"],
+            &["linear", ""],
+            &["stack", "zero", "1"],
+            &["none", "keep", "1"],
+            &["linear", "zero", "0"],
+            &["linear", "zero", ""],
+            &["linear", "zero", "+1"],
+            &["linear", "zero", "1 "],
+            &["linear", "zero", "4294967296"],
+            &["linear", "zero", "00000000001"],
+            &["linear", "1", "zero"],
+            &["linear", "zero", "1", "1"],
+            &["stack", "keep", ""],
+        ];
+        for words in rows {
+            assert_eq!(rt; arguments_of(words), None, "{words:?}");
         }
     }
 }
