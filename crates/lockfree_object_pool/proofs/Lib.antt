@@ -1,7 +1,12 @@
+pub mod FilledItems
 pub mod GuardShared
 pub mod KeptPlaces
 pub mod LockSteps
+pub mod PageActs
+pub mod PageAnswers
+pub mod PageHolders
 pub mod PageKeeps
+pub mod PageOrder
 pub mod ReusableShared
 pub mod SlotShared
 pub mod WordBits

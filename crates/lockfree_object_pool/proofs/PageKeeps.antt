@@ -1,5 +1,5 @@
 -- Each kind of step on a page keeps its rule.
-use Rattle.std.proofs.Common.{◌≡◌, ◌≢◌, ℕ, zero, suc, ◌<◌, ◌⊎◌, List, [], ◌∷◌, ◌++◌, length, set, get_or, Option, Some, None, bit_and, bit_or, refl, sym, ◌∙◌, ap, subst, arith, ◌*◌, ◌^◌, ◌%◌, length-set, get_or-set_same, inl, inr}
+use Rattle.std.proofs.Common.{◌≡◌, ◌≢◌, ℕ, zero, suc, ◌<◌, ◌↔◌, ◌⊎◌, List, [], ◌∷◌, ◌++◌, length, set, get_or, Option, Some, None, bit_and, bit_or, refl, sym, ◌∙◌, ap, subst, arith, map, length-append, append-nil, false, true≢false, ◌≤◌, ◌*◌, ◌^◌, ◌%◌, length-set, get_or-set_same, inl, inr}
 use Rattle.std.proofs.lemmas.List.{length-map}
 use mathlib.Core.Option.{some, none, some-injective, some-ne-none}
 use Rattle.std.specs.Prelude.{All, IsSomeAnd}
@@ -9,14 +9,18 @@ use Rattle.std.proofs.lemmas.Bool.{cases_lt}
 use native.Mathlib.Decide.{ℕ_discrete}
 use mathlib.Core.Logic.{dite}
 use Rattle.std.proofs.lemmas.Nat.{and_le_l, or_lt}
-use Rattle.std.proofs.lemmas.Nat.Bits.{bit_at-lt, bit_at_not, bit_at_ones}
+use Rattle.std.proofs.lemmas.Nat.Bits.{bit_at-lt, bit_at_not, bit_at_ones, bit_at-zero}
 use Rattle.std.specs.Int.{w32, bit_at, bit_not}
-use Rattle.atomic_table.specs.Table.{keeps, takes, gives, homes_after, opening, rest, Allows, Enters}
-use Rattle.atomic_table.proofs.Lists.{at_set, at_snoc, at_map, set_here, set_else}
+use Rattle.atomic_table.specs.Table.{keeps, takes, gives, homes_after, opening, rest, Allows, Enters, Joins, Splits}
+use Rattle.atomic_table.proofs.Lists.{at_set, at_snoc, at_map, set_here, set_else, set_again}
 use Rattle.lockfree_object_pool.specs.declared.page.user_view.UserView.{UserView}
+use Rattle.lockfree_object_pool.specs.declared.page.history.PageAct.{PageAct}
+use Rattle.lockfree_object_pool.specs.declared.page.history.PageAct.TheVariants.{Took, Gave}
+use Rattle.lockfree_object_pool.specs.PageHistory.{History, user_of, acts_of, held_id, value_at, MayFollow, IsLawful, IsBeginningOf, WasOutBetween}
+use Rattle.lockfree_object_pool.proofs.PageActs.{beginning_same, acts_of_other, value_at-took_here, value_at-took_elsewhere, value_at-gave_here, value_at-gave_elsewhere, acted, has_seen, after_act, after_look, informed_later, informed_set, knows_of, at_below, own_now}
 use Rattle.lockfree_object_pool.specs.Word.{all_bits, SetsBit, ClearsBit}
 use Rattle.lockfree_object_pool.specs.Page.{IsFilled}
-use Rattle.lockfree_object_pool.specs.PageRule.{PageState, User, view, IsFree, IsOut, word_of, Holds, IsPage, Takes, Misses, Looks, Clears, Gives}
+use Rattle.lockfree_object_pool.specs.PageRule.{PageState, User, first_view, IsFree, IsOut, IsHome, word_of, Holds, IsPage, HasHistory, IsKept, IsSound, IsInformed, Knows, GoesOn, Takes, Misses, Looks, LooksAgain, Clears, Gives, told_of, gone_view, witness_of}
 use Rattle.lockfree_object_pool.proofs.WordBits.{and_clears, or_sets, sets_bit}
 
 -- a word that lacks one bit alone tells which
@@ -24,20 +28,23 @@ lacks_one : (operand id other : ℕ) → other < 32 → ClearsBit all_bits id op
 lacks_one operand id other within one two = dite (ℕ_discrete id other) (λ same. same)
     (λ differ. let set = one.others other (λ same. differ (sym same)) in let clear = two.clear in let all = bit_at_ones 32 other within in absurd (omega arith))
 
+some_same : (id other : ℕ) → Some id ≡ Some other → id ≡ other
+some_same id other same = cc
+
 -- a page's first user holds nothing
-first_holds_none : (known : UserView) (user id : ℕ) → get_elem? (view None 0 ∷ []) user ≡ some known → known.held ≡ Some id → ⊥
-first_holds_none known zero id at holds = let none_held : None ≡ Some id = ap (λ (known : UserView). known.held) (some-injective (view None 0) known at) ∙ holds in absurd (cc)
-first_holds_none known (suc user) id at holds = absurd (some-ne-none known (sym at))
+first_holds_none : {T : Type 0} (opening : List (Option T)) (known : UserView T) (user id : ℕ) → get_elem? (first_view opening ∷ []) user ≡ some known → known.held ≡ Some id → ⊥
+first_holds_none {T} opening known zero id at holds = let none_held : None ≡ Some id = ap (λ (known : UserView T). known.held) (some-injective (first_view opening) known at) ∙ holds in absurd (cc)
+first_holds_none opening known (suc user) id at holds = absurd (some-ne-none known (sym at))
 
 module _ {T : Type 0} where
-  abbrev changed : PageState T → ℕ → List (maybe.Option (Option T)) → List UserView → PageState T
+  abbrev changed : PageState T → ℕ → List (maybe.Option (Option T)) → List (UserView T) → PageState T
   changed page word homes views = record { words = set page.words 0 word; homes = homes; views = views }
 
   -- who holds an id, once the view of one user has changed
-  holds_after : (page : PageState T) (word : ℕ) (homes : List (maybe.Option (Option T))) (user : ℕ) (known : UserView) (other id : ℕ) → Holds (changed page word homes (set page.views user known)) other id
+  holds_after : (page : PageState T) (word : ℕ) (homes : List (maybe.Option (Option T))) (user : ℕ) (known : UserView T) (other id : ℕ) → Holds (changed page word homes (set page.views user known)) other id
       → ((other ≡ user) × (known.held ≡ Some id)) ⊎ ((other ≢ user) × Holds page other id)
   holds_after page word homes user known other id holds = elim (at_set page.views user other known holds.0 holds.1) [
-    | inl here ↦ inl (here.0, ap (λ (known : UserView). known.held) here.1 ∙ holds.2)
+    | inl here ↦ inl (here.0, ap (λ (known : UserView T). known.held) here.1 ∙ holds.2)
     | inr there ↦ inr (there.0, (holds.0, there.1, holds.2))
   ]
 
@@ -45,36 +52,29 @@ module _ {T : Type 0} where
   word_after page word one = get_or-set_same page.words 0 word 0 (omega arith)
 
 module _ {T : Type 0} (meets : T → Type 0) where
-  pub looks : (slots : ℕ) → Enters (IsPage meets) slots 0 (λ word known. Looks {T = T} word (known, []))
-  looks slots page is places fits =
-      let known : UserView = view None (bit_not w32 (word_of page)) in
-      let held : (user id : ℕ) → Holds record { words = page.words; homes = page.homes; views = page.views ++ known ∷ [] } user id → Holds page user id = λ user id holds. elim (at_snoc page.views known holds.0 user holds.1) [
-        | inl before ↦ (holds.0, before, holds.2)
-        | inr new ↦ let none_held : None ≡ Some id = ap (λ (known : UserView). known.held) new ∙ holds.2 in absurd (cc)
-      ] in (
-        known,
-        record {
-          one_word = is.one_word;
-          all_places = is.all_places;
-          word_fits = is.word_fits;
-          free_is_home = is.free_is_home;
-          held_is_out = λ user id holds. is.held_is_out user id (held user id holds);
-          one_holder = λ user other id one two. is.one_holder user other id (held user id one) (held other id two);
-        },
-        record {
-          word_fits = is.word_fits;
-          holds_none = refl;
-          found = λ id within. let flipped = bit_at_not w32 (word_of page) id is.word_fits within in let low = bit_at-lt (word_of page) id in ((λ one. omega arith), λ zero. omega arith);
-        },
-      )
+  -- who joins holds nothing
+  held_before : (page : PageState T) (known : UserView T) → known.held ≡ None → (user id : ℕ) → Holds record { words = page.words; homes = page.homes; views = page.views ++ known ∷ [] } user id → Holds page user id
+  held_before page known holds_none user id holds = elim (at_snoc page.views known holds.0 user holds.1) [
+    | inl before ↦ (holds.0, before, holds.2)
+    | inr new ↦ let none_held : None ≡ Some id = sym holds_none ∙ ap (λ (known : UserView T). known.held) new ∙ holds.2 in absurd (cc)
+  ]
+
+  joins_page : (page : PageState T) (known : UserView T) → IsPage meets page → known.held ≡ None → IsPage meets record { words = page.words; homes = page.homes; views = page.views ++ known ∷ [] }
+  joins_page page known is holds_none = record {
+    one_word = is.one_word;
+    all_places = is.all_places;
+    word_fits = is.word_fits;
+    free_is_home = is.free_is_home;
+    held_is_out = λ user id holds. is.held_is_out user id (held_before page known holds_none user id holds);
+    one_holder = λ user other id one two. is.one_holder user other id (held_before page known holds_none user id one) (held_before page known holds_none other id two);
+  }
 
   -- a bit is cleared that was set: the item goes out with the user
-  takes_item : (page : PageState T) (user operand id : ℕ) (me : User T) → IsPage meets page → id < 32 → ClearsBit all_bits id operand → IsFree (word_of page) id
-      → IsPage meets (changed page (bit_and (word_of page) operand) (set page.homes id none) (set page.views user (view (Some id) me.0.found)))
-  takes_item page user operand id me is within lacks free =
+  takes_item : (page : PageState T) (user operand id : ℕ) (known : UserView T) → IsPage meets page → id < 32 → ClearsBit all_bits id operand → IsFree (word_of page) id → known.held ≡ Some id
+      → IsPage meets (changed page (bit_and (word_of page) operand) (set page.homes id none) (set page.views user known))
+  takes_item page user operand id known is within lacks free holds_id =
       let word : ℕ = word_of page in
       let new : ℕ = bit_and word operand in
-      let known : UserView = view (Some id) me.0.found in
       let now = word_after page new is.one_word in
       let bits = and_clears word operand id is.word_fits lacks in
       let after = holds_after page new (set page.homes id none) user known in
@@ -87,7 +87,7 @@ module _ {T : Type 0} (meets : T → Type 0) where
             let found = is.free_is_home i inside (sym (bits.others i other) ∙ ap (λ w. bit_at w i) (sym now) ∙ set_now) in
             (found.0, set_else page.homes id i none other ∙ found.1, found.2);
         held_is_out = λ other i holds. elim (after other i holds) [
-          | inl mine ↦ let same : id ≡ i = cc in subst (λ i. (i < 32) × IsOut (get_or (set page.words 0 new) 0 0) i) same (within, ap (λ w. bit_at w id) now ∙ bits.clear)
+          | inl mine ↦ let same : id ≡ i = some_same id i (sym holds_id ∙ mine.1) in subst (λ i. (i < 32) × IsOut (get_or (set page.words 0 new) 0 0) i) same (within, ap (λ w. bit_at w id) now ∙ bits.clear)
           | inr theirs ↦
               let out = is.held_is_out other i theirs.1 in
               let differ : i ≢ id = λ same. let here = ap (bit_at word) same in let zero = out.1 in absurd (omega arith) in
@@ -96,28 +96,27 @@ module _ {T : Type 0} (meets : T → Type 0) where
         one_holder = λ one two i holds_one holds_two. elim (after one i holds_one) [
           | inl mine ↦ elim (after two i holds_two) [
             | inl also ↦ mine.0 ∙ sym also.0
-            | inr theirs ↦ let same : id ≡ i = cc in let out = (is.held_is_out two i theirs.1).1 in let here = ap (bit_at word) same in absurd (omega arith)
+            | inr theirs ↦ let same : id ≡ i = some_same id i (sym holds_id ∙ mine.1) in let out = (is.held_is_out two i theirs.1).1 in let here = ap (bit_at word) same in absurd (omega arith)
           ]
           | inr theirs ↦ elim (after two i holds_two) [
-            | inl mine ↦ let same : id ≡ i = cc in let out = (is.held_is_out one i theirs.1).1 in let here = ap (bit_at word) same in absurd (omega arith)
+            | inl mine ↦ let same : id ≡ i = some_same id i (sym holds_id ∙ mine.1) in let out = (is.held_is_out one i theirs.1).1 in let here = ap (bit_at word) same in absurd (omega arith)
             | inr both ↦ is.one_holder one two i theirs.1 both.1
           ]
         ];
       }
 
   -- a bit is cleared that was clear: the user has found it out
-  misses_item : (page : PageState T) (user operand id found : ℕ) (me : User T) → IsPage meets page → ClearsBit all_bits id operand → get_elem? page.views user ≡ some me.0 → IsOut (word_of page) id
-      → IsPage meets (changed page (bit_and (word_of page) operand) page.homes (set page.views user (view me.0.held found)))
-  misses_item page user operand id found me is lacks at out =
+  misses_item : (page : PageState T) (user operand id : ℕ) (me : User T) (known : UserView T) → IsPage meets page → ClearsBit all_bits id operand → get_elem? page.views user ≡ some me.0 → IsOut (word_of page) id → known.held ≡ me.0.held
+      → IsPage meets (changed page (bit_and (word_of page) operand) page.homes (set page.views user known))
+  misses_item page user operand id me known is lacks at out holds_same =
       let word : ℕ = word_of page in
       let new : ℕ = bit_and word operand in
-      let known : UserView = view me.0.held found in
       let now = word_after page new is.one_word in
       let bits = and_clears word operand id is.word_fits lacks in
       let same_bits : (i : ℕ) → bit_at (get_or (set page.words 0 new) 0 0) i ≡ bit_at word i = λ i. ap (λ w. bit_at w i) now
       ∙ dite (ℕ_discrete i id) (λ same. ap (bit_at new) same ∙ bits.clear ∙ sym out ∙ ap (bit_at word) (sym same)) (λ differ. bits.others i differ) in
       let held : (other i : ℕ) → Holds (changed page new page.homes (set page.views user known)) other i → Holds page other i = λ other i holds. elim (holds_after page new page.homes user known other i holds) [
-        | inl mine ↦ subst (λ one. Holds page one i) (sym mine.0) (me.0, at, mine.1)
+        | inl mine ↦ subst (λ one. Holds page one i) (sym mine.0) (me.0, at, sym holds_same ∙ mine.1)
         | inr theirs ↦ theirs.1
       ] in
       record {
@@ -129,52 +128,17 @@ module _ {T : Type 0} (meets : T → Type 0) where
         one_holder = λ one two i holds_one holds_two. is.one_holder one two i (held one i holds_one) (held two i holds_two);
       }
 
-  pub clears : (slots user operand id : ℕ) (me : User T) → id < 32 → ClearsBit all_bits id operand
-      → Allows (IsPage meets) slots user me 0 (λ word. bit_and word operand) (Clears meets operand me)
-  clears slots user operand id me within lacks page is places at fits =
-      let word : ℕ = word_of page in
-      elim (cases_lt 0 (bit_at word id)) [
-        | inl some_bit ↦
-            let low = bit_at-lt word id in
-            let free : bit_at word id ≡ 1 = omega arith in
-            let item = is.free_is_home id within free in (
-              view (Some id) me.0.found,
-              takes id (Some item.0),
-              item.1,
-              takes_item page user operand id me is within lacks free,
-              record {
-                word_fits = is.word_fits;
-                took = λ i inside lacks_i _. subst (λ i. Takes meets i me (view (Some id) me.0.found, (id, Some item.0) ∷ me.1)) (lacks_one operand id i inside lacks lacks_i) record { knows = refl; value = (item.0, item.2, refl) };
-                missed = λ i inside lacks_i zero. let here = ap (bit_at word) (lacks_one operand id i inside lacks lacks_i) in absurd (omega arith);
-              },
-            )
-        | inr no_bit ↦
-            let out : bit_at word id ≡ 0 = omega arith in
-            let found : ℕ = bit_or me.0.found (1 * 2 ^ id % 2 ^ 32) in (
-              view me.0.held found,
-              keeps,
-              tt,
-              misses_item page user operand id found me is lacks at out,
-              record {
-                word_fits = is.word_fits;
-                took = λ i inside lacks_i one. let here = ap (bit_at word) (lacks_one operand id i inside lacks lacks_i) in absurd (omega arith);
-                missed = λ i inside lacks_i _. subst (λ i. Misses i me (view me.0.held found, me.1)) (lacks_one operand id i inside lacks lacks_i) record { holds_same = refl; found = sets_bit me.0.found id within; carries_same = refl };
-              },
-            )
-      ]
-
   -- a bit is set that its holder's value is home for: the item is free again
-  gives_item : (page : PageState T) (user operand id : ℕ) (me : User T) (value : T) → IsPage meets page → id < 32 → operand < 2 ^ 32 → SetsBit 0 id operand → get_elem? page.views user ≡ some me.0 → me.0.held ≡ Some id → meets value
-      → IsPage meets (changed page (bit_or (word_of page) operand) (set page.homes id (some (Some value))) (set page.views user (view None me.0.found)))
-  gives_item page user operand id me value is within small has at holds met =
+  gives_item : (page : PageState T) (user operand id : ℕ) (me : User T) (value : T) (known : UserView T) → IsPage meets page → id < 32 → operand < 2 ^ 32 → SetsBit 0 id operand → get_elem? page.views user ≡ some me.0 → me.0.held ≡ Some id → meets value → known.held ≡ None
+      → IsPage meets (changed page (bit_or (word_of page) operand) (set page.homes id (some (Some value))) (set page.views user known))
+  gives_item page user operand id me value known is within small has at holds met holds_none =
       let word : ℕ = word_of page in
       let new : ℕ = bit_or word operand in
-      let known : UserView = view None me.0.found in
       let homes = set page.homes id (some (Some value)) in
       let now = word_after page new is.one_word in
       let bits = or_sets word operand id has in
       let after : (other i : ℕ) → Holds (changed page new homes (set page.views user known)) other i → (other ≢ user) × Holds page other i = λ other i holds_i. elim (holds_after page new homes user known other i holds_i) [
-        | inl mine ↦ let none_held : None ≡ Some i = mine.1 in absurd (cc)
+        | inl mine ↦ let none_held : None ≡ Some i = sym holds_none ∙ mine.1 in absurd (cc)
         | inr theirs ↦ theirs
       ] in
       record {
@@ -192,18 +156,356 @@ module _ {T : Type 0} (meets : T → Type 0) where
         one_holder = λ one two i holds_one holds_two. is.one_holder one two i (after one i holds_one).1 (after two i holds_two).1;
       }
 
-  pub gives_back : (slots user operand id : ℕ) (out me : User T) (value : T) → id < 32 → operand < 2 ^ 32 → SetsBit 0 id operand → out.0.held ≡ Some id → out.1 ≡ (id, None) ∷ [] → me ≡ (out.0, (id, Some value) ∷ rest out.1) → meets value
-      → Allows (IsPage meets) slots user me 0 (λ word. bit_or word operand) (λ _. Gives me)
-  gives_back slots user operand id out me value within small has holds carries moved met page is places at fits =
-      let holds_now : me.0.held ≡ Some id = ap (λ (user : User T). user.0.held) moved ∙ holds in
-      let carries_now : me.1 ≡ (id, Some value) ∷ [] = ap (λ (user : User T). user.1) moved ∙ ap (λ (carried : List (ℕ × Option T)). (id, Some value) ∷ rest carried) carries in (
-        view None me.0.found,
-        gives,
-        tt,
-        subst (λ carried. IsPage meets (changed page (bit_or (word_of page) operand) (homes_after page.homes carried gives) (set page.views user (view None me.0.found)))) (sym carries_now) (gives_item page user operand id me value is within small has at holds_now met),
-        record { knows = refl; carries = refl },
+module _ {T : Type 0} where
+  at_snoc_last : (views : List (UserView T)) (new known : UserView T) (user : ℕ) → get_elem? (views ++ new ∷ []) user ≡ some known → (get_elem? views user ≡ some known) ⊎ ((length views ≡ user) × (new ≡ known))
+  at_snoc_last [] new known zero at = inr (refl, some-injective new known at)
+  at_snoc_last [] new known (suc user) at = absurd (some-ne-none known (sym at))
+  at_snoc_last (view ∷ views) new known zero at = inl at
+  at_snoc_last (view ∷ views) new known (suc user) at = elim (at_snoc_last views new known user at) [
+    | inl before ↦ inl before
+    | inr last ↦ inr (ap suc last.0, last.1)
+  ]
+
+  -- what lies at a place of a page at its start
+  opening_at : (items : List (Option T)) (id : ℕ) (value : Option T) → get_elem? (map some items) id ≡ some (some value) → get_or items id None ≡ value
+  opening_at [] id value at = absurd (some-ne-none (some value) (sym at))
+  opening_at (item ∷ items) zero value at = some-injective item value (some-injective (some item) (some value) at)
+  opening_at (item ∷ items) (suc id) value at = opening_at items id value at
+
+  abbrev carried_value : T → List (ℕ × Option T) → T
+  carried_value other [] = other
+  carried_value other ((place, None) ∷ more) = other
+  carried_value other ((place, Some value) ∷ more) = value
+
+module _ {T : Type 0} (meets : T → Type 0) (opening : List (Option T)) where
+  -- what a user knows that comes now
+  abbrev newcomer : History T → ℕ → ℕ → UserView T
+  newcomer acts user found = record { held = None; found = found; user = user; opening = opening; acts = acts; since = acts; told = []; gone = false; own = [] }
+
+  joins_history : (page : PageState T) (known : UserView T) → (has : HasHistory opening page) → Knows opening has.acts (length page.views) known → HasHistory opening record { words = page.words; homes = page.homes; views = page.views ++ known ∷ [] }
+  joins_history page known has is = record {
+    acts = has.acts;
+    lawful = has.lawful;
+    free_lies = has.free_lies;
+    out_lies = has.out_lies;
+    informed = λ user view at. elim (at_snoc_last page.views known view user at) [
+      | inl before ↦ has.informed user view before
+      | inr last ↦ subst (λ (pair : ℕ × UserView T). Knows opening has.acts pair.0 pair.1) (λ i. (last.0 i, last.1 i)) is
+    ];
+    no_stranger = λ user past. has.no_stranger user (let all = length-append page.views (known ∷ []) in omega arith);
+  }
+
+  pub looks : (slots : ℕ) → Enters (IsKept meets opening) slots 0 (λ word known. Looks (first_view opening) word (known, []))
+  looks slots page kept places fits =
+      let is = kept.0 in
+      let has = kept.1 in
+      let out : ℕ = bit_not w32 (word_of page) in
+      let known : UserView T = newcomer has.acts (length page.views) out in
+      let clear : (id : ℕ) → id < 32 → bit_at out id ≡ 1 ↔ IsOut (word_of page) id = λ id within. let flipped = bit_at_not w32 (word_of page) id is.word_fits within in let low = bit_at-lt (word_of page) id in ((λ one. omega arith), λ zero. omega arith) in
+      let own : acts_of (length page.views) has.acts ≡ [] = has.no_stranger (length page.views) (omega arith) in
+      let sound : IsSound known = record {
+        lawful = has.lawful;
+        since_load = beginning_same has.acts;
+        own_acts = own;
+        holds = refl;
+        found_out = λ id within one. (has.acts, beginning_same has.acts, beginning_same has.acts, has.out_lies id within ((clear id within).0 one));
+      } in (
+        known,
+        (
+          joins_page meets page known is refl,
+          joins_history page known has (knows_of _ _ _ _ record { sound = sound; number = refl; same_opening = refl; beginning = beginning_same has.acts; told_before = (has.acts, sym (append-nil has.acts)); own_so_far = own }),
+        ),
+        record { word_fits = is.word_fits; holds_none = refl; found = clear; here = refl; same_opening = refl; from_now = refl; did_nothing = refl; sound = sound },
       )
 
+  -- all users, once one has acted
+  module _ (page : PageState T) (has : HasHistory opening page) (user : ℕ) (me : UserView T) (at : get_elem? page.views user ≡ some me) (here : me.gone ≡ false) where
+    informed_after : (act : PageAct T) (new : UserView T) → user_of act ≡ me.user → Knows opening (act ∷ has.acts) user new
+        → (other : ℕ) (known : UserView T) → get_elem? (set page.views user new) other ≡ some known → Knows opening (act ∷ has.acts) other known
+    informed_after act new own is =
+        let mine = ((has.informed user me at).acting here).number in
+        informed_set opening (act ∷ has.acts) page.views user new (λ other known apart there. informed_later opening has.acts act other known (λ same. apart (sym same ∙ own ∙ mine)) (has.informed other known there)) is
+
+    strangers_after : (act : PageAct T) (new : UserView T) → user_of act ≡ me.user → (other : ℕ) → length (set page.views user new) ≤ other → acts_of other (act ∷ has.acts) ≡ []
+    strangers_after act new own other past =
+        let mine = ((has.informed user me at).acting here).number in
+        let below = at_below page.views user me at in
+        let all = length-set page.views user new in
+        acts_of_other other act has.acts (λ same. let who = own in absurd (omega arith)) ∙ has.no_stranger other (omega arith)
+
+    held_now : held_id (acts_of me.user has.acts) ≡ me.held
+    held_now = let is = (has.informed user me at).acting here in ap held_id (own_now opening has.acts has.lawful user me here is) ∙ sym is.sound.holds
+
+  took_history : (page : PageState T) (user operand id : ℕ) (me : UserView T) (value : T) → IsPage meets page → (has : HasHistory opening page) → id < 32 → ClearsBit all_bits id operand → IsFree (word_of page) id
+      → IsHome page id value → get_elem? page.views user ≡ some me → me.gone ≡ false → me.held ≡ None
+      → HasHistory opening (changed page (bit_and (word_of page) operand) (set page.homes id none) (set page.views user (acted me has.acts (Took me.user id value) (Some id)))) × GoesOn (Took me.user id value ∷ []) me (acted me has.acts (Took me.user id value) (Some id))
+  took_history page user operand id me value is has within lacks free home at here holds_none =
+      let word : ℕ = word_of page in
+      let new : ℕ = bit_and word operand in
+      let act : PageAct T = Took me.user id value in
+      let known : UserView T = acted me has.acts act (Some id) in
+      let now = word_after page new is.one_word in
+      let bits = and_clears word operand id is.word_fits lacks in
+      let may : MayFollow opening has.acts act = record { in_page = within; lies_there = has.free_lies id within free value home; holds_none = held_now page has user me at here ∙ holds_none } in
+      let step = after_act opening has.acts has.lawful user me here ((has.informed user me at).acting here) act (Some id) may refl refl in (
+        record {
+          acts = act ∷ has.acts;
+          lawful = (may, has.lawful);
+          free_lies = λ i inside set_now found home_now.
+              let other : i ≢ id = λ same. let clear = bits.clear in let here = ap (bit_at new) same in let there = ap (λ w. bit_at w i) now in absurd (omega arith) in
+              value_at-took_elsewhere opening has.acts me.user id i value (λ same. other (sym same))
+              ∙ has.free_lies i inside (sym (bits.others i other) ∙ ap (λ w. bit_at w i) (sym now) ∙ set_now) found (sym (set_else page.homes id i none other) ∙ home_now);
+          out_lies = λ i inside out_now. dite (ℕ_discrete id i)
+              (λ same. value_at-took_here opening has.acts me.user id i value same)
+              (λ differ. value_at-took_elsewhere opening has.acts me.user id i value differ ∙ has.out_lies i inside (sym (bits.others i (λ same. differ (sym same))) ∙ ap (λ w. bit_at w i) (sym now) ∙ out_now));
+          informed = informed_after page has user me at here act known refl (knows_of _ _ _ _ step.0);
+          no_stranger = strangers_after page has user me at here act known refl;
+        },
+        step.1,
+      )
+
+  missed_history : (page : PageState T) (user operand id found : ℕ) (me : UserView T) → IsPage meets page → (has : HasHistory opening page) → ClearsBit all_bits id operand → IsOut (word_of page) id → id < 32 → SetsBit me.found id found
+      → get_elem? page.views user ≡ some me → me.gone ≡ false
+      → HasHistory opening (changed page (bit_and (word_of page) operand) page.homes (set page.views user (has_seen me has.acts found))) × GoesOn [] me (has_seen me has.acts found)
+  missed_history page user operand id found me is has lacks out within more at here =
+      let word : ℕ = word_of page in
+      let new : ℕ = bit_and word operand in
+      let known : UserView T = has_seen me has.acts found in
+      let now = word_after page new is.one_word in
+      let bits = and_clears word operand id is.word_fits lacks in
+      let same_bits : (i : ℕ) → bit_at (get_or (set page.words 0 new) 0 0) i ≡ bit_at word i = λ i. ap (λ w. bit_at w i) now
+      ∙ dite (ℕ_discrete i id) (λ same. ap (bit_at new) same ∙ bits.clear ∙ sym out ∙ ap (bit_at word) (sym same)) (λ differ. bits.others i differ) in
+      let step = after_look opening has.acts has.lawful user me here ((has.informed user me at).acting here) found (λ i inside one. dite (ℕ_discrete i id)
+      (λ same. inr (ap (value_at opening has.acts) same ∙ has.out_lies id within out))
+      (λ differ. inl (sym (more.others i differ) ∙ one))) in (
+        record {
+          acts = has.acts;
+          lawful = has.lawful;
+          free_lies = λ i inside set_now. has.free_lies i inside (sym (same_bits i) ∙ set_now);
+          out_lies = λ i inside out_now. has.out_lies i inside (sym (same_bits i) ∙ out_now);
+          informed = informed_set opening has.acts page.views user known (λ other view _ there. has.informed other view there) (knows_of _ _ _ _ step.0);
+          no_stranger = λ other past. has.no_stranger other (let all = length-set page.views user known in omega arith);
+        },
+        step.1,
+      )
+
+  gave_history : (page : PageState T) (user operand id : ℕ) (me : UserView T) (value : T) → IsPage meets page → (has : HasHistory opening page) → id < 32 → SetsBit 0 id operand
+      → get_elem? page.views user ≡ some me → me.gone ≡ false → me.held ≡ Some id
+      → HasHistory opening (changed page (bit_or (word_of page) operand) (set page.homes id (some (Some value))) (set page.views user (acted me has.acts (Gave me.user id value) None))) × GoesOn (Gave me.user id value ∷ []) me (acted me has.acts (Gave me.user id value) None)
+  gave_history page user operand id me value is has within sets at here holds =
+      let word : ℕ = word_of page in
+      let new : ℕ = bit_or word operand in
+      let act : PageAct T = Gave me.user id value in
+      let known : UserView T = acted me has.acts act None in
+      let homes = set page.homes id (some (Some value)) in
+      let now = word_after page new is.one_word in
+      let bits = or_sets word operand id sets in
+      let out = is.held_is_out user id (me, at, holds) in
+      let may : MayFollow opening has.acts act = record { in_page = within; is_out = has.out_lies id within out.1; holds = held_now page has user me at here ∙ holds } in
+      let step = after_act opening has.acts has.lawful user me here ((has.informed user me at).acting here) act None may refl refl in (
+        record {
+          acts = act ∷ has.acts;
+          lawful = (may, has.lawful);
+          free_lies = λ i inside set_now found home_now. dite (ℕ_discrete id i)
+              (λ same.
+              let here : get_elem? homes id ≡ some (some (Some found)) = ap (get_elem? homes) same ∙ home_now in
+              let value_is : Some value ≡ Some found = some-injective (Some value) (Some found) (some-injective (some (Some value)) (some (Some found)) (sym (set_here page.homes id (some (Some value)) (let all = is.all_places in omega arith)) ∙ here)) in
+              value_at-gave_here opening has.acts me.user id i value same ∙ value_is)
+              (λ differ. let other : i ≢ id = λ same. differ (sym same) in
+              value_at-gave_elsewhere opening has.acts me.user id i value differ
+              ∙ has.free_lies i inside (sym (bits.others i other) ∙ ap (λ w. bit_at w i) (sym now) ∙ set_now) found (sym (set_else page.homes id i (some (Some value)) other) ∙ home_now));
+          out_lies = λ i inside out_now.
+              let other : i ≢ id = λ same. let set_bit = bits.set in let here = ap (bit_at new) same in let there = ap (λ w. bit_at w i) now in absurd (omega arith) in
+              value_at-gave_elsewhere opening has.acts me.user id i value (λ same. other (sym same)) ∙ has.out_lies i inside (sym (bits.others i other) ∙ ap (λ w. bit_at w i) (sym now) ∙ out_now);
+          informed = informed_after page has user me at here act known refl (knows_of _ _ _ _ step.0);
+          no_stranger = strangers_after page has user me at here act known refl;
+        },
+        step.1,
+      )
+
+  -- the page as a user sees it that loads the word again
+  abbrev again : UserView T → History T → ℕ → UserView T
+  again old acts found = record { held = old.held; found = found; user = old.user; opening = old.opening; acts = acts; since = acts; told = old.told; gone = old.gone; own = old.own }
+
+  -- one view has changed, and nothing else
+  abbrev told_page : PageState T → ℕ → UserView T → PageState T
+  told_page page user known = record { words = page.words; homes = page.homes; views = set page.views user known }
+
+  view_page : (page : PageState T) (user : ℕ) (old known : UserView T) → IsPage meets page → get_elem? page.views user ≡ some old → known.held ≡ old.held → IsPage meets (told_page page user known)
+  view_page page user old known is at holds_same =
+      let held : (other i : ℕ) → Holds (told_page page user known) other i → Holds page other i = λ other i holds. elim (at_set page.views user other known holds.0 holds.1) [
+        | inl here ↦ subst (λ one. Holds page one i) (sym here.0) (old, at, sym holds_same ∙ ap (λ (known : UserView T). known.held) here.1 ∙ holds.2)
+        | inr there ↦ (holds.0, there.1, holds.2)
+      ] in
+      record {
+        one_word = is.one_word;
+        all_places = is.all_places;
+        word_fits = is.word_fits;
+        free_is_home = is.free_is_home;
+        held_is_out = λ other i holds. is.held_is_out other i (held other i holds);
+        one_holder = λ one two i holds_one holds_two. is.one_holder one two i (held one i holds_one) (held two i holds_two);
+      }
+
+  view_history : (page : PageState T) (user : ℕ) (known : UserView T) → (has : HasHistory opening page) → Knows opening has.acts user known → HasHistory opening (told_page page user known)
+  view_history page user known has is = record {
+    acts = has.acts;
+    lawful = has.lawful;
+    free_lies = has.free_lies;
+    out_lies = has.out_lies;
+    informed = informed_set opening has.acts page.views user known (λ other view _ there. has.informed other view there) is;
+    no_stranger = λ other past. has.no_stranger other (let all = length-set page.views user known in omega arith);
+  }
+
+  -- a list of one, written as it was
+  same_words : (words : List ℕ) → length words ≡ 1 → set words 0 (get_or words 0 0) ≡ words
+  same_words [] one = absurd (omega arith)
+  same_words (word ∷ words) one = refl
+
+  pub looks_again : (slots user : ℕ) (me : User T) → me.0.gone ≡ false → Allows (IsKept meets opening) slots user me 0 (λ word. word) (LooksAgain me)
+  looks_again slots user me here page kept places at fits =
+      let is = kept.0 in
+      let has = kept.1 in
+      let word : ℕ = word_of page in
+      let out : ℕ = bit_not w32 word in
+      let known : UserView T = again me.0 has.acts out in
+      let knew = (has.informed user me.0 at).acting here in
+      let clear : (id : ℕ) → id < 32 → bit_at out id ≡ 1 ↔ IsOut word id = λ id within. let flipped = bit_at_not w32 word id is.word_fits within in let low = bit_at-lt word id in ((λ one. omega arith), λ zero. omega arith) in
+      let sound : IsSound known = record {
+        lawful = subst (λ o. IsLawful o has.acts) (sym knew.same_opening) has.lawful;
+        since_load = beginning_same has.acts;
+        own_acts = own_now opening has.acts has.lawful user me.0 here knew;
+        holds = knew.sound.holds;
+        found_out = λ id within one. (has.acts, beginning_same has.acts, beginning_same has.acts, ap (λ o. value_at o has.acts id) knew.same_opening ∙ has.out_lies id within ((clear id within).0 one));
+      } in (
+        known,
+        keeps,
+        tt,
+        subst (λ words. IsKept meets opening record { words = words; homes = page.homes; views = set page.views user known }) (sym (same_words page.words is.one_word)) (
+          view_page page user me.0 known is at refl,
+          view_history page user known has (knows_of _ _ _ _ record { sound = sound; number = knew.number; same_opening = knew.same_opening; beginning = beginning_same has.acts; told_before = knew.told_before; own_so_far = knew.own_so_far }),
+        ),
+        record {
+          word_fits = is.word_fits;
+          holds_same = refl;
+          found = clear;
+          here = here;
+          starts = record { same_user = refl; same_opening = refl; own_before = knew.sound.own_acts; own_same = refl; from_now = refl; after_known = knew.beginning; after_told = knew.told_before };
+          carries_same = refl;
+          sound = sound;
+        },
+      )
+
+  -- a witness of what a user knows
+  pub witnesses : (user : ℕ) (me : UserView T) → Splits (IsKept meets opening) user me me (witness_of me)
+  witnesses user me page kept at =
+      let is = kept.0 in
+      let has = kept.1 in
+      let seen = witness_of me in
+      subst (λ views. IsKept meets opening record { words = page.words; homes = page.homes; views = views ++ seen ∷ [] }) (sym (set_again page.views user me at)) (
+        joins_page meets page seen is refl,
+        joins_history page seen has record { seen = (has.informed user me at).seen; told = (has.acts, sym (append-nil has.acts)); acting = λ gone. absurd (true≢false gone) },
+      )
+
+  told_sound : (me them : UserView T) → IsSound me → IsSound (told_of me them)
+  told_sound me them is = record { lawful = is.lawful; since_load = is.since_load; own_acts = is.own_acts; holds = is.holds; found_out = is.found_out }
+
+  -- who has gone holds nothing
+  gone_page : (page : PageState T) (user : ℕ) (old : UserView T) → IsPage meets page → get_elem? page.views user ≡ some old → IsPage meets (told_page page user gone_view)
+  gone_page page user old is at =
+      let held : (other i : ℕ) → Holds (told_page page user gone_view) other i → Holds page other i = λ other i holds. elim (at_set page.views user other gone_view holds.0 holds.1) [
+        | inl here ↦ let none_held : None ≡ Some i = ap (λ (known : UserView T). known.held) here.1 ∙ holds.2 in absurd (cc)
+        | inr there ↦ (holds.0, there.1, holds.2)
+      ] in
+      record {
+        one_word = is.one_word;
+        all_places = is.all_places;
+        word_fits = is.word_fits;
+        free_is_home = is.free_is_home;
+        held_is_out = λ other i holds. is.held_is_out other i (held other i holds);
+        one_holder = λ one two i holds_one holds_two. is.one_holder one two i (held one i holds_one) (held two i holds_two);
+      }
+
+  pub tells : (user other : ℕ) (me them : UserView T) → me.gone ≡ false → Joins (IsKept meets opening) user me other them (told_of me them) gone_view
+  tells user other me them here page kept at apart at_other =
+      let is = kept.0 in
+      let has = kept.1 in
+      let known = told_of me them in
+      let theirs : get_elem? page.views other ≡ some them = elim (at_set page.views user other known them at_other) [
+        | inl same ↦ absurd (apart same.0)
+        | inr found ↦ found.1
+      ] in
+      let knew = (has.informed user me at).acting here in
+      let knew_other = has.informed other them theirs in
+      let told = told_page page user known in
+      let has_told = view_history page user known has (knows_of _ _ _ _ record { sound = told_sound me them knew.sound; number = knew.number; same_opening = knew.same_opening; beginning = knew.beginning; told_before = knew_other.seen; own_so_far = knew.own_so_far }) in
+      (gone_page told other them (view_page page user me known is at refl) at_other, view_history told other gone_view has_told record { seen = (has_told.acts, sym (append-nil has_told.acts)); told = (has_told.acts, sym (append-nil has_told.acts)); acting = λ gone. absurd (true≢false gone) })
+
+  pub clears : (slots user operand id : ℕ) (me : User T) → id < 32 → ClearsBit all_bits id operand → me.0.held ≡ None → me.0.gone ≡ false
+      → Allows (IsKept meets opening) slots user me 0 (λ word. bit_and word operand) (Clears meets operand me)
+  clears slots user operand id me within lacks holds_none here page kept places at fits =
+      let is = kept.0 in
+      let has = kept.1 in
+      let word : ℕ = word_of page in
+      elim (cases_lt 0 (bit_at word id)) [
+        | inl some_bit ↦
+            let low = bit_at-lt word id in
+            let free : bit_at word id ≡ 1 = omega arith in
+            let item = is.free_is_home id within free in
+            let known : UserView T = acted me.0 has.acts (Took me.0.user id item.0) (Some id) in
+            let history = took_history page user operand id me.0 item.0 is has within lacks free item.1 at here holds_none in (
+              known,
+              takes id (Some item.0),
+              item.1,
+              (takes_item meets page user operand id known is within lacks free refl, history.0),
+              record {
+                word_fits = is.word_fits;
+                took = λ i inside lacks_i _. subst (λ i. Takes meets i me (known, (id, Some item.0) ∷ me.1)) (lacks_one operand id i inside lacks lacks_i) record { holds = refl; found_same = refl; value = (item.0, item.2, refl, history.1) };
+                missed = λ i inside lacks_i zero. let here = ap (bit_at word) (lacks_one operand id i inside lacks lacks_i) in absurd (omega arith);
+              },
+            )
+        | inr no_bit ↦
+            let out : bit_at word id ≡ 0 = omega arith in
+            let found : ℕ = bit_or me.0.found (1 * 2 ^ id % 2 ^ 32) in
+            let known : UserView T = has_seen me.0 has.acts found in
+            let more = sets_bit me.0.found id within in
+            let history = missed_history page user operand id found me.0 is has lacks out within more at here in (
+              known,
+              keeps,
+              tt,
+              (misses_item meets page user operand id me known is lacks at out refl, history.0),
+              record {
+                word_fits = is.word_fits;
+                took = λ i inside lacks_i one. let here = ap (bit_at word) (lacks_one operand id i inside lacks lacks_i) in absurd (omega arith);
+                missed = λ i inside lacks_i _. subst (λ i. Misses i me (known, me.1)) (lacks_one operand id i inside lacks lacks_i) record { holds_same = refl; found = more; carries_same = refl; goes_on = history.1 };
+              },
+            )
+      ]
+
+  pub gives_back : (slots user operand id : ℕ) (out me : User T) (value : T) → id < 32 → operand < 2 ^ 32 → SetsBit 0 id operand → out.0.held ≡ Some id → out.0.gone ≡ false → out.1 ≡ (id, None) ∷ [] → me ≡ (out.0, (id, Some value) ∷ rest out.1) → meets value
+      → Allows (IsKept meets opening) slots user me 0 (λ word. bit_or word operand) (λ _. Gives me)
+  gives_back slots user operand id out me value within small sets holds here carries moved met page kept places at fits =
+      let is = kept.0 in
+      let has = kept.1 in
+      let holds_now : me.0.held ≡ Some id = ap (λ (user : User T). user.0.held) moved ∙ holds in
+      let here_now : me.0.gone ≡ false = ap (λ (user : User T). user.0.gone) moved ∙ here in
+      let carries_now : me.1 ≡ (id, Some value) ∷ [] = ap (λ (user : User T). user.1) moved ∙ ap (λ (carried : List (ℕ × Option T)). (id, Some value) ∷ rest carried) carries in
+      let known : UserView T = acted me.0 has.acts (Gave me.0.user id value) None in
+      let history = gave_history page user operand id me.0 value is has within sets at here_now holds_now in (
+        known,
+        gives,
+        tt,
+        subst (λ carried. IsKept meets opening (changed page (bit_or (word_of page) operand) (homes_after page.homes carried gives) (set page.views user known))) (sym carries_now) (gives_item meets page user operand id me value known is within small sets at holds_now met refl, history.0),
+        record {
+          holds_none = refl;
+          carries = refl;
+          acts = λ i found holds_i carries_i.
+              let same_id : id ≡ i = some_same id i (sym holds_now ∙ holds_i) in
+              let same_value : value ≡ found = ap (carried_value value) (sym carries_now ∙ carries_i) in
+              subst (λ (act : PageAct T). GoesOn (act ∷ []) me.0 known) (λ k. Gave me.0.user (same_id k) (same_value k)) history.1;
+        },
+      )
+
+module _ {T : Type 0} (meets : T → Type 0) where
   -- what lies at a place of a filled list
   filled_at : (items : List (Option T)) (id : ℕ) → id < length items → All (λ item. IsSomeAnd item meets) items → (value : T) × (get_elem? items id ≡ some (Some value)) × meets value
   filled_at [] id within each = absurd (omega arith)
@@ -211,13 +513,39 @@ module _ {T : Type 0} (meets : T → Type 0) where
   filled_at (Some value ∷ items) zero within each = (value, refl, each 0 None (omega arith))
   filled_at (Some value ∷ items) (suc id) within each = filled_at items id (omega arith) (λ k default below. each (suc k) default (omega arith))
 
-  -- a page at its start: each item is free and at home
-  pub opens : (items : List (Option T)) → IsFilled meets items → IsPage meets (opening (all_bits ∷ []) items (view None 0))
-  opens items filled = record {
+  -- a page at its start: each item is free and at home, and nothing was done
+  opens_page : (items : List (Option T)) → IsFilled meets items → IsPage meets (opening (all_bits ∷ []) items (first_view items))
+  opens_page items filled = record {
     one_word = refl;
     all_places = length-map items some ∙ filled.all;
     word_fits = omega arith;
     free_is_home = λ id inside _. let found = filled_at items id (let all = filled.all in omega arith) filled.each in (found.0, at_map some items id (Some found.0) found.1, found.2);
-    held_is_out = λ user id holds. absurd (first_holds_none holds.0 user id holds.1 holds.2);
-    one_holder = λ user other id holds _. absurd (first_holds_none holds.0 user id holds.1 holds.2);
+    held_is_out = λ user id holds. absurd (first_holds_none items holds.0 user id holds.1 holds.2);
+    one_holder = λ user other id holds _. absurd (first_holds_none items holds.0 user id holds.1 holds.2);
   }
+
+  first_sound : (items : List (Option T)) → IsSound (first_view items)
+  first_sound items = record {
+    lawful = tt;
+    since_load = beginning_same [];
+    own_acts = refl;
+    holds = refl;
+    found_out = λ id within one. let zero = bit_at-zero id in absurd (omega arith);
+  }
+
+  first_informed : (items : List (Option T)) (user : ℕ) (known : UserView T) → get_elem? (first_view items ∷ []) user ≡ some known → Knows items [] user known
+  first_informed items zero known at = subst (Knows items [] 0) (some-injective (first_view items) known at) (knows_of _ _ _ _ record { sound = first_sound items; number = refl; same_opening = refl; beginning = beginning_same []; told_before = beginning_same []; own_so_far = refl })
+  first_informed items (suc user) known at = absurd (some-ne-none known (sym at))
+
+  pub opens : (items : List (Option T)) → IsFilled meets items → IsKept meets items (opening (all_bits ∷ []) items (first_view items))
+  opens items filled = (
+    opens_page items filled,
+    record {
+      acts = [];
+      lawful = tt;
+      free_lies = λ id inside free value home. opening_at items id (Some value) home;
+      out_lies = λ id inside out. let all = bit_at_ones 32 id inside in absurd (omega arith);
+      informed = first_informed items;
+      no_stranger = λ user past. refl;
+    },
+  )

@@ -17,10 +17,10 @@ use Rattle.lockfree_object_pool.specs.contracts.page.Page as Page
 use Rattle.lockfree_object_pool.specs.contracts.page.user_view.UserView as UserView
 
 -- what a seat owns names no thread
-seat_sync : (T : RattleType) → IsSend T → IsSync (Seat.the_row (OptionRow.the_row T) UserView.the_row)
+seat_sync : (T : RattleType) → IsSend T → IsSync (Seat.the_row (OptionRow.the_row T) (UserView.the_row T))
 seat_sync T sent =
     let item : IsSend (OptionRow.the_row T) = search (sendable, crosses) depth 20 in
-    record { shared = λ seat block offset lifetime share. part_keyless (Seat.the_row (OptionRow.the_row T) UserView.the_row) (the_send (OptionRow.the_row T) UserView.the_row item) share seat block offset }
+    record { shared = λ seat block offset lifetime share. part_keyless (Seat.the_row (OptionRow.the_row T) (UserView.the_row T)) (the_send (OptionRow.the_row T) (UserView.the_row T) item) share seat block offset }
 
 module _ (T K : RattleType) (clean : Ghosts K.Denot T.Denot) where
   pub taken_sync : (κ : NamedLft) → IsSend T → IsSync (TakenId.the_field κ T K clean).row

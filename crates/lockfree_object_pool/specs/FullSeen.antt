@@ -1,26 +1,76 @@
 -- What the answer of a page to a pull shows.
-use Rattle.std.specs.Prelude.{◌≡◌, ℕ}
+use Rattle.std.specs.Prelude.{◌≡◌, ℕ, ◌<◌, ◌∷◌, [], List, Option}
 use Rattle.atomic_table.specs.Seated.{TableId}
-use Rattle.lockfree_object_pool.specs.PageRule.{FoundAll}
-use Rattle.lockfree_object_pool.specs.Slot.{IsItemOf}
+use Rattle.lockfree_object_pool.specs.declared.page.history.PageAct.TheVariants.{Took}
+use Rattle.lockfree_object_pool.specs.declared.page.user_view.UserView.{UserView}
+use Rattle.lockfree_object_pool.specs.declared.page.note.PageNote.{PageNote}
 use Rattle.lockfree_object_pool.specs.declared.page.full_seen.FullSeen.{FullSeen}
 use Rattle.lockfree_object_pool.specs.declared.page.full_seen.Allocated.{Allocated}
 use Rattle.lockfree_object_pool.specs.declared.page.full_seen.Allocated.TheVariants.{Slot, Full}
+use Rattle.lockfree_object_pool.specs.Item.{IsItemOf, IsPulledOf}
+use Rattle.lockfree_object_pool.specs.Note.{note_opening, note_history, IsPulledAfter}
+use Rattle.lockfree_object_pool.specs.PageHistory.{History, IsLawful, IsBeginningOf, WasOutBetween}
+use Rattle.lockfree_object_pool.specs.PageRule.{FoundAll, GoesOn}
+use Rattle.lockfree_object_pool.specs.Slot.{slot_item, slot_view}
 
--- which page was found full
-abbrev pub full_page : {T : Type 0} → FullSeen T → TableId
-full_page seen = seen.seat.table_id
+module _ {T : Type 0} where
+  -- which page was found full
+  abbrev pub full_page : FullSeen T → TableId
+  full_page seen = seen.seat.table_id
 
--- the ids that were found out, as bits
-abbrev pub full_found : {T : Type 0} → FullSeen T → ℕ
-full_found seen = seen.seat.me.0.found
+  -- the ids that were found out, as bits
+  abbrev pub full_found : FullSeen T → ℕ
+  full_found seen = seen.seat.me.0.found
 
--- each id of this page was found out
-pub record IsFullOf {T : Type 0} (page : TableId) (seen : FullSeen T) : Type 0 where
-  pub of_page : full_page seen ≡ page
-  pub found_all : FoundAll (full_found seen)
+  -- what the call knows of the page
+  abbrev pub full_view : FullSeen T → UserView T
+  full_view seen = seen.seat.me.0
 
--- an item of this page; or each of its ids was found out
-abbrev pub IsAnswerOf : {T K : Type 0} → (T → Type 0) → TableId → Allocated T K → Type 0
-IsAnswerOf meets page (Slot slot) = IsItemOf meets page slot
-IsAnswerOf meets page (Full seen) = IsFullOf page seen
+  -- the values that the page opened with, by id
+  abbrev pub full_opening : FullSeen T → List (Option T)
+  full_opening seen = (full_view seen).opening
+
+  -- the page's history up to the call's load
+  abbrev pub full_since : FullSeen T → History T
+  full_since seen = (full_view seen).since
+
+  -- the page's history up to the call's last step
+  abbrev pub full_history : FullSeen T → History T
+  full_history seen = (full_view seen).acts
+
+  -- each id of this page was found out: at some place of a lawful history of the page, since the call's own load
+  pub record IsFullOf (page : TableId) (opening : List (Option T)) (seen : FullSeen T) : Type 0 where
+    pub of_page : full_page seen ≡ page
+    pub same_opening : full_opening seen ≡ opening
+    pub found_all : FoundAll (full_found seen)
+    pub lawful : IsLawful opening (full_history seen)
+    pub each_was_out : (id : ℕ) → id < 32 → WasOutBetween opening (full_since seen) (full_history seen) id
+
+  -- a page that had no item was seen to be full
+  abbrev pub WasSeenFull : TableId → List (Option T) → Type 0
+  WasSeenFull page opening = (seen : FullSeen T) × IsFullOf page opening seen
+
+  -- the same of a call that goes on from a note: its load stands after all that the note knew
+  pub record IsFullAfter (page : TableId) (note : PageNote T) (seen : FullSeen T) : Type 0 where
+    pub is_full : IsFullOf page (note_opening note) seen
+    pub after_note : IsBeginningOf (note_history note) (full_since seen)
+
+module _ {T K : Type 0} where
+  -- an item of this page; or each of its ids was found out
+  abbrev pub IsAnswerOf : (T → Type 0) → TableId → List (Option T) → Allocated T K → Type 0
+  IsAnswerOf meets page opening (Slot slot) = IsPulledOf meets page opening (slot_item slot)
+  IsAnswerOf meets page opening (Full seen) = IsFullOf page opening seen
+
+  -- the same, after all that a note knew
+  abbrev pub IsAnswerAfter : (T → Type 0) → TableId → PageNote T → Allocated T K → Type 0
+  IsAnswerAfter meets page note (Slot slot) = IsItemOf meets page (slot_item slot) × IsPulledAfter note (slot_item slot)
+  IsAnswerAfter meets page note (Full seen) = IsFullAfter page note seen
+
+  -- what a user may be answered that stands here: a pull is its one act more; a full page was found so by it
+  abbrev pub IsAnswerFrom : (T → Type 0) → TableId → UserView T → Allocated T K → Type 0
+  IsAnswerFrom meets page start (Slot slot) =
+      let item = slot_item slot in
+      IsItemOf meets page item × GoesOn (Took item.holder item.id item.value ∷ []) start (slot_view slot)
+  IsAnswerFrom meets page start (Full seen) =
+      (full_page seen ≡ page) × GoesOn [] start (full_view seen)
+      × ((id : ℕ) → id < 32 → WasOutBetween start.opening start.since (full_history seen) id)

@@ -1,5 +1,7 @@
+pub mod Answers
 pub mod FullSeen
 pub mod Guard
+pub mod Item
 pub mod Kept
 pub mod LastIn
 pub mod LinearPage
@@ -8,9 +10,11 @@ pub mod LinkNote
 pub mod LinkRow
 pub mod Lock
 pub mod NonePool
+pub mod Note
 pub mod OneProof
 pub mod OwnedSlot
 pub mod Page
+pub mod PageHistory
 pub mod PageRule
 pub mod Refusal
 pub mod Slot

@@ -1,11 +1,12 @@
 -- What a linear pool and its reusables show.
-use Rattle.std.specs.Prelude.{◌≡◌, ℕ, ◌<◌, Option}
+use Rattle.std.specs.Prelude.{◌≡◌, ℕ, ◌<◌, Option, Some}
 use Rattle.std.specs.Arc.{arc_value}
 use Rattle.std.specs.Option.{option_map}
 use Rattle.atomic_table.specs.Seated.{TableId}
+use Rattle.lockfree_object_pool.specs.Item.{Item}
 use Rattle.lockfree_object_pool.specs.LinearPage.{first_page}
-use Rattle.lockfree_object_pool.specs.OwnedSlot.{owned_slot_page, owned_slot_id, owned_slot_value, owned_slot_with}
-use Rattle.lockfree_object_pool.specs.Slot.{taken_page, taken_id}
+use Rattle.lockfree_object_pool.specs.OwnedSlot.{owned_slot_item, owned_slot_with}
+use Rattle.lockfree_object_pool.specs.Slot.{taken_item}
 use Rattle.lockfree_object_pool.specs.declared.linear_object_pool.LinearObjectPool.{LinearObjectPool}
 use Rattle.lockfree_object_pool.specs.declared.linear_object_pool.page_limit.PageLimit.{PageLimit}
 use Rattle.lockfree_object_pool.specs.declared.linear_owned_reusable.LinearOwnedReusable.{LinearOwnedReusable}
@@ -36,20 +37,13 @@ module _ {T I R K : Type 0} where
   abbrev pub reusable_pool : LinearReusable T I R K → LinearObjectPool T I R K
   reusable_pool reusable = reusable.pool.now
 
-  abbrev pub reusable_value : LinearReusable T I R K → T
-  reusable_value reusable = reusable.value
+  -- the item that the reusable has
+  abbrev pub reusable_item : LinearReusable T I R K → Item T
+  reusable_item reusable = taken_item reusable.taken reusable.value
 
-  -- which page the item is of
-  abbrev pub reusable_page : LinearReusable T I R K → TableId
-  reusable_page reusable = taken_page reusable.taken
-
-  -- the number of that page in the pool
+  -- the number of the item's page in the pool
   abbrev pub reusable_number : LinearReusable T I R K → ℕ
   reusable_number reusable = reusable.number
-
-  -- the number of the item in its page
-  abbrev pub reusable_id : LinearReusable T I R K → ℕ
-  reusable_id reusable = taken_id reusable.taken
 
   -- the same item with another value
   abbrev pub reusable_with : LinearReusable T I R K → T → LinearReusable T I R K
@@ -59,35 +53,20 @@ module _ {T I R K : Type 0} where
   abbrev pub owned_pool : LinearOwnedReusable T I R K → LinearObjectPool T I R K
   owned_pool reusable = arc_value reusable.pool
 
-  abbrev pub owned_value : LinearOwnedReusable T I R K → T
-  owned_value reusable = owned_slot_value reusable.slot
+  -- the item that the owned reusable has
+  abbrev pub owned_item : LinearOwnedReusable T I R K → Item T
+  owned_item reusable = owned_slot_item reusable.slot
 
-  -- which page the item is of
-  abbrev pub owned_page : LinearOwnedReusable T I R K → TableId
-  owned_page reusable = owned_slot_page reusable.slot
-
-  -- the number of that page in the pool
+  -- the number of the item's page in the pool
   abbrev pub owned_number : LinearOwnedReusable T I R K → ℕ
   owned_number reusable = reusable.number
-
-  -- the number of the item in its page
-  abbrev pub owned_id : LinearOwnedReusable T I R K → ℕ
-  owned_id reusable = owned_slot_id reusable.slot
 
   -- the same item with another value
   abbrev pub owned_with : LinearOwnedReusable T I R K → T → LinearOwnedReusable T I R K
   owned_with reusable value = record reusable { slot = owned_slot_with reusable.slot value }
 
-  -- a reusable of this pool, with a value that meets the condition; with page number 0 its item is of the pool's first page
-  pub record IsPulledFrom (meets : T → Type 0) (pool : LinearObjectPool T I R K) (reusable : LinearReusable T I R K) : Type 0 where
-    pub of_pool : reusable_pool reusable ≡ pool
-    pub in_page : reusable_id reusable < 32
-    pub meets_condition : meets (reusable_value reusable)
-    pub of_first : reusable_number reusable ≡ 0 → reusable_page reusable ≡ pool_first_page pool
-
-  -- the same of an owned reusable
-  pub record IsOwnedPulledFrom (meets : T → Type 0) (pool : LinearObjectPool T I R K) (reusable : LinearOwnedReusable T I R K) : Type 0 where
-    pub of_pool : owned_pool reusable ≡ pool
-    pub in_page : owned_id reusable < 32
-    pub meets_condition : meets (owned_value reusable)
-    pub of_first : owned_number reusable ≡ 0 → owned_page reusable ≡ pool_first_page pool
+  -- an item that was pulled from this pool, and the number of its page, which at 0 is the pool's first one
+  pub record IsPulledFrom (meets : T → Type 0) (pool : LinearObjectPool T I R K) (item : Item T) (number : ℕ) : Type 0 where
+    pub in_page : item.id < 32
+    pub meets_condition : meets item.value
+    pub of_first : number ≡ 0 → item.page ≡ pool_first_page pool

@@ -4,22 +4,23 @@ use Rattle.std.specs.Arc.{arc_value}
 use Rattle.std.specs.Option.{option_map}
 use Rattle.atomic_table.specs.Seated.{TableId}
 use Rattle.lockfree_object_pool.specs.Page.{page_identity}
+use Rattle.lockfree_object_pool.specs.declared.clean.Clean.{Ghosts}
 use Rattle.lockfree_object_pool.specs.declared.linear_page.link_note.LinkNote.{LinkNote}
 
-module _ {T K : Type 0} where
+module _ {T K O : Type 0} {opens : Ghosts O T} where
   -- which link the note is of
-  abbrev pub known_link : LinkNote T K → ℕ × ℕ
+  abbrev pub known_link : LinkNote T K O opens → ℕ × ℕ
   known_link note = (note.row.cell, note.offset)
 
   -- which cell the link is
-  abbrev pub link_cell : LinkNote T K → ℕ
+  abbrev pub link_cell : LinkNote T K O opens → ℕ
   link_cell note = note.link.cell
 
   -- which page the note knows to be linked
-  abbrev pub known_next : LinkNote T K → Option TableId
+  abbrev pub known_next : LinkNote T K O opens → Option TableId
   known_next note = option_map (λ page. page_identity (arc_value page)) note.link.known
 
   -- a note of this link that knows no page yet
-  pub record IsNewNoteOf (link : ℕ × ℕ) (note : LinkNote T K) : Type 0 where
+  pub record IsNewNoteOf (link : ℕ × ℕ) (note : LinkNote T K O opens) : Type 0 where
     pub of_link : known_link note ≡ link
     pub knows_none : known_next note ≡ None

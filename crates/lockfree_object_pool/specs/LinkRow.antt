@@ -1,20 +1,20 @@
 -- What a row of links shows, and where a link lies.
-use Rattle.std.specs.Prelude.{◌≡◌, ℕ, ◌+◌, ◌^◌, ◌<◌, Option, None, Some, slice_get}
+use Rattle.std.specs.Prelude.{◌≡◌, ℕ, ◌+◌, ◌^◌, ◌<◌, List, Option, None, Some, slice_get}
 use Rattle.std.specs.Option.{option_map}
 use Rattle.once_cell.specs.Once.{cell_name}
-use Rattle.lockfree_object_pool.specs.declared.linear_page.directory.Directory.{Directory}
+use Rattle.once_cell.specs.declared.race.once_box.OnceBox.{OnceBox}
 use Rattle.lockfree_object_pool.specs.declared.linear_page.directory.LinkPlace.{LinkPlace}
 use Rattle.lockfree_object_pool.specs.declared.linear_page.directory.Row.{Row}
 
 -- which cell a row that is known has at a place
-abbrev pub cell_in_row : {T K : Type 0} → Option (Row T K) → ℕ → Option ℕ
+abbrev pub cell_in_row : {T K O : Type 0} → Option (Row T K O) → ℕ → Option ℕ
 cell_in_row None offset = None
 cell_in_row (Some row) offset = option_map cell_name (slice_get row.links.items offset)
 
 -- the place of the link to a page: row `b` begins with the link to page `2 ^ b` and has as many links
-pub record IsPlaceOf {T K : Type 0} (directory : Directory T K) (number : ℕ) (place : LinkPlace T K) : Type 0 where
+pub record IsPlaceOf {T K O : Type 0} (rows : List (OnceBox (Row T K O))) (number : ℕ) (place : LinkPlace T K O) : Type 0 where
   pub row_number : ℕ
-  pub row : slice_get directory.rows.items row_number ≡ Some place.row.now
+  pub row : slice_get rows row_number ≡ Some place.row.now
   pub len : place.len ≡ 2 ^ row_number
   pub offset : place.len + place.offset ≡ number
   pub in_row : place.offset < place.len

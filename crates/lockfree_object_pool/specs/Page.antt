@@ -7,7 +7,11 @@ use Rattle.lockfree_object_pool.specs.declared.page.Page.{Page}
 abbrev pub page_identity : {T K : Type 0} → Page T K → TableId
 page_identity page = page.table.shared.table_id
 
--- 32 values, each of which meets the condition
+-- 32 values, by id, each of which meets the condition
 pub record IsFilled {T : Type 0} (meets : T → Type 0) (items : List (Option T)) : Type 0 where
   pub all : length items ≡ 32
   pub each : All (λ item. IsSomeAnd item meets) items
+
+-- the values that the page opened with, by id
+abbrev pub page_opening : {T K : Type 0} → Page T K → List (Option T)
+page_opening page = page.table.shared.key.value.items

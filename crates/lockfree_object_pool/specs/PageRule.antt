@@ -1,22 +1,25 @@
 -- The rule of a page: what holds between any two steps on it, and what each kind of step tells its user.
-use Rattle.std.specs.Prelude.{◌≡◌, ℕ, ◌^◌, ◌<◌, ◌↔◌, ◌∷◌, length, slice_index, Option, Some, None}
+use Rattle.std.specs.Prelude.{◌≡◌, ℕ, ◌^◌, ◌<◌, ◌≤◌, ◌↔◌, List, [], ◌∷◌, ◌++◌, true, false, length, slice_index, Option, Some, None}
 use mathlib.Core.Option.{some}
 use lib.ListN.{get_elem?}
 use Rattle.std.specs.Int.{bit_at}
 use Rattle.atomic_table.specs.Table.{State, Me, rest}
+use Rattle.lockfree_object_pool.specs.declared.page.history.PageAct.TheVariants.{Took, Gave}
 use Rattle.lockfree_object_pool.specs.declared.page.user_view.UserView.{UserView}
+use Rattle.lockfree_object_pool.specs.PageHistory.{History, acts_of, held_id, value_at, IsLawful, IsBeginningOf, WasOutBetween}
 use Rattle.lockfree_object_pool.specs.Word.{all_bits, SetsBit, ClearsBit}
 
 -- a page as plain data: one word, 32 places, and what each user knows
 abbrev pub PageState : Type 0 → Type 0
-PageState T = State (Option T) UserView
+PageState T = State (Option T) (UserView T)
 
 -- what a user knows, and the values that are out with it
 abbrev pub User : Type 0 → Type 0
-User T = Me (Option T) UserView
+User T = Me (Option T) (UserView T)
 
-abbrev pub view : Option ℕ → ℕ → UserView
-view held found = record { held = held; found = found }
+-- what a page's first user knows
+abbrev pub first_view : {T : Type 0} → List (Option T) → UserView T
+first_view opening = record { held = None; found = 0; user = 0; opening = opening; acts = []; since = []; told = []; gone = false; own = [] }
 
 -- the item is free in this word
 abbrev pub IsFree : ℕ → ℕ → Type 0
@@ -40,34 +43,108 @@ module _ {T : Type 0} where
 
   -- the user with this number has taken the id and not returned it
   abbrev pub Holds : PageState T → ℕ → ℕ → Type 0
-  Holds page user id = (known : UserView) × (get_elem? page.views user ≡ some known) × (known.held ≡ Some id)
+  Holds page user id = (known : UserView T) × (get_elem? page.views user ≡ some known) × (known.held ≡ Some id)
+
+  -- what a user knows of the page's history is so
+  pub record IsSound (known : UserView T) : Type 0 where
+    pub lawful : IsLawful known.opening known.acts
+    pub since_load : IsBeginningOf known.since known.acts
+    pub own_acts : acts_of known.user known.acts ≡ known.own
+    pub holds : known.held ≡ held_id known.own
+    pub found_out : (id : ℕ) → id < 32 → bit_at known.found id ≡ 1 → WasOutBetween known.opening known.since known.acts id
+
+  -- what this user knows is so, of these acts of the page up to now
+  pub record IsInformed (opening : List (Option T)) (acts : History T) (user : ℕ) (known : UserView T) : Type 0 where
+    pub sound : IsSound known
+    pub number : known.user ≡ user
+    pub same_opening : known.opening ≡ opening
+    pub beginning : IsBeginningOf known.acts acts
+    pub told_before : IsBeginningOf known.told acts
+    pub own_so_far : acts_of user acts ≡ known.own
+
+  -- what each user knows, and so it is of each user that hasn't gone
+  pub record Knows (opening : List (Option T)) (acts : History T) (user : ℕ) (known : UserView T) : Type 0 where
+    pub seen : IsBeginningOf known.acts acts
+    pub told : IsBeginningOf known.told acts
+    pub acting : known.gone ≡ false → IsInformed opening acts user known
+
+  -- what holds between any two steps, of the word, the homes and who holds what
+  pub record IsPage (meets : T → Type 0) (page : PageState T) : Type 0 where
+    pub one_word : length page.words ≡ 1
+    pub all_places : length page.homes ≡ 32
+    pub word_fits : word_of page < 2 ^ 32
+    pub free_is_home : (id : ℕ) → id < 32 → IsFree (word_of page) id → (value : T) × IsHome page id value × meets value
+    pub held_is_out : (user id : ℕ) → Holds page user id → (id < 32) × IsOut (word_of page) id
+    pub one_holder : (user other id : ℕ) → Holds page user id → Holds page other id → user ≡ other
+
+  -- the page stands where one lawful history of its users' acts has led, of which each user knows a beginning
+  pub record HasHistory (opening : List (Option T)) (page : PageState T) : Type 0 where
+    pub acts : History T
+    pub lawful : IsLawful opening acts
+    pub free_lies : (id : ℕ) → id < 32 → IsFree (word_of page) id → (value : T) → IsHome page id value → value_at opening acts id ≡ Some value
+    pub out_lies : (id : ℕ) → id < 32 → IsOut (word_of page) id → value_at opening acts id ≡ None
+    pub informed : (user : ℕ) (known : UserView T) → get_elem? page.views user ≡ some known → Knows opening acts user known
+    pub no_stranger : (user : ℕ) → length page.views ≤ user → acts_of user acts ≡ []
+
+  -- what holds of a page between any two steps
+  abbrev pub IsKept : (T → Type 0) → List (Option T) → PageState T → Type 0
+  IsKept meets opening page = IsPage meets page × HasHistory opening page
+
+  -- a user went on: the page's history is longer by what others did, and then by what it did itself
+  pub record GoesOn (made : History T) (old new : UserView T) : Type 0 where
+    pub here : new.gone ≡ false
+    pub same_user : new.user ≡ old.user
+    pub same_opening : new.opening ≡ old.opening
+    pub same_since : new.since ≡ old.since
+    pub acts : (others : History T) × (new.acts ≡ made ++ (others ++ old.acts))
+    pub own_before : acts_of old.user old.acts ≡ old.own
+    pub own : new.own ≡ made ++ old.own
+    pub sound : IsSound new
 
   module _ (meets : T → Type 0) where
-    -- what holds between any two steps
-    pub record IsPage (page : PageState T) : Type 0 where
-      pub one_word : length page.words ≡ 1
-      pub all_places : length page.homes ≡ 32
-      pub word_fits : word_of page < 2 ^ 32
-      pub free_is_home : (id : ℕ) → id < 32 → IsFree (word_of page) id → (value : T) × IsHome page id value × meets value
-      pub held_is_out : (user id : ℕ) → Holds page user id → (id < 32) × IsOut (word_of page) id
-      pub one_holder : (user other id : ℕ) → Holds page user id → Holds page other id → user ≡ other
-
     -- the id was free: the user holds it now, and the value that lay there, which meets the condition
     pub record Takes (id : ℕ) (old new : User T) : Type 0 where
-      pub knows : new.0 ≡ view (Some id) old.0.found
-      pub value : (value : T) × meets value × (new.1 ≡ (id, Some value) ∷ old.1)
+      pub holds : new.0.held ≡ Some id
+      pub found_same : new.0.found ≡ old.0.found
+      pub value : (value : T) × meets value × (new.1 ≡ (id, Some value) ∷ old.1) × GoesOn (Took new.0.user id value ∷ []) old.0 new.0
 
   -- the id was out: the user has found it out now
   pub record Misses (id : ℕ) (old new : User T) : Type 0 where
     pub holds_same : new.0.held ≡ old.0.held
     pub found : SetsBit old.0.found id new.0.found
     pub carries_same : new.1 ≡ old.1
+    pub goes_on : GoesOn [] old.0 new.0
 
   -- a load by a new user: it has found out the ids that are clear in the word
-  pub record Looks (word : ℕ) (new : User T) : Type 0 where
+  pub record Looks (first : UserView T) (word : ℕ) (new : User T) : Type 0 where
     pub word_fits : word < 2 ^ 32
     pub holds_none : new.0.held ≡ None
     pub found : (id : ℕ) → id < 32 → bit_at new.0.found id ≡ 1 ↔ IsOut word id
+    pub here : new.0.gone ≡ false
+    pub same_opening : new.0.opening ≡ first.opening
+    pub from_now : new.0.since ≡ new.0.acts
+    pub did_nothing : new.0.own ≡ []
+    pub sound : IsSound new.0
+
+  -- where a user stands after a load, that knew this before
+  pub record StartsFrom (known start : UserView T) : Type 0 where
+    pub same_user : start.user ≡ known.user
+    pub same_opening : start.opening ≡ known.opening
+    pub own_before : acts_of known.user known.acts ≡ known.own
+    pub own_same : start.own ≡ known.own
+    pub from_now : start.since ≡ start.acts
+    pub after_known : IsBeginningOf known.acts start.acts
+    pub after_told : IsBeginningOf known.told start.acts
+
+  -- a load by a user that knew something: it knows more now, and has found out the ids that are clear in the word
+  pub record LooksAgain (old : User T) (word : ℕ) (new : User T) : Type 0 where
+    pub word_fits : word < 2 ^ 32
+    pub holds_same : new.0.held ≡ old.0.held
+    pub found : (id : ℕ) → id < 32 → bit_at new.0.found id ≡ 1 ↔ IsOut word id
+    pub here : new.0.gone ≡ false
+    pub starts : StartsFrom old.0 new.0
+    pub carries_same : new.1 ≡ old.1
+    pub sound : IsSound new.0
 
   -- a clearing of the one bit that the operand leaves out
   pub record Clears (meets : T → Type 0) (operand : ℕ) (old : User T) (word : ℕ) (new : User T) : Type 0 where
@@ -76,11 +153,25 @@ module _ {T : Type 0} where
     pub missed : (id : ℕ) → id < 32 → ClearsBit all_bits id operand → IsOut word id → Misses id old new
 
   -- the user has taken the id, and the value that lay there has moved out
-  pub record MovesOut (id : ℕ) (old new : User T) : Type 0 where
-    pub knows : new.0 ≡ view (Some id) old.0.found
+  pub record MovesOut (id : ℕ) (value : T) (old new : User T) : Type 0 where
+    pub holds : new.0.held ≡ Some id
     pub carries : new.1 ≡ (id, None) ∷ old.1
+    pub goes_on : GoesOn (Took new.0.user id value ∷ []) old.0 new.0
 
   -- a return: the user holds nothing any more, and the value that it had taken last is home
   pub record Gives (old new : User T) : Type 0 where
-    pub knows : new.0 ≡ view None old.0.found
+    pub holds_none : new.0.held ≡ None
     pub carries : new.1 ≡ rest old.1
+    pub acts : (id : ℕ) (value : T) → old.0.held ≡ Some id → old.1 ≡ (id, Some value) ∷ [] → GoesOn (Gave new.0.user id value ∷ []) old.0 new.0
+
+-- a user that was told what another knew
+abbrev pub told_of : {T : Type 0} → UserView T → UserView T → UserView T
+told_of old other = record { held = old.held; found = old.found; user = old.user; opening = old.opening; acts = old.acts; since = old.since; told = other.acts; gone = old.gone; own = old.own }
+
+-- who only remembers what another knew
+abbrev pub witness_of : {T : Type 0} → UserView T → UserView T
+witness_of known = record { held = None; found = 0; user = 0; opening = known.opening; acts = known.acts; since = []; told = []; gone = true; own = [] }
+
+-- a user that has gone
+abbrev pub gone_view : {T : Type 0} → UserView T
+gone_view = record { held = None; found = 0; user = 0; opening = []; acts = []; since = []; told = []; gone = true; own = [] }

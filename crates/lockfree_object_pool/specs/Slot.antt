@@ -1,33 +1,42 @@
--- What an item that is out of its page shows.
-use Rattle.std.specs.Prelude.{◌≡◌, ℕ, ◌<◌}
+-- What an item that is out of its page shows, under a borrow of the page.
+use Rattle.std.specs.Prelude.{ℕ}
 use Rattle.atomic_table.specs.Seated.{TableId}
+use Rattle.lockfree_object_pool.specs.declared.page.user_view.UserView.{UserView}
 use Rattle.lockfree_object_pool.specs.declared.page.slot.TakenId.{TakenId}
 use Rattle.lockfree_object_pool.specs.declared.page.slot.PageSlot.{PageSlot}
+use Rattle.lockfree_object_pool.specs.Item.{Item}
+
+-- an item, as the user tells it that took it
+abbrev pub item_known : {T : Type 0} → TableId → UserView T → ℕ → T → Item T
+item_known page known id value = record {
+  page = page;
+  opening = known.opening;
+  id = id;
+  value = value;
+  holder = known.user;
+  history = known.acts;
+}
 
 module _ {T K : Type 0} where
-  -- which page the id was taken from
-  abbrev pub taken_page : TakenId T K → TableId
-  taken_page taken = taken.seat.table_id
-
   abbrev pub taken_id : TakenId T K → ℕ
   taken_id taken = taken.id
 
-  -- which page the slot is of
-  abbrev pub slot_page : PageSlot T K → TableId
-  slot_page slot = taken_page slot.taken
+  -- what the holder of the id knows of the page
+  abbrev pub taken_view : TakenId T K → UserView T
+  taken_view taken = taken.seat.me.0
 
-  abbrev pub slot_id : PageSlot T K → ℕ
-  slot_id slot = taken_id slot.taken
+  -- the item that was taken, with a value
+  abbrev pub taken_item : TakenId T K → T → Item T
+  taken_item taken value = item_known taken.seat.table_id (taken_view taken) taken.id value
 
-  abbrev pub slot_value : PageSlot T K → T
-  slot_value slot = slot.value
+  -- the item that the slot has
+  abbrev pub slot_item : PageSlot T K → Item T
+  slot_item slot = taken_item slot.taken slot.value
+
+  -- what the holder of the slot knows of the page
+  abbrev pub slot_view : PageSlot T K → UserView T
+  slot_view slot = taken_view slot.taken
 
   -- the same slot with another value
   abbrev pub slot_with : PageSlot T K → T → PageSlot T K
   slot_with slot value = record slot { value = value }
-
-  -- a slot of this page, with a value that meets the condition
-  pub record IsItemOf (meets : T → Type 0) (page : TableId) (slot : PageSlot T K) : Type 0 where
-    pub of_page : slot_page slot ≡ page
-    pub in_page : slot_id slot < 32
-    pub meets_condition : meets (slot_value slot)

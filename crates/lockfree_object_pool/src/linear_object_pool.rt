@@ -9,12 +9,14 @@ use crate::PullError;
 use crate::clean::Clean;
 use crate::closures::{Init, Reset};
 use crate::linear_owned_reusable::LinearOwnedReusable;
-use crate::linear_page::Chain;
+use crate::linear_page::{Chain, Found};
 use crate::linear_reusable::LinearReusable;
+use answer_of::AnswerOf;
 use page_limit::PageLimit;
 use std::alloc::Global;
 use std::sync::Arc;
 
+mod answer_of;
 mod page_limit;
 
 /// A pool whose items lie in pages of 32.
@@ -22,13 +24,17 @@ mod page_limit;
 pub struct LinearObjectPool<T, I: Init<T, K>, R: Reset<T, K>, K: Clean<T>> {
     init: I,
     reset: R,
-    chain: Chain<T, K>,
+    chain: Chain<T, K, AnswerOf<I, K>>,
     limit: Option<PageLimit>,
 }
 
 impl<T: Drop, I: Init<T, K>, R: Reset<T, K>, K: Clean<T>> LinearObjectPool<T, I, R, K> {
-    ghost use Rattle.lockfree_object_pool.specs.LinearPool.{pool_init, pool_reset, pool_limit, pages_of, reusable_number, owned_number, IsPulledFrom, IsOwnedPulledFrom};
+    ghost use Rattle.lockfree_object_pool.specs.Answers.{IsAnswer};
+    ghost use Rattle.lockfree_object_pool.specs.Item.{HasOrigin};
+    ghost use Rattle.lockfree_object_pool.specs.LinearPool.{pool_init, pool_reset, pool_limit, pages_of, reusable_pool, reusable_item, reusable_number, owned_pool, owned_item, owned_number, IsPulledFrom};
+    ghost use Rattle.lockfree_object_pool.specs.Page.{page_identity};
     ghost use Rattle.lockfree_object_pool.specs.Refusal.{RefusesMaking, RefusesPull};
+    ghost use Rattle.lockfree_object_pool.specs.Slot.{slot_item};
 
     /// A pool of one page, which grows by a page where each is full.
     pub fn new(alloc: Global, init: I, reset: R) -> Result<LinearObjectPool<T, I, R, K>, PullError>
@@ -87,33 +93,39 @@ impl<T: Drop, I: Init<T, K>, R: Reset<T, K>, K: Clean<T>> LinearObjectPool<T, I,
 
     /// An item of the first page that has one.
     pub fn pull(&self) -> Result<LinearReusable<'_, T, I, R, K>, PullError>
-        ensures pulled { IfOk result (IsPulledFrom K.meets self.now) }
+        ensures pool { IfOk result (λ item. reusable_pool item ≡ self.now) }
+        ensures pulled { IfOk result (λ item. IsPulledFrom K.meets self.now (reusable_item item) (reusable_number item)) }
+        ensures history { IfOk result (λ item. HasOrigin (IsAnswer I.answers) (reusable_item item)) }
         ensures within { IfOk result (λ item. IfSome (pool_limit self.now) (λ pages. reusable_number item < pages)) }
         ensures refused { IfErr result (RefusesPull (IsSome (pool_limit self.now)) (I.answers (pool_init self.now) None)) }
     {
-        let of = &self.init;
-        let first = self.chain.first();
-        let (slot, number) = match self.limit() {
-            None => first.alloc(&|| of.make())?,
-            Some(pages) => first.alloc_within(pages, &|| of.make())?,
-        };
-        Ok(LinearReusable::new(self, slot, number))
+        let found = self.find()?;
+        Ok(LinearReusable::new(self, found.slot, found.passed))
     }
 
     /// As `pull`, with a reusable that owns the pool with others. The pool's owners grow by one before an item is taken.
     pub fn pull_owned(self: &Arc<Self>) -> Result<LinearOwnedReusable<T, I, R, K>, PullError>
-        ensures pulled { IfOk result (IsOwnedPulledFrom K.meets (arc_value self.now)) }
+        ensures pool { IfOk result (λ item. owned_pool item ≡ arc_value self.now) }
+        ensures pulled { IfOk result (λ item. IsPulledFrom K.meets (arc_value self.now) (owned_item item) (owned_number item)) }
+        ensures history { IfOk result (λ item. HasOrigin (IsAnswer I.answers) (owned_item item)) }
         ensures within { IfOk result (λ item. IfSome (pool_limit (arc_value self.now)) (λ pages. owned_number item < pages)) }
         ensures refused { IfErr result (RefusesPull (IsSome (pool_limit (arc_value self.now))) (I.answers (pool_init (arc_value self.now)) None)) }
     {
         let owner = Arc::try_clone(self)?;
-        let of = &self.init;
-        let first = self.chain.first();
-        let (slot, number) = match self.limit() {
-            None => first.alloc_owned(&|| of.make())?,
-            Some(pages) => first.alloc_owned_within(pages, &|| of.make())?,
-        };
+        let (slot, number) = self.find()?.into_owned()?;
         Ok(LinearOwnedReusable::new(owner, slot, number))
+    }
+
+    /// An item of the first page that has one, and how many pages lie before that page.
+    fn find(&self) -> Result<Found<'_, T, K>, PullError>
+        ensures pulled { IfOk result (λ found. IsPulledFrom K.meets self.now (slot_item found.slot) found.passed) }
+        ensures history { IfOk result (λ found. HasOrigin (IsAnswer I.answers) (slot_item found.slot)) }
+        ensures of_page { IfOk result (λ found. (slot_item found.slot).page ≡ page_identity (arc_value found.page.now)) }
+        ensures within { IfOk result (λ found. IfSome (pool_limit self.now) (λ pages. found.passed < pages)) }
+        ensures refused { IfErr result (RefusesPull (IsSome (pool_limit self.now)) (I.answers (pool_init self.now) None)) }
+    {
+        let of = &self.init;
+        self.chain.first().walk(self.limit(), &|| of.make())
     }
 
     /// Leaves a value as it is kept.

@@ -17,8 +17,8 @@ pub struct LinearOwnedReusable<T: Drop, I: Init<T, K>, R: Reset<T, K>, K: Clean<
 }
 
 impl<T: Drop, I: Init<T, K>, R: Reset<T, K>, K: Clean<T>> LinearOwnedReusable<T, I, R, K> {
-    ghost use Rattle.lockfree_object_pool.specs.LinearPool.{owned_pool, owned_value, owned_page, owned_number, owned_id};
-    ghost use Rattle.lockfree_object_pool.specs.OwnedSlot.{owned_slot_page, owned_slot_id, owned_slot_value};
+    ghost use Rattle.lockfree_object_pool.specs.LinearPool.{owned_pool, owned_item, owned_number};
+    ghost use Rattle.lockfree_object_pool.specs.OwnedSlot.{owned_slot_item};
 
     pub(crate) fn new(
         pool: Arc<LinearObjectPool<T, I, R, K>>,
@@ -26,10 +26,8 @@ impl<T: Drop, I: Init<T, K>, R: Reset<T, K>, K: Clean<T>> LinearOwnedReusable<T,
         number: usize,
     ) -> LinearOwnedReusable<T, I, R, K>
         ensures pool { owned_pool result ≡ arc_value pool }
-        ensures page { owned_page result ≡ owned_slot_page slot }
+        ensures item { owned_item result ≡ owned_slot_item slot }
         ensures number { owned_number result ≡ number }
-        ensures id { owned_id result ≡ owned_slot_id slot }
-        ensures value { owned_value result ≡ owned_slot_value slot }
     {
         LinearOwnedReusable { pool, slot, number }
     }
@@ -43,7 +41,7 @@ impl<T: Drop, I: Init<T, K>, R: Reset<T, K>, K: Clean<T>> LinearOwnedReusable<T,
 
     /// The number of the item in its page.
     pub fn page_id(&self) -> PageId
-        ensures value { result ≡ owned_id self.now }
+        ensures value { result ≡ (owned_item self.now).id }
         ensures in_page { result < 32 }
     {
         self.slot.id()
@@ -54,9 +52,9 @@ impl<T: Drop, I: Init<T, K>, R: Reset<T, K>, K: Clean<T>> Deref
     for LinearOwnedReusable<T, I, R, K> {
     type Target = T;
 
-    ghost use Rattle.lockfree_object_pool.specs.LinearPool.{owned_value};
+    ghost use Rattle.lockfree_object_pool.specs.LinearPool.{owned_item};
 
-    ghost deref_gives = { λ reusable value. value ≡ owned_value reusable };
+    ghost deref_gives = { λ reusable value. value ≡ (owned_item reusable).value };
 
     fn deref(&self) -> &T {
         &self.slot
@@ -67,13 +65,13 @@ impl<T: Drop, I: Init<T, K>, R: Reset<T, K>, K: Clean<T>> DerefMut
     for LinearOwnedReusable<T, I, R, K> {
     ghost use Rattle.std.specs.Borrow.{Lends, sem};
     ghost use Rattle.lockfree_object_pool.specs.contracts.linear_owned_reusable.LinearOwnedReusable.{the_row};
-    ghost use Rattle.lockfree_object_pool.specs.LinearPool.{owned_value, owned_with};
+    ghost use Rattle.lockfree_object_pool.specs.LinearPool.{owned_item, owned_with};
 
-    ghost deref_mut_gives = { λ reusable value. value ≡ owned_value reusable };
+    ghost deref_mut_gives = { λ reusable value. value ≡ (owned_item reusable).value };
 
     fn deref_mut(&mut self) -> &mut T
-        ensures* writes_back { sem 𝓛 (Lends (the_row T.row I.row R.row K.row K.Clean) T.row self.entry result (owned_with self.old)) }
-        ensures shows { result.now ≡ owned_value self.old }
+        ensures* writes_back { sem 𝓛 (Lends (the_row T.row I.row R.row K.row I.Init K.Clean) T.row self.entry result (owned_with self.old)) }
+        ensures shows { result.now ≡ (owned_item self.old).value }
     {
         &mut self.slot
     }

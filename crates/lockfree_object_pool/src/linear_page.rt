@@ -1,51 +1,56 @@
 //! A chain of pages, which grows by a page at its end and never shrinks.
 //!
 //! This file has the chain and a page of it. Below it: where a link lies (`directory`), what a caller has learned of a
-//! link (`link_note`), and the walk from page to page for an item (`walk`).
+//! link (`link_note`), what a linked page opened with (`opened_page`), and the walk from page to page for an item (`walk`).
 //!
 //! No call waits for another thread. A link is set once, in `get_or_create_next` alone.
 ghost use Rattle.std.specs.Prelude.{◌≡◌, ◌+◌, ◌^◌, ◌<◌, Option, None, IfSome, IfNone, IfOk, IfErr};
 ghost use Rattle.std.specs.Arc.{arc_value};
-ghost use Rattle.lockfree_object_pool.specs.Page.{page_identity};
+ghost use Rattle.lockfree_object_pool.specs.Page.{page_identity, page_opening, IsFilled};
 ghost use Rattle.lockfree_object_pool.specs.Refusal.{RefusesMaking};
 
 use crate::PullError;
-use crate::clean::Clean;
+use crate::clean::{AnyValue, Clean};
 use crate::page::{FullSeen, Page};
 use directory::{Directory, LinkPlace};
+use opened_page::OpenedPage;
 use std::alloc::{AllocError, Global};
 use std::sync::Arc;
 
 mod directory;
 mod link_note;
+mod opened_page;
 mod walk;
 
 pub use link_note::LinkNote;
+pub(crate) use walk::Found;
 
 /// A chain of pages: the first one, and the links behind it.
+///
+/// Each value that one of its pages opens with meets `O`, each free item meets `K`.
 #[derive(Drop)]
-pub struct Chain<T, K: Clean<T>> {
-    first: Arc<Page<T, K>>,
-    directory: Directory<T, K>,
+pub struct Chain<T, K: Clean<T>, O: Clean<T> = AnyValue> {
+    first: OpenedPage<T, K, O>,
+    directory: Directory<T, K, O>,
 }
 
-impl<T: Drop, K: Clean<T>> Chain<T, K> {
+impl<T: Drop, K: Clean<T>, O: Clean<T>> Chain<T, K, O> {
     ghost use Rattle.lockfree_object_pool.specs.LinearPage.{first_page, shown_page, page_number};
 
     /// A chain of one page, made as by [`Page::new`].
-    pub fn new<I: Fn() -> Option<T>>(alloc: Global, init: &I) -> Result<Chain<T, K>, PullError>
+    pub fn new<I: Fn() -> Option<T>>(alloc: Global, init: &I) -> Result<Chain<T, K, O>, PullError>
         requires callable { I.pre init.now }
         requires meets { (answer : Option T) → I.post init.now answer → IfSome answer K.meets }
+        requires opens { (answer : Option T) → I.post init.now answer → IfSome answer O.meets }
         ensures refused { IfErr result (RefusesMaking (I.post init.now None)) }
     {
-        let page = Page::new(alloc, init)?;
+        let first = made_page(alloc, init)?;
         let directory = Directory::new(alloc)?;
-        let first = Arc::new(alloc, page)?;
         Ok(Chain { first, directory })
     }
 
     /// The page with number 0.
-    pub fn first(&self) -> LinearPage<'_, T, K>
+    pub fn first(&self) -> LinearPage<'_, T, K, O>
         ensures page { shown_page result ≡ first_page self.now }
         ensures number { page_number result ≡ 0 }
     {
@@ -54,16 +59,16 @@ impl<T: Drop, K: Clean<T>> Chain<T, K> {
 }
 
 /// One page of a chain.
-pub struct LinearPage<'c, T, K: Clean<T>> {
-    directory: &'c Directory<T, K>,
-    page: &'c Arc<Page<T, K>>,
+pub struct LinearPage<'c, T, K: Clean<T>, O: Clean<T> = AnyValue> {
+    directory: &'c Directory<T, K, O>,
+    page: &'c OpenedPage<T, K, O>,
     number: usize,
-    next: LinkPlace<'c, T, K>,
+    next: LinkPlace<'c, T, K, O>,
 }
 
-impl<T, K: Clean<T>> Copy for LinearPage<'_, T, K> {}
+impl<T, K: Clean<T>, O: Clean<T>> Copy for LinearPage<'_, T, K, O> {}
 
-impl<T, K: Clean<T>> Clone for LinearPage<'_, T, K> {
+impl<T, K: Clean<T>, O: Clean<T>> Clone for LinearPage<'_, T, K, O> {
     ghost use Rattle.std.specs.Prelude.{⊤};
 
     ghost is_clone = { λ page copy. copy ≡ page };
@@ -75,16 +80,16 @@ impl<T, K: Clean<T>> Clone for LinearPage<'_, T, K> {
     }
 }
 
-impl<'c, T: Drop, K: Clean<T>> LinearPage<'c, T, K> {
+impl<'c, T: Drop, K: Clean<T>, O: Clean<T>> LinearPage<'c, T, K, O> {
     ghost use Rattle.lockfree_object_pool.specs.FullSeen.{full_page};
     ghost use Rattle.lockfree_object_pool.specs.LinearPage.{shown_page, page_number, next_link, IsNextAs};
     ghost use Rattle.lockfree_object_pool.specs.LinkNote.{IsNewNoteOf, known_link, known_next};
 
     fn new(
-        directory: &'c Directory<T, K>,
-        page: &'c Arc<Page<T, K>>,
+        directory: &'c Directory<T, K, O>,
+        page: &'c OpenedPage<T, K, O>,
         number: usize,
-    ) -> LinearPage<'c, T, K>
+    ) -> LinearPage<'c, T, K, O>
         ensures page { shown_page result ≡ page_identity (arc_value page.now) }
         ensures number { page_number result ≡ number }
     {
@@ -98,9 +103,10 @@ impl<'c, T: Drop, K: Clean<T>> LinearPage<'c, T, K> {
 
     /// The page's items.
     pub fn page(&self) -> &'c Page<T, K>
-        ensures { page_identity result.now ≡ shown_page self.now }
+        ensures page { page_identity result.now ≡ shown_page self.now }
+        ensures opened { IsFilled O.meets (page_opening result.now) }
     {
-        &**self.page
+        self.page.owner()
     }
 
     /// How many links the page lies behind its chain's first one.
@@ -111,7 +117,7 @@ impl<'c, T: Drop, K: Clean<T>> LinearPage<'c, T, K> {
     }
 
     /// The page behind this one, where one is linked.
-    pub fn next(&self) -> Option<LinearPage<'c, T, K>>
+    pub fn next(&self) -> Option<LinearPage<'c, T, K, O>>
         ensures { IfSome result (λ next. page_number next ≡ page_number self.now + 1) }
     {
         let mut note = self.next.known_row()?;
@@ -119,7 +125,7 @@ impl<'c, T: Drop, K: Clean<T>> LinearPage<'c, T, K> {
     }
 
     /// A note of the link to the next page, which knows no page yet. It takes memory where the link has no place yet.
-    pub fn next_note(&self) -> Result<LinkNote<T, K>, PullError>
+    pub fn next_note(&self) -> Result<LinkNote<T, K, O>, PullError>
         ensures note { IfOk result (IsNewNoteOf (next_link self.now)) }
         ensures refused { IfErr result (RefusesMaking ⊥) }
     {
@@ -127,7 +133,7 @@ impl<'c, T: Drop, K: Clean<T>> LinearPage<'c, T, K> {
     }
 
     /// As `next`: where the note knows a page that is linked here, the answer is that page, and the note knows each answer.
-    pub fn next_as(&self, note: &mut LinkNote<T, K>) -> Option<LinearPage<'c, T, K>>
+    pub fn next_as(&self, note: &mut LinkNote<T, K, O>) -> Option<LinearPage<'c, T, K, O>>
         requires { known_link note.old ≡ next_link self.now }
         ensures link { known_link note.new ≡ known_link note.old }
         ensures none { IfNone result (page_number self.now + 1 < 2 ^ 64 → known_next note.old ≡ None) }
@@ -146,10 +152,11 @@ impl<'c, T: Drop, K: Clean<T>> LinearPage<'c, T, K> {
         &self,
         seen: FullSeen<'_, T>,
         init: &I,
-    ) -> Result<LinearPage<'c, T, K>, PullError>
+    ) -> Result<LinearPage<'c, T, K, O>, PullError>
         requires of_page { full_page seen ≡ shown_page self.now }
         requires callable { I.pre init.now }
         requires meets { (answer : Option T) → I.post init.now answer → IfSome answer K.meets }
+        requires opens { (answer : Option T) → I.post init.now answer → IfSome answer O.meets }
         ensures number { IfOk result (λ next. page_number next ≡ page_number self.now + 1) }
         ensures refused { IfErr result (RefusesMaking (I.post init.now None)) }
     {
@@ -162,11 +169,12 @@ impl<'c, T: Drop, K: Clean<T>> LinearPage<'c, T, K> {
         &self,
         _seen: FullSeen<'_, T>,
         init: &I,
-        note: &mut LinkNote<T, K>,
-    ) -> Result<LinearPage<'c, T, K>, PullError>
+        note: &mut LinkNote<T, K, O>,
+    ) -> Result<LinearPage<'c, T, K, O>, PullError>
         requires of_page { full_page _seen ≡ shown_page self.now }
         requires callable { I.pre init.now }
         requires meets { (answer : Option T) → I.post init.now answer → IfSome answer K.meets }
+        requires opens { (answer : Option T) → I.post init.now answer → IfSome answer O.meets }
         requires link { known_link note.old ≡ next_link self.now }
         ensures link { known_link note.new ≡ known_link note.old }
         ensures next { IfOk result (IsNextAs self.now note.old note.new) }
@@ -177,22 +185,26 @@ impl<'c, T: Drop, K: Clean<T>> LinearPage<'c, T, K> {
         };
         let alloc = self.directory.alloc();
         let link = self.next.link(note);
-        let page = link.get_or_try_init_as(|| made_page(alloc, init), &mut note.link)?;
+        let page = link.get_or_try_init_as(
+            || -> Result<_, PullError> { Ok(Box::new(alloc, made_page(alloc, init)?)?) },
+            &mut note.link,
+        )?;
         Ok(LinearPage::new(self.directory, page, number))
     }
 }
 
-/// A page for a link.
-fn made_page<T: Drop, K: Clean<T>, I: Fn() -> Option<T>>(
+/// A page for a chain.
+fn made_page<T: Drop, K: Clean<T>, O: Clean<T>, I: Fn() -> Option<T>>(
     alloc: Global,
     init: &I,
-) -> Result<Box<Arc<Page<T, K>>>, PullError>
+) -> Result<OpenedPage<T, K, O>, PullError>
     requires callable { I.pre init.now }
     requires meets { (answer : Option T) → I.post init.now answer → IfSome answer K.meets }
+    requires opens { (answer : Option T) → I.post init.now answer → IfSome answer O.meets }
     ensures refused { IfErr result (RefusesMaking (I.post init.now None)) }
 {
     let page = Arc::new(alloc, Page::new(alloc, init)?)?;
-    Ok(Box::new(alloc, page)?)
+    Ok(OpenedPage::new(page))
 }
 
 #[cfg(test)]

@@ -18,8 +18,8 @@ pub struct LinearReusable<'p, T: Drop, I: Init<T, K>, R: Reset<T, K>, K: Clean<T
 }
 
 impl<'p, T: Drop, I: Init<T, K>, R: Reset<T, K>, K: Clean<T>> LinearReusable<'p, T, I, R, K> {
-    ghost use Rattle.lockfree_object_pool.specs.LinearPool.{reusable_pool, reusable_value, reusable_page, reusable_number, reusable_id};
-    ghost use Rattle.lockfree_object_pool.specs.Slot.{slot_page, slot_id, slot_value};
+    ghost use Rattle.lockfree_object_pool.specs.LinearPool.{reusable_pool, reusable_item, reusable_number};
+    ghost use Rattle.lockfree_object_pool.specs.Slot.{slot_item};
 
     pub(crate) fn new(
         pool: &'p LinearObjectPool<T, I, R, K>,
@@ -27,10 +27,8 @@ impl<'p, T: Drop, I: Init<T, K>, R: Reset<T, K>, K: Clean<T>> LinearReusable<'p,
         number: usize,
     ) -> LinearReusable<'p, T, I, R, K>
         ensures pool { reusable_pool result ≡ pool.now }
-        ensures page { reusable_page result ≡ slot_page slot.entry }
+        ensures item { reusable_item result ≡ slot_item slot.entry }
         ensures number { reusable_number result ≡ number }
-        ensures id { reusable_id result ≡ slot_id slot.entry }
-        ensures value { reusable_value result ≡ slot_value slot.entry }
     {
         let (taken, value) = slot.into_parts();
         LinearReusable {
@@ -51,7 +49,7 @@ impl<'p, T: Drop, I: Init<T, K>, R: Reset<T, K>, K: Clean<T>> LinearReusable<'p,
 
     /// The number of the item in its page.
     pub fn page_id(&self) -> PageId
-        ensures value { result ≡ reusable_id self.now }
+        ensures value { result ≡ (reusable_item self.now).id }
         ensures in_page { result < 32 }
     {
         self.taken.id()
@@ -61,9 +59,9 @@ impl<'p, T: Drop, I: Init<T, K>, R: Reset<T, K>, K: Clean<T>> LinearReusable<'p,
 impl<T: Drop, I: Init<T, K>, R: Reset<T, K>, K: Clean<T>> Deref for LinearReusable<'_, T, I, R, K> {
     type Target = T;
 
-    ghost use Rattle.lockfree_object_pool.specs.LinearPool.{reusable_value};
+    ghost use Rattle.lockfree_object_pool.specs.LinearPool.{reusable_item};
 
-    ghost deref_gives = { λ reusable value. value ≡ reusable_value reusable };
+    ghost deref_gives = { λ reusable value. value ≡ (reusable_item reusable).value };
 
     fn deref(&self) -> &T {
         &self.value
@@ -75,13 +73,13 @@ impl<T: Drop, I: Init<T, K>, R: Reset<T, K>, K: Clean<T>> DerefMut
     ghost use Rattle.std.specs.Borrow.{Lends, sem};
     ghost use mir.Syntax.{named};
     ghost use Rattle.lockfree_object_pool.specs.contracts.linear_reusable.LinearReusable.{the_row};
-    ghost use Rattle.lockfree_object_pool.specs.LinearPool.{reusable_value, reusable_with};
+    ghost use Rattle.lockfree_object_pool.specs.LinearPool.{reusable_item, reusable_with};
 
-    ghost deref_mut_gives = { λ reusable value. value ≡ reusable_value reusable };
+    ghost deref_mut_gives = { λ reusable value. value ≡ (reusable_item reusable).value };
 
     fn deref_mut(&mut self) -> &mut T
-        ensures* writes_back { sem 𝓛 (Lends (the_row (record { mir = named 1; lft = [] }) T.row I.row R.row K.row K.Clean) T.row self.entry result (reusable_with self.old)) }
-        ensures shows { result.now ≡ reusable_value self.old }
+        ensures* writes_back { sem 𝓛 (Lends (the_row (record { mir = named 1; lft = [] }) T.row I.row R.row K.row I.Init K.Clean) T.row self.entry result (reusable_with self.old)) }
+        ensures shows { result.now ≡ (reusable_item self.old).value }
     {
         &mut self.value
     }

@@ -1,22 +1,26 @@
 //! A page of 32 items that threads share without a lock. Its word has a bit for each item, set where the item is free.
 //!
-//! This file has the pure steps of a word, and a page with its calls. Below it: what holds of a page between any two
-//! steps and the kinds of step (`rule`), the steps themselves (`steps`), what a user knows (`user_view`), an item that
-//! is out, under a borrow or an owner of its page (`slot`, `owned_slot`), and the answer of a full page (`full_seen`).
+//! This file has the pure steps of a word, and a page with its calls. Below it: what users do with a page's items
+//! (`history`), what holds of a page between any two steps and the kinds of step (`rule`), the steps themselves
+//! (`steps`), what a user knows (`user_view`), an item that is out, under a borrow or an owner of its page (`slot`,
+//! `owned_slot`), the answer of a full page (`full_seen`), and what is known of a page while no item is held (`note`).
 //!
 //! No call waits for another thread or tries again: a page reads its word once, and then clears single bits.
-ghost use Rattle.std.specs.Prelude.{◌≡◌, ◌-◌, ◌^◌, ◌<◌, ◌↔◌, IsTrue, IsNone, IfSome, IsOk, IfOk, IfErr, Option, None, bit_and, bit_or};
+ghost use Rattle.std.specs.Prelude.{◌≡◌, ◌-◌, ◌^◌, ◌<◌, ◌↔◌, ℕ, [], false, Option, None, Some, IsTrue, IsNone, IfSome, IfNone, IsOk, IfOk, IfErr, bit_and, bit_or};
 ghost use Rattle.std.specs.Int.{w32, bit_at, bit_not};
 ghost use Rattle.lockfree_object_pool.specs.Word.{IsLeastBit, SetsBit, ClearsBit};
 
 use crate::PullError;
 use crate::clean::Clean;
 use atomic_table::Table;
-use rule::PageRule;
+use rule::{PageRule, Tells};
 use std::alloc::Global;
-use user_view::UserView;
+use std::snapshot::Snapshot;
+use user_view::{UserSeat, UserView};
 
 mod full_seen;
+pub mod history;
+mod note;
 mod owned_slot;
 mod rule;
 mod slot;
@@ -24,6 +28,7 @@ mod steps;
 mod user_view;
 
 pub use full_seen::{Allocated, FullSeen, PullPass};
+pub use note::{PageNote, Witness};
 pub use owned_slot::OwnedSlot;
 pub(crate) use owned_slot::OwnedTakenId;
 pub use slot::PageSlot;
@@ -77,15 +82,18 @@ fn has_bit(word: u32, id: PageId) -> bool
 /// 32 items that threads share.
 #[derive(Drop)]
 pub struct Page<T, K: Clean<T>> {
-    table: Table<Option<T>, UserView, (), PageRule<K>, Global>,
+    table: Table<Option<T>, UserView<T>, Snapshot<Vec<Option<T>>>, PageRule<K>, Global>,
     ghost sized: { (table.shared.table_id.words ≡ 1) × (table.shared.table_id.slots ≡ 32) },
 }
 
 impl<T, K: Clean<T>> Page<T, K> {
-    ghost use Rattle.lockfree_object_pool.specs.FullSeen.{IsAnswerOf};
-    ghost use Rattle.lockfree_object_pool.specs.Page.{page_identity, IsFilled};
+    ghost use Rattle.lockfree_object_pool.specs.FullSeen.{IsAnswerOf, IsAnswerFrom, IsAnswerAfter, WasSeenFull};
+    ghost use Rattle.lockfree_object_pool.specs.Item.{IsPulledOf};
+    ghost use Rattle.lockfree_object_pool.specs.Note.{note_page, witness_page, IsReturned, IsNoteOf, HasLearned};
+    ghost use Rattle.lockfree_object_pool.specs.Page.{page_identity, page_opening, IsFilled};
+    ghost use Rattle.lockfree_object_pool.specs.PageRule.{IsSound, IsOut};
     ghost use Rattle.lockfree_object_pool.specs.Refusal.{RefusesMaking};
-    ghost use Rattle.lockfree_object_pool.specs.Slot.{slot_value, IsItemOf};
+    ghost use Rattle.lockfree_object_pool.specs.Slot.{slot_item};
 
     /// A page of 32 free items: item `i` is the answer of call `i` of `init`, counted from 0.
     ///
@@ -96,9 +104,11 @@ impl<T, K: Clean<T>> Page<T, K> {
         requires callable { I.pre init.now }
         requires meets { (answer : Option T) → I.post init.now answer → IfSome answer K.meets }
         ensures refused { IfErr result (RefusesMaking (I.post init.now None)) }
+        ensures opened { IfOk result (λ page. IsFilled (λ made. I.post init.now (Some made)) (page_opening page)) }
     {
         let items = Page::<T, K>::make_items(alloc, init)?;
-        match Table::new(alloc, &[u32::MAX as u64], items, &()) {
+        let opening = Snapshot::of(&items);
+        match Table::new(alloc, &[u32::MAX as u64], items, &opening) {
             Ok((table, _)) => Ok(Page { table }),
             Err(_) => Err(PullError::Memory),
         }
@@ -113,6 +123,7 @@ impl<T, K: Clean<T>> Page<T, K> {
         requires callable { I.pre init.now }
         requires meets { (answer : Option T) → I.post init.now answer → IfSome answer K.meets }
         ensures all { IfOk result (λ items. IsFilled K.meets items.items) }
+        ensures answers { IfOk result (λ items. IsFilled (λ made. I.post init.now (Some made)) items.items) }
         ensures refused { IfErr result (RefusesMaking (I.post init.now None)) }
     {
         let mut items = Vec::with_capacity(alloc, ITEMS)?;
@@ -130,7 +141,8 @@ impl<T, K: Clean<T>> Page<T, K> {
     /// The word is read once. Then the bits that were set in it are cleared, lowest first, until one was still set.
     pub fn alloc(&self) -> Result<Option<PageSlot<'_, T, K>>, PullError>
         ensures succeeds { IsOk result }
-        ensures slot { IfOk result (λ found. IfSome found (IsItemOf K.meets (page_identity self.now))) }
+        ensures pulled { IfOk result (λ found. IfSome found (λ slot. IsPulledOf K.meets (page_identity self.now) (page_opening self.now) (slot_item slot))) }
+        ensures full { IfOk result (λ found. IfNone found (WasSeenFull (page_identity self.now) (page_opening self.now))) }
     {
         let pass = PullPass::new();
         match self.try_alloc(&pass)? {
@@ -145,9 +157,63 @@ impl<T, K: Clean<T>> Page<T, K> {
         pass: &'p PullPass,
     ) -> Result<Allocated<'s, 'p, T, K>, PullError>
         ensures succeeds { IsOk result }
-        ensures answer { IfOk result (IsAnswerOf K.meets (page_identity self.now)) }
+        ensures answer { IfOk result (IsAnswerOf K.meets (page_identity self.now) (page_opening self.now)) }
     {
-        let (word, mut seat) = self.look();
+        let (word, seat) = self.look();
+        self.take_lowest(pass, word, seat)
+    }
+
+    /// As `try_alloc`, by a user that knows something of the page: its pull stands after all that it knew.
+    pub fn try_alloc_from<'s, 'p>(
+        &'s self,
+        pass: &'p PullPass,
+        note: PageNote<T>,
+    ) -> Result<Allocated<'s, 'p, T, K>, PullError>
+        requires page { note_page note ≡ page_identity self.now }
+        ensures succeeds { IsOk result }
+        ensures answer { IfOk result (IsAnswerAfter K.meets (page_identity self.now) note) }
+    {
+        let PageNote { mut seat } = note;
+        let word = self.look_as(&mut seat);
+        self.take_lowest(pass, word, seat)
+    }
+
+    /// A note of this page, which knows its history up to now.
+    pub fn note(&self) -> PageNote<T>
+        ensures { IsNoteOf (page_identity self.now) (page_opening self.now) result }
+    {
+        PageNote {
+            seat: self.look().1,
+        }
+    }
+
+    /// Tells a note what a witness knows. The histories of both are beginnings of one.
+    pub fn tell(&self, note: &mut PageNote<T>, other: Witness<T>)
+        requires note { note_page note.old ≡ page_identity self.now }
+        requires other { witness_page other ≡ page_identity self.now }
+        ensures { HasLearned note.old other note.new }
+    {
+        let Witness { seat: other } = other;
+        self.table.shared.join_seat::<Tells>(&mut note.seat, other);
+        self.look_as(&mut note.seat);
+    }
+
+    /// Clears the bits that were set in the word, lowest first, until one was still set.
+    fn take_lowest<'s, 'p>(
+        &'s self,
+        pass: &'p PullPass,
+        word: u32,
+        mut seat: UserSeat<T>,
+    ) -> Result<Allocated<'s, 'p, T, K>, PullError>
+        requires page { seat.table_id ≡ page_identity self.now }
+        requires carries_none { seat.me.1 ≡ [] }
+        requires holds_none { seat.me.0.held ≡ None }
+        requires here { seat.me.0.gone ≡ false }
+        requires sound { IsSound seat.me.0 }
+        requires found { (id : ℕ) → id < 32 → IsOut word id → bit_at seat.me.0.found id ≡ 1 }
+        ensures succeeds { IsOk result }
+        ensures answer { IfOk result (IsAnswerFrom K.meets (page_identity self.now) seat.me.0) }
+    {
         let mut untried = word;
         while let Some((rest, id)) = take_least(untried) {
             if let Some(value) = self.clear(&mut seat, id) {
@@ -165,10 +231,18 @@ impl<T, K: Clean<T>> Page<T, K> {
 
     /// The value goes home, and the slot's id is free again.
     pub fn free(slot: PageSlot<'_, T, K>)
-        requires { K.meets (slot_value slot) }
+        requires { K.meets (slot_item slot).value }
+    {
+        Page::free_as(slot);
+    }
+
+    /// As `free`, with a note of the history up to the return.
+    pub fn free_as(slot: PageSlot<'_, T, K>) -> PageNote<T>
+        requires { K.meets (slot_item slot).value }
+        ensures { IsReturned (slot_item slot.entry) result }
     {
         let (taken, value) = slot.into_parts();
-        taken.free(value);
+        taken.free(value)
     }
 
     /// Whether no item was free at this moment.

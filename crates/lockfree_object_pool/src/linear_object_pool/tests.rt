@@ -14,6 +14,7 @@ mod callers;
 mod first_example;
 mod limits;
 mod one_thread;
+mod origins;
 mod refusals;
 mod sends;
 mod threads;
@@ -51,6 +52,15 @@ fn counted<'c>(
     refused: usize,
 ) -> Result<Tracked<'c>, PullError> {
     LinearObjectPool::new(alloc, CountedValues { counts, refused }, Keep)
+}
+
+/// The same in an `Arc`.
+fn shared<'c>(
+    alloc: Global,
+    counts: &'c Counts,
+    refused: usize,
+) -> Result<Arc<Tracked<'c>>, PullError> {
+    Ok(Arc::new(alloc, counted(alloc, counts, refused)?)?)
 }
 
 fn cleared(alloc: Global, calls: &Arc<AtomicUsize>) -> Cleared

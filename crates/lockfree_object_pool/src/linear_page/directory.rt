@@ -4,25 +4,25 @@ ghost use Rattle.once_cell.specs.Once.{cell_name};
 ghost use Rattle.lockfree_object_pool.specs.Refusal.{RefusesMaking};
 
 use super::LinkNote;
+use super::opened_page::OpenedPage;
 use crate::PullError;
 use crate::clean::Clean;
-use crate::page::Page;
 use once_cell::race::OnceBox;
 use std::alloc::{AllocError, Global};
-use std::sync::Arc;
+use std::marker::Model;
 
 /// How many rows there are: one for each bit of a page's number.
 const ROWS: usize = 64;
 
 /// The links to some pages that follow each other.
 #[derive(Drop)]
-pub(super) struct Row<T, K: Clean<T>> {
-    pub(super) links: Vec<OnceBox<Arc<Page<T, K>>>>,
+pub(super) struct Row<T, K: Clean<T>, O: Clean<T>> {
+    pub(super) links: Vec<OnceBox<OpenedPage<T, K, O>>>,
 }
 
-impl<T: Drop, K: Clean<T>> Row<T, K> {
+impl<T: Drop, K: Clean<T>, O: Clean<T>> Row<T, K, O> {
     /// A row of links that lead nowhere yet.
-    fn new(alloc: Global, len: usize) -> Result<Box<Row<T, K>>, PullError>
+    fn new(alloc: Global, len: usize) -> Result<Box<Row<T, K, O>>, PullError>
         ensures len { IfOk result (λ row. length row.value.links.items ≡ len) }
         ensures refused { IfErr result (RefusesMaking ⊥) }
     {
@@ -34,18 +34,29 @@ impl<T: Drop, K: Clean<T>> Row<T, K> {
     }
 }
 
-/// The links of a chain.
+/// The links of a chain. Contracts see the rows.
 #[derive(Drop)]
-pub(super) struct Directory<T, K: Clean<T>> {
+pub(super) struct Directory<T, K: Clean<T>, O: Clean<T>> {
     alloc: Global,
-    rows: Vec<OnceBox<Row<T, K>>>,
-    ghost sized: { length rows.items ≡ 64 },
+    rows: Vec<OnceBox<Row<T, K, O>>>,
 }
 
-impl<T: Drop, K: Clean<T>> Directory<T, K> {
+impl<T, K: Clean<T>, O: Clean<T>> Model for Directory<T, K, O> {
+    ghost use Rattle.std.specs.Prelude.{◌≡◌, List, length};
+    ghost use Rattle.once_cell.specs.declared.race.once_box.OnceBox.{OnceBox};
+    ghost use Rattle.lockfree_object_pool.specs.declared.linear_page.directory.Row.{Row};
+
+    ghost Value = { List (OnceBox (Row T K O)) };
+
+    ghost view = { λ directory. directory.rows.items };
+
+    ghost invariant = { λ directory. length directory.rows.items ≡ 64 };
+}
+
+impl<T: Drop, K: Clean<T>, O: Clean<T>> Directory<T, K, O> {
     ghost use Rattle.lockfree_object_pool.specs.LinkRow.{IsPlaceOf};
 
-    pub(super) fn new(alloc: Global) -> Result<Directory<T, K>, PullError>
+    pub(super) fn new(alloc: Global) -> Result<Directory<T, K, O>, PullError>
         ensures refused { IfErr result (RefusesMaking ⊥) }
     {
         let mut rows = Vec::with_capacity(alloc, ROWS)?;
@@ -59,8 +70,16 @@ impl<T: Drop, K: Clean<T>> Directory<T, K> {
         self.alloc
     }
 
+    /// The page with this number, where one is linked.
+    pub(super) fn linked(&self, number: usize) -> Option<&OpenedPage<T, K, O>>
+        requires { 0 < number }
+    {
+        let place = self.place(number);
+        place.row.get()?.links.get(place.offset)?.get()
+    }
+
     /// Where the link to a page lies.
-    pub(super) fn place(&self, number: usize) -> LinkPlace<'_, T, K>
+    pub(super) fn place(&self, number: usize) -> LinkPlace<'_, T, K, O>
         requires { 0 < number }
         ensures { IsPlaceOf self.now number result }
     {
@@ -76,16 +95,16 @@ impl<T: Drop, K: Clean<T>> Directory<T, K> {
 }
 
 /// Where one link lies.
-pub(super) struct LinkPlace<'c, T, K: Clean<T>> {
+pub(super) struct LinkPlace<'c, T, K: Clean<T>, O: Clean<T>> {
     alloc: Global,
-    row: &'c OnceBox<Row<T, K>>,
+    row: &'c OnceBox<Row<T, K, O>>,
     len: usize,
     offset: usize,
 }
 
-impl<T, K: Clean<T>> Copy for LinkPlace<'_, T, K> {}
+impl<T, K: Clean<T>, O: Clean<T>> Copy for LinkPlace<'_, T, K, O> {}
 
-impl<T, K: Clean<T>> Clone for LinkPlace<'_, T, K> {
+impl<T, K: Clean<T>, O: Clean<T>> Clone for LinkPlace<'_, T, K, O> {
     ghost use Rattle.std.specs.Prelude.{⊤};
 
     ghost is_clone = { λ place copy. copy ≡ place };
@@ -97,12 +116,12 @@ impl<T, K: Clean<T>> Clone for LinkPlace<'_, T, K> {
     }
 }
 
-impl<'c, T: Drop, K: Clean<T>> LinkPlace<'c, T, K> {
+impl<'c, T: Drop, K: Clean<T>, O: Clean<T>> LinkPlace<'c, T, K, O> {
     ghost use Rattle.lockfree_object_pool.specs.LinearPage.{link_at};
     ghost use Rattle.lockfree_object_pool.specs.LinkNote.{IsNewNoteOf, known_link, known_next, link_cell};
 
     /// A note of the link, where the row is there.
-    pub(super) fn known_row(&self) -> Option<LinkNote<T, K>>
+    pub(super) fn known_row(&self) -> Option<LinkNote<T, K, O>>
         ensures { IfSome result (IsNewNoteOf (link_at self.now)) }
     {
         let mut row = self.row.note();
@@ -116,7 +135,7 @@ impl<'c, T: Drop, K: Clean<T>> LinkPlace<'c, T, K> {
     }
 
     /// A note of the link. The row is made where it isn't there.
-    pub(super) fn new_note(&self) -> Result<LinkNote<T, K>, PullError>
+    pub(super) fn new_note(&self) -> Result<LinkNote<T, K, O>, PullError>
         ensures note { IfOk result (IsNewNoteOf (link_at self.now)) }
         ensures refused { IfErr result (RefusesMaking ⊥) }
     {
@@ -126,7 +145,7 @@ impl<'c, T: Drop, K: Clean<T>> LinkPlace<'c, T, K> {
     }
 
     /// The link, by a note of it.
-    pub(super) fn link(&self, note: &mut LinkNote<T, K>) -> &'c OnceBox<Arc<Page<T, K>>>
+    pub(super) fn link(&self, note: &mut LinkNote<T, K, O>) -> &'c OnceBox<OpenedPage<T, K, O>>
         requires { known_link note.old ≡ link_at self.now }
         ensures row { note.new.row.cell ≡ note.old.row.cell }
         ensures rest { (note.new.link ≡ note.old.link) × (note.new.offset ≡ note.old.offset) }

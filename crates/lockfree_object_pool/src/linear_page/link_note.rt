@@ -4,26 +4,25 @@ ghost use Rattle.lockfree_object_pool.specs.LinkRow.{cell_in_row};
 ghost use Rattle.lockfree_object_pool.specs.OneProof.{same_holding};
 
 use super::directory::Row;
-use crate::clean::Clean;
-use crate::page::Page;
+use super::opened_page::OpenedPage;
+use crate::clean::{AnyValue, Clean};
 use once_cell::race::Note;
-use std::sync::Arc;
 
 /// What a caller has learned of one link. It is for proofs: two notes of one link that know a page know the same one,
 /// whichever threads made them.
 #[derive(Drop)]
-pub struct LinkNote<T, K: Clean<T>> {
-    pub(super) row: Note<Row<T, K>>,
-    pub(super) link: Note<Arc<Page<T, K>>>,
+pub struct LinkNote<T, K: Clean<T>, O: Clean<T> = AnyValue> {
+    pub(super) row: Note<Row<T, K, O>>,
+    pub(super) link: Note<OpenedPage<T, K, O>>,
     pub(super) offset: usize,
     ghost in_row: { cell_in_row row.known offset ≡ Some link.cell } by { same_holding _ _ },
 }
 
-impl<T, K: Clean<T>> LinkNote<T, K> {
+impl<T, K: Clean<T>, O: Clean<T>> LinkNote<T, K, O> {
     ghost use Rattle.lockfree_object_pool.specs.LinkNote.{known_link, known_next};
 
     /// Two notes of one link that know a page know the same one.
-    pub fn compare(&mut self, other: LinkNote<T, K>)
+    pub fn compare(&mut self, other: LinkNote<T, K, O>)
         requires { known_link other ≡ known_link self.old }
         ensures link { known_link self.new ≡ known_link self.old }
         ensures next { known_next self.new ≡ known_next self.old }

@@ -1,16 +1,32 @@
 //! The walk from page to page for an item.
-ghost use Rattle.std.specs.Prelude.{◌≡◌, ◌+◌, ◌≤◌, ◌<◌, ⊤, Option, None, IfSome, IsSome, IfOk, IfErr};
+ghost use Rattle.std.specs.Prelude.{◌≡◌, ◌+◌, ◌≤◌, ◌<◌, ⊤, Option, None, All, IsSomeAnd, IfSome, IsSome, IfOk, IfErr, OnOk};
+ghost use Rattle.std.specs.Arc.{arc_value};
 ghost use Rattle.lockfree_object_pool.specs.FullSeen.{full_page};
-ghost use Rattle.lockfree_object_pool.specs.LinearPage.{shown_page, page_number, IsFoundFrom, IsOwnedFoundFrom};
-ghost use Rattle.lockfree_object_pool.specs.Refusal.{RefusesPull};
+ghost use Rattle.lockfree_object_pool.specs.Item.{HasOrigin};
+ghost use Rattle.lockfree_object_pool.specs.LinearPage.{shown_page, IsFoundFrom};
+ghost use Rattle.lockfree_object_pool.specs.OwnedSlot.{owned_slot_item};
+ghost use Rattle.lockfree_object_pool.specs.Page.{page_identity};
+ghost use Rattle.lockfree_object_pool.specs.Refusal.{RefusesMaking, RefusesPull};
+ghost use Rattle.lockfree_object_pool.specs.Slot.{slot_item};
 
 use super::LinearPage;
+use super::opened_page::OpenedPage;
 use crate::PullError;
 use crate::clean::Clean;
-use crate::page::{Allocated, FullSeen, OwnedSlot, PageSlot, PullPass};
+use crate::page::{Allocated, FullSeen, OwnedSlot, Page, PageSlot, PullPass};
 use std::sync::Arc;
 
-impl<'c, T: Drop, K: Clean<T>> LinearPage<'c, T, K> {
+/// What a walk found.
+#[derive(Drop)]
+pub(crate) struct Found<'c, T, K: Clean<T>> {
+    pub(crate) slot: PageSlot<'c, T, K>,
+    /// The slot's page.
+    pub(crate) page: &'c Arc<Page<T, K>>,
+    /// How many links the walk has passed.
+    pub(crate) passed: usize,
+}
+
+impl<'c, T: Drop, K: Clean<T>, O: Clean<T>> LinearPage<'c, T, K, O> {
     /// An item of the first page from this one on that has one, and that page's number, counted from this one.
     ///
     /// It goes on only from a page that said in this call that each of its ids was found out. Behind the last page it links a new one.
@@ -20,10 +36,13 @@ impl<'c, T: Drop, K: Clean<T>> LinearPage<'c, T, K> {
     ) -> Result<(PageSlot<'c, T, K>, usize), PullError>
         requires callable { I.pre init.now }
         requires meets { (answer : Option T) → I.post init.now answer → IfSome answer K.meets }
-        ensures found { IfOk result (IsFoundFrom K.meets (shown_page self.now)) }
+        requires opens { (answer : Option T) → I.post init.now answer → IfSome answer O.meets }
+        ensures found { IfOk result (λ found. IsFoundFrom K.meets (shown_page self.now) (slot_item found.0) found.1) }
+        ensures history { IfOk result (λ found. HasOrigin O.meets (slot_item found.0)) }
         ensures refused { IfErr result (RefusesPull ⊥ (I.post init.now None)) }
     {
-        self.walk(None, init)
+        let found = self.walk(None, init)?;
+        Ok((found.slot, found.passed))
     }
 
     /// As `alloc`, over the first `pages` pages from this one on alone. It links no page past them.
@@ -35,24 +54,29 @@ impl<'c, T: Drop, K: Clean<T>> LinearPage<'c, T, K> {
         requires some_page { 1 ≤ pages }
         requires callable { I.pre init.now }
         requires meets { (answer : Option T) → I.post init.now answer → IfSome answer K.meets }
-        ensures found { IfOk result (IsFoundFrom K.meets (shown_page self.now)) }
+        requires opens { (answer : Option T) → I.post init.now answer → IfSome answer O.meets }
+        ensures found { IfOk result (λ found. IsFoundFrom K.meets (shown_page self.now) (slot_item found.0) found.1) }
+        ensures history { IfOk result (λ found. HasOrigin O.meets (slot_item found.0)) }
         ensures within { IfOk result (λ found. found.1 < pages) }
         ensures refused { IfErr result (RefusesPull ⊤ (I.post init.now None)) }
     {
-        self.walk(Some(pages), init)
+        let found = self.walk(Some(pages), init)?;
+        Ok((found.slot, found.passed))
     }
 
-    /// As `alloc`, with an item that owns its page with others. The page's owners grow by one before it is asked.
+    /// As `alloc`, with an item that owns its page with others. The page's owners grow by one once the item is found.
     pub fn alloc_owned<I: Fn() -> Option<T>>(
         &self,
         init: &I,
     ) -> Result<(OwnedSlot<T, K>, usize), PullError>
         requires callable { I.pre init.now }
         requires meets { (answer : Option T) → I.post init.now answer → IfSome answer K.meets }
-        ensures found { IfOk result (IsOwnedFoundFrom K.meets (shown_page self.now)) }
+        requires opens { (answer : Option T) → I.post init.now answer → IfSome answer O.meets }
+        ensures found { IfOk result (λ found. IsFoundFrom K.meets (shown_page self.now) (owned_slot_item found.0) found.1) }
+        ensures history { IfOk result (λ found. HasOrigin O.meets (owned_slot_item found.0)) }
         ensures refused { IfErr result (RefusesPull ⊥ (I.post init.now None)) }
     {
-        self.walk_owned(None, init)
+        self.walk(None, init)?.into_owned()
     }
 
     /// As `alloc_owned`, over the first `pages` pages from this one on alone. It links no page past them.
@@ -64,81 +88,108 @@ impl<'c, T: Drop, K: Clean<T>> LinearPage<'c, T, K> {
         requires some_page { 1 ≤ pages }
         requires callable { I.pre init.now }
         requires meets { (answer : Option T) → I.post init.now answer → IfSome answer K.meets }
-        ensures found { IfOk result (IsOwnedFoundFrom K.meets (shown_page self.now)) }
+        requires opens { (answer : Option T) → I.post init.now answer → IfSome answer O.meets }
+        ensures found { IfOk result (λ found. IsFoundFrom K.meets (shown_page self.now) (owned_slot_item found.0) found.1) }
+        ensures history { IfOk result (λ found. HasOrigin O.meets (owned_slot_item found.0)) }
         ensures within { IfOk result (λ found. found.1 < pages) }
         ensures refused { IfErr result (RefusesPull ⊤ (I.post init.now None)) }
     {
-        self.walk_owned(Some(pages), init)
+        self.walk(Some(pages), init)?.into_owned()
     }
 
-    fn walk<I: Fn() -> Option<T>>(
+    /// Goes from page to page, within the limit, until one has an item.
+    pub(crate) fn walk<I: Fn() -> Option<T>>(
         &self,
         limit: Option<usize>,
         init: &I,
-    ) -> Result<(PageSlot<'c, T, K>, usize), PullError>
+    ) -> Result<Found<'c, T, K>, PullError>
         requires some_page { IfSome limit (λ pages. 1 ≤ pages) }
         requires callable { I.pre init.now }
         requires meets { (answer : Option T) → I.post init.now answer → IfSome answer K.meets }
-        ensures found { IfOk result (IsFoundFrom K.meets (shown_page self.now)) }
-        ensures within { IfOk result (λ found. IfSome limit (λ pages. found.1 < pages)) }
+        requires opens { (answer : Option T) → I.post init.now answer → IfSome answer O.meets }
+        ensures found { IfOk result (λ found. IsFoundFrom K.meets (shown_page self.now) (slot_item found.slot) found.passed) }
+        ensures history { IfOk result (λ found. HasOrigin O.meets (slot_item found.slot)) }
+        ensures of_page { IfOk result (λ found. (slot_item found.slot).page ≡ page_identity (arc_value found.page.now)) }
+        ensures within { IfOk result (λ found. IfSome limit (λ pages. found.passed < pages)) }
         ensures refused { IfErr result (RefusesPull (IsSome limit) (I.post init.now None)) }
     {
         let pass = PullPass::new();
-        let mut at = *self;
+        let mut page: &'c OpenedPage<T, K, O> = self.page;
+        let mut number = self.number;
         loop {
-            let passed = at.number - self.number;
-            match at.page().try_alloc(&pass)? {
-                Allocated::Slot(slot) => return Ok((slot, passed)),
-                Allocated::Full(seen) => at = at.behind(passed, limit, seen, init)?,
+            let passed = number - self.number;
+            let owner = page.owner();
+            match owner.try_alloc(&pass)? {
+                Allocated::Slot(slot) => {
+                    return Ok(Found {
+                        slot,
+                        page: owner,
+                        passed,
+                    });
+                }
+                Allocated::Full(seen) => {
+                    one_more(limit, passed)?;
+                    let next = number.checked_add(1).ok_or(PullError::Memory)?;
+                    page = match self.directory.linked(next) {
+                        Some(linked) => linked,
+                        None => self.made_behind(page, number, seen, init)?,
+                    };
+                    number = next;
+                }
             }
         }
     }
 
-    fn walk_owned<I: Fn() -> Option<T>>(
+    /// Makes and links a page behind one of this chain, whose number that is, if no other thread was first.
+    #[cold]
+    fn made_behind<I: Fn() -> Option<T>>(
         &self,
-        limit: Option<usize>,
-        init: &I,
-    ) -> Result<(OwnedSlot<T, K>, usize), PullError>
-        requires some_page { IfSome limit (λ pages. 1 ≤ pages) }
-        requires callable { I.pre init.now }
-        requires meets { (answer : Option T) → I.post init.now answer → IfSome answer K.meets }
-        ensures found { IfOk result (IsOwnedFoundFrom K.meets (shown_page self.now)) }
-        ensures within { IfOk result (λ found. IfSome limit (λ pages. found.1 < pages)) }
-        ensures refused { IfErr result (RefusesPull (IsSome limit) (I.post init.now None)) }
-    {
-        let pass = PullPass::new();
-        let mut at = *self;
-        loop {
-            let passed = at.number - self.number;
-            let owner = Arc::try_clone(at.page)?;
-            match at.page().try_alloc(&pass)? {
-                Allocated::Slot(slot) => return Ok((slot.into_owned(owner), passed)),
-                Allocated::Full(seen) => at = at.behind(passed, limit, seen, init)?,
-            }
-        }
-    }
-
-    /// The page behind this one, for a walk that has passed so many links, where its limit allows one more page.
-    fn behind<I: Fn() -> Option<T>>(
-        &self,
-        passed: usize,
-        limit: Option<usize>,
+        page: &'c OpenedPage<T, K, O>,
+        number: usize,
         seen: FullSeen<'_, T>,
         init: &I,
-    ) -> Result<LinearPage<'c, T, K>, PullError>
-        requires of_page { full_page seen ≡ shown_page self.now }
-        requires within { IfSome limit (λ pages. passed < pages) }
+    ) -> Result<&'c OpenedPage<T, K, O>, PullError>
+        requires of_page { full_page seen ≡ page_identity (arc_value page.now) }
         requires callable { I.pre init.now }
         requires meets { (answer : Option T) → I.post init.now answer → IfSome answer K.meets }
-        ensures number { IfOk result (λ next. page_number next ≡ page_number self.now + 1) }
-        ensures within { IfOk result (λ _. IfSome limit (λ pages. passed + 1 < pages)) }
-        ensures refused { IfErr result (RefusesPull (IsSome limit) (I.post init.now None)) }
+        requires opens { (answer : Option T) → I.post init.now answer → IfSome answer O.meets }
+        ensures refused { IfErr result (RefusesMaking (I.post init.now None)) }
     {
-        if let Some(pages) = limit {
-            if pages - passed == 1 {
-                return Err(PullError::Limit);
+        let made = LinearPage::new(self.directory, page, number).get_or_create_next(seen, init)?;
+        Ok(made.page)
+    }
+}
+
+/// Refuses the page behind so many links where the limit doesn't allow it.
+fn one_more(limit: Option<usize>, passed: usize) -> Result<(), PullError>
+    requires within { IfSome limit (λ pages. passed < pages) }
+    ensures allowed { OnOk result (IfSome limit (λ pages. passed + 1 < pages)) }
+    ensures refused { IfErr result (RefusesPull (IsSome limit) ⊥) }
+{
+    match limit {
+        Some(pages) if pages - passed == 1 => Err(PullError::Limit),
+        _ => Ok(()),
+    }
+}
+
+impl<T: Drop, K: Clean<T>> Found<'_, T, K> {
+    /// The same item, with an owner of its page in place of the borrow, and its page's number.
+    ///
+    /// Where the page can have no more owners, the item goes home again.
+    pub(crate) fn into_owned(self) -> Result<(OwnedSlot<T, K>, usize), PullError>
+        requires of_page { (slot_item self.slot).page ≡ page_identity (arc_value self.page.now) }
+        requires meets { K.meets (slot_item self.slot).value }
+        ensures item { IfOk result (λ found. owned_slot_item found.0 ≡ slot_item self.entry.slot) }
+        ensures passed { IfOk result (λ found. found.1 ≡ self.entry.passed) }
+        ensures refused { IfErr result (RefusesMaking ⊥) }
+    {
+        let Found { slot, page, passed } = self;
+        match Arc::try_clone(page) {
+            Ok(owner) => Ok((slot.into_owned(owner), passed)),
+            Err(_) => {
+                Page::free(slot);
+                Err(PullError::Memory)
             }
         }
-        self.get_or_create_next(seen, init)
     }
 }

@@ -1,11 +1,11 @@
 //! A slot that owns its page with others, in place of a borrow.
-ghost use Rattle.std.specs.Prelude.{◌≡◌, ◌<◌, [], ◌∷◌, Some, None};
+ghost use Rattle.std.specs.Prelude.{◌≡◌, ◌<◌, [], ◌∷◌, Some, None, false};
 ghost use Rattle.std.specs.Arc.{arc_value};
 ghost use Rattle.lockfree_object_pool.specs.OneProof.{same_page, same_holding, same_carrying};
 ghost use Rattle.lockfree_object_pool.specs.Page.{page_identity};
 
 use super::user_view::UserSeat;
-use super::{Page, PageId};
+use super::{Page, PageId, PageNote};
 use crate::clean::Clean;
 use std::ops::{Deref, DerefMut};
 use std::sync::Arc;
@@ -18,12 +18,14 @@ pub(crate) struct OwnedTakenId<T, K: Clean<T>> {
     pub(super) id: PageId,
     ghost of_page: { seat.table_id ≡ page_identity (arc_value page) } by { same_page _ _ },
     ghost in_page: { id < 32 },
+    ghost here: { seat.me.0.gone ≡ false },
     ghost holds: { seat.me.0.held ≡ Some id } by { same_holding _ _ },
     ghost carries: { seat.me.1 ≡ (id, None) ∷ [] } by { same_carrying T.code _ _ },
 }
 
 impl<T, K: Clean<T>> OwnedTakenId<T, K> {
-    ghost use Rattle.lockfree_object_pool.specs.OwnedSlot.{owned_taken_id};
+    ghost use Rattle.lockfree_object_pool.specs.Note.{IsReturned};
+    ghost use Rattle.lockfree_object_pool.specs.OwnedSlot.{owned_taken_id, owned_taken_item};
 
     pub(crate) fn id(&self) -> PageId
         ensures value { result ≡ owned_taken_id self.now }
@@ -33,13 +35,16 @@ impl<T, K: Clean<T>> OwnedTakenId<T, K> {
     }
 
     /// The value goes home, and the id is free again.
-    pub(crate) fn free(self, value: T)
+    pub(crate) fn free(self, value: T) -> PageNote<T>
     where
         T: Drop,
         requires { K.meets value }
+        ensures { IsReturned (owned_taken_item self value) result }
     {
         let OwnedTakenId { page, seat, id } = self;
-        page.give(seat, id, value);
+        PageNote {
+            seat: page.give(seat, id, value),
+        }
     }
 }
 
@@ -53,19 +58,18 @@ pub struct OwnedSlot<T, K: Clean<T>> {
 }
 
 impl<T, K: Clean<T>> OwnedSlot<T, K> {
-    ghost use Rattle.lockfree_object_pool.specs.OwnedSlot.{owned_slot_page, owned_slot_id, owned_slot_value, owned_taken_page, owned_taken_id};
+    ghost use Rattle.lockfree_object_pool.specs.Note.{IsReturned};
+    ghost use Rattle.lockfree_object_pool.specs.OwnedSlot.{owned_slot_item, owned_taken_item};
 
     pub(super) fn new(taken: OwnedTakenId<T, K>, value: T) -> OwnedSlot<T, K>
-        ensures page { owned_slot_page result ≡ owned_taken_page taken }
-        ensures id { owned_slot_id result ≡ owned_taken_id taken }
-        ensures value { owned_slot_value result ≡ value }
+        ensures { owned_slot_item result ≡ owned_taken_item taken value }
     {
         OwnedSlot { taken, value }
     }
 
     /// The number of the item in its page.
     pub fn id(&self) -> PageId
-        ensures value { result ≡ owned_slot_id self.now }
+        ensures value { result ≡ (owned_slot_item self.now).id }
         ensures in_page { result < 32 }
     {
         self.taken.id()
@@ -73,9 +77,7 @@ impl<T, K: Clean<T>> OwnedSlot<T, K> {
 
     /// The id and the value by themselves.
     pub(crate) fn into_parts(self) -> (OwnedTakenId<T, K>, T)
-        ensures page { owned_taken_page result.0 ≡ owned_slot_page self }
-        ensures id { owned_taken_id result.0 ≡ owned_slot_id self }
-        ensures value { result.1 ≡ owned_slot_value self }
+        ensures { owned_taken_item result.0 result.1 ≡ owned_slot_item self }
     {
         let OwnedSlot { taken, value } = self;
         (taken, value)
@@ -85,19 +87,29 @@ impl<T, K: Clean<T>> OwnedSlot<T, K> {
     pub fn free(self)
     where
         T: Drop,
-        requires { K.meets (owned_slot_value self) }
+        requires { K.meets (owned_slot_item self).value }
+    {
+        self.free_as();
+    }
+
+    /// As `free`, with a note of the page's history up to the return.
+    pub fn free_as(self) -> PageNote<T>
+    where
+        T: Drop,
+        requires { K.meets (owned_slot_item self).value }
+        ensures { IsReturned (owned_slot_item self) result }
     {
         let (taken, value) = self.into_parts();
-        taken.free(value);
+        taken.free(value)
     }
 }
 
 impl<T, K: Clean<T>> Deref for OwnedSlot<T, K> {
     type Target = T;
 
-    ghost use Rattle.lockfree_object_pool.specs.OwnedSlot.{owned_slot_value};
+    ghost use Rattle.lockfree_object_pool.specs.OwnedSlot.{owned_slot_item};
 
-    ghost deref_gives = { λ slot value. value ≡ owned_slot_value slot };
+    ghost deref_gives = { λ slot value. value ≡ (owned_slot_item slot).value };
 
     fn deref(&self) -> &T {
         &self.value
@@ -107,13 +119,13 @@ impl<T, K: Clean<T>> Deref for OwnedSlot<T, K> {
 impl<T, K: Clean<T>> DerefMut for OwnedSlot<T, K> {
     ghost use Rattle.std.specs.Borrow.{Lends, sem};
     ghost use Rattle.lockfree_object_pool.specs.contracts.page.owned_slot.OwnedSlot.{the_row};
-    ghost use Rattle.lockfree_object_pool.specs.OwnedSlot.{owned_slot_value, owned_slot_with};
+    ghost use Rattle.lockfree_object_pool.specs.OwnedSlot.{owned_slot_item, owned_slot_with};
 
-    ghost deref_mut_gives = { λ slot value. value ≡ owned_slot_value slot };
+    ghost deref_mut_gives = { λ slot value. value ≡ (owned_slot_item slot).value };
 
     fn deref_mut(&mut self) -> &mut T
         ensures* writes_back { sem 𝓛 (Lends (the_row T.row K.row K.Clean) T.row self.entry result (owned_slot_with self.old)) }
-        ensures shows { result.now ≡ owned_slot_value self.old }
+        ensures shows { result.now ≡ (owned_slot_item self.old).value }
     {
         &mut self.value
     }

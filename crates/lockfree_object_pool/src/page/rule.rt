@@ -5,29 +5,65 @@ ghost use Rattle.std.specs.Prelude.{None};
 
 use super::user_view::UserView;
 use crate::clean::Clean;
-use atomic_table::{Play, TableRule};
+use atomic_table::{Join, Play, Split, TableRule};
 use std::marker::PhantomData;
+use std::snapshot::Snapshot;
 
-/// The rule of a page: each free item is at home and meets the condition, and each item that is out has one holder at most.
+/// The values that a page opened with. It has no bytes.
+pub type Opening<T> = Snapshot<Vec<Option<T>>>;
+
+/// The rule of a page: each free item is at home and meets the condition, each item that is out has one holder at most,
+/// and the page stands where one lawful history has led.
 pub struct PageRule<K> {
     condition: PhantomData<K>,
 }
 
-impl<T, K: Clean<T>> TableRule<Option<T>, UserView, ()> for PageRule<K> {
-    ghost use Rattle.lockfree_object_pool.specs.PageRule.{IsPage, view};
+impl<T, K: Clean<T>> TableRule<Option<T>, UserView<T>, Snapshot<Vec<Option<T>>>> for PageRule<K> {
+    ghost use Rattle.lockfree_object_pool.specs.PageRule.{IsKept, first_view};
 
-    ghost holds = { λ _. IsPage K.meets };
+    ghost holds = { λ key. IsKept K.meets key.value.items };
 
-    ghost first = { λ _. view None 0 };
+    ghost first = { λ key. first_view key.value.items };
 }
 
 /// A load of the word by a new user.
 pub struct Look;
 
-impl<T> Play<Option<T>, UserView> for Look {
+impl<T> Play<Option<T>, UserView<T>> for Look {
     ghost use Rattle.lockfree_object_pool.specs.PageRule.{Looks};
 
-    ghost then = { λ _ _ word new. Looks word new };
+    ghost then = { λ _ first word new. Looks first.0 word new };
+}
+
+/// A load of the word by a user that knows something already.
+pub struct LookAgain;
+
+impl<T> Play<Option<T>, UserView<T>> for LookAgain {
+    ghost use Rattle.lockfree_object_pool.specs.PageRule.{LooksAgain};
+
+    ghost then = { λ _ old word new. LooksAgain old word new };
+}
+
+/// A user leaves a witness of what it knows.
+pub struct Witnesses;
+
+impl<T> Split<UserView<T>> for Witnesses {
+    ghost use Rattle.lockfree_object_pool.specs.PageRule.{witness_of};
+
+    ghost left = { λ known. known };
+
+    ghost right = { witness_of };
+}
+
+/// A user tells another what it knows, and is gone.
+pub struct Tells;
+
+impl<T> Join<UserView<T>> for Tells {
+    ghost use Rattle.lockfree_object_pool.specs.PageRule.{told_of, gone_view};
+
+    ghost both = { told_of };
+
+    ghost spent = { gone_view };
 }
 
 /// A step that clears one bit of the word.
@@ -35,7 +71,7 @@ pub struct ClearBit<K> {
     condition: PhantomData<K>,
 }
 
-impl<T, K: Clean<T>> Play<Option<T>, UserView> for ClearBit<K> {
+impl<T, K: Clean<T>> Play<Option<T>, UserView<T>> for ClearBit<K> {
     ghost use Rattle.lockfree_object_pool.specs.PageRule.{Clears};
 
     ghost then = { λ step old word new. Clears K.meets step.first old word new };
@@ -44,7 +80,7 @@ impl<T, K: Clean<T>> Play<Option<T>, UserView> for ClearBit<K> {
 /// A step that sets one bit of the word, once its value is back home.
 pub struct SetBit;
 
-impl<T> Play<Option<T>, UserView> for SetBit {
+impl<T> Play<Option<T>, UserView<T>> for SetBit {
     ghost use Rattle.lockfree_object_pool.specs.PageRule.{Gives};
 
     ghost then = { λ _ old _ new. Gives old new };

@@ -1,11 +1,12 @@
 //! A slot: an item that is out of its page.
-ghost use Rattle.std.specs.Prelude.{◌≡◌, ◌<◌, [], ◌∷◌, Some, None};
+ghost use Rattle.std.specs.Prelude.{◌≡◌, ◌<◌, [], ◌∷◌, Some, None, false};
 ghost use Rattle.std.specs.Arc.{arc_value};
 ghost use Rattle.lockfree_object_pool.specs.OneProof.{same_page, same_holding, same_carrying};
 ghost use Rattle.lockfree_object_pool.specs.Page.{page_identity};
 
+use super::rule::Witnesses;
 use super::user_view::UserSeat;
-use super::{OwnedSlot, OwnedTakenId, Page, PageId};
+use super::{OwnedSlot, OwnedTakenId, Page, PageId, PageNote, Witness};
 use crate::clean::Clean;
 use crate::lender::Lender;
 use std::ops::{Deref, DerefMut};
@@ -19,12 +20,14 @@ pub(crate) struct TakenId<'s, T, K: Clean<T>> {
     pub(super) id: PageId,
     ghost of_page: { seat.table_id ≡ page_identity page.now } by { same_page _ _ },
     ghost in_page: { id < 32 },
+    ghost here: { seat.me.0.gone ≡ false },
     ghost holds: { seat.me.0.held ≡ Some id } by { same_holding _ _ },
     ghost carries: { seat.me.1 ≡ (id, None) ∷ [] } by { same_carrying T.code _ _ },
 }
 
 impl<'s, T, K: Clean<T>> TakenId<'s, T, K> {
-    ghost use Rattle.lockfree_object_pool.specs.Slot.{taken_id};
+    ghost use Rattle.lockfree_object_pool.specs.Slot.{taken_id, taken_item};
+    ghost use Rattle.lockfree_object_pool.specs.Note.{IsReturned};
 
     pub(crate) fn id(&self) -> PageId
         ensures value { result ≡ taken_id self.now }
@@ -34,11 +37,14 @@ impl<'s, T, K: Clean<T>> TakenId<'s, T, K> {
     }
 
     /// The value goes home, and the id is free again.
-    pub(crate) fn free(self, value: T)
+    pub(crate) fn free(self, value: T) -> PageNote<T>
         requires { K.meets value }
+        ensures { IsReturned (taken_item self.entry value) result }
     {
         let TakenId { page, seat, id } = self;
-        page.give(seat, id, value);
+        PageNote {
+            seat: page.give(seat, id, value),
+        }
     }
 }
 
@@ -53,13 +59,13 @@ pub struct PageSlot<'s, T, K: Clean<T>> {
 }
 
 impl<'s, T, K: Clean<T>> PageSlot<'s, T, K> {
-    ghost use Rattle.lockfree_object_pool.specs.OwnedSlot.{owned_slot_page, owned_slot_id, owned_slot_value};
-    ghost use Rattle.lockfree_object_pool.specs.Slot.{slot_page, slot_id, slot_value, taken_page, taken_id};
+    ghost use Rattle.lockfree_object_pool.specs.Note.{witness_page, witness_history};
+    ghost use Rattle.lockfree_object_pool.specs.OwnedSlot.{owned_slot_item};
+    ghost use Rattle.lockfree_object_pool.specs.Slot.{slot_item, slot_view, taken_item, taken_view};
 
     pub(super) fn new(taken: TakenId<'s, T, K>, value: T) -> PageSlot<'s, T, K>
-        ensures page { slot_page result ≡ taken_page taken.entry }
-        ensures id { slot_id result ≡ taken_id taken.entry }
-        ensures value { slot_value result ≡ value }
+        ensures item { slot_item result ≡ taken_item taken.entry value }
+        ensures view { slot_view result ≡ taken_view taken.entry }
     {
         PageSlot {
             lender: Lender,
@@ -70,17 +76,28 @@ impl<'s, T, K: Clean<T>> PageSlot<'s, T, K> {
 
     /// The number of the item in its page.
     pub fn id(&self) -> PageId
-        ensures value { result ≡ slot_id self.now }
+        ensures value { result ≡ (slot_item self.now).id }
         ensures in_page { result < 32 }
     {
         self.taken.id()
     }
 
+    /// What the holder knows of the page, for another to be told. It costs one load.
+    pub fn witness(&mut self) -> Witness<T>
+        ensures page { witness_page result ≡ (slot_item self.old).page }
+        ensures history { witness_history result ≡ (slot_item self.old).history }
+        ensures same_item { slot_item self.new ≡ slot_item self.old }
+    {
+        let taken = &mut self.taken;
+        let page = taken.page;
+        Witness {
+            seat: page.table.shared.split_seat::<Witnesses>(&mut taken.seat),
+        }
+    }
+
     /// The id and the value by themselves.
     pub(crate) fn into_parts(self) -> (TakenId<'s, T, K>, T)
-        ensures page { taken_page result.0 ≡ slot_page self.entry }
-        ensures id { taken_id result.0 ≡ slot_id self.entry }
-        ensures value { result.1 ≡ slot_value self.entry }
+        ensures { taken_item result.0 result.1 ≡ slot_item self.entry }
     {
         let PageSlot {
             lender: _,
@@ -92,10 +109,8 @@ impl<'s, T, K: Clean<T>> PageSlot<'s, T, K> {
 
     /// The same item, with an owner of the page in place of the borrow.
     pub fn into_owned(self, page: Arc<Page<T, K>>) -> OwnedSlot<T, K>
-        requires { slot_page self ≡ page_identity (arc_value page) }
-        ensures page { owned_slot_page result ≡ slot_page self.entry }
-        ensures id { owned_slot_id result ≡ slot_id self.entry }
-        ensures value { owned_slot_value result ≡ slot_value self.entry }
+        requires { (slot_item self).page ≡ page_identity (arc_value page) }
+        ensures { owned_slot_item result ≡ slot_item self.entry }
     {
         let (TakenId { page: _, seat, id }, value) = self.into_parts();
         OwnedSlot::new(OwnedTakenId { page, seat, id }, value)
@@ -105,9 +120,9 @@ impl<'s, T, K: Clean<T>> PageSlot<'s, T, K> {
 impl<T, K: Clean<T>> Deref for PageSlot<'_, T, K> {
     type Target = T;
 
-    ghost use Rattle.lockfree_object_pool.specs.Slot.{slot_value};
+    ghost use Rattle.lockfree_object_pool.specs.Slot.{slot_item};
 
-    ghost deref_gives = { λ slot value. value ≡ slot_value slot };
+    ghost deref_gives = { λ slot value. value ≡ (slot_item slot).value };
 
     fn deref(&self) -> &T {
         &self.value
@@ -118,13 +133,13 @@ impl<T, K: Clean<T>> DerefMut for PageSlot<'_, T, K> {
     ghost use Rattle.std.specs.Borrow.{Lends, sem};
     ghost use mir.Syntax.{named};
     ghost use Rattle.lockfree_object_pool.specs.contracts.page.slot.PageSlot.{the_row};
-    ghost use Rattle.lockfree_object_pool.specs.Slot.{slot_value, slot_with};
+    ghost use Rattle.lockfree_object_pool.specs.Slot.{slot_item, slot_with};
 
-    ghost deref_mut_gives = { λ slot value. value ≡ slot_value slot };
+    ghost deref_mut_gives = { λ slot value. value ≡ (slot_item slot).value };
 
     fn deref_mut(&mut self) -> &mut T
         ensures* writes_back { sem 𝓛 (Lends (the_row (record { mir = named 1; lft = [] }) T.row K.row K.Clean) T.row self.entry result (slot_with self.old)) }
-        ensures shows { result.now ≡ slot_value self.old }
+        ensures shows { result.now ≡ (slot_item self.old).value }
     {
         &mut self.value
     }

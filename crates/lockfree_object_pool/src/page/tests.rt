@@ -16,6 +16,7 @@ fn sets_and_clears_one_bit(rt: HostRuntime) {
     assert_eq!(rt; without_bit(32, 3), 32);
 }
 
+mod histories;
 mod ids;
 mod sharing;
 mod slots;

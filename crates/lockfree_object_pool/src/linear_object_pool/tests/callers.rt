@@ -1,6 +1,6 @@
 //! Proved callers: what they know of a pulled value, of its place, and of a refusal.
 ghost use Rattle.std.specs.Prelude.{◌≡◌, ◌<◌, ℕ, Option, None, Some, IfOk, IfErr, IfSome};
-ghost use Rattle.lockfree_object_pool.specs.LinearPool.{pool_first_page, pool_limit, reusable_id, reusable_number, reusable_page, reusable_with, owned_with};
+ghost use Rattle.lockfree_object_pool.specs.LinearPool.{pool_first_page, pool_limit, reusable_item, reusable_number, reusable_with, owned_with};
 ghost use Rattle.lockfree_object_pool.specs.declared.pull_error.PullError.TheVariants.{Memory};
 
 use super::*;
@@ -48,7 +48,7 @@ fn read_back<K: Clean<u32>, I: Init<u32, K>, R: Reset<u32, K>>(
     mut item: LinearReusable<'_, u32, I, R, K>,
 ) -> (usize, u8, u32)
     ensures number { result.0 ≡ reusable_number item.entry }
-    ensures id { result.1 ≡ reusable_id item.entry }
+    ensures id { result.1 ≡ (reusable_item item.entry).id }
     ensures value { result.2 ≡ 9 }
 {
     *item = 8;
@@ -60,7 +60,7 @@ fn read_back<K: Clean<u32>, I: Init<u32, K>, R: Reset<u32, K>>(
 fn of_first<'p>(
     pool: &'p LinearObjectPool<u32, CountedZeros, ToZero, Zero>,
 ) -> Option<LinearReusable<'p, u32, CountedZeros, ToZero, Zero>>
-    ensures { IfSome result (λ item. reusable_page item ≡ pool_first_page pool.now) }
+    ensures { IfSome result (λ item. (reusable_item item).page ≡ pool_first_page pool.now) }
 {
     let item = pool.pull().ok()?;
     if item.page_number() == 0 {

@@ -82,7 +82,7 @@ fn a_full_page_is_followed_by_another(rt: HostRuntime) -> Result<(), Fail> {
 #[test]
 fn a_forgotten_item_stays_out(rt: HostRuntime) -> Result<(), Fail> {
     let counts = Counts::new();
-    let pool = counted(rt.alloc(), &counts, NEVER)?;
+    let pool = shared(rt.alloc(), &counts, NEVER)?;
     mem::forget(pool.pull()?);
     for _ in 0..2 {
         assert_eq!(rt; pool.pull()?.page_id(), 1);

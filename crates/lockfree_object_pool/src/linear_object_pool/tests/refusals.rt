@@ -30,7 +30,7 @@ fn full<'p, 'c>(
 fn init_that_refuses_stops_a_growth(rt: HostRuntime) -> Result<(), Fail> {
     for refused in 32..64usize {
         let counts = Counts::new();
-        let pool = counted(rt.alloc(), &counts, refused)?;
+        let pool = shared(rt.alloc(), &counts, refused)?;
         let items = full(rt.alloc(), &pool)?;
         assert_eq!(rt; pool.pull().err(), Some(PullError::Init));
         let calls = refused.saturating_add(1);
@@ -49,7 +49,7 @@ fn init_that_refuses_stops_a_growth(rt: HostRuntime) -> Result<(), Fail> {
 fn init_that_refuses_stops_an_owned_growth(rt: HostRuntime) -> Result<(), Fail> {
     for refused in 32..64usize {
         let counts = Counts::new();
-        let pool = Arc::new(rt.alloc(), counted(rt.alloc(), &counts, refused)?)?;
+        let pool = shared(rt.alloc(), &counts, refused)?;
         let _items = full(rt.alloc(), &pool)?;
         let refusal = pool.pull_owned().err();
         assert_eq!(rt; refusal, Some(PullError::Init));
@@ -78,7 +78,7 @@ fn forget_first_page(pool: &Tracked<'_>) -> Result<(), PullError> {
 #[test]
 fn a_pool_goes_on_where_memory_was_refused(rt: HostRuntime) -> Result<(), Fail> {
     let counts = Counts::new();
-    let pool = again(&|| counted(rt.alloc(), &counts, NEVER))?;
+    let pool = again(&|| shared(rt.alloc(), &counts, NEVER))?;
     assert_eq!(rt; living(&counts), 32);
     forget_first_page(&pool)?;
     let refusal = pool.pull().err();

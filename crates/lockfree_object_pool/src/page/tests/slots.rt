@@ -2,8 +2,8 @@
 ghost use Rattle.std.specs.Prelude.{◌≡◌, IfOk, IfSome};
 ghost use Rattle.lockfree_object_pool.specs.FullSeen.{IsFullOf};
 ghost use Rattle.lockfree_object_pool.specs.OwnedSlot.{owned_slot_with};
-ghost use Rattle.lockfree_object_pool.specs.Page.{page_identity};
-ghost use Rattle.lockfree_object_pool.specs.Slot.{slot_id, slot_with};
+ghost use Rattle.lockfree_object_pool.specs.Page.{page_identity, page_opening};
+ghost use Rattle.lockfree_object_pool.specs.Slot.{slot_item, slot_with};
 
 use crate::clean::{AnyValue, Clean};
 use crate::page::{Allocated, FullSeen, OwnedSlot, Page, PageSlot, PullPass};
@@ -32,7 +32,7 @@ fn write_owned<K: Clean<u32>>(slot: &mut OwnedSlot<u32, K>, value: u32)
 
 /// What is read is what was written last, and the item is the same one.
 fn read_back(mut slot: PageSlot<'_, u32, AnyValue>) -> (u8, u32)
-    ensures id { result.0 ≡ slot_id slot.entry }
+    ensures id { result.0 ≡ (slot_item slot.entry).id }
     ensures value { result.1 ≡ 9 }
 {
     *slot = 8;
@@ -77,7 +77,7 @@ fn own_first(page: Arc<Page<u32, Zero>>) -> Option<u32>
 
 /// What tells a pull that a page is full is of that page, and has all of its ids.
 fn full_of<'p>(page: &Page<u32, Zero>, pass: &'p PullPass) -> Option<FullSeen<'p, u32>>
-    ensures { IfSome result (IsFullOf (page_identity page.now)) }
+    ensures { IfSome result (IsFullOf (page_identity page.now) (page_opening page.now)) }
 {
     match page.try_alloc(pass) {
         Ok(Allocated::Full(seen)) => Some(seen),

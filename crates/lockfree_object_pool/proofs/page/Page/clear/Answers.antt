@@ -4,7 +4,7 @@ use Rattle.lockfree_object_pool.proofs.PageKeeps.{clears}
 use Rattle.lockfree_object_pool.proofs.page.Page.clear.Goals as goal
 
 pub fetch_and-word-requires : goal.fetch_and-word-requires
-fetch_and-word-requires g c = (c.requires.page, omega (arith, c.args.self.now.sized.0), clears _ _ _ _ c.args.id _ c.requires.in_page c.without_bit.ensures.bits)
+fetch_and-word-requires g c = (c.requires.page, omega (arith, c.args.self.now.sized.0), clears _ _ _ _ _ c.args.id _ c.requires.in_page c.without_bit.ensures.bits c.requires.holds_none c.requires.here)
 
 pub exchange-requires : goal.exchange-requires
 exchange-requires g c =

@@ -6,5 +6,5 @@ pub fetch_or-requires : goal.fetch_or-requires
 fetch_or-requires g c = (
   search rules,
   omega (arith, c.args.self.now.sized.0),
-  gives_back _ _ _ _ c.args.id _ _ c.args.value c.requires.in_page (omega arith) c.with_bit.ensures.bits c.requires.holds c.requires.carries c.exchange.ensures.3 c.requires.meets,
+  gives_back _ _ _ _ _ c.args.id _ _ c.args.value c.requires.in_page (omega arith) c.with_bit.ensures.bits c.requires.holds c.requires.here c.requires.carries c.exchange.ensures.3 c.requires.meets,
 )

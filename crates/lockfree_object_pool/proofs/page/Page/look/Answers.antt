@@ -3,4 +3,4 @@ use Rattle.lockfree_object_pool.proofs.PageKeeps.{looks}
 use Rattle.lockfree_object_pool.proofs.page.Page.look.Goals as goal
 
 pub load_new_seat-word-requires : goal.load_new_seat-word-requires
-load_new_seat-word-requires g c = (omega (arith, c.args.self.now.sized.0), looks _ _)
+load_new_seat-word-requires g c = (omega (arith, c.args.self.now.sized.0), looks _ _ _)

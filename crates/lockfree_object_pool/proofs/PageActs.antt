@@ -1,0 +1,182 @@
+-- What follows from a page's history.
+use Rattle.std.proofs.Common.{◌≡◌, ◌≢◌, ℕ, ◌<◌, ◌≤◌, ◌==◌, if◌then◌else◌, true, false, ◌⊎◌, List, [], ◌∷◌, ◌++◌, length, Option, Some, None, zero, suc, set, refl, sym, ap, ◌∙◌, subst, arith, append_assoc, inl, inr, eq-eqb, ne_eqb, get_or}
+use mathlib.Core.Option.{some, some-ne-none}
+use native.Mathlib.Decide.{ℕ_discrete}
+use mathlib.Core.Logic.{dite}
+use Rattle.lockfree_object_pool.specs.Word.{SetsBit, ClearsBit}
+use lib.ListN.{get_elem?}
+use Rattle.std.specs.Int.{bit_at}
+use Rattle.atomic_table.proofs.Lists.{at_set}
+use Rattle.lockfree_object_pool.specs.declared.page.user_view.UserView.{UserView}
+use Rattle.lockfree_object_pool.specs.PageRule.{IsSound, IsInformed, Knows, GoesOn}
+use Rattle.lockfree_object_pool.specs.declared.page.history.PageAct.{PageAct}
+use Rattle.lockfree_object_pool.specs.declared.page.history.PageAct.TheVariants.{Took, Gave}
+use Rattle.lockfree_object_pool.specs.PageHistory.{History, user_of, acts_of, held_id, value_at, MayFollow, IsLawful, IsBeginningOf, WasOutBetween}
+
+-- each id that isn't left to try is found out, also after one more was
+pub still_found : (untried rest found more id : ℕ) → ClearsBit untried id rest → SetsBit found id more → ((i : ℕ) → i < 32 → bit_at untried i ≡ 0 → bit_at found i ≡ 1)
+    → (i : ℕ) → i < 32 → bit_at rest i ≡ 0 → bit_at more i ≡ 1
+still_found untried rest found more id clears sets before i within none = dite (ℕ_discrete i id)
+    (λ same. ap (bit_at more) same ∙ sets.set)
+    (λ differ. sets.others i differ ∙ before i within (sym (clears.others i differ) ∙ none))
+
+module _ {T : Type 0} where
+  pub beginning_same : (acts : History T) → IsBeginningOf acts acts
+  beginning_same acts = ([], refl)
+
+  pub beginning_further : (one two three : History T) → IsBeginningOf one two → IsBeginningOf two three → IsBeginningOf one three
+  beginning_further one two three first second = (second.0 ++ first.0, second.1 ∙ ap (λ l. second.0 ++ l) first.1 ∙ sym (append_assoc second.0 first.0 one))
+
+  pub beginning_act : (one two : History T) (act : PageAct T) → IsBeginningOf one two → IsBeginningOf one (act ∷ two)
+  beginning_act one two act longer = (act ∷ longer.0, ap (λ l. act ∷ l) longer.1)
+
+  pub was_out_later : (opening : List (Option T)) (since acts later : History T) (id : ℕ) → IsBeginningOf acts later → WasOutBetween opening since acts id → WasOutBetween opening since later id
+  was_out_later opening since acts later id longer was = (was.0, was.1, beginning_further was.0 acts later was.2 longer, was.3)
+
+  pub acts_of_own : (user : ℕ) (act : PageAct T) (acts : History T) → user_of act ≡ user → acts_of user (act ∷ acts) ≡ act ∷ acts_of user acts
+  acts_of_own user act acts same = rw (eq-eqb (user_of act) user same) refl
+
+  pub acts_of_other : (user : ℕ) (act : PageAct T) (acts : History T) → user_of act ≢ user → acts_of user (act ∷ acts) ≡ acts_of user acts
+  acts_of_other user act acts differ = rw (ne_eqb (user_of act) user differ) refl
+
+  pub value_at-took_here : (opening : List (Option T)) (acts : History T) (user place id : ℕ) (value : T) → place ≡ id → value_at opening (Took user place value ∷ acts) id ≡ None
+  value_at-took_here opening acts user place id value same = rw (eq-eqb place id same) refl
+
+  pub value_at-took_elsewhere : (opening : List (Option T)) (acts : History T) (user place id : ℕ) (value : T) → place ≢ id → value_at opening (Took user place value ∷ acts) id ≡ value_at opening acts id
+  value_at-took_elsewhere opening acts user place id value differ = rw (ne_eqb place id differ) refl
+
+  pub value_at-gave_here : (opening : List (Option T)) (acts : History T) (user place id : ℕ) (value : T) → place ≡ id → value_at opening (Gave user place value ∷ acts) id ≡ Some value
+  value_at-gave_here opening acts user place id value same = rw (eq-eqb place id same) refl
+
+  pub value_at-gave_elsewhere : (opening : List (Option T)) (acts : History T) (user place id : ℕ) (value : T) → place ≢ id → value_at opening (Gave user place value ∷ acts) id ≡ value_at opening acts id
+  value_at-gave_elsewhere opening acts user place id value differ = rw (ne_eqb place id differ) refl
+
+  abbrev pub behind : History T → History T
+  behind [] = []
+  behind (act ∷ acts) = acts
+
+  meet : (one two more rest : History T) → more ++ one ≡ rest ++ two → IsBeginningOf one two ⊎ IsBeginningOf two one
+  meet one two [] rest same = inr (rest, same)
+  meet one two (act ∷ more) [] same = inl (act ∷ more, sym same)
+  meet one two (act ∷ more) (other ∷ rest) same = meet one two more rest (ap behind same)
+
+  -- of two beginnings of one history one is a beginning of the other
+  pub comparable : (one two acts : History T) → IsBeginningOf one acts → IsBeginningOf two acts → IsBeginningOf one two ⊎ IsBeginningOf two one
+  comparable one two acts first second = meet one two first.0 second.0 (sym first.1 ∙ second.1)
+
+  -- what a user knows once it has acted after these acts
+  abbrev pub acted : UserView T → History T → PageAct T → Option ℕ → UserView T
+  acted old acts act held = record { held = held; found = old.found; user = old.user; opening = old.opening; acts = act ∷ acts; since = old.since; told = old.told; gone = old.gone; own = act ∷ old.own }
+
+  -- what a user knows once it has seen these acts, and has found out these ids
+  abbrev pub has_seen : UserView T → History T → ℕ → UserView T
+  has_seen old acts found = record { held = old.held; found = found; user = old.user; opening = old.opening; acts = acts; since = old.since; told = old.told; gone = old.gone; own = old.own }
+
+  module _ (opening : List (Option T)) (acts : History T) (lawful : IsLawful opening acts) (user : ℕ) (old : UserView T) (here : old.gone ≡ false) (is : IsInformed opening acts user old) where
+    pub own_now : acts_of old.user acts ≡ old.own
+    own_now = ap (λ u. acts_of u acts) is.number ∙ is.own_so_far
+
+    pub after_act : (act : PageAct T) (held : Option ℕ) → MayFollow opening acts act → user_of act ≡ old.user → held ≡ held_id (act ∷ old.own)
+        → IsInformed opening (act ∷ acts) user (acted old acts act held) × GoesOn (act ∷ []) old (acted old acts act held)
+    after_act act held may own holds =
+        let sound : IsSound (acted old acts act held) = record {
+          lawful = subst (λ o. IsLawful o (act ∷ acts)) (sym is.same_opening) (may, lawful);
+          since_load = beginning_act old.since acts act (beginning_further old.since old.acts acts is.sound.since_load is.beginning);
+          own_acts = acts_of_own old.user act acts own ∙ ap (λ l. act ∷ l) own_now;
+          holds = holds;
+          found_out = λ id within one. was_out_later old.opening old.since old.acts (act ∷ acts) id (beginning_act old.acts acts act is.beginning) (is.sound.found_out id within one);
+        } in (
+          record {
+            sound = sound;
+            number = is.number;
+            same_opening = is.same_opening;
+            beginning = beginning_same (act ∷ acts);
+            told_before = beginning_act old.told acts act is.told_before;
+            own_so_far = acts_of_own user act acts (own ∙ is.number) ∙ ap (λ l. act ∷ l) is.own_so_far;
+          },
+          record { here = here; same_user = refl; same_opening = refl; same_since = refl; acts = (is.beginning.0, ap (λ l. act ∷ l) is.beginning.1); own_before = is.sound.own_acts; own = refl; sound = sound },
+        )
+
+    pub after_look : (found : ℕ) → ((id : ℕ) → id < 32 → bit_at found id ≡ 1 → (bit_at old.found id ≡ 1) ⊎ (value_at opening acts id ≡ None))
+        → IsInformed opening acts user (has_seen old acts found) × GoesOn [] old (has_seen old acts found)
+    after_look found more =
+        let seen : (id : ℕ) → id < 32 → bit_at found id ≡ 1 → WasOutBetween old.opening old.since acts id = λ id within one. elim (more id within one) [
+          | inl before ↦ was_out_later old.opening old.since old.acts acts id is.beginning (is.sound.found_out id within before)
+          | inr now ↦ (acts, beginning_further old.since old.acts acts is.sound.since_load is.beginning, beginning_same acts, ap (λ o. value_at o acts id) is.same_opening ∙ now)
+        ] in
+        let sound : IsSound (has_seen old acts found) = record {
+          lawful = subst (λ o. IsLawful o acts) (sym is.same_opening) lawful;
+          since_load = beginning_further old.since old.acts acts is.sound.since_load is.beginning;
+          own_acts = own_now;
+          holds = is.sound.holds;
+          found_out = seen;
+        } in (
+          record { sound = sound; number = is.number; same_opening = is.same_opening; beginning = beginning_same acts; told_before = is.told_before; own_so_far = is.own_so_far },
+          record { here = here; same_user = refl; same_opening = refl; same_since = refl; acts = (is.beginning.0, is.beginning.1); own_before = is.sound.own_acts; own = refl; sound = sound },
+        )
+
+  informed_act : (opening : List (Option T)) (acts : History T) (act : PageAct T) (user : ℕ) (known : UserView T) → user_of act ≢ user → IsInformed opening acts user known → IsInformed opening (act ∷ acts) user known
+  informed_act opening acts act user known differ is = record {
+    sound = is.sound;
+    number = is.number;
+    same_opening = is.same_opening;
+    beginning = beginning_act known.acts acts act is.beginning;
+    told_before = beginning_act known.told acts act is.told_before;
+    own_so_far = acts_of_other user act acts differ ∙ is.own_so_far;
+  }
+
+  pub knows_of : (opening : List (Option T)) (acts : History T) (user : ℕ) (known : UserView T) → IsInformed opening acts user known → Knows opening acts user known
+  knows_of opening acts user known is = record { seen = is.beginning; told = is.told_before; acting = λ _. is }
+
+  -- another user's act leaves what a user knows
+  pub informed_later : (opening : List (Option T)) (acts : History T) (act : PageAct T) (user : ℕ) (known : UserView T) → user_of act ≢ user → Knows opening acts user known → Knows opening (act ∷ acts) user known
+  informed_later opening acts act user known differ knows = record {
+    seen = beginning_act known.acts acts act knows.seen;
+    told = beginning_act known.told acts act knows.told;
+    acting = λ here. informed_act opening acts act user known differ (knows.acting here);
+  }
+
+  -- all users, once one's view has changed
+  pub informed_set : (opening : List (Option T)) (acts : History T) (views : List (UserView T)) (user : ℕ) (new : UserView T)
+      → ((other : ℕ) (known : UserView T) → other ≢ user → get_elem? views other ≡ some known → Knows opening acts other known)
+      → Knows opening acts user new
+      → (other : ℕ) (known : UserView T) → get_elem? (set views user new) other ≡ some known → Knows opening acts other known
+  informed_set opening acts views user new others mine other known at = elim (at_set views user other new known at) [
+    | inl here ↦ subst (λ (pair : ℕ × UserView T). Knows opening acts pair.0 pair.1) (λ i. (sym here.0 i, here.1 i)) mine
+    | inr there ↦ others other known there.0 there.1
+  ]
+
+  pub at_below : (views : List (UserView T)) (user : ℕ) (known : UserView T) → get_elem? views user ≡ some known → user < length views
+  at_below [] user known at = absurd (some-ne-none known (sym at))
+  at_below (view ∷ views) zero known at = omega arith
+  at_below (view ∷ views) (suc user) known at = let below = at_below views user known at in omega arith
+
+  -- what a user knows, of the values that the page opened with
+  pub lawful_of : (opening : List (Option T)) (known : UserView T) → known.opening ≡ opening → IsSound known → IsLawful opening known.acts
+  lawful_of opening known same is = subst (λ o. IsLawful o known.acts) same is.lawful
+
+  pub was_out_of : (opening : List (Option T)) (known : UserView T) (id : ℕ) → known.opening ≡ opening → IsSound known → id < 32 → bit_at known.found id ≡ 1 → WasOutBetween opening known.since known.acts id
+  was_out_of opening known id same is within one = subst (λ o. WasOutBetween o known.since known.acts id) same (is.found_out id within one)
+
+  -- who knows so much goes on from it
+  pub goes_on_here : (known : UserView T) → known.gone ≡ false → IsSound known → GoesOn [] known known
+  goes_on_here known here sound = record { here = here; same_user = refl; same_opening = refl; same_since = refl; acts = ([], refl); own_before = sound.own_acts; own = refl; sound = sound }
+
+  pub goes_on_further : (made : History T) (one two three : UserView T) → GoesOn [] one two → GoesOn made two three → GoesOn made one three
+  goes_on_further made one two three first second = record {
+    here = second.here;
+    same_user = second.same_user ∙ first.same_user;
+    same_opening = second.same_opening ∙ first.same_opening;
+    same_since = second.same_since ∙ first.same_since;
+    acts = (
+      second.acts.0 ++ first.acts.0,
+      second.acts.1 ∙ ap (λ l. made ++ l) (ap (λ l. second.acts.0 ++ l) first.acts.1 ∙ sym (append_assoc second.acts.0 first.acts.0 one.acts)),
+    );
+    own_before = first.own_before;
+    own = second.own ∙ ap (λ l. made ++ l) first.own;
+    sound = second.sound;
+  }
+
+  -- what was found out since a load, told of the user as it was then
+  pub was_out_from : (start known : UserView T) (id : ℕ) → GoesOn [] start known → id < 32 → bit_at known.found id ≡ 1 → WasOutBetween start.opening start.since known.acts id
+  was_out_from start known id goes within one = subst (λ s. WasOutBetween start.opening s known.acts id) goes.same_since (was_out_of start.opening known id goes.same_opening goes.sound within one)

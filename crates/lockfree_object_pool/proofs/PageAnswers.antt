@@ -1,0 +1,99 @@
+-- What a page answers, told by what the answer shows and no longer by its user's view.
+use Rattle.std.proofs.Common.{◌≡◌, List, [], ◌∷◌, ◌++◌, ℕ, ◌<◌, Option, Result, Ok, Err, IfOk, refl, ap, sym, ◌∙◌, subst}
+use Rattle.atomic_table.specs.Seated.{TableId}
+use Rattle.lockfree_object_pool.specs.declared.page.history.PageAct.TheVariants.{Took, Gave}
+use Rattle.lockfree_object_pool.specs.declared.page.user_view.UserView.{UserView}
+use Rattle.lockfree_object_pool.specs.declared.page.note.PageNote.{PageNote}
+use Rattle.lockfree_object_pool.specs.declared.page.full_seen.FullSeen.{FullSeen}
+use Rattle.lockfree_object_pool.specs.declared.page.full_seen.Allocated.{Allocated}
+use Rattle.lockfree_object_pool.specs.declared.page.full_seen.Allocated.TheVariants.{Slot, Full}
+use Rattle.lockfree_object_pool.specs.Item.{IsPulled}
+use Rattle.lockfree_object_pool.specs.Note.{note_page, note_view, note_opening, note_history, IsReturned, IsPulledAfter}
+use Rattle.lockfree_object_pool.specs.PageHistory.{acts_of, IsBeginningOf, WasOutBetween}
+use Rattle.lockfree_object_pool.specs.PageRule.{GoesOn, StartsFrom}
+use Rattle.lockfree_object_pool.specs.Slot.{item_known}
+use Rattle.lockfree_object_pool.specs.FullSeen.{full_page, full_view, full_history, IsFullOf, IsAnswerFrom, IsAnswerOf, IsAnswerAfter}
+use Rattle.lockfree_object_pool.proofs.PageActs.{lawful_of, beginning_further}
+use Rattle.lockfree_object_pool.proofs.PageHolders.{came_from_lawful, spared_return}
+
+module _ {T : Type 0} where
+  -- the user of a pull has acted since it began: the pull is the one act more
+  module _ (page : TableId) (start known : UserView T) (id : ℕ) (value : T) (goes : GoesOn (Took known.user id value ∷ []) start known) where
+    pulled : start.own ≡ [] → IsPulled (item_known page known id value)
+    pulled none = record {
+      lawful = goes.sound.lawful;
+      before = goes.acts.0 ++ start.acts;
+      last = goes.acts.1;
+      origin = came_from_lawful known.opening known.acts (goes.acts.0 ++ start.acts) known.user id value goes.acts.1 goes.sound.lawful;
+      only = goes.sound.own_acts ∙ goes.own ∙ ap (λ own. Took known.user id value ∷ own) none;
+    }
+
+    pulled_after : (note : PageNote T) → StartsFrom (note_view note) start → IsPulledAfter note (item_known page known id value)
+    pulled_after note starts =
+        let further = beginning_further (note_history note) start.acts (goes.acts.0 ++ start.acts) starts.after_known (goes.acts.0, refl) in
+        let last : known.acts ≡ Took known.user id value ∷ (further.0 ++ note_history note) = goes.acts.1 ∙ ap (λ acts. Took known.user id value ∷ acts) further.1 in
+        let same_user = goes.same_user ∙ starts.same_user in
+        record {
+          same_opening = goes.same_opening ∙ starts.same_opening;
+          same_user = same_user;
+          lawful = goes.sound.lawful;
+          others = further.0;
+          last = last;
+          origin = came_from_lawful known.opening known.acts (further.0 ++ note_history note) known.user id value last goes.sound.lawful;
+          only = goes.sound.own_acts ∙ goes.own ∙ ap (λ own. Took known.user id value ∷ own) (starts.own_same ∙ sym starts.own_before ∙ ap (λ user. acts_of user (note_history note)) (sym same_user));
+        }
+
+  -- a page that was full, of a call whose user stood here at its load
+  full : (page : TableId) (opening : List (Option T)) (start : UserView T) (seen : FullSeen T) → start.opening ≡ opening → full_page seen ≡ page → GoesOn [] start (full_view seen)
+      → ((id : ℕ) → id < 32 → WasOutBetween start.opening start.since (full_history seen) id) → IsFullOf page opening seen
+  full page opening start seen same of_page goes each = record {
+    of_page = of_page;
+    same_opening = goes.same_opening ∙ same;
+    found_all = seen.found_all;
+    lawful = lawful_of opening (full_view seen) (goes.same_opening ∙ same) goes.sound;
+    each_was_out = λ id within.
+        subst (λ o. WasOutBetween o (full_view seen).since (full_history seen) id) same
+        (subst (λ s. WasOutBetween start.opening s (full_history seen) id) (sym goes.same_since) (each id within));
+  }
+
+  -- a return: nobody was at the item since its pull
+  pub returned : (page : TableId) (old new : UserView T) (note : PageNote T) (id : ℕ) (value : T) → note_view note ≡ new → note_page note ≡ page → GoesOn (Gave new.user id value ∷ []) old new → IsReturned (item_known page old id value) note
+  returned page old new note id value is of_page went =
+      let same : GoesOn (Gave old.user id value ∷ []) old (note_view note) = subst (λ (p : ℕ × UserView T). GoesOn (Gave p.0 id value ∷ []) old p.1) (λ i. (went.same_user i, sym is i)) went in
+      let spared = spared_return old (note_view note) old.user id value refl same in
+      record {
+        of_page = of_page;
+        same_opening = same.same_opening;
+        same_user = same.same_user;
+        lawful = lawful_of old.opening (note_view note) same.same_opening same.sound;
+        others = spared.0;
+        last = spared.1;
+        untouched = spared.2;
+        only = ap (λ user. acts_of user (note_history note)) (sym same.same_user) ∙ same.sound.own_acts ∙ same.own ∙ ap (λ own. Gave old.user id value ∷ own) (sym same.own_before);
+      }
+
+module _ {T K : Type 0} where
+  -- the answer to a user that had done nothing
+  pub answer_fresh : (meets : T → Type 0) (page : TableId) (opening : List (Option T)) (start : UserView T) (answer : Allocated T K) → start.opening ≡ opening → start.own ≡ [] → IsAnswerFrom meets page start answer → IsAnswerOf meets page opening answer
+  answer_fresh meets page opening start (Slot slot) same none is = record {
+    is_item = is.0;
+    same_opening = is.1.same_opening ∙ same;
+    pulled = pulled slot.taken.seat.table_id start slot.taken.seat.me.0 slot.taken.id slot.value is.1 none;
+  }
+  answer_fresh meets page opening start (Full seen) same none is = full page opening start seen same is.0 is.1 is.2
+
+  -- the answer to a user that had a note
+  pub answer_after : (meets : T → Type 0) (page : TableId) (note : PageNote T) (start : UserView T) (answer : Allocated T K) → StartsFrom (note_view note) start → IsAnswerFrom meets page start answer → IsAnswerAfter meets page note answer
+  answer_after meets page note start (Slot slot) starts is = (is.0, pulled_after slot.taken.seat.table_id start slot.taken.seat.me.0 slot.taken.id slot.value is.1 note starts)
+  answer_after meets page note start (Full seen) starts is = record {
+    is_full = full page (note_opening note) start seen starts.same_opening is.0 is.1 is.2;
+    after_note = subst (IsBeginningOf (note_history note)) (sym (is.1.same_since ∙ starts.from_now)) starts.after_known;
+  }
+
+  pub answers_fresh : {E : Type 0} (meets : T → Type 0) (page : TableId) (opening : List (Option T)) (start : UserView T) (result : Result (Allocated T K) E) → start.opening ≡ opening → start.own ≡ [] → IfOk result (IsAnswerFrom meets page start) → IfOk result (IsAnswerOf meets page opening)
+  answers_fresh meets page opening start (Ok answer) same none is = answer_fresh meets page opening start answer same none is
+  answers_fresh meets page opening start (Err error) same none is = tt
+
+  pub answers_after : {E : Type 0} (meets : T → Type 0) (page : TableId) (note : PageNote T) (start : UserView T) (result : Result (Allocated T K) E) → StartsFrom (note_view note) start → IfOk result (IsAnswerFrom meets page start) → IfOk result (IsAnswerAfter meets page note)
+  answers_after meets page note start (Ok answer) starts is = answer_after meets page note start answer starts is
+  answers_after meets page note start (Err error) starts is = tt
