@@ -16,7 +16,12 @@ use std::sync::Wait;
 use std::{env, io};
 
 fn main(rt: HostRuntime) -> ExitCode {
-    let ending = play_standard_input(&rt).unwrap_or(Ending::Stopped(EngineError::Memory));
+    run_program(&rt)
+}
+
+/// Plays standard input, says on standard error why that ended, and answers the exit status.
+fn run_program<R: Env + Input + Print + Eprint + AllocGlobal + Wait>(rt: &R) -> ExitCode {
+    let ending = play_standard_input(rt).unwrap_or(Ending::Stopped(EngineError::Memory));
     let report = report_of(ending);
     let _ = eprint!(rt; "{}", report.message);
     ExitCode::from(report.status)
@@ -37,4 +42,15 @@ fn play_standard_input<R: Env + Input + Print + AllocGlobal + Wait>(
     let mut input = rt.reader();
     let mut output = io::writer(rt);
     Ok(play(rt, rt.alloc(), &words, &mut input, &mut output))
+}
+
+#[cfg(test)]
+mod tests {
+    use super::*;
+
+    #[test]
+    fn without_arguments_the_program_ends_with_status_2(rt: HostRuntime) {
+        // The process of a test has no arguments that ask for a pool.
+        assert_eq!(rt; run_program(&rt), ExitCode::from(2));
+    }
 }

@@ -133,3 +133,24 @@ fn a_broken_device_is_told_as_a_failed_read_or_write(rt: HostRuntime) {
     let ending = play(&rt, rt.alloc(), &words, &mut input, &mut Broken);
     assert_eq!(rt; ending, Ending::Stopped(EngineError::Write));
 }
+
+// Holds where each request for memory is refused in turn, and where none is.
+#[test]
+fn want_of_memory_is_told_as_such(rt: HostRuntime) {
+    let replies = b"pulled 0 number 0 value 0\nreturned 0\n".as_slice();
+    let mut input = b"pull\nreturn 0\n".as_slice();
+    let mut room = [0; 64];
+    let mut output = room.as_mut_slice();
+    let ending = play(
+        &rt,
+        rt.alloc(),
+        &["linear", "keep"],
+        &mut input,
+        &mut output,
+    );
+    let is_whole = ending == Ending::EndOfInput && room.starts_with(replies);
+    assert!(rt;
+        is_whole || ending == Ending::Stopped(EngineError::Memory),
+        "{ending:?}"
+    );
+}
