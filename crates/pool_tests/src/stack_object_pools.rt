@@ -65,7 +65,12 @@ fn owned_items_are_sent_and_come_home(rt: HostRuntime) -> Result<(), Fail> {
     let calls = new_calls(rt.alloc())?;
     come_home(&rt, rt.alloc(), &mutex_zeros(rt.alloc(), &calls)?, &calls)?;
     let calls = new_calls(rt.alloc())?;
-    come_home(&rt, rt.alloc(), &spin_lock_zeros(rt.alloc(), &calls)?, &calls)
+    come_home(
+        &rt,
+        rt.alloc(),
+        &spin_lock_zeros(rt.alloc(), &calls)?,
+        &calls,
+    )
 }
 
 /// Writes a number to an item of the pool, and sends the number that it reads.
