@@ -3,24 +3,37 @@ use super::*;
 use std::test::Fail;
 
 mod devices;
+mod failures;
 
-use devices::{Device, Interrupted, Source};
+use devices::{Device, Interrupted};
 
-/// What the engine answers to an input, on a pool of at most so many pages where there is a limit.
+/// Plays an input on a pool, of at least one page where it has a limit.
+fn play<H: Wait, R: Read, W: Write>(
+    rt: &H,
+    alloc: Global,
+    kind: Kind,
+    reset: Reset,
+    input: &mut R,
+    output: &mut W,
+) -> Result<(), EngineError> {
+    let kind = match kind {
+        Kind::Bounded(pages) => Kind::Bounded(pages.max(1)),
+        Kind::Linear | Kind::Stack | Kind::None => kind,
+    };
+    run(rt, alloc, kind, reset, input, output)
+}
+
+/// What the engine answers to an input.
 fn output_of<H: Wait>(
     rt: &H,
     alloc: Global,
-    pages: usize,
+    kind: Kind,
     reset: Reset,
     input: &str,
 ) -> Result<Vec<u8>, Fail> {
-    let kind = match pages {
-        0 => Kind::Linear,
-        1.. => Kind::Bounded(pages),
-    };
     let mut output = Vec::new(alloc);
     let mut bytes = input.as_bytes();
-    run(rt, alloc, kind, reset, &mut bytes, &mut output)?;
+    play(rt, alloc, kind, reset, &mut bytes, &mut output)?;
     Ok(output)
 }
 
@@ -32,7 +45,6 @@ fn answers_each_line(rt: HostRuntime) -> Result<(), Fail> {
             "pull\nwrite 0 5\nreturn 0\npull\n",
             "pulled 0 number 0 value 0\nwritten 0\nreturned 0\npulled 1 number 0 value 5\n",
         ),
-        (Reset::Zero, "", ""),
         (Reset::Keep, "attach 1\n", "not offered\n"),
         (
             Reset::Zero,
@@ -62,7 +74,7 @@ fn answers_each_line(rt: HostRuntime) -> Result<(), Fail> {
         ),
     ];
     for (reset, input, expected) in rows {
-        let output = output_of(&rt, rt.alloc(), 0, reset, input)?;
+        let output = output_of(&rt, rt.alloc(), Kind::Linear, reset, input)?;
         assert_eq!(rt; output.as_slice(), expected.as_bytes(), "{input:?}");
     }
     Ok(())
@@ -74,7 +86,7 @@ fn a_reset_to_zero_and_bad_lines(rt: HostRuntime) -> Result<(), Fail> {
         "return 3\npull\nPULL\nwrite 0 4294967296\nwrite 0 4294967295\nreturn 0\nreturn 0\npull\n\n";
     let expected =
         "no such holder\npulled 0 number 0 value 0\nbad line\nbad line\nwritten 0\nreturned 0\nno such holder\npulled 1 number 0 value 0\nbad line\n";
-    let output = output_of(&rt, rt.alloc(), 0, Reset::Zero, input)?;
+    let output = output_of(&rt, rt.alloc(), Kind::Linear, Reset::Zero, input)?;
     assert_eq!(rt; output.as_slice(), expected.as_bytes());
     Ok(())
 }
@@ -84,7 +96,7 @@ fn a_line_of_more_than_64_bytes_is_bad(rt: HostRuntime) -> Result<(), Fail> {
     let letters = "aaaaaaaaaaaaaaaaaaaaaaaaaaaaaaaaaaaaaaaaaaaaaaaaaaaaaaaaaaaaaaaa";
     assert_eq!(rt; letters.len(), 64);
     let input = format!(in rt.alloc(); "{letters}pull\npull\n")?;
-    let output = output_of(&rt, rt.alloc(), 0, Reset::Keep, input.as_str())?;
+    let output = output_of(&rt, rt.alloc(), Kind::Linear, Reset::Keep, input.as_str())?;
     assert_eq!(rt;
         output.as_slice(),
         b"bad line\npulled 0 number 0 value 0\n".as_slice()
@@ -104,7 +116,13 @@ fn a_bounded_pool_refuses_at_its_limit(rt: HostRuntime) -> Result<(), Fail> {
     }
     input.push_str("return 7\npull\n")?;
     expected.push_str("refused limit\nreturned 7\npulled 32 number 7 value 0\n")?;
-    let output = output_of(&rt, rt.alloc(), 1, Reset::Keep, input.as_str())?;
+    let output = output_of(
+        &rt,
+        rt.alloc(),
+        Kind::Bounded(1),
+        Reset::Keep,
+        input.as_str(),
+    )?;
     assert_eq!(rt; output.as_slice(), expected.as_bytes());
     Ok(())
 }
@@ -122,13 +140,19 @@ fn plays_a_stack_and_fresh_items(rt: HostRuntime) -> Result<(), Fail> {
             "pull\nwrite 0 5\nreturn 0\npull\nattach 1\n",
             "pulled 0 value 0\nwritten 0\nreturned 0\npulled 1 value 0\nnot offered\n",
         ),
-        (Kind::None, "", ""),
     ];
     for (kind, input, expected) in rows {
-        let mut output = Vec::new(rt.alloc());
-        let mut bytes = input.as_bytes();
-        run(&rt, rt.alloc(), kind, Reset::Keep, &mut bytes, &mut output)?;
+        let output = output_of(&rt, rt.alloc(), kind, Reset::Keep, input)?;
         assert_eq!(rt; output.as_slice(), expected.as_bytes(), "{input:?}");
+    }
+    Ok(())
+}
+
+#[test]
+fn no_line_has_no_reply(rt: HostRuntime) -> Result<(), Fail> {
+    for kind in [Kind::Linear, Kind::Bounded(1), Kind::Stack, Kind::None] {
+        let output = output_of(&rt, rt.alloc(), kind, Reset::Zero, "")?;
+        assert_eq!(rt; output.len(), 0, "{kind:?}");
     }
     Ok(())
 }
@@ -180,100 +204,3 @@ const SESSION: &[u8] = b"pull\nwrite 0 5\nreturn 0\npull";
 
 const REPLIES: &[u8] =
     b"pulled 0 number 0 value 0\nwritten 0\nreturned 0\npulled 1 number 0 value 5\n";
-
-#[test]
-fn a_reader_that_fails_leaves_the_replies_to_whole_lines(rt: HostRuntime) {
-    for good in 0..SESSION.len() {
-        let mut input = Source::new(&SESSION[..good]);
-        let mut output = Device::new(1024, 1024);
-        let result = run(
-            &rt,
-            rt.alloc(),
-            Kind::Linear,
-            Reset::Keep,
-            &mut input,
-            &mut output,
-        );
-        assert_eq!(rt; result, Err(EngineError::Read));
-        let lines = SESSION[..good]
-            .iter()
-            .filter(|byte| **byte == b'\n')
-            .count();
-        let whole: &[u8] = match lines {
-            0 => &REPLIES[..0],
-            1 => &REPLIES[..26],
-            2 => &REPLIES[..36],
-            _ => &REPLIES[..47],
-        };
-        assert_eq!(rt; output.bytes(), whole, "{good} bytes read");
-    }
-}
-
-#[test]
-fn a_writer_that_fails_has_a_beginning_of_the_replies(rt: HostRuntime) {
-    for room in 0..REPLIES.len() {
-        let mut input = SESSION;
-        let mut output = Device::new(room, 1024);
-        let result = run(
-            &rt,
-            rt.alloc(),
-            Kind::Linear,
-            Reset::Keep,
-            &mut input,
-            &mut output,
-        );
-        assert_eq!(rt; result, Err(EngineError::Write));
-        assert_eq!(rt; output.bytes(), &REPLIES[..room], "room for {room} bytes");
-    }
-}
-
-#[test]
-fn a_writer_may_take_one_byte_a_call_or_none(rt: HostRuntime) {
-    let mut input = SESSION;
-    let mut output = Device::new(1024, 1);
-    let result = run(
-        &rt,
-        rt.alloc(),
-        Kind::Linear,
-        Reset::Keep,
-        &mut input,
-        &mut output,
-    );
-    assert_eq!(rt; result, Ok(()));
-    assert_eq!(rt; output.bytes(), REPLIES);
-    let mut input = SESSION;
-    let mut output = Device::new(1024, 0);
-    let result = run(
-        &rt,
-        rt.alloc(),
-        Kind::Linear,
-        Reset::Keep,
-        &mut input,
-        &mut output,
-    );
-    assert_eq!(rt; result, Err(EngineError::Write));
-    assert_eq!(rt; output.bytes().len(), 0);
-}
-
-// Holds where each request for memory is refused in turn, and where none is.
-#[test]
-fn want_of_memory_is_answered_as_such(rt: HostRuntime) {
-    let mut input = SESSION;
-    let mut output = Device::new(1024, 1024);
-    match run(
-        &rt,
-        rt.alloc(),
-        Kind::Linear,
-        Reset::Keep,
-        &mut input,
-        &mut output,
-    ) {
-        Ok(()) => assert_eq!(rt; output.bytes(), REPLIES),
-        Err(error) => {
-            assert_eq!(rt; error, EngineError::Memory);
-            let count = output.bytes().len();
-            assert!(rt; [0, 26, 36, 47].contains(&count));
-            assert_eq!(rt; Some(output.bytes()), REPLIES.get(..count));
-        }
-    }
-}

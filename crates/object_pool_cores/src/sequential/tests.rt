@@ -11,6 +11,8 @@ use std::process::Abort;
 use std::test::Fail;
 
 mod kept_and_fresh;
+mod refusals;
+mod values;
 
 /// Makes zeros, counts its calls, and may refuse one of them.
 #[derive(Drop)]
@@ -30,8 +32,8 @@ impl Init<u32, AnyValue> for Zeros<'_> {
 }
 
 /// A value that counts its end.
-struct Mortal<'a> {
-    ends: &'a Cell<u32>,
+pub(super) struct Mortal<'a> {
+    pub(super) ends: &'a Cell<u32>,
 }
 
 impl Drop for Mortal<'_> {
@@ -60,6 +62,16 @@ impl<'a> Init<Mortal<'a>, AnyValue> for Mortals<'a> {
         }
         Some(Mortal { ends: self.ends })
     }
+}
+
+/// Whether each item is the pool's own.
+fn are_mine<T: Drop, P: SequentialPool<T>>(pool: &P, items: &[Item<T>]) -> bool {
+    for item in items {
+        if !pool.is_mine(item) {
+            return false;
+        }
+    }
+    true
 }
 
 /// Plays the commands on a linear pool that keeps values, of at most so many pages where there is a limit.
@@ -202,6 +214,7 @@ fn a_refusal_by_init_drops_what_was_made_and_changes_nothing(rt: HostRuntime) ->
     let refused = core.pull();
     assert!(rt; matches!(&refused, Err(PullError::Init)));
     assert_eq!(rt; (calls.get(), ends.get(), core.pages()), (40, 7, 1));
+    assert!(rt; are_mine(&core, &held));
     let next = core.pull()?;
     assert_eq!(rt;
         (next.number(), calls.get(), core.pages()),
@@ -254,52 +267,4 @@ fn an_item_is_its_own_pools_until_it_returns(rt: HostRuntime) -> Result<(), Fail
     let again = core.pull()?;
     assert_eq!(rt; again.number(), Some(0));
     Ok(())
-}
-
-/// Whether the core pulls the numbers from 0 on, where each pull that is refused for memory is asked again.
-fn pulls_in_order<I: Init<u32, AnyValue>>(
-    alloc: Global,
-    core: LinearCore<u32, I, Keep, AnyValue>,
-    count: u32,
-) -> bool {
-    let mut player = Player::new(alloc, core);
-    let mut replies = Vec::new(alloc);
-    let mut pulled = 0u32;
-    for _ in 0..count.saturating_add(3) {
-        if pulled == count {
-            break;
-        }
-        let mut commands = Vec::new(alloc);
-        let _ = commands.push(Command::Pull);
-        let before = replies.len();
-        match player.run(commands, &mut replies) {
-            Ok(()) => {}
-            Err(RunError::Memory) => continue,
-        }
-        match replies.get(before) {
-            Some(Reply::Pulled(_, number)) => {
-                if *number != Some(u128::from(pulled)) {
-                    return false;
-                }
-                pulled = pulled.saturating_add(1);
-            }
-            Some(Reply::Refused(PullError::Memory)) | None => {}
-            _ => return false,
-        }
-    }
-    pulled == count
-}
-
-// Holds where each request for memory is refused in turn, and where none is.
-#[test]
-fn a_player_goes_on_where_memory_was_refused(rt: HostRuntime) {
-    let made = LinearCore::new(rt.alloc(), Copied::<u32, AnyValue>::new(0), Keep);
-    let core = match made {
-        Ok(core) => Ok(core),
-        Err(_) => LinearCore::new(rt.alloc(), Copied::<u32, AnyValue>::new(0), Keep),
-    };
-    match core {
-        Ok(core) => assert!(rt; pulls_in_order(rt.alloc(), core, 70)),
-        Err(_) => assert!(rt; false, "refused twice"),
-    }
 }

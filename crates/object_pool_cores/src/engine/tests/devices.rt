@@ -1,38 +1,63 @@
-//! Devices that fail.
+//! Readers and writers that fail, or take and give little at a time.
 use arrayvec::ArrayVec;
 use std::io;
 use std::io::{ErrorKind, Read, Write};
 
-/// Gives its bytes one a call, and fails after them.
+/// Gives its bytes, at most so many a call, and fails after them.
 #[derive(Drop)]
 pub(super) struct Source<'a> {
     bytes: &'a [u8],
+    most: usize,
 }
 
 impl<'a> Source<'a> {
-    pub(super) fn new(bytes: &'a [u8]) -> Source<'a> {
-        Source { bytes }
+    pub(super) fn new(bytes: &'a [u8], most: usize) -> Source<'a> {
+        Source { bytes, most }
     }
 }
 
 impl Read for Source<'_> {
     fn read(&mut self, buf: &mut [u8]) -> io::Result<usize> {
-        let Some((first, rest)) = self.bytes.split_first() else {
+        if self.bytes.is_empty() {
             return Err(io::Error::from(ErrorKind::Other));
-        };
-        match buf.first_mut() {
-            Some(place) => *place = *first,
-            None => return Ok(0),
         }
+        let count = self.bytes.len().min(self.most).min(buf.len());
+        let (first, rest) = self.bytes.split_at(count);
+        buf[..count].copy_from_slice(first);
         self.bytes = rest;
-        Ok(1)
+        Ok(count)
+    }
+}
+
+/// Gives one line over and over, so many times, one a call, and then ends.
+#[derive(Drop)]
+pub(super) struct Lines {
+    line: &'static [u8],
+    left: usize,
+}
+
+impl Lines {
+    pub(super) fn new(line: &'static [u8], left: usize) -> Lines {
+        Lines { line, left }
+    }
+}
+
+impl Read for Lines {
+    fn read(&mut self, buf: &mut [u8]) -> io::Result<usize> {
+        if self.left == 0 {
+            return Ok(0);
+        }
+        self.left -= 1;
+        let count = self.line.len().min(buf.len());
+        buf[..count].copy_from_slice(&self.line[..count]);
+        Ok(count)
     }
 }
 
 /// Takes at most so many bytes a call, and fails where its room is used up.
 #[derive(Drop)]
 pub(super) struct Device {
-    bytes: ArrayVec<u8, 1024>,
+    bytes: ArrayVec<u8, 4096>,
     room: usize,
     most: usize,
     calls: usize,

@@ -1,5 +1,6 @@
 //! Worked cases of a page of one owner.
 use super::*;
+use crate::sequential::tests::Mortal;
 use lockfree_object_pool::clean::AnyValue;
 use std::cell::Cell;
 use std::test::Fail;
@@ -69,15 +70,43 @@ fn each_id_is_taken_in_order_until_the_page_is_full(rt: HostRuntime) -> Result<(
 fn a_page_that_init_refuses_isnt_made(rt: HostRuntime) {
     for last in 0..32u32 {
         let calls = Cell::new(0u32);
-        let page = CorePage::<u32, AnyValue>::new(
+        let ends = Cell::new(0u32);
+        let page = CorePage::<Mortal<'_>, AnyValue>::new(
             rt.alloc(),
             &|| {
                 let call = calls.get();
                 calls.set(call.saturating_add(1));
-                if call == last { None } else { Some(call) }
+                if call == last {
+                    None
+                } else {
+                    Some(Mortal { ends: &ends })
+                }
             },
         );
-        assert!(rt; matches!(page, Err(PullError::Init)), "at call {last}");
-        assert_eq!(rt; calls.get(), last.saturating_add(1));
+        assert!(rt; matches!(&page, Err(PullError::Init)), "at call {last}");
+        assert_eq!(rt; (calls.get(), ends.get()), (last.saturating_add(1), last));
     }
+}
+
+// Holds where each request for memory is refused in turn, and where none is.
+#[test]
+fn a_page_that_memory_refuses_is_made_by_the_next_call(rt: HostRuntime) -> Result<(), Fail> {
+    let calls = Cell::new(0u32);
+    let ends = Cell::new(0u32);
+    let init = || {
+        calls.set(calls.get().saturating_add(1));
+        Some(Mortal { ends: &ends })
+    };
+    let made = CorePage::<Mortal<'_>, AnyValue>::new(rt.alloc(), &init);
+    let page = match made {
+        Err(PullError::Memory) => {
+            assert_eq!(rt; calls.get(), ends.get());
+            CorePage::<Mortal<'_>, AnyValue>::new(rt.alloc(), &init)?
+        }
+        made => made?,
+    };
+    assert_eq!(rt; calls.get(), ends.get().saturating_add(32));
+    drop(page);
+    assert_eq!(rt; calls.get(), ends.get());
+    Ok(())
 }
