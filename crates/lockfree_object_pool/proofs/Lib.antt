@@ -6,6 +6,7 @@ pub mod PageActs
 pub mod PageAnswers
 pub mod PageHolders
 pub mod PageKeeps
+pub mod PageOpens
 pub mod PageOrder
 pub mod ReusableShared
 pub mod SlotShared

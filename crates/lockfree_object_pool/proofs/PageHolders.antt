@@ -1,10 +1,10 @@
 -- Who holds what, by a page's history alone.
-use Rattle.std.proofs.Common.{◌≡◌, ◌≢◌, ℕ, zero, suc, ◌+◌, ◌<◌, ◌==◌, if◌then◌else◌, ◌⊎◌, List, [], ◌∷◌, ◌++◌, length, Option, Some, None, refl, sym, ap, ◌∙◌, subst, arith, inl, inr, eq-eqb, ne_eqb, length-append, get_or}
+use Rattle.std.proofs.Common.{◌≡◌, ◌≢◌, ℕ, suc, ◌+◌, List, [], ◌∷◌, ◌++◌, length, Option, Some, None, refl, sym, ap, ◌∙◌, subst, arith, inl, inr}
 use native.Mathlib.Decide.{ℕ_discrete}
 use mathlib.Core.Logic.{dite}
 use Rattle.lockfree_object_pool.specs.declared.page.history.PageAct.{PageAct}
 use Rattle.lockfree_object_pool.specs.declared.page.history.PageAct.TheVariants.{Took, Gave}
-use Rattle.lockfree_object_pool.specs.PageHistory.{History, user_of, id_of, acts_of, held_id, value_at, MayFollow, IsLawful, NoActOn, WasReturned, CameFrom}
+use Rattle.lockfree_object_pool.specs.PageHistory.{History, user_of, id_of, acts_of, held_id, value_at, MayFollow, IsLawful, NoActOn, CameFrom}
 use Rattle.lockfree_object_pool.specs.declared.page.user_view.UserView.{UserView}
 use Rattle.lockfree_object_pool.specs.PageRule.{GoesOn}
 use Rattle.lockfree_object_pool.proofs.PageActs.{behind, acts_of_own, acts_of_other, value_at-took_here, value_at-took_elsewhere, value_at-gave_here, value_at-gave_elsewhere}
