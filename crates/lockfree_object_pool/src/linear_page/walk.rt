@@ -1,5 +1,5 @@
 //! The walk from page to page for an item.
-ghost use Rattle.std.specs.Prelude.{◌≡◌, ◌+◌, ◌≤◌, ◌<◌, ⊤, Option, None, All, IsSomeAnd, IfSome, IsSome, IfOk, IfErr, OnOk};
+ghost use Rattle.std.specs.Prelude.{◌≡◌, ◌+◌, ◌≤◌, ◌<◌, ⊤, Option, None, IfSome, IsSome, IfOk, IfErr, OnOk};
 ghost use Rattle.std.specs.Arc.{arc_value};
 ghost use Rattle.lockfree_object_pool.specs.FullSeen.{full_page};
 ghost use Rattle.lockfree_object_pool.specs.Item.{HasOrigin};

@@ -4,7 +4,7 @@ ghost use Rattle.lockfree_object_pool.specs.OneProof.{same_holding, same_carryin
 
 use super::user_view::UserSeat;
 
-/// What some user knew of a page's history, for another to be told. It has no bytes.
+/// What some user knew of a page's history, for another to be told by [`Page::tell`]. It has no bytes.
 #[derive(Drop)]
 pub struct Witness<T> {
     pub(super) seat: UserSeat<T>,
