@@ -20,6 +20,7 @@ pub mod none_object_pool;
 pub mod none_reusable;
 pub mod page;
 mod pull_error;
+pub mod recycling;
 #[cfg(test)]
 mod refused;
 pub mod spin_lock;

@@ -6,7 +6,7 @@ ghost use Rattle.std.specs.Prelude.{◌≡◌, ◌≤◌, ◌<◌, Option, None,
 ghost use Rattle.std.specs.Arc.{arc_value};
 
 use crate::PullError;
-use crate::clean::Clean;
+use crate::clean::{AnyValue, Clean};
 use crate::closures::{Init, Reset};
 use crate::linear_owned_reusable::LinearOwnedReusable;
 use crate::linear_page::{Chain, Found};
@@ -14,6 +14,7 @@ use crate::linear_reusable::LinearReusable;
 use answer_of::AnswerOf;
 use page_limit::PageLimit;
 use std::alloc::Global;
+use std::fmt::{self, Debug, Formatter, Write};
 use std::sync::Arc;
 
 mod answer_of;
@@ -21,7 +22,7 @@ mod page_limit;
 
 /// A pool whose items lie in pages of 32.
 #[derive(Drop)]
-pub struct LinearObjectPool<T, I: Init<T, K>, R: Reset<T, K>, K: Clean<T>> {
+pub struct LinearObjectPool<T, I: Init<T, K>, R: Reset<T, K>, K: Clean<T> = AnyValue> {
     init: I,
     reset: R,
     chain: Chain<T, K, AnswerOf<I, K>>,
@@ -134,6 +135,14 @@ impl<T: Drop, I: Init<T, K>, R: Reset<T, K>, K: Clean<T>> LinearObjectPool<T, I,
         ensures meets { K.meets value.new }
     {
         self.reset.reset(value);
+    }
+}
+
+impl<T: Drop, I: Init<T, K>, R: Reset<T, K>, K: Clean<T>> Debug for LinearObjectPool<T, I, R, K> {
+    fn fmt<W: Write>(&self, f: &mut Formatter<W>) -> fmt::Result {
+        f.debug_struct("LinearObjectPool")
+            .field("limit", &self.limit())
+            .finish_non_exhaustive()
     }
 }
 

@@ -2,15 +2,16 @@
 ghost use Rattle.std.specs.Prelude.{◌≡◌, ◌<◌};
 ghost use Rattle.std.specs.Arc.{arc_value};
 
-use crate::clean::Clean;
+use crate::clean::{AnyValue, Clean};
 use crate::closures::{Init, Reset};
 use crate::linear_object_pool::LinearObjectPool;
 use crate::page::{OwnedSlot, PageId};
+use std::fmt::{self, Debug, Formatter, Write};
 use std::ops::{Deref, DerefMut};
 use std::sync::Arc;
 
 /// A pulled value. Its end resets it and brings it back to its page.
-pub struct LinearOwnedReusable<T: Drop, I: Init<T, K>, R: Reset<T, K>, K: Clean<T>> {
+pub struct LinearOwnedReusable<T: Drop, I: Init<T, K>, R: Reset<T, K>, K: Clean<T> = AnyValue> {
     pool: Arc<LinearObjectPool<T, I, R, K>>,
     slot: OwnedSlot<T, K>,
     number: usize,
@@ -86,5 +87,16 @@ impl<T: Drop, I: Init<T, K>, R: Reset<T, K>, K: Clean<T>> Drop for LinearOwnedRe
         } = self;
         pool.reset(&mut slot);
         slot.free();
+    }
+}
+
+impl<T: Debug + Drop, I: Init<T, K>, R: Reset<T, K>, K: Clean<T>> Debug
+    for LinearOwnedReusable<T, I, R, K> {
+    ghost use Rattle.lockfree_object_pool.specs.LinearPool.{owned_item};
+
+    ghost debug_output = { λ reusable. T.debug_output (owned_item reusable).value };
+
+    fn fmt<W: Write>(&self, f: &mut Formatter<W>) -> fmt::Result {
+        Debug::fmt(&*self.slot, f)
     }
 }

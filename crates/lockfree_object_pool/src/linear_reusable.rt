@@ -1,15 +1,16 @@
 //! A value that was pulled from a linear pool, under a borrow of the pool.
 ghost use Rattle.std.specs.Prelude.{◌≡◌, ◌<◌, []};
 
-use crate::clean::Clean;
+use crate::clean::{AnyValue, Clean};
 use crate::closures::{Init, Reset};
 use crate::lender::Lender;
 use crate::linear_object_pool::LinearObjectPool;
 use crate::page::{PageId, PageSlot, TakenId};
+use std::fmt::{self, Debug, Formatter, Write};
 use std::ops::{Deref, DerefMut};
 
 /// A pulled value. Its end resets it and brings it back to its page.
-pub struct LinearReusable<'p, T: Drop, I: Init<T, K>, R: Reset<T, K>, K: Clean<T>> {
+pub struct LinearReusable<'p, T: Drop, I: Init<T, K>, R: Reset<T, K>, K: Clean<T> = AnyValue> {
     pool: &'p LinearObjectPool<T, I, R, K>,
     lender: Lender,
     taken: TakenId<'p, T, K>,
@@ -96,5 +97,16 @@ impl<T: Drop, I: Init<T, K>, R: Reset<T, K>, K: Clean<T>> Drop for LinearReusabl
         } = self;
         pool.reset(&mut value);
         taken.free(value);
+    }
+}
+
+impl<T: Debug + Drop, I: Init<T, K>, R: Reset<T, K>, K: Clean<T>> Debug
+    for LinearReusable<'_, T, I, R, K> {
+    ghost use Rattle.lockfree_object_pool.specs.LinearPool.{reusable_item};
+
+    ghost debug_output = { λ reusable. T.debug_output (reusable_item reusable).value };
+
+    fn fmt<W: Write>(&self, f: &mut Formatter<W>) -> fmt::Result {
+        Debug::fmt(&self.value, f)
     }
 }

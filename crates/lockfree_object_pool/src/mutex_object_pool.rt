@@ -1,7 +1,7 @@
 //! A pool over a stack of kept values under a mutex.
 ghost use Rattle.std.specs.Prelude.{◌≡◌};
 
-use crate::clean::Clean;
+use crate::clean::{AnyValue, Clean};
 use crate::closures::{Init, Reset};
 use crate::stack::Stack;
 use crate::stack_object_pool::StackObjectPool;
@@ -9,7 +9,7 @@ use std::alloc::Global;
 use std::sync::Mutex;
 
 /// A pool whose kept values lie in a stack under a mutex.
-pub type MutexObjectPool<T, I, R, K> = StackObjectPool<T, I, R, K, Mutex<Stack<T, K>>>;
+pub type MutexObjectPool<T, I, R, K = AnyValue> = StackObjectPool<T, I, R, K, Mutex<Stack<T, K>>>;
 
 impl<T: Drop, I: Init<T, K>, R: Reset<T, K>, K: Clean<T>> MutexObjectPool<T, I, R, K> {
     ghost use Rattle.lockfree_object_pool.specs.StackPool.{stack_init, stack_reset};

@@ -6,6 +6,7 @@ ghost use Rattle.lockfree_object_pool.specs.declared.pull_error.PullError.TheVar
 
 use crate::PullError;
 use crate::none_reusable::NoneReusable;
+use std::fmt::{self, Debug, Formatter, Write};
 use std::sync::Arc;
 
 /// A pool to compare other pools with. A closure makes its items, and nothing is asked of what a return leaves.
@@ -40,6 +41,12 @@ impl<T, I: Fn() -> Option<T>> NoneObjectPool<T, I> {
         ensures refused { IfErr result (λ error. (error ≡ Init) × I.post (none_init (arc_value self.now)) None) }
     {
         self.pull()
+    }
+}
+
+impl<T, I: Fn() -> Option<T>> Debug for NoneObjectPool<T, I> {
+    fn fmt<W: Write>(&self, f: &mut Formatter<W>) -> fmt::Result {
+        f.debug_struct("NoneObjectPool").finish_non_exhaustive()
     }
 }
 

@@ -1,6 +1,7 @@
 //! A value that was pulled from a pool that keeps nothing.
 ghost use Rattle.std.specs.Prelude.{◌≡◌};
 
+use std::fmt::{self, Debug, Formatter, Write};
 use std::ops::{Deref, DerefMut};
 
 /// A pulled value. Its end drops it.
@@ -43,5 +44,15 @@ impl<T> DerefMut for NoneReusable<T> {
         ensures shows { result.now ≡ none_value self.old }
     {
         &mut self.value
+    }
+}
+
+impl<T: Debug> Debug for NoneReusable<T> {
+    ghost use Rattle.lockfree_object_pool.specs.NonePool.{none_value};
+
+    ghost debug_output = { λ reusable. T.debug_output (none_value reusable) };
+
+    fn fmt<W: Write>(&self, f: &mut Formatter<W>) -> fmt::Result {
+        Debug::fmt(&self.value, f)
     }
 }

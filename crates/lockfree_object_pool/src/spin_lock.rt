@@ -10,6 +10,7 @@ use crate::spin_lock::rule::{OneHolder, Take, Visitor};
 use crate::spin_lock::turn::Turn;
 use atomic_table::{Refused, Seat, Table};
 use std::alloc::{AllocFailed, Global};
+use std::fmt::{self, Debug, Formatter, Write};
 use std::marker::Model;
 use std::ops::{Deref, DerefMut};
 use std::sync::Wait;
@@ -145,6 +146,14 @@ impl<T> Drop for SpinLockGuard<'_, T> {
     fn drop(self) {
         let Self { turn, value } = self;
         drop(turn.end(value));
+    }
+}
+
+impl<T: Debug> Debug for SpinLockGuard<'_, T> {
+    ghost debug_output = { λ guard. T.debug_output (value_of guard) };
+
+    fn fmt<W: Write>(&self, f: &mut Formatter<W>) -> fmt::Result {
+        Debug::fmt(&self.value, f)
     }
 }
 

@@ -4,7 +4,7 @@
 ghost use Rattle.std.specs.Prelude.{◌≡◌, IfOk, IfErr};
 
 use crate::PullError;
-use crate::clean::Clean;
+use crate::clean::{AnyValue, Clean};
 use crate::closures::{Init, Reset};
 use crate::spin_lock::SpinLock;
 use crate::stack::Stack;
@@ -12,7 +12,13 @@ use crate::stack_object_pool::StackObjectPool;
 use std::alloc::Global;
 
 /// A pool whose kept values lie in a stack under a spin lock.
-pub type SpinLockObjectPool<T, I, R, K> = StackObjectPool<T, I, R, K, SpinLock<Stack<T, K>>>;
+pub type SpinLockObjectPool<T, I, R, K = AnyValue> = StackObjectPool<
+    T,
+    I,
+    R,
+    K,
+    SpinLock<Stack<T, K>>,
+>;
 
 impl<T: Drop, I: Init<T, K>, R: Reset<T, K>, K: Clean<T>> SpinLockObjectPool<T, I, R, K> {
     ghost use Rattle.lockfree_object_pool.specs.StackPool.{stack_init, stack_reset};

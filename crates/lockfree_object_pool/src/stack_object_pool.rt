@@ -13,6 +13,7 @@ use crate::stack::Room;
 use crate::stack_owned_reusable::StackOwnedReusable;
 use crate::stack_reusable::StackReusable;
 use std::alloc::Global;
+use std::fmt::{self, Debug, Formatter, Write};
 use std::marker::PhantomData;
 use std::sync::{Arc, Mutex, Wait};
 
@@ -104,6 +105,13 @@ impl<T: Drop, I: Init<T, K>, R: Reset<T, K>, K: Clean<T>, F: FreeList<T, K>> Sta
     pub(crate) fn give<W: Wait>(&self, rt: &W, room: Room<T>, mut value: T) {
         self.reset.reset(&mut value);
         self.kept.put(rt, room, value);
+    }
+}
+
+impl<T, I: Init<T, K>, R: Reset<T, K>, K: Clean<T>, F: FreeList<T, K>> Debug
+    for StackObjectPool<T, I, R, K, F> {
+    fn fmt<W: Write>(&self, f: &mut Formatter<W>) -> fmt::Result {
+        f.debug_struct("StackObjectPool").finish_non_exhaustive()
     }
 }
 

@@ -7,6 +7,7 @@ use crate::closures::{Init, Reset};
 use crate::free_list::FreeList;
 use crate::stack::Room;
 use crate::stack_object_pool::StackObjectPool;
+use std::fmt::{self, Debug, Formatter, Write};
 use std::ops::{Deref, DerefMut};
 use std::sync::{Arc, Wait};
 
@@ -115,5 +116,22 @@ impl<T: Drop, I: Init<T, K>, R: Reset<T, K>, K: Clean<T>, F: FreeList<T, K>, W: 
             value,
         } = self;
         pool.give(&rt, room, value);
+    }
+}
+
+impl<
+    T: Debug + Drop,
+    I: Init<T, K>,
+    R: Reset<T, K>,
+    K: Clean<T>,
+    F: FreeList<T, K>,
+    W: Wait + Copy,
+> Debug for StackOwnedReusable<T, I, R, K, F, W> {
+    ghost use Rattle.lockfree_object_pool.specs.StackPool.{stack_owned_value};
+
+    ghost debug_output = { λ reusable. T.debug_output (stack_owned_value reusable) };
+
+    fn fmt<O: Write>(&self, f: &mut Formatter<O>) -> fmt::Result {
+        Debug::fmt(&self.value, f)
     }
 }

@@ -7,6 +7,7 @@ use crate::free_list::FreeList;
 use crate::lender::Lender;
 use crate::stack::Room;
 use crate::stack_object_pool::StackObjectPool;
+use std::fmt::{self, Debug, Formatter, Write};
 use std::ops::{Deref, DerefMut};
 use std::sync::Wait;
 
@@ -120,5 +121,22 @@ impl<T: Drop, I: Init<T, K>, R: Reset<T, K>, K: Clean<T>, F: FreeList<T, K>, W: 
             value,
         } = self;
         pool.give(&rt, room, value);
+    }
+}
+
+impl<
+    T: Debug + Drop,
+    I: Init<T, K>,
+    R: Reset<T, K>,
+    K: Clean<T>,
+    F: FreeList<T, K>,
+    W: Wait + Copy,
+> Debug for StackReusable<'_, T, I, R, K, F, W> {
+    ghost use Rattle.lockfree_object_pool.specs.StackPool.{stack_value};
+
+    ghost debug_output = { λ reusable. T.debug_output (stack_value reusable) };
+
+    fn fmt<O: Write>(&self, f: &mut Formatter<O>) -> fmt::Result {
+        Debug::fmt(&self.value, f)
     }
 }

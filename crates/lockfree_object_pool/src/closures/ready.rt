@@ -1,5 +1,5 @@
 //! Ready-made function objects.
-ghost use Rattle.std.specs.Prelude.{◌≡◌, Some};
+ghost use Rattle.std.specs.Prelude.{◌≡◌, ⊤, Some};
 
 use crate::clean::{AnyValue, Clean};
 use crate::closures::{Init, Reset};
@@ -14,6 +14,39 @@ impl<T> Reset<T, AnyValue> for Keep {
     ghost leaves = { λ _ old new. new ≡ old };
 
     fn reset(&self, value: &mut T) {
+        let _ = value;
+    }
+}
+
+/// A reset that changes nothing, of a type whose every value meets the condition.
+#[derive(Drop)]
+pub struct Kept<T, K: Clean<T>> {
+    marker: PhantomData<(Mutex<T>, Mutex<K>)>,
+}
+
+impl<T, K: Clean<T>> Model for Kept<T, K> {
+    ghost Value = { ⊤ };
+
+    ghost view = { λ _. tt };
+
+    ghost invariant = { λ _. (value : T) → K.meets value };
+}
+
+impl<T, K: Clean<T>> Kept<T, K> {
+    pub fn new() -> Kept<T, K>
+        requires { (value : T) → K.meets value }
+    {
+        Kept {
+            marker: PhantomData,
+        }
+    }
+}
+
+impl<T, K: Clean<T>> Reset<T, K> for Kept<T, K> {
+    ghost leaves = { λ _ old new. new ≡ old };
+
+    fn reset(&self, value: &mut T) {
+        let _ = &self.marker; // a look at a field tells what holds of every `Kept`
         let _ = value;
     }
 }

@@ -1,11 +1,15 @@
 //! One proved caller of each kind.
-ghost use Rattle.std.specs.Prelude.{◌≡◌, ℕ, Option, IfSome, MatchOption};
+ghost use Rattle.std.specs.Prelude.{◌≡◌, ◌≤◌, ℕ, [], Option, IfSome, MatchOption};
 
 use super::*;
-use crate::clean::AnyValue;
+use crate::clean::{AnyValue, Empty};
+use std::alloc::Global;
 use std::cell::Cell;
+use std::test::Fail;
 
-/// The value is 0.
+mod first_uses;
+
+/// The value is 0. Of what makes and resets it, nothing else needs to be said.
 struct Zero;
 
 impl Clean<u32> for Zero {
@@ -16,8 +20,6 @@ impl Clean<u32> for Zero {
 struct ToZero;
 
 impl Reset<u32, Zero> for ToZero {
-    ghost leaves = { λ _ _ new. new ≡ 0 };
-
     fn reset(&self, value: &mut u32) {
         *value = 0;
     }
@@ -27,8 +29,6 @@ impl Reset<u32, Zero> for ToZero {
 struct Zeros;
 
 impl Init<u32, Zero> for Zeros {
-    ghost answers = { λ _ answer. IfSome answer (λ value. value ≡ 0) };
-
     fn make(&self) -> Option<u32> {
         Some(0)
     }
@@ -87,6 +87,49 @@ fn by_ready_ones() -> (u32, u32)
         reset_of::<AnyValue, _>(&Keep, 5),
         reset_of::<AnyValue, _>(&three, 5),
     )
+}
+
+/// A part of a hundred.
+#[derive(Clone, Copy, Debug)]
+struct Percent {
+    value: u8,
+    ghost in_range: { value ≤ 100 },
+}
+
+/// The part is at most the whole, as that of each `Percent` is.
+struct AtMostWhole;
+
+impl Clean<Percent> for AtMostWhole {
+    ghost meets = { λ percent. percent.value ≤ 100 };
+}
+
+/// A reset that keeps a value keeps the condition, where each value of the type meets it.
+fn kept_part(mut percent: Percent) -> u8
+    ensures kept { result ≡ percent.value }
+    ensures meets { result ≤ 100 }
+{
+    Kept::<Percent, AtMostWhole>::new().reset(&mut percent);
+    percent.value
+}
+
+/// A vector is empty as it is made, and again once it was used and reset.
+fn cleared_bytes(alloc: Global) -> Option<(usize, Vec<u8>)>
+    ensures made { IfSome result (λ found. found.0 ≡ 0) }
+    ensures cleared { IfSome result (λ found. found.1.items ≡ []) }
+{
+    let mut bytes: Vec<u8> = WithCapacity::new(alloc, 16).make()?;
+    let made = bytes.len();
+    bytes.push(7).ok()?;
+    Clear.reset(&mut bytes);
+    Some((made, bytes))
+}
+
+#[test]
+fn a_cleared_vector_keeps_its_room(rt: HostRuntime) -> Result<(), Fail> {
+    let (made, bytes) = cleared_bytes(rt.alloc()).ok_or("no memory")?;
+    assert_eq!(rt; (made, bytes.len(), bytes.capacity()), (0, 0, 16));
+    assert_eq!(rt; kept_part(Percent { value: 70 }), 70);
+    Ok(())
 }
 
 #[test]

@@ -111,3 +111,11 @@ fn each_item_is_dropped_once(rt: HostRuntime) -> Result<(), Fail> {
     assert_eq!(rt; counts.now(), (3, 2));
     Ok(())
 }
+
+#[test]
+fn a_pool_and_its_item_are_shown(rt: HostRuntime) -> Result<(), Fail> {
+    let pool = NoneObjectPool::new(|| Some(3u32));
+    let shown = format!(in rt.alloc(); "{pool:?} {:?}", pool.pull()?)?;
+    assert_eq!(rt; shown.as_str(), "NoneObjectPool { .. } 3");
+    Ok(())
+}

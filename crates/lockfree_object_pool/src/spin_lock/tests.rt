@@ -99,3 +99,11 @@ fn drops_each_value_once(rt: HostRuntime) -> Result<(), Fail> {
     assert_eq!(rt; counts.drops(), 2);
     Ok(())
 }
+
+#[test]
+fn a_guard_shows_its_value(rt: HostRuntime) -> Result<(), Fail> {
+    let lock = SpinLock::new(rt.alloc(), 5u32)?;
+    let shown = format!(in rt.alloc(); "{:?}", lock.lock(&rt))?;
+    assert_eq!(rt; shown.as_str(), "5");
+    Ok(())
+}

@@ -1,0 +1,79 @@
+//! Values that say themselves how they are made and reset, and the linear pool of them.
+//!
+//! One impl of [`Recyclable`] is all that a type needs, and [`Pool`] names its pool.
+ghost use Rattle.std.specs.Prelude.{◌≡◌, ⊤, None, IfSome, IfOk, IfErr};
+
+use crate::PullError;
+use crate::clean::Clean;
+use crate::closures::{Init, Reset};
+use crate::linear_object_pool::LinearObjectPool;
+use crate::linear_owned_reusable::LinearOwnedReusable;
+use crate::linear_reusable::LinearReusable;
+use std::alloc::Global;
+
+/// A value that can be used again once it is reset.
+pub trait Recyclable: Drop {
+    /// Nothing of an earlier use is left in the value.
+    ghost is_clean: { Self → Type 0 };
+
+    /// A new value, or `None` as a refusal.
+    fn make(alloc: Global) -> Option<Self>
+        ensures { IfSome result is_clean };
+
+    fn reset(&mut self)
+        ensures { is_clean self.new };
+}
+
+/// Makes and resets the values of any [`Recyclable`] type. It is the condition of their pool too: a value is clean.
+#[derive(Clone, Copy, Debug)]
+pub struct Recycler {
+    alloc: Global,
+}
+
+impl Recycler {
+    pub fn new(alloc: Global) -> Recycler {
+        Recycler { alloc }
+    }
+}
+
+impl<T: Recyclable> Clean<T> for Recycler {
+    ghost meets = { λ value. T.is_clean value };
+}
+
+impl<T: Recyclable> Init<T, Recycler> for Recycler {
+    fn make(&self) -> Option<T> {
+        T::make(self.alloc)
+    }
+}
+
+impl<T: Recyclable> Reset<T, Recycler> for Recycler {
+    fn reset(&self, value: &mut T) {
+        value.reset();
+    }
+}
+
+/// The linear pool of a [`Recyclable`] type.
+pub type Pool<T> = LinearObjectPool<T, Recycler, Recycler, Recycler>;
+
+/// A value that was pulled from a [`Pool`], under a borrow of it.
+pub type Reusable<'p, T> = LinearReusable<'p, T, Recycler, Recycler, Recycler>;
+
+/// A value that was pulled from a [`Pool`], with an owner of it.
+pub type OwnedReusable<T> = LinearOwnedReusable<T, Recycler, Recycler, Recycler>;
+
+impl<T: Recyclable> Pool<T> {
+    ghost use Rattle.lockfree_object_pool.specs.LinearPool.{pool_limit};
+    ghost use Rattle.lockfree_object_pool.specs.Refusal.{RefusesMaking};
+
+    /// A pool of one page, which grows by a page where each is full.
+    pub fn with_recycler(alloc: Global) -> Result<Pool<T>, PullError>
+        ensures limit { IfOk result (λ pool. pool_limit pool ≡ None) }
+        ensures refused { IfErr result (RefusesMaking ⊤) }
+    {
+        let recycler = Recycler::new(alloc);
+        LinearObjectPool::new(alloc, recycler, recycler)
+    }
+}
+
+#[cfg(test)]
+mod tests;
