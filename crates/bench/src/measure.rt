@@ -1,0 +1,126 @@
+//! A task is done on a new pool, and its turns are timed.
+use crate::task::{Kind, Task, Work};
+use crate::turns::{Sum, hold, pull_and_drop, total};
+use anyhow::Result;
+use lockfree_object_pool::clean::AnyValue;
+use lockfree_object_pool::closures::Copied;
+use lockfree_object_pool::free_list::FreeList;
+use lockfree_object_pool::stack_object_pool::StackObjectPool;
+use lockfree_object_pool::{LinearObjectPool, MutexObjectPool, PullError, SpinLockObjectPool};
+use std::alloc::AllocError;
+use std::ops::DerefMut;
+use std::rt::Clock;
+use std::sync::{Arc, Wait};
+use std::thread;
+use std::thread::Threads;
+use std::time::{Duration, Instant};
+
+/// What makes the items, and what a return leaves: 0.
+type Zero = Copied<u64, AnyValue>;
+
+/// What a task gave.
+#[derive(Clone, Copy, Debug)]
+pub struct Measured {
+    /// The sum of what the items were, by which it is seen that the turns were done.
+    pub sum: u64,
+    /// How long the turns took.
+    pub time: Duration,
+}
+
+/// Does the task on a new pool.
+pub fn measure<R: Clock + Threads + Wait + AllocGlobal + Copy + Sync>(
+    rt: &R,
+    task: Task,
+) -> Result<Measured> {
+    let (init, reset) = (Zero::new(0), Zero::new(0));
+    match task.kind {
+        Kind::Linear => {
+            let pool = LinearObjectPool::new(rt.alloc(), init, reset)?;
+            measure_linear(rt, pool, task)
+        }
+        Kind::SpinLock => {
+            let pool = SpinLockObjectPool::new(rt.alloc(), init, reset)?;
+            measure_stack(rt, pool, task)
+        }
+        Kind::Mutex => {
+            let pool = MutexObjectPool::new(rt.alloc(), init, reset);
+            measure_stack(rt, pool, task)
+        }
+    }
+}
+
+fn measure_linear<R: Clock + Threads + AllocGlobal + Sync>(
+    rt: &R,
+    pool: LinearObjectPool<u64, Zero, Zero, AnyValue>,
+    task: Task,
+) -> Result<Measured> {
+    let pool = Arc::new(rt.alloc(), pool)?;
+    let one_thread = |_: usize| pull_and_drop(&|| pool.pull(), task.turns);
+    let share = |threads| thread::map_indices(rt, rt.alloc(), threads, &one_thread);
+    measure_pulls(rt, task, &|| pool.pull(), &|| pool.pull_owned(), &share)
+}
+
+fn measure_stack<
+    R: Clock + Threads + Wait + AllocGlobal + Copy + Sync,
+    F: FreeList<u64, AnyValue> + Send + Sync,
+>(rt: &R, pool: StackObjectPool<u64, Zero, Zero, AnyValue, F>, task: Task) -> Result<Measured> {
+    let pool = Arc::new(rt.alloc(), pool)?;
+    let one_thread = |_: usize| pull_and_drop(&|| pool.pull(rt), task.turns);
+    let share = |threads| thread::map_indices(rt, rt.alloc(), threads, &one_thread);
+    measure_pulls(rt, task, &|| pool.pull(rt), &|| pool.pull_owned(rt), &share)
+}
+
+/// Does the task by the two ways to pull, and by what lets so many threads take their turns.
+fn measure_pulls<
+    R: Clock + AllocGlobal,
+    A: DerefMut<Target = u64> + Drop,
+    P: Fn() -> Result<A, PullError>,
+    B: DerefMut<Target = u64> + Drop,
+    Q: Fn() -> Result<B, PullError>,
+    S: Fn(usize) -> Result<Vec<Sum>, AllocError>,
+>(rt: &R, task: Task, pull: &P, pull_owned: &Q, share: &S) -> Result<Measured>
+    requires pull { P.IsAlwaysCallable pull.now }
+    requires pull_owned { Q.IsAlwaysCallable pull_owned.now }
+    requires share { S.IsAlwaysCallable share.now }
+{
+    match task.work {
+        Work::Pull { held } => measure_turns(rt, pull, held, task.turns),
+        Work::PullOwned { held } => measure_turns(rt, pull_owned, held, task.turns),
+        Work::Share { threads, held } => {
+            let _held = hold(rt.alloc(), pull, held)?;
+            let start = Instant::now(rt)?;
+            let sums = share(threads)?;
+            let time = start.elapsed(rt)?;
+            Ok(Measured {
+                sum: total(sums)?,
+                time,
+            })
+        }
+        Work::Hold => {
+            let start = Instant::now(rt)?;
+            let items = hold(rt.alloc(), pull, task.turns as usize)?;
+            let time = start.elapsed(rt)?;
+            Ok(Measured {
+                sum: items.len() as u64,
+                time,
+            })
+        }
+    }
+}
+
+/// One thread's turns, while so many other items are held.
+fn measure_turns<
+    R: Clock + AllocGlobal,
+    A: DerefMut<Target = u64> + Drop,
+    P: Fn() -> Result<A, PullError>,
+>(rt: &R, pull: &P, held: usize, turns: u64) -> Result<Measured>
+    requires { P.IsAlwaysCallable pull.now }
+{
+    let _held = hold(rt.alloc(), pull, held)?;
+    let start = Instant::now(rt)?;
+    let sum = pull_and_drop(pull, turns)?;
+    Ok(Measured {
+        sum,
+        time: start.elapsed(rt)?,
+    })
+}

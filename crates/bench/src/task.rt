@@ -1,0 +1,154 @@
+//! What is measured: which pool, at which work, how often.
+use std::fmt;
+
+/// The pool that is measured.
+#[derive(Clone, Copy, Debug, PartialEq, Eq)]
+pub enum Kind {
+    Linear,
+    SpinLock,
+    Mutex,
+}
+
+/// What is done to the pool, turn by turn.
+#[derive(Clone, Copy, Debug, PartialEq, Eq)]
+pub enum Work {
+    /// An item is pulled and dropped, while so many others are held.
+    Pull { held: usize },
+    /// The same with owned items.
+    PullOwned { held: usize },
+    /// So many threads pull and drop, each in all turns, while so many other items are held.
+    Share { threads: usize, held: usize },
+    /// An item is pulled and held.
+    Hold,
+}
+
+/// A measurement.
+#[derive(Clone, Copy, Debug, PartialEq, Eq)]
+pub struct Task {
+    pub kind: Kind,
+    pub work: Work,
+    pub turns: u64,
+}
+
+impl fmt::Display for Kind {
+    fn fmt<W: fmt::Write>(&self, f: &mut fmt::Formatter<W>) -> fmt::Result {
+        match self {
+            Kind::Linear => write!(f, "linear"),
+            Kind::SpinLock => write!(f, "spin_lock"),
+            Kind::Mutex => write!(f, "mutex"),
+        }
+    }
+}
+
+impl fmt::Display for Work {
+    fn fmt<W: fmt::Write>(&self, f: &mut fmt::Formatter<W>) -> fmt::Result {
+        match self {
+            Work::Pull { held } => write!(f, "pull {held}"),
+            Work::PullOwned { held } => write!(f, "pull_owned {held}"),
+            Work::Share { threads, held } => write!(f, "share {threads} {held}"),
+            Work::Hold => write!(f, "hold"),
+        }
+    }
+}
+
+/// The words that ask for the task.
+impl fmt::Display for Task {
+    fn fmt<W: fmt::Write>(&self, f: &mut fmt::Formatter<W>) -> fmt::Result {
+        let Task { kind, work, turns } = self;
+        write!(f, "{kind} {work} {turns}")
+    }
+}
+
+/// The task that words ask for.
+pub fn task_of(words: &[&str]) -> Option<Task> {
+    let [kind, work @ .., turns] = words else {
+        return None;
+    };
+    Some(Task {
+        kind: kind_of(kind)?,
+        work: work_of(work)?,
+        turns: turns.parse().ok()?,
+    })
+}
+
+fn kind_of(word: &str) -> Option<Kind> {
+    match word {
+        "linear" => Some(Kind::Linear),
+        "spin_lock" => Some(Kind::SpinLock),
+        "mutex" => Some(Kind::Mutex),
+        _ => None,
+    }
+}
+
+fn work_of(words: &[&str]) -> Option<Work> {
+    match words {
+        ["pull", held] => Some(Work::Pull {
+            held: held.parse().ok()?,
+        }),
+        ["pull_owned", held] => Some(Work::PullOwned {
+            held: held.parse().ok()?,
+        }),
+        ["share", threads, held] => Some(Work::Share {
+            threads: threads.parse().ok()?,
+            held: held.parse().ok()?,
+        }),
+        ["hold"] => Some(Work::Hold),
+        _ => None,
+    }
+}
+
+#[cfg(test)]
+mod tests {
+    use super::*;
+    use std::test::Fail;
+
+    #[test]
+    fn a_task_is_asked_for_by_its_words(rt: HostRuntime) -> Result<(), Fail> {
+        let rows = [
+            (Kind::Linear, Work::Pull { held: 32 }, "linear pull 32 7"),
+            (
+                Kind::SpinLock,
+                Work::PullOwned { held: 0 },
+                "spin_lock pull_owned 0 7",
+            ),
+            (
+                Kind::Mutex,
+                Work::Share {
+                    threads: 4,
+                    held: 9,
+                },
+                "mutex share 4 9 7",
+            ),
+            (Kind::Linear, Work::Hold, "linear hold 7"),
+        ];
+        for (kind, work, line) in rows {
+            let task = Task {
+                kind,
+                work,
+                turns: 7,
+            };
+            let words: Vec<&str> = line.split_whitespace().collect(rt.alloc())?;
+            assert_eq!(rt; task_of(&words), Some(task), "{line}");
+            assert_eq!(rt; task.to_string(rt.alloc())?.as_str(), line);
+        }
+        Ok(())
+    }
+
+    #[test]
+    fn other_words_are_no_task(rt: HostRuntime) -> Result<(), Fail> {
+        let rows = [
+            "",
+            "linear",
+            "linear hold",
+            "none hold 7",
+            "linear drop 0 7",
+            "mutex pull 7",
+            "mutex pull 0 -1",
+        ];
+        for line in rows {
+            let words: Vec<&str> = line.split_whitespace().collect(rt.alloc())?;
+            assert_eq!(rt; task_of(&words), None, "{line}");
+        }
+        Ok(())
+    }
+}

@@ -1,0 +1,50 @@
+//! The turns of each work. Each is given how an item is pulled, so it serves for every pool.
+ghost use Rattle.std.specs.Prelude.{◌≡◌, IfOk, vec_len};
+
+use lockfree_object_pool::PullError;
+use std::alloc::Global;
+use std::ops::DerefMut;
+
+/// A sum of what items were, or why a pull had none.
+pub type Sum = Result<u64, PullError>;
+
+/// In each turn an item is pulled, the turn's number is added to it, and it is dropped. The sum of what the items were then.
+pub fn pull_and_drop<A: DerefMut<Target = u64> + Drop, P: Fn() -> Result<A, PullError>>(
+    pull: &P,
+    turns: u64,
+) -> Sum
+    requires { P.IsAlwaysCallable pull.now }
+{
+    let mut sum = 0u64;
+    for turn in 0..turns {
+        let mut item = pull()?;
+        *item = item.wrapping_add(turn);
+        sum = sum.wrapping_add(*item);
+    }
+    Ok(sum)
+}
+
+/// So many items, pulled one after the other.
+pub fn hold<A: DerefMut<Target = u64> + Drop, P: Fn() -> Result<A, PullError>>(
+    alloc: Global,
+    pull: &P,
+    count: usize,
+) -> Result<Vec<A>, PullError>
+    requires { P.IsAlwaysCallable pull.now }
+    ensures { IfOk result (λ items. vec_len items ≡ count) }
+{
+    let mut items = Vec::with_capacity(alloc, count)?;
+    for _ in 0..count {
+        items.push(pull()?)?;
+    }
+    Ok(items)
+}
+
+/// The sum of sums, or the first refusal.
+pub fn total(sums: Vec<Sum>) -> Sum {
+    let mut total = 0u64;
+    for sum in sums {
+        total = total.wrapping_add(sum?);
+    }
+    Ok(total)
+}
