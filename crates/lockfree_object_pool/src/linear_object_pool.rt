@@ -113,8 +113,15 @@ impl<T: Drop, I: Init<T, K>, R: Reset<T, K>, K: Clean<T>> LinearObjectPool<T, I,
         ensures refused { IfErr result (RefusesPull (IsSome (pool_limit (arc_value self.now))) (I.answers (pool_init (arc_value self.now)) None)) }
     {
         let owner = Arc::try_clone(self)?;
-        let (slot, number) = self.find()?.into_owned()?;
-        Ok(LinearOwnedReusable::new(owner, slot, number))
+        let found = self.find()?;
+        let number = found.passed;
+        match found.into_owned() {
+            Ok((slot, number)) => Ok(LinearOwnedReusable::new(owner, slot, number)),
+            Err(refused) => {
+                self.chain.no_longer_full(number);
+                Err(refused)
+            }
+        }
     }
 
     /// An item of the first page that has one, and how many pages lie before that page.
@@ -126,7 +133,12 @@ impl<T: Drop, I: Init<T, K>, R: Reset<T, K>, K: Clean<T>> LinearObjectPool<T, I,
         ensures refused { IfErr result (RefusesPull (IsSome (pool_limit self.now)) (I.answers (pool_init self.now) None)) }
     {
         let of = &self.init;
-        self.chain.first().walk(self.limit(), &|| of.make())
+        self.chain.pull(self.limit(), &|| of.make())
+    }
+
+    /// Tells the next pulls that a page that was full has a free item now.
+    pub(crate) fn no_longer_full(&self, page_number: usize) {
+        self.chain.no_longer_full(page_number);
     }
 
     /// Leaves a value as it is kept.

@@ -83,10 +83,13 @@ impl<T: Drop, I: Init<T, K>, R: Reset<T, K>, K: Clean<T>> Drop for LinearOwnedRe
         let LinearOwnedReusable {
             pool,
             mut slot,
-            number: _,
+            number,
         } = self;
         pool.reset(&mut slot);
-        slot.free();
+        let (taken, value) = slot.into_parts();
+        if taken.free(value).was_full {
+            pool.no_longer_full(number);
+        }
     }
 }
 

@@ -1,7 +1,8 @@
 //! A chain of pages, which grows by a page at its end and never shrinks.
 //!
 //! This file has the chain and a page of it. Below it: where a link lies (`directory`), what a caller has learned of a
-//! link (`link_note`), what a linked page opened with (`opened_page`), and the walk from page to page for an item (`walk`).
+//! link (`link_note`), what a linked page opened with (`opened_page`), the walk from page to page for an item (`walk`), which
+//! pages may have a free item (`hints`), and a pull by such hints (`hinted`).
 //!
 //! No call waits for another thread. A link is set once, in `get_or_create_next` alone.
 ghost use Rattle.std.specs.Prelude.{◌≡◌, ◌+◌, ◌^◌, ◌<◌, Option, None, IfSome, IfNone, IfOk, IfErr};
@@ -18,6 +19,8 @@ use std::alloc::{AllocError, Global};
 use std::sync::Arc;
 
 mod directory;
+mod hinted;
+mod hints;
 mod link_note;
 mod opened_page;
 mod walk;

@@ -92,11 +92,13 @@ impl<T: Drop, I: Init<T, K>, R: Reset<T, K>, K: Clean<T>> Drop for LinearReusabl
             pool,
             lender: _,
             taken,
-            number: _,
+            number,
             mut value,
         } = self;
         pool.reset(&mut value);
-        taken.free(value);
+        if taken.free(value).was_full {
+            pool.no_longer_full(number);
+        }
     }
 }
 

@@ -28,6 +28,7 @@ mod steps;
 mod user_view;
 
 pub use full_seen::{Allocated, FullSeen, PullPass};
+pub(crate) use note::Returned;
 pub use note::{PageNote, Witness};
 pub use owned_slot::OwnedSlot;
 pub(crate) use owned_slot::OwnedTakenId;
@@ -242,7 +243,7 @@ impl<T, K: Clean<T>> Page<T, K> {
         ensures { IsReturned (slot_item slot.entry) result }
     {
         let (taken, value) = slot.into_parts();
-        taken.free(value)
+        taken.free(value).note
     }
 
     /// Whether no item was free at this moment.

@@ -12,6 +12,7 @@ use std::sync::atomic::Ordering::SeqCst;
 
 mod callers;
 mod first_example;
+mod hints;
 mod limits;
 mod one_thread;
 mod origins;

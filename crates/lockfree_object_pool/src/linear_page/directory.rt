@@ -1,9 +1,11 @@
 //! Where the links of a chain lie: row `b` has the links to the pages `2^b` to `2^(b+1) - 1`, and is made when the first of them is needed.
+//! Beside its link each page has a hint, which is set where the page may have a free item.
 ghost use Rattle.std.specs.Prelude.{◌≡◌, ◌<◌, length, IfOk, IfErr, IfSome};
 ghost use Rattle.once_cell.specs.Once.{cell_name};
 ghost use Rattle.lockfree_object_pool.specs.Refusal.{RefusesMaking};
 
 use super::LinkNote;
+use super::hints::{HINTS, HintWord};
 use super::opened_page::OpenedPage;
 use crate::PullError;
 use crate::clean::Clean;
@@ -14,10 +16,11 @@ use std::marker::Model;
 /// How many rows there are: one for each bit of a page's number.
 const ROWS: usize = 64;
 
-/// The links to some pages that follow each other.
+/// The links to some pages that follow each other, and the pages' hints.
 #[derive(Drop)]
 pub(super) struct Row<T, K: Clean<T>, O: Clean<T>> {
     pub(super) links: Vec<OnceBox<OpenedPage<T, K, O>>>,
+    hints: Vec<HintWord>,
 }
 
 impl<T: Drop, K: Clean<T>, O: Clean<T>> Row<T, K, O> {
@@ -30,8 +33,30 @@ impl<T: Drop, K: Clean<T>, O: Clean<T>> Row<T, K, O> {
         for _ in 0..len {
             links.push(OnceBox::new(alloc))?;
         }
-        Ok(Box::new(alloc, Row { links })?)
+        let hints = no_hints(alloc, len.div_ceil(HINTS))?;
+        Ok(Box::new(alloc, Row { links, hints })?)
     }
+
+    /// The first hint that is set, by its page's offset in the row.
+    fn first_hint(&self) -> Option<usize> {
+        for (index, word) in self.hints.iter().enumerate() {
+            if let Some(place) = word.first_from(0) {
+                return Some(index << 6 | place as usize);
+            }
+        }
+        None
+    }
+}
+
+/// Words in which no hint is set.
+fn no_hints(alloc: Global, words: usize) -> Result<Vec<HintWord>, PullError>
+    ensures refused { IfErr result (RefusesMaking ⊥) }
+{
+    let mut hints = Vec::with_capacity(alloc, words)?;
+    for _ in 0..words {
+        hints.push(HintWord::new())?;
+    }
+    Ok(hints)
 }
 
 /// The links of a chain. Contracts see the rows.
@@ -39,6 +64,8 @@ impl<T: Drop, K: Clean<T>, O: Clean<T>> Row<T, K, O> {
 pub(super) struct Directory<T, K: Clean<T>, O: Clean<T>> {
     alloc: Global,
     rows: Vec<OnceBox<Row<T, K, O>>>,
+    /// A hint a row, which is set where a hint of the row may be set.
+    hinted_rows: HintWord,
 }
 
 impl<T, K: Clean<T>, O: Clean<T>> Model for Directory<T, K, O> {
@@ -63,7 +90,11 @@ impl<T: Drop, K: Clean<T>, O: Clean<T>> Directory<T, K, O> {
         for _ in 0..ROWS {
             rows.push(OnceBox::new(alloc))?;
         }
-        Ok(Directory { alloc, rows })
+        Ok(Directory {
+            alloc,
+            rows,
+            hinted_rows: HintWord::new(),
+        })
     }
 
     pub(super) fn alloc(&self) -> Global {
@@ -76,6 +107,54 @@ impl<T: Drop, K: Clean<T>, O: Clean<T>> Directory<T, K, O> {
     {
         let place = self.place(number);
         place.row.get()?.links.get(place.offset)?.get()
+    }
+
+    /// The number of the first page that a hint names.
+    pub(super) fn hinted(&self) -> Option<usize>
+        ensures { IfSome result (λ number. 0 < number) }
+    {
+        let mut from = 0;
+        while from < u64::BITS {
+            let row = self.hinted_rows.first_from(from)?;
+            if let Some(number) = self.hinted_in(row) {
+                return Some(number);
+            }
+            self.hinted_rows.clear(row);
+            if self.hinted_in(row).is_some() {
+                self.hinted_rows.set(row);
+            }
+            from = row + 1;
+        }
+        None
+    }
+
+    /// The number of the first page of a row that a hint names.
+    fn hinted_in(&self, row: u32) -> Option<usize>
+        requires { row < 64 }
+        ensures { IfSome result (λ number. 0 < number) }
+    {
+        let offset = self.rows[row as usize].get()?.first_hint()?;
+        (1usize << row).checked_add(offset)
+    }
+
+    /// Says that a page may have a free item. It has to be called once the item is free.
+    pub(super) fn set_hint(&self, number: usize)
+        requires { 0 < number }
+    {
+        let place = self.place(number);
+        if let Some((word, bit)) = place.hint() {
+            word.set(bit);
+            self.hinted_rows.set(number.ilog2());
+        }
+    }
+
+    /// Says that a page was found full.
+    pub(super) fn clear_hint(&self, number: usize)
+        requires { 0 < number }
+    {
+        if let Some((word, bit)) = self.place(number).hint() {
+            word.clear(bit);
+        }
     }
 
     /// Where the link to a page lies.
@@ -119,6 +198,15 @@ impl<T, K: Clean<T>, O: Clean<T>> Clone for LinkPlace<'_, T, K, O> {
 impl<'c, T: Drop, K: Clean<T>, O: Clean<T>> LinkPlace<'c, T, K, O> {
     ghost use Rattle.lockfree_object_pool.specs.LinearPage.{link_at};
     ghost use Rattle.lockfree_object_pool.specs.LinkNote.{IsNewNoteOf, known_link, known_next, link_cell};
+
+    /// The word of the page's hint, and the hint's place in it, where the row is there.
+    fn hint(&self) -> Option<(&'c HintWord, u32)>
+        ensures { IfSome result (λ hint. hint.1 < 64) }
+    {
+        let hints = &self.row.get()?.hints;
+        let word = hints.get(self.offset / HINTS)?;
+        Some((word, (self.offset % HINTS) as u32))
+    }
 
     /// A note of the link, where the row is there.
     pub(super) fn known_row(&self) -> Option<LinkNote<T, K, O>>

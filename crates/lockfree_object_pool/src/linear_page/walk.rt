@@ -156,6 +156,7 @@ impl<'c, T: Drop, K: Clean<T>, O: Clean<T>> LinearPage<'c, T, K, O> {
         ensures refused { IfErr result (RefusesMaking (I.post init.now None)) }
     {
         let made = LinearPage::new(self.directory, page, number).get_or_create_next(seen, init)?;
+        self.directory.set_hint(made.number);
         Ok(made.page)
     }
 }

@@ -22,6 +22,15 @@ pub struct PageNote<T> {
     ghost carries_none: { seat.me.1 ≡ [] } by { same_carrying T.code _ _ },
 }
 
+/// How an item came back.
+#[derive(Drop)]
+pub(crate) struct Returned<T> {
+    /// What the user that had it knows.
+    pub(crate) note: PageNote<T>,
+    /// Whether no item of its page was free before.
+    pub(crate) was_full: bool,
+}
+
 impl<T> PageNote<T> {
     ghost use Rattle.lockfree_object_pool.specs.Note.{note_page, note_history, witness_page, witness_history};
 

@@ -5,7 +5,7 @@ ghost use Rattle.lockfree_object_pool.specs.OneProof.{same_page, same_holding, s
 ghost use Rattle.lockfree_object_pool.specs.Page.{page_identity};
 
 use super::user_view::UserSeat;
-use super::{Page, PageId, PageNote};
+use super::{Page, PageId, PageNote, Returned};
 use crate::clean::Clean;
 use std::ops::{Deref, DerefMut};
 use std::sync::Arc;
@@ -35,15 +35,17 @@ impl<T, K: Clean<T>> OwnedTakenId<T, K> {
     }
 
     /// The value goes home, and the id is free again.
-    pub(crate) fn free(self, value: T) -> PageNote<T>
+    pub(crate) fn free(self, value: T) -> Returned<T>
     where
         T: Drop,
         requires { K.meets value }
-        ensures { IsReturned (owned_taken_item self value) result }
+        ensures { IsReturned (owned_taken_item self value) result.note }
     {
         let OwnedTakenId { page, seat, id } = self;
-        PageNote {
-            seat: page.give(seat, id, value),
+        let (seat, was_full) = page.give(seat, id, value);
+        Returned {
+            note: PageNote { seat },
+            was_full,
         }
     }
 }
@@ -100,7 +102,7 @@ impl<T, K: Clean<T>> OwnedSlot<T, K> {
         ensures { IsReturned (owned_slot_item self) result }
     {
         let (taken, value) = self.into_parts();
-        taken.free(value)
+        taken.free(value).note
     }
 }
 

@@ -6,7 +6,7 @@ ghost use Rattle.lockfree_object_pool.specs.Page.{page_identity};
 
 use super::rule::Witnesses;
 use super::user_view::UserSeat;
-use super::{OwnedSlot, OwnedTakenId, Page, PageId, PageNote, Witness};
+use super::{OwnedSlot, OwnedTakenId, Page, PageId, PageNote, Returned, Witness};
 use crate::clean::Clean;
 use crate::lender::Lender;
 use std::ops::{Deref, DerefMut};
@@ -37,13 +37,15 @@ impl<'s, T, K: Clean<T>> TakenId<'s, T, K> {
     }
 
     /// The value goes home, and the id is free again.
-    pub(crate) fn free(self, value: T) -> PageNote<T>
+    pub(crate) fn free(self, value: T) -> Returned<T>
         requires { K.meets value }
-        ensures { IsReturned (taken_item self.entry value) result }
+        ensures { IsReturned (taken_item self.entry value) result.note }
     {
         let TakenId { page, seat, id } = self;
-        PageNote {
-            seat: page.give(seat, id, value),
+        let (seat, was_full) = page.give(seat, id, value);
+        Returned {
+            note: PageNote { seat },
+            was_full,
         }
     }
 }

@@ -48,26 +48,26 @@ impl<T, K: Clean<T>> Page<T, K> {
         words.exchange(seat, id as usize, None)
     }
 
-    /// Moves the value home, then sets its bit.
-    pub(super) fn give(&self, mut seat: UserSeat<T>, id: PageId, value: T) -> UserSeat<T>
+    /// Moves the value home, then sets its bit. Whether no other bit was set then.
+    pub(super) fn give(&self, mut seat: UserSeat<T>, id: PageId, value: T) -> (UserSeat<T>, bool)
         requires page { seat.table_id ≡ page_identity self.now }
         requires in_page { id < 32 }
         requires holds { seat.me.0.held ≡ Some id }
         requires here { seat.me.0.gone ≡ false }
         requires carries { seat.me.1 ≡ (id, None) ∷ [] }
         requires meets { K.meets value }
-        ensures page { result.table_id ≡ seat.table_id }
-        ensures carries_none { result.me.1 ≡ [] }
-        ensures holds_none { result.me.0.held ≡ None }
-        ensures here { result.me.0.gone ≡ false }
-        ensures returned { GoesOn (Gave result.me.0.user id value ∷ []) seat.me.0 result.me.0 }
+        ensures page { result.0.table_id ≡ seat.table_id }
+        ensures carries_none { result.0.me.1 ≡ [] }
+        ensures holds_none { result.0.me.0.held ≡ None }
+        ensures here { result.0.me.0.gone ≡ false }
+        ensures returned { GoesOn (Gave result.0.me.0.user id value ∷ []) seat.me.0 result.0.me.0 }
     {
         let words = &self.table.shared;
         match words.exchange(&mut seat, id as usize, Some(value)) {
             None => {}
             Some(_) => unreachable!(),
         }
-        words.fetch_or::<SetBit>(&mut seat, 0, with_bit(0, id) as u64);
-        seat
+        let word = words.fetch_or::<SetBit>(&mut seat, 0, with_bit(0, id) as u64);
+        (seat, word == 0)
     }
 }

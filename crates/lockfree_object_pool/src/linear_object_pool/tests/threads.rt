@@ -104,6 +104,50 @@ fn eight_threads_see_reset_values(rt: HostRuntime) -> Result<(), Fail> {
     Ok(())
 }
 
+/// Pulls, writes its own mark and drops, many times. Whether each item had the value of a reset, and then the mark alone.
+fn mark_often(shared: &Shared, mark: u32) -> bool {
+    for _ in 0..10_000 {
+        let Ok(mut item) = shared.pool.pull() else {
+            return false;
+        };
+        if *item != 0 {
+            return false;
+        }
+        *item = mark;
+        thread::yield_now();
+        if *item != mark {
+            return false;
+        }
+    }
+    true
+}
+
+#[test]
+fn eight_threads_share_what_ten_full_pages_got_back(rt: HostRuntime) -> Result<(), Fail> {
+    let shared = unbounded(rt.alloc(), &new_calls(rt.alloc())?)?;
+    let mut kept = Vec::with_capacity(rt.alloc(), 312)?;
+    let mut returned = Vec::with_capacity(rt.alloc(), 8)?;
+    for index in 0..320 {
+        let item = shared.pool.pull()?;
+        if index % 40 == 0 {
+            returned.push(item)?;
+        } else {
+            kept.push(item)?;
+        }
+    }
+    drop(returned);
+    let mut threads = Vec::with_capacity(rt.alloc(), 8)?;
+    for mark in 1..9 {
+        let shared = Arc::try_clone(&shared)?;
+        threads.push(thread::spawn(&rt, move || mark_often(&shared, mark))?)?;
+    }
+    for thread in threads {
+        assert!(rt; thread.join(&rt));
+    }
+    assert!(rt; kept.iter().all(|item| **item == 0));
+    Ok(())
+}
+
 /// How many of eight pulls gave an item, and how many were refused by the limit. The items are held until five threads hold theirs.
 fn hold_eight(alloc: Global, shared: &Shared) -> Option<(usize, usize)> {
     let mut items = Vec::with_capacity(alloc, 8).ok()?;

@@ -1,0 +1,100 @@
+//! A pull from a chain: from its first page, else from a page that a hint names, else by the walk.
+//!
+//! A page's hint is set where the page may have a free item. The first page has none, since each pull asks it first. Who
+//! frees an item of a page that was full sets the hint after that, and so does who links a page. A pull that leaves the page
+//! full that it was led to clears the hint, looks at the page again, and sets the hint again where an item came back. So an
+//! item that came back before the clearing is seen by that look, and one that came back after it sets the hint itself: once
+//! those calls have ended, each page with a free item has its hint. Between them a hint may be missing, which costs a walk,
+//! or be left over, which costs a look. Neither decides anything: a page is linked and a limit is answered by the walk
+//! alone, which finds each page full on its own way.
+ghost use Rattle.std.specs.Prelude.{◌≡◌, ◌≤◌, ◌<◌, Option, None, IfSome, IsSome, IfOk, IfErr};
+ghost use Rattle.std.specs.Arc.{arc_value};
+ghost use Rattle.lockfree_object_pool.specs.Item.{HasOrigin};
+ghost use Rattle.lockfree_object_pool.specs.LinearPage.{first_page, IsFoundFrom};
+ghost use Rattle.lockfree_object_pool.specs.Page.{page_identity};
+ghost use Rattle.lockfree_object_pool.specs.Refusal.{RefusesPull};
+ghost use Rattle.lockfree_object_pool.specs.Slot.{slot_item};
+
+use super::Chain;
+use super::walk::Found;
+use crate::PullError;
+use crate::clean::Clean;
+use crate::page::{Allocated, Page, PullPass};
+
+impl<T: Drop, K: Clean<T>, O: Clean<T>> Chain<T, K, O> {
+    /// An item of the first page, or of a page that a hint names, or of the first page that has one.
+    pub(crate) fn pull<I: Fn() -> Option<T>>(
+        &self,
+        limit: Option<usize>,
+        init: &I,
+    ) -> Result<Found<'_, T, K>, PullError>
+        requires some_page { IfSome limit (λ pages. 1 ≤ pages) }
+        requires callable { I.pre init.now }
+        requires meets { (answer : Option T) → I.post init.now answer → IfSome answer K.meets }
+        requires opens { (answer : Option T) → I.post init.now answer → IfSome answer O.meets }
+        ensures found { IfOk result (λ found. IsFoundFrom K.meets (first_page self.now) (slot_item found.slot) found.passed) }
+        ensures history { IfOk result (λ found. HasOrigin O.meets (slot_item found.slot)) }
+        ensures of_page { IfOk result (λ found. (slot_item found.slot).page ≡ page_identity (arc_value found.page.now)) }
+        ensures within { IfOk result (λ found. IfSome limit (λ pages. found.passed < pages)) }
+        ensures refused { IfErr result (RefusesPull (IsSome limit) (I.post init.now None)) }
+    {
+        let pass = PullPass::new();
+        let page = self.first.owner();
+        if let Allocated::Slot(slot) = page.try_alloc(&pass)? {
+            return Ok(Found {
+                slot,
+                page,
+                passed: 0,
+            });
+        }
+        match self.pull_hinted(limit, &pass) {
+            Some(found) => Ok(found),
+            None => self.first().walk(limit, init),
+        }
+    }
+
+    /// An item of the first page that a hint names.
+    fn pull_hinted(&self, limit: Option<usize>, pass: &PullPass) -> Option<Found<'_, T, K>>
+        ensures found { IfSome result (λ found. IsFoundFrom K.meets (first_page self.now) (slot_item found.slot) found.passed) }
+        ensures history { IfSome result (λ found. HasOrigin O.meets (slot_item found.slot)) }
+        ensures of_page { IfSome result (λ found. (slot_item found.slot).page ≡ page_identity (arc_value found.page.now)) }
+        ensures within { IfSome result (λ found. IfSome limit (λ pages. found.passed < pages)) }
+    {
+        let number = self.directory.hinted()?;
+        if let Some(pages) = limit
+            && pages <= number
+        {
+            return None;
+        }
+        let page = self.directory.linked(number)?.owner();
+        let answer = page.try_alloc(pass).ok()?;
+        if page.is_full() {
+            self.left_full(number, page);
+        }
+        match answer {
+            Allocated::Slot(slot) => Some(Found {
+                slot,
+                page,
+                passed: number,
+            }),
+            Allocated::Full(_) => None,
+        }
+    }
+
+    /// Clears the hint of a page that was seen full, and sets it again where an item came back meanwhile.
+    fn left_full(&self, number: usize, page: &Page<T, K>)
+        requires { 0 < number }
+    {
+        self.directory.clear_hint(number);
+        if !page.is_full() {
+            self.directory.set_hint(number);
+        }
+    }
+
+    /// Sets the hint of a page that has a free item now and was full before.
+    pub(crate) fn no_longer_full(&self, number: usize) {
+        if number > 0 {
+            self.directory.set_hint(number);
+        }
+    }
+}

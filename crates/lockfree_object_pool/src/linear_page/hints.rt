@@ -1,0 +1,50 @@
+//! Hints: bits that are set where a free item may lie. They save steps and promise nothing.
+ghost use Rattle.std.specs.Prelude.{◌≤◌, ◌<◌, IfSome};
+
+use std::sync::atomic::AtomicU64;
+use std::sync::atomic::Ordering::SeqCst;
+
+/// How many hints one word has.
+pub(super) const HINTS: usize = 64;
+
+/// A word of hints that threads share.
+#[derive(Drop)]
+pub(super) struct HintWord {
+    bits: AtomicU64,
+}
+
+impl HintWord {
+    /// A word in which no hint is set.
+    pub(super) fn new() -> HintWord {
+        HintWord {
+            bits: AtomicU64::new(0),
+        }
+    }
+
+    /// The first hint from this place on that is set.
+    pub(super) fn first_from(&self, from: u32) -> Option<u32>
+        requires { from < 64 }
+        ensures { IfSome result (λ place. (from ≤ place) × (place < 64)) }
+    {
+        let bits = self.bits.load(SeqCst) >> from;
+        let place = from + bits.trailing_zeros();
+        if place < u64::BITS { Some(place) } else { None }
+    }
+
+    /// Sets a hint. One that is set already costs a load alone.
+    pub(super) fn set(&self, place: u32)
+        requires { place < 64 }
+    {
+        let hint = 1 << place;
+        if self.bits.load(SeqCst) & hint == 0 {
+            self.bits.fetch_or(hint, SeqCst);
+        }
+    }
+
+    /// Clears a hint.
+    pub(super) fn clear(&self, place: u32)
+        requires { place < 64 }
+    {
+        self.bits.fetch_and(!(1 << place), SeqCst);
+    }
+}
