@@ -1,4 +1,4 @@
-//! A pool of buffers: one is pulled, written and dropped, and comes again empty.
+//! A pool of buffers: each comes empty, however often it was used before.
 #![tactic(auto)]
 
 ghost use Rattle.std.specs.Prelude.{◌≡◌, IfOk};
@@ -9,26 +9,20 @@ use lockfree_object_pool::{LinearObjectPool, PullError};
 use std::alloc::Global;
 use std::io;
 
-/// How many bytes were written to a buffer, and how many are in it when it comes again.
-fn use_twice(alloc: Global) -> Result<(usize, usize), PullError>
-    ensures comes_empty { IfOk result (λ lengths. lengths.1 ≡ 0) }
+fn length_of_a_used_one(alloc: Global) -> Result<usize, PullError>
+    ensures comes_empty { IfOk result (λ length. length ≡ 0) }
 {
-    let pool: LinearObjectPool<Vec<u8>, _, _, Empty> = LinearObjectPool::new(
-        alloc,
-        WithCapacity::new(alloc, 4096),
-        Clear,
-    )?;
+    let maker = WithCapacity::new(alloc, 4096);
+    let pool: LinearObjectPool<Vec<u8>, _, _, Empty> = LinearObjectPool::new(alloc, maker, Clear)?;
     let mut buffer = pool.pull()?;
     buffer.extend_from_slice(b"hello")?;
-    let written = buffer.len();
     drop(buffer); // it is in the pool again
-    let again = pool.pull()?;
-    Ok((written, again.len()))
+    Ok(pool.pull()?.len())
 }
 
 fn main(rt: HostRuntime) -> io::Result<()> {
-    match use_twice(rt.alloc()) {
-        Ok((written, again)) => println!(rt; "{written} bytes, then {again}"),
+    match length_of_a_used_one(rt.alloc()) {
+        Ok(length) => println!(rt; "{length} bytes in a buffer that was used before"),
         Err(refused) => println!(rt; "refused: {refused}"),
     }
 }
