@@ -1,0 +1,133 @@
+//! Calls are read and done one after another, and each is answered.
+use crate::call::{Call, Origin, call_of};
+use crate::held::{Given, Held, Place, Source};
+use crate::item::{Item, Shown, Tally};
+use anyhow::{Context, Result, ensure};
+use std::io::{BufRead, BufReader, BufWriter, Write};
+use std::ops::DerefMut;
+use std::sync::Arc;
+use std::{fmt, io, mem};
+
+/// What a call gave.
+#[derive(Clone, Copy, Debug)]
+enum Answer {
+    /// An item came.
+    Came(Shown, Option<Place>),
+    /// The pool has no item to give, or attaches none.
+    Refused,
+    /// What was written to the item before.
+    Was(u64),
+    /// The item went.
+    Went,
+}
+
+impl fmt::Display for Answer {
+    fn fmt<W: fmt::Write>(&self, f: &mut fmt::Formatter<W>) -> fmt::Result {
+        match self {
+            Answer::Came(Shown { number, content }, None) => write!(
+                f,
+                "item {number} has {content}"
+            ),
+            Answer::Came(Shown { number, content }, Some(Place { page, id })) => {
+                write!(f, "item {number} at {page} {id} has {content}")
+            }
+            Answer::Refused => write!(f, "refused"),
+            Answer::Was(content) => write!(f, "had {content}"),
+            Answer::Went => write!(f, "went"),
+        }
+    }
+}
+
+/// Does the calls of standard input, and answers each by a line, with the counts. At the end the held items are dropped.
+pub fn replay<
+    R: Input + Print + AllocGlobal,
+    A: DerefMut<Target = Item> + Drop,
+    B: DerefMut<Target = Item> + Drop,
+    P: Fn(Source) -> Option<Given<A>>,
+    Q: Fn(Source) -> Option<Given<B>>,
+>(rt: &R, tally: &Arc<Tally>, borrowed: &P, owned: &Q) -> Result<()>
+    requires borrowed { P.IsAlwaysCallable borrowed.now }
+    requires owned { Q.IsAlwaysCallable owned.now }
+{
+    let mut held = Vec::new(rt.alloc());
+    let mut output = BufWriter::new(rt.alloc(), io::writer(rt))?;
+    for line in BufReader::new(rt.alloc(), rt.reader())?.lines(rt.alloc()) {
+        let line = line?;
+        let words: Vec<&str> = line.split_whitespace().collect(rt.alloc())?;
+        let answer = match call_of(&words).context("a line is no call")? {
+            Call::Borrow(origin) => {
+                let given = borrowed(source_of(tally, origin)?);
+                hold_borrowed(&mut held, given)?
+            }
+            Call::Own(origin) => {
+                let given = owned(source_of(tally, origin)?);
+                hold_owned(&mut held, given)?
+            }
+            Call::Write { place, content } => write(&mut held, place, content)?,
+            Call::Drop(place) => {
+                drop(taken(&mut held, place)?);
+                Answer::Went
+            }
+            Call::Forget(place) => {
+                mem::forget(taken(&mut held, place)?);
+                Answer::Went
+            }
+        };
+        writeln!(output, "{answer}: {}", **tally)?;
+    }
+    output.flush()?;
+    Ok(())
+}
+
+/// What a pool is asked for.
+fn source_of(tally: &Arc<Tally>, origin: Origin) -> Result<Source> {
+    match origin {
+        Origin::Pool => Ok(Source::Pool),
+        Origin::Caller(number) => {
+            let item = Item::new(tally, number).context("the counts have no more owners")?;
+            Ok(Source::Caller(item))
+        }
+    }
+}
+
+/// Holds an item that came under a borrow.
+fn hold_borrowed<A: DerefMut<Target = Item> + Drop, B: Drop>(
+    held: &mut Vec<Held<A, B>>,
+    given: Option<Given<A>>,
+) -> Result<Answer> {
+    let Some(Given { item, place }) = given else {
+        return Ok(Answer::Refused);
+    };
+    let shown = item.shown();
+    held.push(Held::Borrowed(item))?;
+    Ok(Answer::Came(shown, place))
+}
+
+/// Holds an item that came with an owner.
+fn hold_owned<A: Drop, B: DerefMut<Target = Item> + Drop>(
+    held: &mut Vec<Held<A, B>>,
+    given: Option<Given<B>>,
+) -> Result<Answer> {
+    let Some(Given { item, place }) = given else {
+        return Ok(Answer::Refused);
+    };
+    let shown = item.shown();
+    held.push(Held::Owned(item))?;
+    Ok(Answer::Came(shown, place))
+}
+
+/// Writes to the item at a place.
+fn write<A: DerefMut<Target = Item>, B: DerefMut<Target = Item>>(
+    held: &mut Vec<Held<A, B>>,
+    place: usize,
+    content: u64,
+) -> Result<Answer> {
+    let item = held.get_mut(place).context("no such item")?;
+    Ok(Answer::Was(item.write(content)))
+}
+
+/// The item at a place, which the last one takes.
+fn taken<A: Drop, B: Drop>(held: &mut Vec<Held<A, B>>, place: usize) -> Result<Held<A, B>> {
+    ensure!(place < held.len(), "no such item");
+    Ok(held.swap_remove(place))
+}
