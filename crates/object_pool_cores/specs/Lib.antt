@@ -1,6 +1,7 @@
 pub mod Attach
 pub mod Bag
 pub mod Buffered
+pub mod Buffers
 pub mod CommandText
 pub mod Engine
 pub mod Fresh

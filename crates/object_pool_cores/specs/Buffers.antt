@@ -1,0 +1,27 @@
+-- What a buffer pool and its buffers show.
+use Rattle.std.specs.Prelude.{ℕ, List, Option}
+use Rattle.std.specs.Global.{Vec}
+use Rattle.lockfree_object_pool.specs.LinearPool.{pool_init, pool_limit, reusable_item, reusable_number}
+use Rattle.object_pool_cores.specs.declared.buffers.BufferPool.{BufferPool}
+use Rattle.object_pool_cores.specs.declared.buffers.buffer.Buffer.{Buffer}
+
+module _ {I R K : Type 0} where
+  -- what makes the pool's buffers
+  abbrev pub maker_of : BufferPool I R (Vec ℕ) K → I
+  maker_of buffers = pool_init buffers.pool
+
+  -- how many pages the pool may have
+  abbrev pub limit_of_pages : BufferPool I R (Vec ℕ) K → Option ℕ
+  limit_of_pages buffers = pool_limit buffers.pool
+
+  -- the bytes in the buffer
+  abbrev pub bytes_of : Buffer I R (Vec ℕ) K → List ℕ
+  bytes_of buffer = (reusable_item buffer.item).value.items
+
+  -- the number of the buffer's page in the pool
+  abbrev pub page_of : Buffer I R (Vec ℕ) K → ℕ
+  page_of buffer = reusable_number buffer.item
+
+  -- the number of the buffer in its page
+  abbrev pub id_of : Buffer I R (Vec ℕ) K → ℕ
+  id_of buffer = (reusable_item buffer.item).id

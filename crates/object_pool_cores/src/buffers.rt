@@ -1,0 +1,82 @@
+//! A pool of byte buffers of so many pages at most, which threads share without a lock.
+//!
+//! A pulled buffer is empty, whatever was done with it before, and it returns to its pool by itself.
+ghost use Rattle.std.specs.Prelude.{◌≡◌, ◌≤◌, ◌<◌, ⊤, [], None, Some, IfOk, IfErr, IfSome, vec_capacity};
+
+use lockfree_object_pool::clean::Clean;
+use lockfree_object_pool::closures::{Init, Reset};
+use lockfree_object_pool::{LinearObjectPool, PullError};
+use std::alloc::Global;
+use std::fmt::{self, Debug, Formatter, Write};
+
+mod buffer;
+
+pub use buffer::Buffer;
+pub use lockfree_object_pool::clean::Empty;
+pub use lockfree_object_pool::closures::{Clear, WithCapacity};
+
+/// An empty buffer with room for so many bytes, or `None` where there is no memory for it.
+pub fn fresh(alloc: Global, capacity: usize) -> Option<Vec<u8>>
+    ensures empty { IfSome result (λ bytes. bytes.items ≡ []) }
+    ensures room { IfSome result (λ bytes. capacity ≤ vec_capacity bytes) }
+{
+    WithCapacity::new(alloc, capacity).make()
+}
+
+/// Leaves a buffer empty, with the room that it had.
+pub fn clear(bytes: &mut Vec<u8>)
+    ensures empty { bytes.new.items ≡ [] }
+    ensures room { vec_capacity bytes.new ≡ vec_capacity bytes.old }
+{
+    Clear.reset(bytes);
+}
+
+/// A pool of byte buffers. What makes and resets them leaves each one empty.
+///
+/// `T` and `K` are always as they stand here: a type with a pool in it is checked where what its pool's values
+/// are, and which condition they meet, are parameters of it.
+#[derive(Drop)]
+pub struct BufferPool<I: Init<T, K>, R: Reset<T, K>, T = Vec<u8>, K: Clean<T> = Empty> {
+    pool: LinearObjectPool<T, I, R, K>,
+}
+
+impl<I: Init<Vec<u8>, Empty>, R: Reset<Vec<u8>, Empty>> BufferPool<I, R> {
+    ghost use Rattle.lockfree_object_pool.specs.Refusal.{RefusesMaking, RefusesPull};
+    ghost use Rattle.object_pool_cores.specs.Buffers.{maker_of, limit_of_pages, bytes_of, page_of};
+
+    /// A pool of one page, which grows to `pages` pages at most. A page has 32 buffers.
+    pub fn new(
+        alloc: Global,
+        init: I,
+        reset: R,
+        pages: usize,
+    ) -> Result<BufferPool<I, R>, PullError>
+        requires some_page { 1 ≤ pages }
+        ensures maker { IfOk result (λ pool. maker_of pool ≡ init) }
+        ensures limit { IfOk result (λ pool. limit_of_pages pool ≡ Some pages) }
+        ensures refused { IfErr result (RefusesMaking (I.answers init None)) }
+    {
+        let pool = LinearObjectPool::with_limit(alloc, init, reset, pages)?;
+        Ok(BufferPool { pool })
+    }
+
+    /// An empty buffer.
+    pub fn pull(&self) -> Result<Buffer<'_, I, R>, PullError>
+        ensures empty { IfOk result (λ buffer. bytes_of buffer ≡ []) }
+        ensures within { IfOk result (λ buffer. IfSome (limit_of_pages self.now) (λ pages. page_of buffer < pages)) }
+        ensures refused { IfErr result (RefusesPull ⊤ (I.answers (maker_of self.now) None)) }
+    {
+        Ok(Buffer::new(self.pool.pull()?))
+    }
+}
+
+impl<I: Init<Vec<u8>, Empty>, R: Reset<Vec<u8>, Empty>> Debug for BufferPool<I, R> {
+    fn fmt<W: Write>(&self, f: &mut Formatter<W>) -> fmt::Result {
+        f.debug_struct("BufferPool")
+            .field("pool", &self.pool)
+            .finish()
+    }
+}
+
+#[cfg(test)]
+mod tests;

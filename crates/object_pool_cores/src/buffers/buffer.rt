@@ -1,0 +1,71 @@
+//! A buffer that was pulled from a pool.
+ghost use Rattle.std.specs.Prelude.{◌≡◌, ◌<◌, ◌++◌, OnOk, OnErr, IfErr};
+
+use crate::buffers::Empty;
+use lockfree_object_pool::clean::Clean;
+use lockfree_object_pool::closures::{Init, Reset};
+use lockfree_object_pool::page::PageId;
+use lockfree_object_pool::{LinearReusable, PullError};
+use std::fmt::{self, Debug, Formatter, Write};
+
+/// A pulled buffer. Its end resets it and brings it back to its pool.
+///
+/// `T` and `K` are always as they stand here, as in [`BufferPool`](crate::buffers::BufferPool).
+#[derive(Drop)]
+pub struct Buffer<'p, I: Init<T, K>, R: Reset<T, K>, T: Drop = Vec<u8>, K: Clean<T> = Empty> {
+    item: LinearReusable<'p, T, I, R, K>,
+}
+
+impl<'p, I: Init<Vec<u8>, Empty>, R: Reset<Vec<u8>, Empty>> Buffer<'p, I, R> {
+    ghost use Rattle.lockfree_object_pool.specs.LinearPool.{reusable_item, reusable_number};
+    ghost use Rattle.lockfree_object_pool.specs.declared.pull_error.PullError.TheVariants.{Memory};
+    ghost use Rattle.object_pool_cores.specs.Buffers.{bytes_of, page_of, id_of};
+
+    pub(super) fn new(item: LinearReusable<'p, Vec<u8>, I, R, Empty>) -> Buffer<'p, I, R>
+        ensures bytes { bytes_of result ≡ (reusable_item item.entry).value.items }
+        ensures page { page_of result ≡ reusable_number item.entry }
+    {
+        Buffer { item }
+    }
+
+    pub fn as_slice(&self) -> &[u8]
+        ensures { result.now ≡ bytes_of self.now }
+    {
+        self.item.as_slice()
+    }
+
+    /// Puts bytes behind those that are there.
+    pub fn append(&mut self, bytes: &[u8]) -> Result<(), PullError>
+        ensures ok { OnOk result (bytes_of self.new ≡ bytes_of self.old ++ bytes.now) }
+        ensures err { OnErr result (bytes_of self.new ≡ bytes_of self.old) }
+        ensures refused { IfErr result (λ error. error ≡ Memory) }
+        ensures page { page_of self.new ≡ page_of self.old }
+        ensures id { id_of self.new ≡ id_of self.old }
+    {
+        match self.item.extend_from_slice(bytes) {
+            Ok(()) => Ok(()),
+            Err(_) => Err(PullError::Memory),
+        }
+    }
+
+    /// The number of the buffer's page in the pool, counted from 0.
+    pub fn page_number(&self) -> usize
+        ensures { result ≡ page_of self.now }
+    {
+        self.item.page_number()
+    }
+
+    /// The number of the buffer in its page.
+    pub fn page_id(&self) -> PageId
+        ensures value { result ≡ id_of self.now }
+        ensures in_page { result < 32 }
+    {
+        self.item.page_id()
+    }
+}
+
+impl<I: Init<Vec<u8>, Empty>, R: Reset<Vec<u8>, Empty>> Debug for Buffer<'_, I, R> {
+    fn fmt<W: Write>(&self, f: &mut Formatter<W>) -> fmt::Result {
+        Debug::fmt(&self.item, f)
+    }
+}
