@@ -19,19 +19,38 @@ OURS = HERE.parent / "crates" / "bench"
 LINE = re.compile(r"(.*): (\d+) in (\d+) ns, (\d+) kB\n")
 
 KINDS = ["linear", "spin_lock", "mutex"]
-# What a row is called, the work, how often it is done, and by how many threads.
+
+
+class Work(NamedTuple):
+    """What is done on each kind of pool, how often, and by how many threads."""
+
+    name: str
+    words: str
+    linear_turns: int
+    other_turns: int
+    threads: int = 1
+
+    def turns(self, kind: str) -> int:
+        return self.linear_turns if kind == "linear" else self.other_turns
+
+    def task(self, kind: str) -> str:
+        return f"{kind} {self.words} {self.turns(kind)}"
+
+
+# Turns of a linear pool pass by its full pages.
 WORKS = [
-    ("pull and drop", "pull 0", 1_000_000, 1),
-    ("owned pull and drop", "pull_owned 0", 1_000_000, 1),
-    ("32 held", "pull 32", 1_000_000, 1),
-    ("1,024 held", "pull 1024", 200_000, 1),
-    ("32,768 held", "pull 32768", 10_000, 1),
-    ("1,024 owned held", "pull_owned 1024", 200_000, 1),
-    ("2 threads", "share 2 0", 300_000, 2),
-    ("4 threads", "share 4 0", 200_000, 4),
-    ("1,000 full pages, 4 threads", "share 4 32000", 5_000, 4),
-    ("262,144 pulled and held", "hold", 262_144, 1),
+    Work("pull and drop", "pull 0", 1_000_000, 1_000_000),
+    Work("owned pull and drop", "pull_owned 0", 1_000_000, 1_000_000),
+    Work("32 held", "pull 32", 1_000_000, 1_000_000),
+    Work("1,024 held", "pull 1024", 200_000, 1_000_000),
+    Work("32,768 held", "pull 32768", 10_000, 1_000_000),
+    Work("1,024 owned held", "pull_owned 1024", 200_000, 1_000_000),
+    Work("2 threads", "share 2 0", 300_000, 300_000, threads=2),
+    Work("4 threads", "share 4 0", 200_000, 200_000, threads=4),
+    Work("1,000 full pages, 4 threads", "share 4 32000", 5_000, 200_000, threads=4),
 ]
+HOLD = Work("262,144 pulled and held", "hold", 262_144, 262_144)
+HOLD_NOTHING = Work("nothing held", "hold", 0, 0)
 
 
 class Run(NamedTuple):
@@ -113,22 +132,21 @@ def times(bests: dict[str, list[Best]]) -> None:
     """Prints nanoseconds a turn, and their ratio."""
     row(["Work", "Pool", "Here, ns", "Original, ns", "Ratio"])
     row(["---"] * 5)
-    for name, work, turns, _ in WORKS:
+    for work in [*WORKS, HOLD]:
         for kind in KINDS:
-            ours, original = bests[f"{kind} {work} {turns}"]
-            here, there = ours.nanoseconds / turns, original.nanoseconds / turns
-            row([name, kind, f"{here:,.1f}", f"{there:,.1f}", f"{here / there:.2f}"])
+            here, there = [best.nanoseconds / work.turns(kind) for best in bests[work.task(kind)]]
+            row([work.name, kind, f"{here:,.1f}", f"{there:,.1f}", f"{here / there:.2f}"])
 
 
 def memory(bests: dict[str, list[Best]]) -> None:
     """Prints bytes an item that is held, its reusable with it, and their ratio."""
-    name, work, turns, _ = WORKS[-1]
     print()
-    row([name, "Here, bytes an item", "Original, bytes an item", "Ratio"])
+    row([HOLD.name, "Here, bytes an item", "Original, bytes an item", "Ratio"])
     row(["---"] * 4)
     for kind in KINDS:
-        full, empty = bests[f"{kind} {work} {turns}"], bests[f"{kind} {work} 0"]
-        here, there = [(a.kilobytes - b.kilobytes) * 1024 / turns for a, b in zip(full, empty)]
+        full, empty = bests[HOLD.task(kind)], bests[HOLD_NOTHING.task(kind)]
+        kilobytes = [a.kilobytes - b.kilobytes for a, b in zip(full, empty)]
+        here, there = [1024 * number / HOLD.turns(kind) for number in kilobytes]
         row([kind, f"{here:.1f}", f"{there:.1f}", f"{here / there:.2f}"])
 
 
@@ -138,9 +156,8 @@ def main() -> None:
     rounds = int(sys.argv[2]) if len(sys.argv) == 3 else 7
     if rounds < 1:
         raise SystemExit(__doc__)
-    tasks = {f"{kind} hold 0": 1 for kind in KINDS}
-    for _, work, turns, threads in WORKS:
-        tasks.update({f"{kind} {work} {turns}": threads for kind in KINDS})
+    works = [*WORKS, HOLD, HOLD_NOTHING]
+    tasks = {work.task(kind): work.threads for work in works for kind in KINDS}
     bests = measure(build(Path(sys.argv[1])), tasks, rounds)
     times(bests)
     memory(bests)
