@@ -4,6 +4,7 @@ pub mod Guard
 pub mod Item
 pub mod Kept
 pub mod LastIn
+pub mod Lends
 pub mod LinearPage
 pub mod LinearPool
 pub mod LinkNote

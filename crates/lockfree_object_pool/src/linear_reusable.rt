@@ -1,5 +1,5 @@
 //! A value that was pulled from a linear pool, under a borrow of the pool.
-ghost use Rattle.std.specs.Prelude.{◌≡◌, ◌<◌, []};
+ghost use Rattle.std.specs.Prelude.{◌≡◌, ◌<◌};
 
 use crate::clean::{AnyValue, Clean};
 use crate::closures::{Init, Reset};
@@ -71,15 +71,14 @@ impl<T: Drop, I: Init<T, K>, R: Reset<T, K>, K: Clean<T>> Deref for LinearReusab
 
 impl<T: Drop, I: Init<T, K>, R: Reset<T, K>, K: Clean<T>> DerefMut
     for LinearReusable<'_, T, I, R, K> {
-    ghost use Rattle.std.specs.Borrow.{Lends, sem};
-    ghost use mir.Syntax.{named};
-    ghost use Rattle.lockfree_object_pool.specs.contracts.linear_reusable.LinearReusable.{the_row};
-    ghost use Rattle.lockfree_object_pool.specs.LinearPool.{reusable_item, reusable_with};
+    ghost use Rattle.std.specs.Borrow.{sem};
+    ghost use Rattle.lockfree_object_pool.specs.Lends.{LendsValue};
+    ghost use Rattle.lockfree_object_pool.specs.LinearPool.{reusable_item};
 
     ghost deref_mut_gives = { λ reusable value. value ≡ (reusable_item reusable).value };
 
     fn deref_mut(&mut self) -> &mut T
-        ensures* writes_back { sem 𝓛 (Lends (the_row (record { mir = named 1; lft = [] }) T.row I.row R.row K.row I.Init K.Clean) T.row self.entry result (reusable_with self.old)) }
+        ensures* writes_back { sem 𝓛 (LendsValue T.row I.row R.row K.row I.Init K.Clean self.entry result) }
         ensures shows { result.now ≡ (reusable_item self.old).value }
     {
         &mut self.value

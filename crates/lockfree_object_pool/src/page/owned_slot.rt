@@ -119,14 +119,14 @@ impl<T, K: Clean<T>> Deref for OwnedSlot<T, K> {
 }
 
 impl<T, K: Clean<T>> DerefMut for OwnedSlot<T, K> {
-    ghost use Rattle.std.specs.Borrow.{Lends, sem};
-    ghost use Rattle.lockfree_object_pool.specs.contracts.page.owned_slot.OwnedSlot.{the_row};
-    ghost use Rattle.lockfree_object_pool.specs.OwnedSlot.{owned_slot_item, owned_slot_with};
+    ghost use Rattle.std.specs.Borrow.{sem};
+    ghost use Rattle.lockfree_object_pool.specs.Lends.{LendsOwnedSlotValue};
+    ghost use Rattle.lockfree_object_pool.specs.OwnedSlot.{owned_slot_item};
 
     ghost deref_mut_gives = { λ slot value. value ≡ (owned_slot_item slot).value };
 
     fn deref_mut(&mut self) -> &mut T
-        ensures* writes_back { sem 𝓛 (Lends (the_row T.row K.row K.Clean) T.row self.entry result (owned_slot_with self.old)) }
+        ensures* writes_back { sem 𝓛 (LendsOwnedSlotValue T.row K.row K.Clean self.entry result) }
         ensures shows { result.now ≡ (owned_slot_item self.old).value }
     {
         &mut self.value

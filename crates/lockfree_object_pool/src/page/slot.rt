@@ -132,15 +132,14 @@ impl<T, K: Clean<T>> Deref for PageSlot<'_, T, K> {
 }
 
 impl<T, K: Clean<T>> DerefMut for PageSlot<'_, T, K> {
-    ghost use Rattle.std.specs.Borrow.{Lends, sem};
-    ghost use mir.Syntax.{named};
-    ghost use Rattle.lockfree_object_pool.specs.contracts.page.slot.PageSlot.{the_row};
-    ghost use Rattle.lockfree_object_pool.specs.Slot.{slot_item, slot_with};
+    ghost use Rattle.std.specs.Borrow.{sem};
+    ghost use Rattle.lockfree_object_pool.specs.Lends.{LendsSlotValue};
+    ghost use Rattle.lockfree_object_pool.specs.Slot.{slot_item};
 
     ghost deref_mut_gives = { λ slot value. value ≡ (slot_item slot).value };
 
     fn deref_mut(&mut self) -> &mut T
-        ensures* writes_back { sem 𝓛 (Lends (the_row (record { mir = named 1; lft = [] }) T.row K.row K.Clean) T.row self.entry result (slot_with self.old)) }
+        ensures* writes_back { sem 𝓛 (LendsSlotValue T.row K.row K.Clean self.entry result) }
         ensures shows { result.now ≡ (slot_item self.old).value }
     {
         &mut self.value
