@@ -1,6 +1,17 @@
--- What makers of values may answer.
-use Rattle.std.specs.Prelude.{Option, Some}
+-- What makers of values may answer, and what a call asks of a maker.
+use Rattle.std.specs.Prelude.{Option, Some, IfSome}
 
 -- a maker of this type may answer the value
 abbrev pub IsAnswer : {T I : Type 0} → (I → Option T → Type 0) → T → Type 0
 IsAnswer {T} {I} answers value = (maker : I) × answers maker (Some value)
+
+module _ {T : Type 0} where
+  -- a maker may be called, and each value that it answers meets the condition
+  pub record MayMake (callable : Type 0) (answers : Option T → Type 0) (meets : T → Type 0) : Type 0 where
+    pub may_call : callable
+    pub each_meets : (answer : Option T) → answers answer → IfSome answer meets
+
+  -- the same, and a page may open with each value that it answers
+  pub record MayOpen (callable : Type 0) (answers : Option T → Type 0) (meets opens : T → Type 0) : Type 0 where
+    pub may_make : MayMake callable answers meets
+    pub each_opens : (answer : Option T) → answers answer → IfSome answer opens

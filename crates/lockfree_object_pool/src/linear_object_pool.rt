@@ -98,7 +98,10 @@ impl<T: Drop, I: Init<T, K>, R: Reset<T, K>, K: Clean<T>> LinearObjectPool<T, I,
         ensures pulled { IfOk result (λ item. IsPulledFrom K.meets self.now (reusable_item item) (reusable_number item)) }
         ensures history { IfOk result (λ item. HasOrigin (IsAnswer I.answers) (reusable_item item)) }
         ensures within { IfOk result (λ item. IfSome (pool_limit self.now) (λ pages. reusable_number item < pages)) }
-        ensures refused { IfErr result (RefusesPull (IsSome (pool_limit self.now)) (I.answers (pool_init self.now) None)) }
+        ensures refused { IfErr result (RefusesPull (record {
+          limited = IsSome (pool_limit self.now);
+          init_refuses = I.answers (pool_init self.now) None;
+        })) }
     {
         let found = self.find()?;
         Ok(LinearReusable::new(self, found.slot, found.passed))
@@ -110,7 +113,10 @@ impl<T: Drop, I: Init<T, K>, R: Reset<T, K>, K: Clean<T>> LinearObjectPool<T, I,
         ensures pulled { IfOk result (λ item. IsPulledFrom K.meets (arc_value self.now) (owned_item item) (owned_number item)) }
         ensures history { IfOk result (λ item. HasOrigin (IsAnswer I.answers) (owned_item item)) }
         ensures within { IfOk result (λ item. IfSome (pool_limit (arc_value self.now)) (λ pages. owned_number item < pages)) }
-        ensures refused { IfErr result (RefusesPull (IsSome (pool_limit (arc_value self.now))) (I.answers (pool_init (arc_value self.now)) None)) }
+        ensures refused { IfErr result (RefusesPull (record {
+          limited = IsSome (pool_limit (arc_value self.now));
+          init_refuses = I.answers (pool_init (arc_value self.now)) None;
+        })) }
     {
         let owner = Arc::try_clone(self)?;
         let found = self.find()?;
@@ -130,7 +136,10 @@ impl<T: Drop, I: Init<T, K>, R: Reset<T, K>, K: Clean<T>> LinearObjectPool<T, I,
         ensures history { IfOk result (λ found. HasOrigin (IsAnswer I.answers) (slot_item found.slot)) }
         ensures of_page { IfOk result (λ found. (slot_item found.slot).page ≡ page_identity (arc_value found.page.now)) }
         ensures within { IfOk result (λ found. IfSome (pool_limit self.now) (λ pages. found.passed < pages)) }
-        ensures refused { IfErr result (RefusesPull (IsSome (pool_limit self.now)) (I.answers (pool_init self.now) None)) }
+        ensures refused { IfErr result (RefusesPull (record {
+          limited = IsSome (pool_limit self.now);
+          init_refuses = I.answers (pool_init self.now) None;
+        })) }
     {
         let of = &self.init;
         self.chain.pull(self.limit(), &|| of.make())

@@ -7,6 +7,7 @@
 //! No call waits for another thread. A link is set once, in `get_or_create_next` alone.
 ghost use Rattle.std.specs.Prelude.{◌≡◌, ◌+◌, ◌^◌, ◌<◌, Option, None, IfSome, IfNone, IfOk, IfErr};
 ghost use Rattle.std.specs.Arc.{arc_value};
+ghost use Rattle.lockfree_object_pool.specs.Answers.{MayOpen};
 ghost use Rattle.lockfree_object_pool.specs.Page.{page_identity, page_opening, IsFilled};
 ghost use Rattle.lockfree_object_pool.specs.Refusal.{RefusesMaking};
 
@@ -42,9 +43,7 @@ impl<T: Drop, K: Clean<T>, O: Clean<T>> Chain<T, K, O> {
 
     /// A chain of one page, made as by [`Page::new`].
     pub fn new<I: Fn() -> Option<T>>(alloc: Global, init: &I) -> Result<Chain<T, K, O>, PullError>
-        requires callable { I.pre init.now }
-        requires meets { (answer : Option T) → I.post init.now answer → IfSome answer K.meets }
-        requires opens { (answer : Option T) → I.post init.now answer → IfSome answer O.meets }
+        requires { MayOpen (I.pre init.now) (λ answer. I.post init.now answer) K.meets O.meets }
         ensures refused { IfErr result (RefusesMaking (I.post init.now None)) }
     {
         let first = made_page(alloc, init)?;
@@ -157,9 +156,7 @@ impl<'c, T: Drop, K: Clean<T>, O: Clean<T>> LinearPage<'c, T, K, O> {
         init: &I,
     ) -> Result<LinearPage<'c, T, K, O>, PullError>
         requires of_page { full_page seen ≡ shown_page self.now }
-        requires callable { I.pre init.now }
-        requires meets { (answer : Option T) → I.post init.now answer → IfSome answer K.meets }
-        requires opens { (answer : Option T) → I.post init.now answer → IfSome answer O.meets }
+        requires opens { MayOpen (I.pre init.now) (λ answer. I.post init.now answer) K.meets O.meets }
         ensures number { IfOk result (λ next. page_number next ≡ page_number self.now + 1) }
         ensures refused { IfErr result (RefusesMaking (I.post init.now None)) }
     {
@@ -175,9 +172,7 @@ impl<'c, T: Drop, K: Clean<T>, O: Clean<T>> LinearPage<'c, T, K, O> {
         note: &mut LinkNote<T, K, O>,
     ) -> Result<LinearPage<'c, T, K, O>, PullError>
         requires of_page { full_page _seen ≡ shown_page self.now }
-        requires callable { I.pre init.now }
-        requires meets { (answer : Option T) → I.post init.now answer → IfSome answer K.meets }
-        requires opens { (answer : Option T) → I.post init.now answer → IfSome answer O.meets }
+        requires opens { MayOpen (I.pre init.now) (λ answer. I.post init.now answer) K.meets O.meets }
         requires link { known_link note.old ≡ next_link self.now }
         ensures link { known_link note.new ≡ known_link note.old }
         ensures next { IfOk result (IsNextAs self.now note.old note.new) }
@@ -201,9 +196,7 @@ fn made_page<T: Drop, K: Clean<T>, O: Clean<T>, I: Fn() -> Option<T>>(
     alloc: Global,
     init: &I,
 ) -> Result<OpenedPage<T, K, O>, PullError>
-    requires callable { I.pre init.now }
-    requires meets { (answer : Option T) → I.post init.now answer → IfSome answer K.meets }
-    requires opens { (answer : Option T) → I.post init.now answer → IfSome answer O.meets }
+    requires { MayOpen (I.pre init.now) (λ answer. I.post init.now answer) K.meets O.meets }
     ensures refused { IfErr result (RefusesMaking (I.post init.now None)) }
 {
     let page = Arc::new(alloc, Page::new(alloc, init)?)?;

@@ -88,6 +88,7 @@ pub struct Page<T, K: Clean<T>> {
 }
 
 impl<T, K: Clean<T>> Page<T, K> {
+    ghost use Rattle.lockfree_object_pool.specs.Answers.{MayMake};
     ghost use Rattle.lockfree_object_pool.specs.FullSeen.{IsAnswerOf, IsAnswerFrom, IsAnswerAfter, WasSeenFull};
     ghost use Rattle.lockfree_object_pool.specs.Item.{IsPulledOf};
     ghost use Rattle.lockfree_object_pool.specs.Note.{note_page, witness_page, IsReturned, IsNoteOf, HasLearned};
@@ -102,8 +103,7 @@ impl<T, K: Clean<T>> Page<T, K> {
     pub fn new<I: Fn() -> Option<T>>(alloc: Global, init: &I) -> Result<Page<T, K>, PullError>
     where
         T: Drop,
-        requires callable { I.pre init.now }
-        requires meets { (answer : Option T) → I.post init.now answer → IfSome answer K.meets }
+        requires { MayMake (I.pre init.now) (λ answer. I.post init.now answer) K.meets }
         ensures refused { IfErr result (RefusesMaking (I.post init.now None)) }
         ensures opened { IfOk result (λ page. IsFilled (λ made. I.post init.now (Some made)) (page_opening page)) }
     {
@@ -121,8 +121,7 @@ impl<T, K: Clean<T>> Page<T, K> {
     ) -> Result<Vec<Option<T>>, PullError>
     where
         T: Drop,
-        requires callable { I.pre init.now }
-        requires meets { (answer : Option T) → I.post init.now answer → IfSome answer K.meets }
+        requires { MayMake (I.pre init.now) (λ answer. I.post init.now answer) K.meets }
         ensures all { IfOk result (λ items. IsFilled K.meets items.items) }
         ensures answers { IfOk result (λ items. IsFilled (λ made. I.post init.now (Some made)) items.items) }
         ensures refused { IfErr result (RefusesMaking (I.post init.now None)) }

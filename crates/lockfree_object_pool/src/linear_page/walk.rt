@@ -1,6 +1,7 @@
 //! The walk from page to page for an item.
 ghost use Rattle.std.specs.Prelude.{◌≡◌, ◌+◌, ◌≤◌, ◌<◌, ⊤, Option, None, IfSome, IsSome, IfOk, IfErr, OnOk};
 ghost use Rattle.std.specs.Arc.{arc_value};
+ghost use Rattle.lockfree_object_pool.specs.Answers.{MayOpen};
 ghost use Rattle.lockfree_object_pool.specs.FullSeen.{full_page};
 ghost use Rattle.lockfree_object_pool.specs.Item.{HasOrigin};
 ghost use Rattle.lockfree_object_pool.specs.LinearPage.{shown_page, IsFoundFrom};
@@ -34,12 +35,13 @@ impl<'c, T: Drop, K: Clean<T>, O: Clean<T>> LinearPage<'c, T, K, O> {
         &self,
         init: &I,
     ) -> Result<(PageSlot<'c, T, K>, usize), PullError>
-        requires callable { I.pre init.now }
-        requires meets { (answer : Option T) → I.post init.now answer → IfSome answer K.meets }
-        requires opens { (answer : Option T) → I.post init.now answer → IfSome answer O.meets }
+        requires { MayOpen (I.pre init.now) (λ answer. I.post init.now answer) K.meets O.meets }
         ensures found { IfOk result (λ found. IsFoundFrom K.meets (shown_page self.now) (slot_item found.0) found.1) }
         ensures history { IfOk result (λ found. HasOrigin O.meets (slot_item found.0)) }
-        ensures refused { IfErr result (RefusesPull ⊥ (I.post init.now None)) }
+        ensures refused { IfErr result (RefusesPull (record {
+          limited = ⊥;
+          init_refuses = I.post init.now None;
+        })) }
     {
         let found = self.walk(None, init)?;
         Ok((found.slot, found.passed))
@@ -52,13 +54,14 @@ impl<'c, T: Drop, K: Clean<T>, O: Clean<T>> LinearPage<'c, T, K, O> {
         init: &I,
     ) -> Result<(PageSlot<'c, T, K>, usize), PullError>
         requires some_page { 1 ≤ pages }
-        requires callable { I.pre init.now }
-        requires meets { (answer : Option T) → I.post init.now answer → IfSome answer K.meets }
-        requires opens { (answer : Option T) → I.post init.now answer → IfSome answer O.meets }
+        requires opens { MayOpen (I.pre init.now) (λ answer. I.post init.now answer) K.meets O.meets }
         ensures found { IfOk result (λ found. IsFoundFrom K.meets (shown_page self.now) (slot_item found.0) found.1) }
         ensures history { IfOk result (λ found. HasOrigin O.meets (slot_item found.0)) }
         ensures within { IfOk result (λ found. found.1 < pages) }
-        ensures refused { IfErr result (RefusesPull ⊤ (I.post init.now None)) }
+        ensures refused { IfErr result (RefusesPull (record {
+          limited = ⊤;
+          init_refuses = I.post init.now None;
+        })) }
     {
         let found = self.walk(Some(pages), init)?;
         Ok((found.slot, found.passed))
@@ -69,12 +72,13 @@ impl<'c, T: Drop, K: Clean<T>, O: Clean<T>> LinearPage<'c, T, K, O> {
         &self,
         init: &I,
     ) -> Result<(OwnedSlot<T, K>, usize), PullError>
-        requires callable { I.pre init.now }
-        requires meets { (answer : Option T) → I.post init.now answer → IfSome answer K.meets }
-        requires opens { (answer : Option T) → I.post init.now answer → IfSome answer O.meets }
+        requires { MayOpen (I.pre init.now) (λ answer. I.post init.now answer) K.meets O.meets }
         ensures found { IfOk result (λ found. IsFoundFrom K.meets (shown_page self.now) (owned_slot_item found.0) found.1) }
         ensures history { IfOk result (λ found. HasOrigin O.meets (owned_slot_item found.0)) }
-        ensures refused { IfErr result (RefusesPull ⊥ (I.post init.now None)) }
+        ensures refused { IfErr result (RefusesPull (record {
+          limited = ⊥;
+          init_refuses = I.post init.now None;
+        })) }
     {
         self.walk(None, init)?.into_owned()
     }
@@ -86,13 +90,14 @@ impl<'c, T: Drop, K: Clean<T>, O: Clean<T>> LinearPage<'c, T, K, O> {
         init: &I,
     ) -> Result<(OwnedSlot<T, K>, usize), PullError>
         requires some_page { 1 ≤ pages }
-        requires callable { I.pre init.now }
-        requires meets { (answer : Option T) → I.post init.now answer → IfSome answer K.meets }
-        requires opens { (answer : Option T) → I.post init.now answer → IfSome answer O.meets }
+        requires opens { MayOpen (I.pre init.now) (λ answer. I.post init.now answer) K.meets O.meets }
         ensures found { IfOk result (λ found. IsFoundFrom K.meets (shown_page self.now) (owned_slot_item found.0) found.1) }
         ensures history { IfOk result (λ found. HasOrigin O.meets (owned_slot_item found.0)) }
         ensures within { IfOk result (λ found. found.1 < pages) }
-        ensures refused { IfErr result (RefusesPull ⊤ (I.post init.now None)) }
+        ensures refused { IfErr result (RefusesPull (record {
+          limited = ⊤;
+          init_refuses = I.post init.now None;
+        })) }
     {
         self.walk(Some(pages), init)?.into_owned()
     }
@@ -104,14 +109,15 @@ impl<'c, T: Drop, K: Clean<T>, O: Clean<T>> LinearPage<'c, T, K, O> {
         init: &I,
     ) -> Result<Found<'c, T, K>, PullError>
         requires some_page { IfSome limit (λ pages. 1 ≤ pages) }
-        requires callable { I.pre init.now }
-        requires meets { (answer : Option T) → I.post init.now answer → IfSome answer K.meets }
-        requires opens { (answer : Option T) → I.post init.now answer → IfSome answer O.meets }
+        requires opens { MayOpen (I.pre init.now) (λ answer. I.post init.now answer) K.meets O.meets }
         ensures found { IfOk result (λ found. IsFoundFrom K.meets (shown_page self.now) (slot_item found.slot) found.passed) }
         ensures history { IfOk result (λ found. HasOrigin O.meets (slot_item found.slot)) }
         ensures of_page { IfOk result (λ found. (slot_item found.slot).page ≡ page_identity (arc_value found.page.now)) }
         ensures within { IfOk result (λ found. IfSome limit (λ pages. found.passed < pages)) }
-        ensures refused { IfErr result (RefusesPull (IsSome limit) (I.post init.now None)) }
+        ensures refused { IfErr result (RefusesPull (record {
+          limited = IsSome limit;
+          init_refuses = I.post init.now None;
+        })) }
     {
         let pass = PullPass::new();
         let mut page: &'c OpenedPage<T, K, O> = self.page;
@@ -150,9 +156,7 @@ impl<'c, T: Drop, K: Clean<T>, O: Clean<T>> LinearPage<'c, T, K, O> {
         init: &I,
     ) -> Result<&'c OpenedPage<T, K, O>, PullError>
         requires of_page { full_page seen ≡ page_identity (arc_value page.now) }
-        requires callable { I.pre init.now }
-        requires meets { (answer : Option T) → I.post init.now answer → IfSome answer K.meets }
-        requires opens { (answer : Option T) → I.post init.now answer → IfSome answer O.meets }
+        requires opens { MayOpen (I.pre init.now) (λ answer. I.post init.now answer) K.meets O.meets }
         ensures refused { IfErr result (RefusesMaking (I.post init.now None)) }
     {
         let made = LinearPage::new(self.directory, page, number).get_or_create_next(seen, init)?;
@@ -165,7 +169,10 @@ impl<'c, T: Drop, K: Clean<T>, O: Clean<T>> LinearPage<'c, T, K, O> {
 fn one_more(limit: Option<usize>, passed: usize) -> Result<(), PullError>
     requires within { IfSome limit (λ pages. passed < pages) }
     ensures allowed { OnOk result (IfSome limit (λ pages. passed + 1 < pages)) }
-    ensures refused { IfErr result (RefusesPull (IsSome limit) ⊥) }
+    ensures refused { IfErr result (RefusesPull (record {
+      limited = IsSome limit;
+      init_refuses = ⊥;
+    })) }
 {
     match limit {
         Some(pages) if pages - passed == 1 => Err(PullError::Limit),

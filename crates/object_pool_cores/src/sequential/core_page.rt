@@ -1,6 +1,7 @@
 //! A page of 32 items that one owner uses.
 ghost use Rattle.std.specs.Prelude.{◌≡◌, ◌↔◌, ◌<◌, Option, Some, None, MatchOption, IsTrue, IfOk, IfErr, IfSome, OnSome, map, length, slice_set};
 ghost use Rattle.object_pool_cores.specs.MadePage.{IsMadePage};
+ghost use Rattle.lockfree_object_pool.specs.Answers.{MayMake};
 ghost use Rattle.lockfree_object_pool.specs.Refusal.{RefusesMaking};
 ghost use Rattle.object_pool_cores.specs.OnePage.{HasNoFreeId, IsMask, IsOutId, TakesLeastId};
 
@@ -38,8 +39,7 @@ impl<T: Drop, K: Clean<T>> CorePage<T, K> {
     ///
     /// It stops at the first `None`. Where it is refused, the items that were made are dropped.
     pub fn new<I: Fn() -> Option<T>>(alloc: Global, init: &I) -> Result<CorePage<T, K>, PullError>
-        requires callable { I.pre init.now }
-        requires meets { (answer : Option T) → I.post init.now answer → IfSome answer K.meets }
+        requires { MayMake (I.pre init.now) (λ answer. I.post init.now answer) K.meets }
         ensures made { IfOk result (IsMadePage (λ answer. I.post init.now answer) K.meets) }
         ensures refused { IfErr result (RefusesMaking (I.post init.now None)) }
     {
@@ -104,8 +104,7 @@ fn made_items<T: Drop, I: Fn() -> Option<T>, K: Clean<T>>(
     alloc: Global,
     init: &I,
 ) -> Result<Vec<Option<T>>, PullError>
-    requires callable { I.pre init.now }
-    requires meets { (answer : Option T) → I.post init.now answer → IfSome answer K.meets }
+    requires { MayMake (I.pre init.now) (λ answer. I.post init.now answer) K.meets }
     ensures made { IfOk result (λ page. IsMadePage (λ answer. I.post init.now answer) K.meets page.items) }
     ensures refused { IfErr result (RefusesMaking (I.post init.now None)) }
 {
