@@ -80,6 +80,13 @@ fn has_bit(word: u32, id: PageId) -> bool
     word >> id & 1 == 1
 }
 
+/// Whether no bit is set.
+fn is_none_free(word: u32) -> bool
+    ensures { IsTrue result ↔ (word ≡ 0) }
+{
+    word == 0
+}
+
 /// 32 items that threads share.
 #[derive(Drop)]
 pub struct Page<T, K: Clean<T>> {
@@ -247,7 +254,7 @@ impl<T, K: Clean<T>> Page<T, K> {
 
     /// Whether no item was free at this moment.
     pub fn is_full(&self) -> bool {
-        self.get_mask() == 0
+        is_none_free(self.get_mask())
     }
 
     /// The word at this moment.

@@ -98,6 +98,27 @@ fn items_come_in_order_until_the_page_is_full(rt: HostRuntime) -> Result<(), Fai
     Ok(())
 }
 
+#[test]
+fn a_page_is_full_while_each_item_is_out(rt: HostRuntime) -> Result<(), Fail> {
+    let page = zeros(rt.alloc())?;
+    let mut slots = Vec::with_capacity(rt.alloc(), 32)?;
+    for _ in 0..32 {
+        assert!(rt; !page.is_full());
+        let Ok(Some(slot)) = page.alloc() else {
+            panic!(rt; "an item is free")
+        };
+        slots.push(slot)?;
+    }
+    assert!(rt; page.is_full());
+    for slot in slots {
+        Page::free(slot);
+        assert!(rt; !page.is_full());
+        drop(page.alloc()); // the only free item, which stays out
+        assert!(rt; page.is_full());
+    }
+    Ok(())
+}
+
 /// Takes 16 slots, and waits until the other thread has 16 too. `None` where that didn't come, or memory was refused.
 fn take_half<'s>(
     alloc: Global,
