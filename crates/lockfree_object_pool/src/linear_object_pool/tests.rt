@@ -11,12 +11,15 @@ use std::sync::atomic::AtomicUsize;
 use std::sync::atomic::Ordering::SeqCst;
 
 mod callers;
+mod closures;
 mod first_example;
 mod hints;
 mod limits;
 mod one_thread;
 mod origins;
+mod owners;
 mod refusals;
+mod resets;
 mod sends;
 mod threads;
 

@@ -15,7 +15,7 @@ fn init_that_refuses_stops_a_new_pool(rt: HostRuntime) {
 }
 
 /// A pool whose first page is out, each value as it was made.
-fn full<'p, 'c>(
+pub fn full<'p, 'c>(
     alloc: Global,
     pool: &'p Tracked<'c>,
 ) -> Result<Vec<LinearReusable<'p, Counted<'c>, CountedValues<'c>, Keep, AnyValue>>, PullError> {

@@ -1,0 +1,51 @@
+//! Owners of a pool and of its pages: each owned item lets its own go, so that the pool ends with the last of them and
+//! drops each value.
+use super::refusals::full;
+use super::*;
+use std::mem;
+use std::test::Fail;
+
+/// The pages of two owned items that are held together, the second behind a page that is full. 31 values are forgotten.
+fn pulled_of_two_pages(pool: &Arc<Tracked<'_>>) -> Result<(usize, usize), PullError> {
+    let first = pool.pull_owned()?;
+    for _ in 0..31 {
+        mem::forget(pool.pull()?);
+    }
+    let second = pool.pull_owned()?;
+    Ok((first.page_number(), second.page_number()))
+}
+
+#[test]
+fn pulled_items_let_their_pool_and_pages_end(rt: HostRuntime) -> Result<(), Fail> {
+    let counts = Counts::new();
+    let pool = shared(rt.alloc(), &counts, NEVER)?;
+    assert_eq!(rt; pulled_of_two_pages(&pool), Ok((0, 1)));
+    assert_eq!(rt; counts.now(), (64, 0));
+    drop(pool);
+    assert_eq!(rt; counts.now(), (64, 33));
+    Ok(())
+}
+
+#[test]
+fn refused_pulls_let_their_pool_end(rt: HostRuntime) -> Result<(), Fail> {
+    let counts = Counts::new();
+    let pool = shared(rt.alloc(), &counts, 32)?;
+    let items = full(rt.alloc(), &pool)?;
+    assert_eq!(rt; pool.pull_owned().err(), Some(PullError::Init));
+    drop(items);
+    drop(pool);
+    assert_eq!(rt; counts.now(), (33, 32));
+    Ok(())
+}
+
+#[test]
+fn a_pool_ends_with_its_last_owned_item(rt: HostRuntime) -> Result<(), Fail> {
+    let counts = Counts::new();
+    let pool = shared(rt.alloc(), &counts, NEVER)?;
+    let item = pool.pull_owned()?;
+    drop(pool);
+    assert_eq!(rt; (item.call, counts.now()), (0, (32, 0)));
+    drop(item);
+    assert_eq!(rt; counts.now(), (32, 32));
+    Ok(())
+}
