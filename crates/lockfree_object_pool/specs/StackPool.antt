@@ -1,5 +1,4 @@
 -- What a stack pool and its reusables show.
-use Rattle.std.specs.Prelude.{◌≡◌}
 use Rattle.std.specs.Arc.{arc_value}
 use Rattle.lockfree_object_pool.specs.declared.stack_object_pool.StackObjectPool.{StackObjectPool}
 use Rattle.lockfree_object_pool.specs.declared.stack_owned_reusable.StackOwnedReusable.{StackOwnedReusable}
@@ -36,15 +35,3 @@ module _ {T I R K F W : Type 0} where
   -- the same item with another value
   abbrev pub stack_owned_with : StackOwnedReusable T I R K F W → T → StackOwnedReusable T I R K F W
   stack_owned_with reusable value = record reusable { value = value }
-
-  -- a reusable of this pool, with a value that meets the condition
-  pub record IsStackPulledFrom (meets : T → Type 0) (pool : StackObjectPool T I R K F)
-      (reusable : StackReusable T I R K F W) : Type 0 where
-    pub of_pool : stack_pool reusable ≡ pool
-    pub meets_condition : meets (stack_value reusable)
-
-  -- the same of an owned reusable
-  pub record IsStackOwnedPulledFrom (meets : T → Type 0) (pool : StackObjectPool T I R K F)
-      (reusable : StackOwnedReusable T I R K F W) : Type 0 where
-    pub of_pool : stack_owned_pool reusable ≡ pool
-    pub meets_condition : meets (stack_owned_value reusable)

@@ -37,7 +37,7 @@ impl<T: Drop, I: Init<T, K>, R: Reset<T, K>, K: Clean<T>, F: FreeList<T, K>> Sta
     K,
     F,
 > {
-    ghost use Rattle.lockfree_object_pool.specs.StackPool.{stack_init, stack_reset, IsStackPulledFrom, IsStackOwnedPulledFrom};
+    ghost use Rattle.lockfree_object_pool.specs.StackPool.{stack_init, stack_reset, stack_pool, stack_value, stack_owned_pool, stack_owned_value};
     ghost use Rattle.lockfree_object_pool.specs.Refusal.{RefusesMaking};
 
     pub(crate) fn over(alloc: Global, init: I, reset: R, kept: F) -> StackObjectPool<T, I, R, K, F>
@@ -58,7 +58,8 @@ impl<T: Drop, I: Init<T, K>, R: Reset<T, K>, K: Clean<T>, F: FreeList<T, K>> Sta
         &self,
         rt: &W,
     ) -> Result<StackReusable<'_, T, I, R, K, F, W>, PullError>
-        ensures pulled { IfOk result (IsStackPulledFrom K.meets self.now) }
+        ensures pool { IfOk result (λ item. stack_pool item ≡ self.now) }
+        ensures meets { IfOk result (λ item. K.meets (stack_value item)) }
         ensures refused { IfErr result (RefusesMaking (I.answers (stack_init self.now) None)) }
     {
         let (value, room) = self.item(rt)?;
@@ -71,7 +72,8 @@ impl<T: Drop, I: Init<T, K>, R: Reset<T, K>, K: Clean<T>, F: FreeList<T, K>> Sta
         self: &Arc<Self>,
         rt: &W,
     ) -> Result<StackOwnedReusable<T, I, R, K, F, W>, PullError>
-        ensures pulled { IfOk result (IsStackOwnedPulledFrom K.meets (arc_value self.now)) }
+        ensures pool { IfOk result (λ item. stack_owned_pool item ≡ arc_value self.now) }
+        ensures meets { IfOk result (λ item. K.meets (stack_owned_value item)) }
         ensures refused { IfErr result (RefusesMaking (I.answers (stack_init (arc_value self.now)) None)) }
     {
         let owner = Arc::try_clone(self)?;
