@@ -12,6 +12,7 @@ use Rattle.lockfree_object_pool.specs.Note.{note_opening, note_history, IsPulled
 use Rattle.lockfree_object_pool.specs.PageHistory.{History, IsLawful, IsBeginningOf, WasOutBetween}
 use Rattle.lockfree_object_pool.specs.PageRule.{FoundAll, GoesOn}
 use Rattle.lockfree_object_pool.specs.Slot.{slot_item, slot_view}
+use Rattle.lockfree_object_pool.specs.declared.page.TheConstants.{PAGE_ITEMS}
 
 module _ {T : Type 0} where
   -- which page was found full
@@ -44,7 +45,7 @@ module _ {T : Type 0} where
     pub same_opening : full_opening seen ≡ opening
     pub found_all : FoundAll (full_found seen)
     pub lawful : IsLawful opening (full_history seen)
-    pub each_was_out : (id : ℕ) → id < 32 → WasOutBetween opening (full_since seen) (full_history seen) id
+    pub each_was_out : (id : ℕ) → id < PAGE_ITEMS → WasOutBetween opening (full_since seen) (full_history seen) id
 
   -- a page that had no item was seen to be full
   abbrev pub WasSeenFull : TableId → List (Option T) → Type 0
@@ -73,4 +74,4 @@ module _ {T K : Type 0} where
       IsItemOf meets page item × GoesOn (Took item.holder item.id item.value ∷ []) start (slot_view slot)
   IsAnswerFrom meets page start (Full seen) =
       (full_page seen ≡ page) × GoesOn [] start (full_view seen)
-      × ((id : ℕ) → id < 32 → WasOutBetween start.opening start.since (full_history seen) id)
+      × ((id : ℕ) → id < PAGE_ITEMS → WasOutBetween start.opening start.since (full_history seen) id)

@@ -4,6 +4,7 @@ use Rattle.atomic_table.specs.Seated.{TableId}
 use Rattle.lockfree_object_pool.specs.declared.page.history.PageAct.TheVariants.{Took}
 use Rattle.lockfree_object_pool.specs.Page.{IsFilled}
 use Rattle.lockfree_object_pool.specs.PageHistory.{History, acts_of, IsLawful, CameFrom}
+use Rattle.lockfree_object_pool.specs.declared.page.TheConstants.{PAGE_ITEMS}
 
 -- an item, its value now, and what its holder knows of the page
 pub record Item (T : Type 0) : Type 0 where
@@ -23,7 +24,7 @@ module _ {T : Type 0} where
   -- an item of this page, with a value that meets the condition
   pub record IsItemOf (meets : T → Type 0) (page : TableId) (item : Item T) : Type 0 where
     pub of_page : item.page ≡ page
-    pub in_page : item.id < 32
+    pub in_page : item.id < PAGE_ITEMS
     pub meets_condition : meets item.value
 
   -- how an item was pulled: a lawful history of its page ends with the pull

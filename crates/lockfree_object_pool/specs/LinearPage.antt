@@ -11,6 +11,7 @@ use Rattle.lockfree_object_pool.specs.declared.linear_page.Chain.{Chain}
 use Rattle.lockfree_object_pool.specs.declared.linear_page.LinearPage.{LinearPage}
 use Rattle.lockfree_object_pool.specs.declared.linear_page.directory.LinkPlace.{LinkPlace}
 use Rattle.lockfree_object_pool.specs.declared.linear_page.link_note.LinkNote.{LinkNote}
+use Rattle.lockfree_object_pool.specs.declared.page.TheConstants.{PAGE_ITEMS}
 
 module _ {T K O : Type 0} where
   -- which page the chain's first one is
@@ -42,6 +43,6 @@ module _ {T K O : Type 0} {opens : Ghosts O T} where
 
 -- an item that a walk found, and how many links behind its start the item's page lies; at 0 it is an item of the start
 pub record IsFoundFrom {T : Type 0} (meets : T → Type 0) (start : TableId) (item : Item T) (passed : ℕ) : Type 0 where
-  pub in_page : item.id < 32
+  pub in_page : item.id < PAGE_ITEMS
   pub meets_condition : meets item.value
   pub of_start : passed ≡ 0 → item.page ≡ start

@@ -11,6 +11,7 @@ use Rattle.lockfree_object_pool.specs.declared.linear_object_pool.LinearObjectPo
 use Rattle.lockfree_object_pool.specs.declared.linear_object_pool.page_limit.PageLimit.{PageLimit}
 use Rattle.lockfree_object_pool.specs.declared.linear_owned_reusable.LinearOwnedReusable.{LinearOwnedReusable}
 use Rattle.lockfree_object_pool.specs.declared.linear_reusable.LinearReusable.{LinearReusable}
+use Rattle.lockfree_object_pool.specs.declared.page.TheConstants.{PAGE_ITEMS}
 
 -- how many pages a limit allows
 abbrev pub pages_of : Option PageLimit → Option ℕ
@@ -67,6 +68,6 @@ module _ {T I R K : Type 0} where
 
   -- an item that was pulled from this pool, and the number of its page, which at 0 is the pool's first one
   pub record IsPulledFrom (meets : T → Type 0) (pool : LinearObjectPool T I R K) (item : Item T) (number : ℕ) : Type 0 where
-    pub in_page : item.id < 32
+    pub in_page : item.id < PAGE_ITEMS
     pub meets_condition : meets item.value
     pub of_first : number ≡ 0 → item.page ≡ pool_first_page pool

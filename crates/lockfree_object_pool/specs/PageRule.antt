@@ -8,6 +8,7 @@ use Rattle.lockfree_object_pool.specs.declared.page.history.PageAct.TheVariants.
 use Rattle.lockfree_object_pool.specs.declared.page.user_view.UserView.{UserView}
 use Rattle.lockfree_object_pool.specs.PageHistory.{History, acts_of, held_id, value_at, IsLawful, IsBeginningOf, WasOutBetween}
 use Rattle.lockfree_object_pool.specs.Word.{all_bits, SetsBit, ClearsBit}
+use Rattle.lockfree_object_pool.specs.declared.page.TheConstants.{PAGE_ITEMS}
 
 -- a page as plain data: one word, 32 places, and what each user knows
 abbrev pub PageState : Type 0 → Type 0
@@ -31,7 +32,7 @@ IsOut word id = bit_at word id ≡ 0
 
 -- each id of a page is found out
 abbrev pub FoundAll : ℕ → Type 0
-FoundAll found = (id : ℕ) → id < 32 → bit_at found id ≡ 1
+FoundAll found = (id : ℕ) → id < PAGE_ITEMS → bit_at found id ≡ 1
 
 module _ {T : Type 0} where
   abbrev pub word_of : PageState T → ℕ
@@ -51,7 +52,7 @@ module _ {T : Type 0} where
     pub since_load : IsBeginningOf known.since known.acts
     pub own_acts : acts_of known.user known.acts ≡ known.own
     pub holds : known.held ≡ held_id known.own
-    pub found_out : (id : ℕ) → id < 32 → bit_at known.found id ≡ 1 → WasOutBetween known.opening known.since known.acts id
+    pub found_out : (id : ℕ) → id < PAGE_ITEMS → bit_at known.found id ≡ 1 → WasOutBetween known.opening known.since known.acts id
 
   -- what this user knows is so, of these acts of the page up to now
   pub record IsInformed (opening : List (Option T)) (acts : History T) (user : ℕ) (known : UserView T) : Type 0 where
@@ -71,18 +72,18 @@ module _ {T : Type 0} where
   -- what holds between any two steps, of the word, the homes and who holds what
   pub record IsPage (meets : T → Type 0) (page : PageState T) : Type 0 where
     pub one_word : length page.words ≡ 1
-    pub all_places : length page.homes ≡ 32
+    pub all_places : length page.homes ≡ PAGE_ITEMS
     pub word_fits : word_of page < 2 ^ 32
-    pub free_is_home : (id : ℕ) → id < 32 → IsFree (word_of page) id → (value : T) × IsHome page id value × meets value
-    pub held_is_out : (user id : ℕ) → Holds page user id → (id < 32) × IsOut (word_of page) id
+    pub free_is_home : (id : ℕ) → id < PAGE_ITEMS → IsFree (word_of page) id → (value : T) × IsHome page id value × meets value
+    pub held_is_out : (user id : ℕ) → Holds page user id → (id < PAGE_ITEMS) × IsOut (word_of page) id
     pub one_holder : (user other id : ℕ) → Holds page user id → Holds page other id → user ≡ other
 
   -- the page stands where one lawful history of its users' acts has led, of which each user knows a beginning
   pub record HasHistory (opening : List (Option T)) (page : PageState T) : Type 0 where
     pub acts : History T
     pub lawful : IsLawful opening acts
-    pub free_lies : (id : ℕ) → id < 32 → IsFree (word_of page) id → (value : T) → IsHome page id value → value_at opening acts id ≡ Some value
-    pub out_lies : (id : ℕ) → id < 32 → IsOut (word_of page) id → value_at opening acts id ≡ None
+    pub free_lies : (id : ℕ) → id < PAGE_ITEMS → IsFree (word_of page) id → (value : T) → IsHome page id value → value_at opening acts id ≡ Some value
+    pub out_lies : (id : ℕ) → id < PAGE_ITEMS → IsOut (word_of page) id → value_at opening acts id ≡ None
     pub informed : (user : ℕ) (known : UserView T) → get_elem? page.views user ≡ some known → Knows opening acts user known
     pub no_stranger : (user : ℕ) → length page.views ≤ user → acts_of user acts ≡ []
 
@@ -119,7 +120,7 @@ module _ {T : Type 0} where
   pub record Looks (first : UserView T) (word : ℕ) (new : User T) : Type 0 where
     pub word_fits : word < 2 ^ 32
     pub holds_none : new.0.held ≡ None
-    pub found : (id : ℕ) → id < 32 → bit_at new.0.found id ≡ 1 ↔ IsOut word id
+    pub found : (id : ℕ) → id < PAGE_ITEMS → bit_at new.0.found id ≡ 1 ↔ IsOut word id
     pub here : new.0.gone ≡ false
     pub same_opening : new.0.opening ≡ first.opening
     pub from_now : new.0.since ≡ new.0.acts
@@ -140,7 +141,7 @@ module _ {T : Type 0} where
   pub record LooksAgain (old : User T) (word : ℕ) (new : User T) : Type 0 where
     pub word_fits : word < 2 ^ 32
     pub holds_same : new.0.held ≡ old.0.held
-    pub found : (id : ℕ) → id < 32 → bit_at new.0.found id ≡ 1 ↔ IsOut word id
+    pub found : (id : ℕ) → id < PAGE_ITEMS → bit_at new.0.found id ≡ 1 ↔ IsOut word id
     pub here : new.0.gone ≡ false
     pub starts : StartsFrom old.0 new.0
     pub carries_same : new.1 ≡ old.1
@@ -149,8 +150,8 @@ module _ {T : Type 0} where
   -- a clearing of the one bit that the operand leaves out
   pub record Clears (meets : T → Type 0) (operand : ℕ) (old : User T) (word : ℕ) (new : User T) : Type 0 where
     pub word_fits : word < 2 ^ 32
-    pub took : (id : ℕ) → id < 32 → ClearsBit all_bits id operand → IsFree word id → Takes meets id old new
-    pub missed : (id : ℕ) → id < 32 → ClearsBit all_bits id operand → IsOut word id → Misses id old new
+    pub took : (id : ℕ) → id < PAGE_ITEMS → ClearsBit all_bits id operand → IsFree word id → Takes meets id old new
+    pub missed : (id : ℕ) → id < PAGE_ITEMS → ClearsBit all_bits id operand → IsOut word id → Misses id old new
 
   -- the user has taken the id, and the value that lay there has moved out
   pub record MovesOut (id : ℕ) (value : T) (old new : User T) : Type 0 where

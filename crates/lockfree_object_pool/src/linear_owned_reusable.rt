@@ -1,6 +1,7 @@
 //! A value that was pulled from a linear pool, with an owner of the pool.
 ghost use Rattle.std.specs.Prelude.{◌≡◌, ◌<◌};
 ghost use Rattle.std.specs.Arc.{arc_value};
+ghost use Rattle.lockfree_object_pool.specs.declared.page.TheConstants.{PAGE_ITEMS};
 
 use crate::clean::{AnyValue, Clean};
 use crate::closures::{Init, Reset};
@@ -43,7 +44,7 @@ impl<T: Drop, I: Init<T, K>, R: Reset<T, K>, K: Clean<T>> LinearOwnedReusable<T,
     /// The number of the item in its page.
     pub fn page_id(&self) -> PageId
         ensures value { result ≡ (owned_item self.now).id }
-        ensures in_page { result < 32 }
+        ensures in_page { result < PAGE_ITEMS }
     {
         self.slot.id()
     }

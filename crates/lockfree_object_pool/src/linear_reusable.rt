@@ -1,5 +1,6 @@
 //! A value that was pulled from a linear pool, under a borrow of the pool.
 ghost use Rattle.std.specs.Prelude.{◌≡◌, ◌<◌};
+ghost use Rattle.lockfree_object_pool.specs.declared.page.TheConstants.{PAGE_ITEMS};
 
 use crate::clean::{AnyValue, Clean};
 use crate::closures::{Init, Reset};
@@ -51,7 +52,7 @@ impl<'p, T: Drop, I: Init<T, K>, R: Reset<T, K>, K: Clean<T>> LinearReusable<'p,
     /// The number of the item in its page.
     pub fn page_id(&self) -> PageId
         ensures value { result ≡ (reusable_item self.now).id }
-        ensures in_page { result < 32 }
+        ensures in_page { result < PAGE_ITEMS }
     {
         self.taken.id()
     }

@@ -9,6 +9,7 @@
 ghost use Rattle.std.specs.Prelude.{◌≡◌, ◌-◌, ◌^◌, ◌<◌, ◌↔◌, ℕ, [], false, Option, None, Some, IsTrue, IsNone, IfSome, IfNone, IsOk, IfOk, IfErr, bit_and, bit_or};
 ghost use Rattle.std.specs.Int.{w32, bit_at, bit_not};
 ghost use Rattle.lockfree_object_pool.specs.Word.{IsLeastBit, SetsBit, ClearsBit};
+ghost use Rattle.lockfree_object_pool.specs.declared.page.TheConstants.{PAGE_ITEMS};
 
 use crate::PullError;
 use crate::clean::Clean;
@@ -39,7 +40,7 @@ pub(crate) use slot::TakenId;
 pub type PageId = u8;
 
 /// How many items a page has.
-const ITEMS: usize = 32;
+pub const PAGE_ITEMS: usize = 32;
 
 /// The word without its lowest set bit, and that bit's place. `None` where no bit is set.
 pub fn take_least(word: u32) -> Option<(u32, PageId)>
@@ -56,7 +57,7 @@ pub fn take_least(word: u32) -> Option<(u32, PageId)>
 
 /// The word with one bit set.
 pub fn with_bit(word: u32, id: PageId) -> u32
-    requires { id < 32 }
+    requires { id < PAGE_ITEMS }
     ensures bits { SetsBit word id result }
     ensures value { result ≡ bit_or word (2 ^ id) }
 {
@@ -65,7 +66,7 @@ pub fn with_bit(word: u32, id: PageId) -> u32
 
 /// The word with one bit clear.
 pub fn without_bit(word: u32, id: PageId) -> u32
-    requires { id < 32 }
+    requires { id < PAGE_ITEMS }
     ensures bits { ClearsBit word id result }
     ensures value { result ≡ bit_and word (bit_not w32 (2 ^ id)) }
 {
@@ -74,7 +75,7 @@ pub fn without_bit(word: u32, id: PageId) -> u32
 
 /// Whether the bit is set.
 fn has_bit(word: u32, id: PageId) -> bool
-    requires { id < 32 }
+    requires { id < PAGE_ITEMS }
     ensures { IsTrue result ↔ (bit_at word id ≡ 1) }
 {
     word >> id & 1 == 1
@@ -91,7 +92,7 @@ fn is_none_free(word: u32) -> bool
 #[derive(Drop)]
 pub struct Page<T, K: Clean<T>> {
     table: Table<Option<T>, UserView<T>, Snapshot<Vec<Option<T>>>, PageRule<K>, Global>,
-    ghost sized: { (table.shared.table_id.words ≡ 1) × (table.shared.table_id.slots ≡ 32) },
+    ghost sized: { (table.shared.table_id.words ≡ 1) × (table.shared.table_id.slots ≡ PAGE_ITEMS) },
 }
 
 impl<T, K: Clean<T>> Page<T, K> {
@@ -133,8 +134,8 @@ impl<T, K: Clean<T>> Page<T, K> {
         ensures answers { IfOk result (λ items. IsFilled (λ made. I.post init.now (Some made)) items.items) }
         ensures refused { IfErr result (RefusesMaking (I.post init.now None)) }
     {
-        let mut items = Vec::with_capacity(alloc, ITEMS)?;
-        for _ in 0..ITEMS {
+        let mut items = Vec::with_capacity(alloc, PAGE_ITEMS)?;
+        for _ in 0..PAGE_ITEMS {
             let Some(item) = init() else {
                 return Err(PullError::Init);
             };
@@ -217,7 +218,7 @@ impl<T, K: Clean<T>> Page<T, K> {
         requires holds_none { seat.me.0.held ≡ None }
         requires here { seat.me.0.gone ≡ false }
         requires sound { IsSound seat.me.0 }
-        requires found { (id : ℕ) → id < 32 → IsOut word id → bit_at seat.me.0.found id ≡ 1 }
+        requires found { (id : ℕ) → id < PAGE_ITEMS → IsOut word id → bit_at seat.me.0.found id ≡ 1 }
         ensures succeeds { IsOk result }
         ensures answer { IfOk result (IsAnswerFrom K.meets (page_identity self.now) seat.me.0) }
     {

@@ -7,6 +7,7 @@ use Rattle.object_pool_cores.specs.Item.{item_number}
 use Rattle.object_pool_cores.specs.Pool.{Pool, IsOut, IsPool, IsSame, opening}
 use Rattle.object_pool_cores.specs.LeastChoice.{PullsItem, ReturnsItem}
 use Rattle.object_pool_cores.specs.Numbered as numbered
+use Rattle.lockfree_object_pool.specs.declared.page.TheConstants.{PAGE_ITEMS}
 
 module _ {T I R K : Type 0} where
   -- the pool that a core is
@@ -57,7 +58,7 @@ module _ {T I R K : Type 0} where
   -- a new core is the opening pool of 32 answers of init, and may have so many pages
   pub record IsOpening (answers : Option T → Type 0) (limit : Option ℕ) (core : LinearCore T I R K) : Type 0 where
     pub values : List T
-    pub count : length values ≡ 32
+    pub count : length values ≡ PAGE_ITEMS
     pub answered : All (λ v. answers (Some v)) values
     pub pool : IsSame (pool_of core) (opening values)
     pub most : limit_of core ≡ limit

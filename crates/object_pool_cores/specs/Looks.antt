@@ -1,6 +1,7 @@
 -- How many pages a pull looks at.
 use Rattle.std.specs.Prelude.{ℕ, ◌+◌, ◌*◌, ◌/◌, ◌≤◌, zero, suc}
 use Rattle.object_pool_cores.specs.Pool.{Pool, Place, Absent, Free, Out}
+use Rattle.lockfree_object_pool.specs.declared.page.TheConstants.{PAGE_ITEMS}
 
 module _ {T : Type 0} where
   abbrev pub one_if_out : Place T → ℕ
@@ -15,8 +16,8 @@ module _ {T : Type 0} where
 
   -- how many numbers are out, forgotten ones too
   abbrev pub out_count : Pool T → ℕ
-  out_count pool = out_below pool (32 * pool.pages)
+  out_count pool = out_below pool (PAGE_ITEMS * pool.pages)
 
   -- no more looks than pages that the numbers out fill, and one
   abbrev pub LooksAtFew : Pool T → ℕ → ℕ → Type 0
-  LooksAtFew pool before after = (before ≤ after) × (after ≤ before + out_count pool / 32 + 1)
+  LooksAtFew pool before after = (before ≤ after) × (after ≤ before + out_count pool / PAGE_ITEMS + 1)

@@ -3,6 +3,7 @@ use Rattle.std.specs.Prelude.{◌≡◌, ℕ, ◌+◌, ◌-◌, ◌*◌, nat_lt,
 use Rattle.lockfree_object_pool.specs.declared.pull_error.PullError.{PullError}
 use Rattle.lockfree_object_pool.specs.declared.pull_error.PullError.TheVariants.{Memory, Init, Limit}
 use Rattle.object_pool_cores.specs.Pool.{Pool, Free, Out, IsFree, IsOut, AllowsPages, free_with, with_place}
+use Rattle.lockfree_object_pool.specs.declared.page.TheConstants.{PAGE_ITEMS}
 
 -- a pull of a number gives a value, a return leaves one there, a growth brings a page of values, a refusal has a cause
 pub data Move (T : Type 0) : Type 0 where
@@ -16,7 +17,7 @@ module _ {T : Type 0} where
   abbrev pub grown : Pool T → List T → Pool T
   grown pool values = record {
     pages = pool.pages + 1;
-    at = λ n. if nat_lt n (32 * pool.pages) then pool.at n else free_with (slice_get values (n - 32 * pool.pages));
+    at = λ n. if nat_lt n (PAGE_ITEMS * pool.pages) then pool.at n else free_with (slice_get values (n - PAGE_ITEMS * pool.pages));
   }
 
   -- a refusal for the limit comes only where the pool has as many pages as it may
@@ -29,7 +30,7 @@ module _ {T : Type 0} where
   abbrev pub IsLawful : Option ℕ → Pool T → Move T → Type 0
   IsLawful limit pool (Pull n value) = IsFree pool n value
   IsLawful limit pool (Return n kept) = IsOut pool n
-  IsLawful limit pool (Growth values) = (length values ≡ 32) × AllowsPages limit (pool.pages + 1)
+  IsLawful limit pool (Growth values) = (length values ≡ PAGE_ITEMS) × AllowsPages limit (pool.pages + 1)
   IsLawful limit pool (Refusal cause) = MayRefuse limit pool cause
 
   -- the pool that a move leaves

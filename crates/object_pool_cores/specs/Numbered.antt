@@ -3,6 +3,7 @@ use Rattle.std.specs.Prelude.{◌≡◌, ℕ, ◌+◌, ◌*◌, ◌/◌, ◌%◌
 use Rattle.object_pool_cores.specs.Pool.{Pool, Place, Absent, Free, Out, IsSame, AllowsPages}
 use Rattle.object_pool_cores.specs.Move.{Growth, IsLawful, after}
 use Rattle.object_pool_cores.specs.LeastChoice.{IsExhausted, TakesLeast}
+use Rattle.lockfree_object_pool.specs.declared.page.TheConstants.{PAGE_ITEMS}
 
 -- at each number the value of a free item, or none where it is out; how many pages there may be; the page at which the
 -- next pull starts, and how many pages were looked at
@@ -21,7 +22,7 @@ module _ {T : Type 0} where
 
   -- the pool that the list stands for
   abbrev pub pool_of : Numbered T → Pool T
-  pool_of items = record { pages = length items.places / 32; at = λ n. place_of (slice_get items.places n) }
+  pool_of items = record { pages = length items.places / PAGE_ITEMS; at = λ n. place_of (slice_get items.places n) }
 
   -- the places of the pages, one page behind another
   abbrev pub laid_out : List (List (Option T)) → List (Option T)
@@ -30,7 +31,7 @@ module _ {T : Type 0} where
 
   -- each page has 32 places
   abbrev pub AreWhole : List (List (Option T)) → Type 0
-  AreWhole pages = All (λ page. length page ≡ 32) pages
+  AreWhole pages = All (λ page. length page ≡ PAGE_ITEMS) pages
 
   -- no number below this one is free
   abbrev pub HasNoneBelow : List (Option T) → ℕ → Type 0
@@ -39,22 +40,22 @@ module _ {T : Type 0} where
   -- the list has whole pages, as many as there may be, each value meets the condition, and no page in front of the one
   -- at which a pull starts has a free number
   pub record IsSound (meets : T → Type 0) (items : Numbered T) : Type 0 where
-    pub whole : length items.places % 32 ≡ 0
-    pub allowed : AllowsPages items.limit (length items.places / 32)
+    pub whole : length items.places % PAGE_ITEMS ≡ 0
+    pub allowed : AllowsPages items.limit (length items.places / PAGE_ITEMS)
     pub clean : (n : ℕ) (v : T) → slice_get items.places n ≡ Some (Some v) → meets v
-    pub starts : items.start ≤ length items.places / 32
-    pub passed : HasNoneBelow items.places (32 * items.start)
+    pub starts : items.start ≤ length items.places / PAGE_ITEMS
+    pub passed : HasNoneBelow items.places (PAGE_ITEMS * items.start)
 
   -- the least free number was taken, and the next pull starts at its page
   pub record TakesLeastOf (old : Numbered T) (n : ℕ) (v : T) (new : Numbered T) : Type 0 where
     pub takes : TakesLeast (pool_of old) n v (pool_of new)
-    pub starts : new.start ≡ n / 32
+    pub starts : new.start ≡ n / PAGE_ITEMS
 
   -- no number is free, and the next pull starts behind the pages
   pub record FindsNone (old new : Numbered T) : Type 0 where
     pub exhausted : IsExhausted (pool_of old)
     pub places : new.places ≡ old.places
-    pub starts : new.start ≡ length old.places / 32
+    pub starts : new.start ≡ length old.places / PAGE_ITEMS
 
   -- one look at each page that was passed, and one at a page that wasn't full
   pub record Looks (old : Numbered T) (found : ℕ) (new : Numbered T) : Type 0 where

@@ -1,6 +1,7 @@
 -- A page of one owner: a map from free ids to values. It is written as the list of what lies at each of its 32 ids.
 use Rattle.std.specs.Prelude.{◌≡◌, ℕ, ◌<◌, ◌↔◌, Option, Some, None, List, slice_get, slice_set}
 use Rattle.std.specs.Int.{bit_at}
+use Rattle.lockfree_object_pool.specs.declared.page.TheConstants.{PAGE_ITEMS}
 
 module _ {T : Type 0} where
   -- the id is free with this value
@@ -17,11 +18,11 @@ module _ {T : Type 0} where
 
   -- the least free id is taken, with its value
   pub record TakesLeastId (old : List (Option T)) (id : ℕ) (v : T) (new : List (Option T)) : Type 0 where
-    pub in_page : id < 32
+    pub in_page : id < PAGE_ITEMS
     pub free : IsFreeId old id v
     pub least : (lower : ℕ) (w : T) → lower < id → IsFreeId old lower w → ⊥
     pub taken : new ≡ slice_set old id None
 
   -- the set bits of the word are the free ids
   abbrev pub IsMask : List (Option T) → ℕ → Type 0
-  IsMask page word = (id : ℕ) → id < 32 → (bit_at word id ≡ 1) ↔ ((v : T) × IsFreeId page id v)
+  IsMask page word = (id : ℕ) → id < PAGE_ITEMS → (bit_at word id ≡ 1) ↔ ((v : T) × IsFreeId page id v)

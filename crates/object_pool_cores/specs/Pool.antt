@@ -1,9 +1,10 @@
 -- A pool of items that are known by their numbers.
 use Rattle.std.specs.Prelude.{◌≡◌, ◌≢◌, ℕ, ◌<◌, ◌+◌, ◌*◌, ◌≤◌, ◌==◌, if◌then◌else◌, Option, Some, None, List, slice_get, ⊤}
+use Rattle.lockfree_object_pool.specs.declared.page.TheConstants.{PAGE_ITEMS}
 
 -- the number of an item, by its page and its place there
 abbrev pub number : ℕ → ℕ → ℕ
-number page id = 32 * page + id
+number page id = PAGE_ITEMS * page + id
 
 -- what lies at a number: no item, a free item with its value, or an item that is out
 pub data Place (T : Type 0) : Type 0 where
@@ -32,8 +33,8 @@ module _ {T : Type 0} where
 
   -- there is a place at exactly the numbers below 32 times the pages, and there may be so many pages
   pub record IsPool (limit : Option ℕ) (pool : Pool T) : Type 0 where
-    pub inside : (n : ℕ) → n < 32 * pool.pages → pool.at n ≢ Absent
-    pub past : (n : ℕ) → 32 * pool.pages ≤ n → pool.at n ≡ Absent
+    pub inside : (n : ℕ) → n < PAGE_ITEMS * pool.pages → pool.at n ≢ Absent
+    pub past : (n : ℕ) → PAGE_ITEMS * pool.pages ≤ n → pool.at n ≡ Absent
     pub allowed : AllowsPages limit pool.pages
 
   -- two pools have as many pages, and the same at each number

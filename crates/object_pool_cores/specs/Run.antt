@@ -3,6 +3,7 @@ use Rattle.std.specs.Prelude.{◌≡◌, ◌≢◌, ◌⊎◌, ℕ, ◌*◌, ◌
 use Rattle.lockfree_object_pool.specs.declared.pull_error.PullError.TheVariants.{Memory, Init, Limit}
 use Rattle.object_pool_cores.specs.Pool.{Pool, IsOut, IsPool, opening}
 use Rattle.object_pool_cores.specs.Move.{Move, Pull, Return, Growth, Refusal, IsLawful, after}
+use Rattle.lockfree_object_pool.specs.declared.page.TheConstants.{PAGE_ITEMS}
 
 -- an agent opens, writes the value that it holds, or makes a move of the pool
 pub data Act (T : Type 0) : Type 0 where
@@ -75,7 +76,7 @@ module _ {T : Type 0} where
 
   -- each number of so many pages was found out since the agent began
   abbrev pub FoundPages : List T → List (Act T) → ℕ → ℕ → Type 0
-  FoundPages first acts a count = (n : ℕ) → n < 32 * count → FoundOut first acts a n
+  FoundPages first acts a count = (n : ℕ) → n < PAGE_ITEMS * count → FoundOut first acts a n
 
 module _ {T : Type 0} (Leaves : T → T → Type 0) (limit : Option ℕ) (first : List T) where
   -- an agent may make the move after these acts: it pulls, grows and is refused while it looks, for the limit only

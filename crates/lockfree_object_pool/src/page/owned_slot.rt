@@ -3,6 +3,7 @@ ghost use Rattle.std.specs.Prelude.{◌≡◌, ◌<◌, [], ◌∷◌, Some, Non
 ghost use Rattle.std.specs.Arc.{arc_value};
 ghost use Rattle.lockfree_object_pool.specs.OneProof.{same_page, same_holding, same_carrying};
 ghost use Rattle.lockfree_object_pool.specs.Page.{page_identity};
+ghost use Rattle.lockfree_object_pool.specs.declared.page.TheConstants.{PAGE_ITEMS};
 
 use super::user_view::UserSeat;
 use super::{Page, PageId, PageNote, Returned};
@@ -17,7 +18,7 @@ pub(crate) struct OwnedTakenId<T, K: Clean<T>> {
     pub(super) seat: UserSeat<T>,
     pub(super) id: PageId,
     ghost of_page: { seat.table_id ≡ page_identity (arc_value page) } by { same_page _ _ },
-    ghost in_page: { id < 32 },
+    ghost in_page: { id < PAGE_ITEMS },
     ghost here: { seat.me.0.gone ≡ false },
     ghost holds: { seat.me.0.held ≡ Some id } by { same_holding _ _ },
     ghost carries: { seat.me.1 ≡ (id, None) ∷ [] } by { same_carrying T.code _ _ },
@@ -29,7 +30,7 @@ impl<T, K: Clean<T>> OwnedTakenId<T, K> {
 
     pub(crate) fn id(&self) -> PageId
         ensures value { result ≡ owned_taken_id self.now }
-        ensures in_page { result < 32 }
+        ensures in_page { result < PAGE_ITEMS }
     {
         self.id
     }
@@ -72,7 +73,7 @@ impl<T, K: Clean<T>> OwnedSlot<T, K> {
     /// The number of the item in its page.
     pub fn id(&self) -> PageId
         ensures value { result ≡ (owned_slot_item self.now).id }
-        ensures in_page { result < 32 }
+        ensures in_page { result < PAGE_ITEMS }
     {
         self.taken.id()
     }

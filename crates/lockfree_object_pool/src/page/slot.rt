@@ -3,6 +3,7 @@ ghost use Rattle.std.specs.Prelude.{◌≡◌, ◌<◌, [], ◌∷◌, Some, Non
 ghost use Rattle.std.specs.Arc.{arc_value};
 ghost use Rattle.lockfree_object_pool.specs.OneProof.{same_page, same_holding, same_carrying};
 ghost use Rattle.lockfree_object_pool.specs.Page.{page_identity};
+ghost use Rattle.lockfree_object_pool.specs.declared.page.TheConstants.{PAGE_ITEMS};
 
 use super::rule::Witnesses;
 use super::user_view::UserSeat;
@@ -19,7 +20,7 @@ pub(crate) struct TakenId<'s, T, K: Clean<T>> {
     pub(super) seat: UserSeat<T>,
     pub(super) id: PageId,
     ghost of_page: { seat.table_id ≡ page_identity page.now } by { same_page _ _ },
-    ghost in_page: { id < 32 },
+    ghost in_page: { id < PAGE_ITEMS },
     ghost here: { seat.me.0.gone ≡ false },
     ghost holds: { seat.me.0.held ≡ Some id } by { same_holding _ _ },
     ghost carries: { seat.me.1 ≡ (id, None) ∷ [] } by { same_carrying T.code _ _ },
@@ -31,7 +32,7 @@ impl<'s, T, K: Clean<T>> TakenId<'s, T, K> {
 
     pub(crate) fn id(&self) -> PageId
         ensures value { result ≡ taken_id self.now }
-        ensures in_page { result < 32 }
+        ensures in_page { result < PAGE_ITEMS }
     {
         self.id
     }
@@ -79,7 +80,7 @@ impl<'s, T, K: Clean<T>> PageSlot<'s, T, K> {
     /// The number of the item in its page.
     pub fn id(&self) -> PageId
         ensures value { result ≡ (slot_item self.now).id }
-        ensures in_page { result < 32 }
+        ensures in_page { result < PAGE_ITEMS }
     {
         self.taken.id()
     }

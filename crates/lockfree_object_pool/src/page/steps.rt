@@ -1,6 +1,7 @@
 //! The steps on a page's word, and the move of a value out and home.
 ghost use Rattle.std.specs.Prelude.{◌≡◌, ◌<◌, [], ◌∷◌, Some, None, MatchOption, false};
 ghost use Rattle.lockfree_object_pool.specs.declared.page.history.PageAct.TheVariants.{Gave};
+ghost use Rattle.lockfree_object_pool.specs.declared.page.TheConstants.{PAGE_ITEMS};
 
 use super::rule::{ClearBit, Look, LookAgain, SetBit};
 use super::user_view::UserSeat;
@@ -34,7 +35,7 @@ impl<T, K: Clean<T>> Page<T, K> {
     /// Clears one bit. The value of that item, where it was free.
     pub(super) fn clear(&self, seat: &mut UserSeat<T>, id: PageId) -> Option<T>
         requires page { seat.old.table_id ≡ page_identity self.now }
-        requires in_page { id < 32 }
+        requires in_page { id < PAGE_ITEMS }
         requires holds_none { seat.old.me.0.held ≡ None }
         requires here { seat.old.me.0.gone ≡ false }
         ensures page { seat.new.table_id ≡ seat.old.table_id }
@@ -51,7 +52,7 @@ impl<T, K: Clean<T>> Page<T, K> {
     /// Moves the value home, then sets its bit. Whether no other bit was set then.
     pub(super) fn give(&self, mut seat: UserSeat<T>, id: PageId, value: T) -> (UserSeat<T>, bool)
         requires page { seat.table_id ≡ page_identity self.now }
-        requires in_page { id < 32 }
+        requires in_page { id < PAGE_ITEMS }
         requires holds { seat.me.0.held ≡ Some id }
         requires here { seat.me.0.gone ≡ false }
         requires carries { seat.me.1 ≡ (id, None) ∷ [] }

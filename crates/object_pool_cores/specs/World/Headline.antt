@@ -13,6 +13,7 @@ use Rattle.object_pool_cores.specs.World.Reading.{reading}
 use Rattle.object_pool_cores.specs.World.Visible.{Log, Reads}
 use Rattle.object_pool_cores.specs.World.Alone.{IsAlone, StepsAlone, StepsInOrder}
 use Rattle.object_pool_cores.specs.World.OwnSteps.{own_steps, IsOnPage, IsLooking}
+use Rattle.lockfree_object_pool.specs.declared.page.TheConstants.{PAGE_ITEMS}
 
 -- what the events did, from a world of these first values in which no agent had begun, is a run of one pool
 pub record IsRun {T : Type 0} (Leaves : T → T → Type 0) (first : List T) (log : Log T) (world : State T) : Type 0 where
@@ -40,7 +41,7 @@ pub record IsRun {T : Type 0} (Leaves : T → T → Type 0) (first : List T) (lo
 -- a world of one page of 32 values, in which no agent has begun
 pub record IsNew {T : Type 0} (world : State T) : Type 0 where
   pub first : List T
-  pub full : length first ≡ 32
+  pub full : length first ≡ PAGE_ITEMS
   pub allowed : AllowsPages world.limit 1
   pub same : world ≡ opening_world first world.limit
 

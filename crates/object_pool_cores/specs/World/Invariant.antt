@@ -9,6 +9,7 @@ use Rattle.object_pool_cores.specs.World.State.{State}
 use Rattle.object_pool_cores.specs.World.Machine.{has_bit, value_at}
 use Rattle.object_pool_cores.specs.World.Reading.{reading}
 use Rattle.object_pool_cores.specs.World.Visible.{Log, last_made, Reads}
+use Rattle.lockfree_object_pool.specs.declared.page.TheConstants.{PAGE_ITEMS}
 
 module _ {T : Type 0} (first : List T) where
   -- an agent looks on page k, and found each number of the pages before it out
@@ -33,13 +34,13 @@ module _ {T : Type 0} (first : List T) where
   pub record TriesBits (acts : List (Act T)) (a k mask : ℕ) : Type 0 where
     pub some : 0 < mask
     pub in_word : mask < 2 ^ 32
-    pub others : (id : ℕ) → id < 32 → has_bit mask id ≡ false → FoundOut first acts a (number k id)
+    pub others : (id : ℕ) → id < PAGE_ITEMS → has_bit mask id ≡ false → FoundOut first acts a (number k id)
 
 module _ {T : Type 0} where
   -- an agent holds the number at a place with this value
   pub record HoldsAt (acts : List (Act T)) (world : State T) (a k id : ℕ) (value : T) : Type 0 where
     pub linked : k < length world.pages
-    pub in_page : id < 32
+    pub in_page : id < PAGE_ITEMS
     pub stage : stage_of acts a ≡ Holds (number k id) value
 
 module _ {T : Type 0} (Leaves : T → T → Type 0) (first : List T) where
@@ -67,6 +68,6 @@ module _ {T : Type 0} (Leaves : T → T → Type 0) (first : List T) where
     pub found : Found first acts
     pub same : IsSame (pool_of first acts) (reading world)
     pub words : (k : ℕ) (page : PageState T) → slice_get world.pages k ≡ Some page → page.word < 2 ^ 32
-    pub places : (k : ℕ) (page : PageState T) → slice_get world.pages k ≡ Some page → length page.places ≡ 32
+    pub places : (k : ℕ) (page : PageState T) → slice_get world.pages k ≡ Some page → length page.places ≡ PAGE_ITEMS
     pub allowed : AllowsPages world.limit (length world.pages)
     pub agents : (a : ℕ) → KnowsIf log acts world a (slice_get world.agents a)

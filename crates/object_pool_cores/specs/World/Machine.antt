@@ -12,6 +12,8 @@ use Rattle.object_pool_cores.specs.declared.interleave.point.Point.TheVariants.{
 use Rattle.object_pool_cores.specs.Pool.{number}
 use Rattle.object_pool_cores.specs.World.PageState.{PageState}
 use Rattle.object_pool_cores.specs.World.State.{State}
+use Rattle.lockfree_object_pool.specs.Word.{all_bits}
+use Rattle.lockfree_object_pool.specs.declared.page.TheConstants.{PAGE_ITEMS}
 
 -- the bit of an id is set in the word
 abbrev pub has_bit : ℕ → ℕ → Bool
@@ -41,7 +43,7 @@ is_limit (Some limit) count = limit == count
 module _ {T : Type 0} where
   -- a page that was just linked with these values: each of its items is free
   abbrev pub linked_page : List T → PageState T
-  linked_page values = record { word = 4294967295; places = map Some values }
+  linked_page values = record { word = all_bits; places = map Some values }
 
   -- the word of a page, 0 where there is no such page
   abbrev pub word_in : Option (PageState T) → ℕ
@@ -182,7 +184,7 @@ module _ {T : Type 0} where
 
   abbrev pub or_mask : State T → ℕ → Option (Point T) → Outcome T
   or_mask world a (Some (Home k id)) =
-      if nat_lt id 32
+      if nat_lt id PAGE_ITEMS
       then (seen.Returned a (number k id), at_point (with_pages world (with_word world.pages k (with_bit (word_of world.pages k) id))) a Ended)
       else not_enabled world
   or_mask world a _ = not_enabled world
@@ -202,7 +204,7 @@ module _ {T : Type 0} where
 
   -- a page that is linked has 32 values
   abbrev pub LinksWhole : Seen → Option (List T) → Type 0
-  LinksWhole (seen.Linked a) (Some values) = length values ≡ 32
+  LinksWhole (seen.Linked a) (Some values) = length values ≡ PAGE_ITEMS
   LinksWhole _ _ = ⊤
 
   -- the agent that an event names

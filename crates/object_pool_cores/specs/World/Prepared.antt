@@ -1,5 +1,6 @@
 -- The values of a page before it is linked.
 use Rattle.std.specs.Prelude.{◌≡◌, List, [], ◌∷◌, Option, Some, None, map, length}
+use Rattle.lockfree_object_pool.specs.declared.page.TheConstants.{PAGE_ITEMS}
 
 module _ {T : Type 0} where
   -- the values in a list of places, in order
@@ -11,4 +12,4 @@ module _ {T : Type 0} where
   -- each of the 32 places has its value
   pub record IsFull (places : List (Option T)) : Type 0 where
     pub all : places ≡ map Some (values_of places)
-    pub count : length (values_of places) ≡ 32
+    pub count : length (values_of places) ≡ PAGE_ITEMS

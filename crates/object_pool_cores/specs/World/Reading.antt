@@ -4,6 +4,7 @@ use Rattle.object_pool_cores.specs.Pool.{Place, Out, Absent, Pool, free_with}
 use Rattle.object_pool_cores.specs.World.PageState.{PageState}
 use Rattle.object_pool_cores.specs.World.State.{State}
 use Rattle.object_pool_cores.specs.World.Machine.{has_bit, value_in}
+use Rattle.lockfree_object_pool.specs.declared.page.TheConstants.{PAGE_ITEMS}
 
 module _ {T : Type 0} where
   -- free with its value where the bit is set, out where it is clear
@@ -18,4 +19,4 @@ module _ {T : Type 0} where
 
   -- the pool that a world stands for
   abbrev pub reading : State T → Pool T
-  reading world = record { pages = length world.pages; at = λ n. place_on (slice_get world.pages (n / 32)) (n % 32) }
+  reading world = record { pages = length world.pages; at = λ n. place_on (slice_get world.pages (n / PAGE_ITEMS)) (n % PAGE_ITEMS) }

@@ -1,4 +1,5 @@
 //! A page of a world: a word, and 32 places.
+ghost use Rattle.lockfree_object_pool.specs.declared.page.TheConstants.{PAGE_ITEMS};
 ghost use Rattle.std.specs.Prelude.{length, ◌≡◌, Option, Some, None, List, map, option_map, option_copied, option_and_then, slice_get, slice_set, ◌<◌, ◌==◌, ◌<◌};
 ghost use Rattle.object_pool_cores.specs.World.PageState.{PageState};
 ghost use Rattle.object_pool_cores.specs.World.Machine.{linked_page, word_of, with_word, with_value, value_at};
@@ -28,7 +29,7 @@ impl<T: Drop> Page<T> {
     /// The page of these values, all of whose items are free.
     pub fn new(values: Prepared<T>) -> Page<T>
         ensures value { result ≡ linked_page values }
-        ensures whole { length values ≡ 32 }
+        ensures whole { length values ≡ PAGE_ITEMS }
     {
         Page {
             word: u32::MAX,

@@ -3,11 +3,9 @@ ghost use Rattle.std.specs.Prelude.{◌≡◌, ◌≢◌, Option, Some, None, ma
 ghost use Rattle.lockfree_object_pool.specs.declared.pull_error.PullError.TheVariants.{Init, Limit};
 
 use lockfree_object_pool::PullError;
+use lockfree_object_pool::page::PAGE_ITEMS;
 use std::alloc::Global;
 use std::marker::Model;
-
-/// How many items a page has.
-const PAGE_ITEMS: usize = 32;
 
 /// 32 values for a new page.
 #[derive(Drop)]
@@ -32,7 +30,7 @@ impl<T: Drop> Prepared<T> {
     pub fn make<I: Fn() -> Option<T>>(alloc: Global, init: &I) -> Result<Prepared<T>, PullError>
         requires { I.pre init.now }
         ensures values { IfOk result (All (λ value. I.post init.now (Some value))) }
-        ensures count { IfOk result (λ values. length values ≡ 32) }
+        ensures count { IfOk result (λ values. length values ≡ PAGE_ITEMS) }
         ensures refused { IfErr result (λ cause. cause ≡ Init → I.post init.now None) }
         ensures unlimited { IfErr result (λ cause. cause ≢ Limit) }
     {
@@ -51,7 +49,7 @@ impl<T: Drop> Prepared<T> {
     /// The values, each at its place.
     pub(super) fn into_places(self) -> Vec<Option<T>>
         ensures places { result.items ≡ map Some self }
-        ensures count { length self ≡ 32 }
+        ensures count { length self ≡ PAGE_ITEMS }
     {
         self.places
     }

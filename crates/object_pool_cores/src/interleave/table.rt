@@ -14,13 +14,10 @@ use crate::interleave::{Event, Prepared, Seen};
 use lockfree_object_pool::PullError;
 use lockfree_object_pool::clean::AnyValue;
 use lockfree_object_pool::closures::Reset;
-use lockfree_object_pool::page::{PageId, take_least, with_bit, without_bit};
+use lockfree_object_pool::page::{PAGE_ITEMS, PageId, take_least, with_bit, without_bit};
 use std::alloc::{AllocError, Global};
 use std::marker::Model;
 use std::mem;
-
-/// How many items a page has.
-const PAGE_ITEMS: PageId = 32;
 
 /// The pages in order, the agents by their numbers, and the limit.
 #[derive(Drop)]
@@ -44,7 +41,7 @@ impl<T> Model for Table<T> {
 
 /// The bit of an id is set in the word.
 fn has_bit(word: u32, id: PageId) -> bool
-    requires { id < 32 }
+    requires { id < PAGE_ITEMS }
     ensures { result ≡ has_bit word id }
 {
     word >> id & 1 == 1
@@ -136,7 +133,7 @@ fn split_lowest(mask: u32) -> (u32, PageId)
     requires { 0 < mask }
     ensures rest { result.0 ≡ without_lowest mask }
     ensures lowest { result.1 ≡ lowest mask }
-    ensures in_page { result.1 < 32 }
+    ensures in_page { result.1 < PAGE_ITEMS }
 {
     match take_least(mask) {
         Some(split) => split,
@@ -148,7 +145,7 @@ fn split_lowest(mask: u32) -> (u32, PageId)
 fn number(page: usize, id: PageId) -> u128
     ensures { result ≡ number page id }
 {
-    32 * page as u128 + u128::from(id)
+    PAGE_ITEMS as u128 * page as u128 + u128::from(id)
 }
 
 /// Moves an agent to the next page, and gives the values that it had for a page of its own.
@@ -168,7 +165,7 @@ fn link_last<T: Drop>(pages: &mut Vec<Page<T>>, values: Prepared<T>)
     requires { vec_len pages.old < vec_capacity pages.old }
     ensures pages { pages.new.items ≡ pages.old.items ++ linked_page values ∷ [] }
     ensures room { vec_capacity pages.old ≤ vec_capacity pages.new }
-    ensures whole { length values ≡ 32 }
+    ensures whole { length values ≡ PAGE_ITEMS }
 {
     let _ = pages.push(Page::new(values));
 }
@@ -189,7 +186,7 @@ impl<T: Drop> Table<T> {
         limit: Option<usize>,
     ) -> Result<Table<T>, AllocError>
         ensures opening { IfOk result (λ table. table ≡ opening_world first limit) }
-        ensures whole { OnOk result (length first ≡ 32) }
+        ensures whole { OnOk result (length first ≡ PAGE_ITEMS) }
     {
         let mut pages = Vec::new(alloc);
         pages.push(Page::new(first))?;
@@ -436,7 +433,7 @@ impl<T: Drop> Table<T> {
             Some(Point::Home(page, id)) => (*page, *id),
             _ => return Seen::NotEnabled,
         };
-        if id >= PAGE_ITEMS {
+        if usize::from(id) >= PAGE_ITEMS {
             return Seen::NotEnabled;
         }
         let word = word_of(&self.pages, page);

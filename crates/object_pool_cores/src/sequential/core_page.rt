@@ -7,13 +7,10 @@ ghost use Rattle.object_pool_cores.specs.OnePage.{HasNoFreeId, IsMask, IsOutId, 
 
 use lockfree_object_pool::PullError;
 use lockfree_object_pool::clean::Clean;
-use lockfree_object_pool::page::{PageId, take_least, with_bit};
+use lockfree_object_pool::page::{PAGE_ITEMS, PageId, take_least, with_bit};
 use std::alloc::Global;
 use std::marker::{Model, PhantomData};
 use std::sync::Mutex;
-
-/// How many items a page has.
-const ITEMS: usize = 32;
 
 /// A page of 32 items. The least free id is taken first.
 #[derive(Drop)]
@@ -108,8 +105,8 @@ fn made_items<T: Drop, I: Fn() -> Option<T>, K: Clean<T>>(
     ensures made { IfOk result (λ page. IsMadePage (λ answer. I.post init.now answer) K.meets page.items) }
     ensures refused { IfErr result (RefusesMaking (I.post init.now None)) }
 {
-    let mut page = Vec::with_capacity(alloc, ITEMS)?;
-    for _id in 0..ITEMS {
+    let mut page = Vec::with_capacity(alloc, PAGE_ITEMS)?;
+    for _id in 0..PAGE_ITEMS {
         match init() {
             Some(value) => {
                 if page.push(Some(value)).is_err() {

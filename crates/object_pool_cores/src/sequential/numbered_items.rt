@@ -12,12 +12,12 @@ use crate::sequential::{CorePage, Item};
 use lockfree_object_pool::PullError;
 use lockfree_object_pool::clean::Clean;
 use lockfree_object_pool::closures::Init;
-use lockfree_object_pool::page::PageId;
+use lockfree_object_pool::page::{PAGE_ITEMS, PageId};
 use std::alloc::Global;
 use std::marker::Model;
 
-/// How many items a page has.
-const PAGE_ITEMS: u128 = 32;
+/// How many numbers a page has.
+const PAGE_NUMBERS: u128 = PAGE_ITEMS as u128;
 
 /// Pages in order. No page in front of `start` has a free number.
 #[derive(Drop)]
@@ -161,9 +161,9 @@ fn first_open<T: Drop, K: Clean<T>>(
 ) -> usize
     requires start { start ≤ length pages.now }
     requires whole { AreWhole pages.now }
-    requires passed { HasNoneBelow (laid_out pages.now) (32 * start) }
+    requires passed { HasNoneBelow (laid_out pages.now) (PAGE_ITEMS * start) }
     ensures pages { (start ≤ result) × (result ≤ length pages.now) }
-    ensures passed { HasNoneBelow (laid_out pages.now) (32 * result) }
+    ensures passed { HasNoneBelow (laid_out pages.now) (PAGE_ITEMS * result) }
     ensures open { (page : _) → slice_get pages.now result ≡ Some page → HasNoFreeId page → ⊥ }
     ensures more { looked.old ≤ looked.new }
     ensures each { looked.new + start ≤ looked.old + result + (if nat_lt result (length pages.now) then 1 else 0) }
@@ -181,18 +181,18 @@ fn first_open<T: Drop, K: Clean<T>>(
 
 /// The number of an item, by its page and its id there.
 fn number(page: usize, id: PageId) -> u128
-    ensures { result ≡ 32 * page + id }
+    ensures { result ≡ PAGE_ITEMS * page + id }
 {
-    PAGE_ITEMS * page as u128 + u128::from(id)
+    PAGE_NUMBERS * page as u128 + u128::from(id)
 }
 
 /// The page and the id of a number, where it is below the end of so many pages.
 fn page_and_id(number: u128, pages: usize) -> Option<(usize, PageId)>
-    ensures { MatchOption result (32 * pages ≤ number) (λ at. (number ≡ 32 * at.0 + at.1) × (at.1 < 32) × (at.0 < pages)) }
+    ensures { MatchOption result (PAGE_ITEMS * pages ≤ number) (λ at. (number ≡ PAGE_ITEMS * at.0 + at.1) × (at.1 < PAGE_ITEMS) × (at.0 < pages)) }
 {
-    let page = usize::try_from(number / PAGE_ITEMS).ok()?;
+    let page = usize::try_from(number / PAGE_NUMBERS).ok()?;
     if page >= pages {
         return None;
     }
-    Some((page, (number % PAGE_ITEMS) as PageId))
+    Some((page, (number % PAGE_NUMBERS) as PageId))
 }
