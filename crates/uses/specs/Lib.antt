@@ -1,0 +1,4 @@
+pub mod Letters
+pub mod Palindromes
+pub mod Replies
+pub mod Sessions

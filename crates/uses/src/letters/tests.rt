@@ -1,0 +1,80 @@
+//! A writer and a reader in two threads. The pool has one page, so sheets that the reader dropped are written on again.
+use super::*;
+use crossbeam_channel::{Receiver, Sender, unbounded};
+use std::sync::Wait;
+use std::test::Fail;
+use std::thread;
+
+/// A thread that still waits after so many turns gives up, and its test fails.
+const MOST_TURNS: u32 = 10_000_000;
+
+const LETTERS: u8 = 200;
+
+/// The next letter, where it comes within so many turns.
+fn receive<W: Wait>(rt: &W, from: &Receiver<Letter>) -> Option<Letter> {
+    for _ in 0..MOST_TURNS {
+        if let Ok(letter) = from.try_recv(rt) {
+            return Some(letter);
+        }
+        thread::yield_now();
+    }
+    None
+}
+
+/// A letter, asked for again while all sheets are out.
+fn written(pool: &Arc<SheetPool>, text: &[u8]) -> Option<Letter> {
+    for _ in 0..MOST_TURNS {
+        match Letter::new(pool, text) {
+            Ok(letter) => return Some(letter),
+            Err(PullError::Limit) => thread::yield_now(),
+            Err(_) => return None,
+        }
+    }
+    None
+}
+
+/// Whether all letters could be written and sent.
+fn write_all<W: Wait>(rt: &W, pool: &Arc<SheetPool>, to: &Sender<Letter>) -> bool {
+    for number in 0..LETTERS {
+        let text = [number, number];
+        let Some(letter) = written(pool, &text[usize::from(number % 2)..]) else {
+            return false;
+        };
+        if to.send(rt, letter).is_err() {
+            return false;
+        }
+    }
+    true
+}
+
+/// Whether each letter came with its number, as often as it was written.
+fn read_all<W: Wait>(rt: &W, from: &Receiver<Letter>) -> bool {
+    for number in 0..LETTERS {
+        let Some(letter) = receive(rt, from) else {
+            return false;
+        };
+        let text = [number, number];
+        let expected = &text[usize::from(number % 2)..];
+        if letter.text() != expected || letter.len() != expected.len() {
+            return false;
+        }
+    }
+    true
+}
+
+#[test]
+fn letters_reach_the_reader_and_their_sheets_come_home(rt: HostRuntime) -> Result<(), Fail> {
+    let alloc = rt.alloc();
+    let pool = LinearObjectPool::with_limit(alloc, WithCapacity::new(alloc, 4), Clear, 1)?;
+    let pool = Arc::new(alloc, pool)?;
+    let (to, from) = unbounded(alloc)?;
+    let reader = thread::spawn(&rt, move || read_all(&rt, &from))?;
+    assert!(rt; write_all(&rt, &pool, &to));
+    assert!(rt; reader.join(&rt));
+    let mut sheets = Vec::with_capacity(alloc, 32)?;
+    for _ in 0..32 {
+        sheets.push(pool.pull_owned()?)?;
+    }
+    assert_eq!(rt; pool.pull_owned().err(), Some(PullError::Limit));
+    Ok(())
+}

@@ -1,0 +1,25 @@
+//! Texts that threads look at, and what they answer.
+use super::*;
+use std::test::Fail;
+
+#[test]
+fn threads_answer_as_one_thread_does(rt: HostRuntime) -> Result<(), Fail> {
+    let alloc = rt.alloc();
+    let pool = LinearObjectPool::new(alloc, WithCapacity::new(alloc, 8), Clear)?;
+    let words: [&[u8]; 5] = [b"level", b"pool", b"", b"noon", b"lever"];
+    let mut texts = Vec::with_capacity(alloc, 5)?;
+    for word in words {
+        texts.push(Vec::from_slice(alloc, word)?)?;
+    }
+    for _ in 0..20 {
+        let answers = palindromes(&rt, alloc, &pool, &texts)?;
+        assert_eq!(rt; answers.len(), 5);
+        for (text, answer) in texts.iter().zip(&answers) {
+            let mut scratch = Vec::new(alloc);
+            assert_eq!(rt; *answer, Some(is_palindrome(text, &mut scratch)?));
+        }
+        let expected = [Some(true), Some(false), Some(true), Some(true), Some(false)];
+        assert_eq!(rt; answers.as_slice(), expected.as_slice());
+    }
+    Ok(())
+}

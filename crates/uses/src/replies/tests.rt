@@ -1,0 +1,50 @@
+//! Replies to many names, by threads that share one page of buffers.
+use super::*;
+use std::sync::Arc;
+use std::test::Fail;
+use std::thread;
+
+/// Whether a hundred greetings were as they should be.
+fn greet_often(alloc: Global, replies: &Replies, name: &[u8], expected: &[u8]) -> bool {
+    for _ in 0..100 {
+        match greeting(alloc, replies, name) {
+            Ok(reply) if reply.as_slice() == expected => {}
+            _ => return false,
+        }
+    }
+    true
+}
+
+#[test]
+fn threads_greet_each_by_its_name(rt: HostRuntime) -> Result<(), Fail> {
+    let alloc = rt.alloc();
+    let replies = Arc::new(alloc, new_replies(alloc, 16)?)?;
+    let names: [(&'static [u8], &'static [u8]); 3] = [
+        (b"Ada", b"hello, Ada\n"),
+        (b"Grace Hopper", b"hello, Grace Hopper\n"),
+        (b"", b"hello, \n"),
+    ];
+    let mut threads = Vec::with_capacity(alloc, 3)?;
+    for (name, expected) in names {
+        let replies = Arc::try_clone(&replies)?;
+        threads.push(thread::spawn(&rt, move || greet_often(alloc, &replies, name, expected))?)?;
+    }
+    for thread in threads {
+        assert!(rt; thread.join(&rt));
+    }
+    Ok(())
+}
+
+#[test]
+fn a_page_of_replies_is_all_there_is(rt: HostRuntime) -> Result<(), Fail> {
+    let replies = new_replies(rt.alloc(), 16)?;
+    let mut buffers = Vec::with_capacity(rt.alloc(), 32)?;
+    for _ in 0..32 {
+        buffers.push(replies.pull()?)?;
+    }
+    assert_eq!(rt;
+        greeting(rt.alloc(), &replies, b"Ada"),
+        Err(PullError::Limit)
+    );
+    Ok(())
+}

@@ -1,0 +1,61 @@
+//! Sessions that are opened, filled and closed, by one thread and by several that share a pool.
+use super::*;
+use std::test::Fail;
+use std::thread;
+
+fn new_pool(alloc: Global) -> Result<Arc<BasketPool>, PullError> {
+    let pool = LinearObjectPool::with_limit(alloc, WithCapacity::new(alloc, 4), Clear, 1)?;
+    Ok(Arc::new(alloc, pool)?)
+}
+
+fn holds(sessions: &Sessions, session: u64, products: &[u32]) -> bool {
+    match sessions.products(session) {
+        Some(gathered) => gathered == products,
+        None => false,
+    }
+}
+
+/// Opens a session, puts a product into its basket and closes it, a hundred times. Whether each basket was empty at
+/// first and then held the product.
+fn serve(alloc: Global, pool: Arc<BasketPool>, product: u32) -> bool {
+    let mut sessions = Sessions::new(alloc, pool);
+    for session in 0..100u64 {
+        if sessions.open(session).is_err() || !holds(&sessions, session, &[]) {
+            return false;
+        }
+        if sessions.add(session, product).is_err() || !holds(&sessions, session, &[product]) {
+            return false;
+        }
+        sessions.close(session);
+    }
+    true
+}
+
+#[test]
+fn threads_open_sessions_with_empty_baskets(rt: HostRuntime) -> Result<(), Fail> {
+    let alloc = rt.alloc();
+    let pool = new_pool(alloc)?;
+    let mut threads = Vec::with_capacity(alloc, 5)?;
+    for product in 1..6u32 {
+        let pool = Arc::try_clone(&pool)?;
+        threads.push(thread::spawn(&rt, move || serve(alloc, pool, product))?)?;
+    }
+    for thread in threads {
+        assert!(rt; thread.join(&rt));
+    }
+    Ok(())
+}
+
+#[test]
+fn a_closed_session_leaves_its_place_to_another(rt: HostRuntime) -> Result<(), Fail> {
+    let mut sessions = Sessions::new(rt.alloc(), new_pool(rt.alloc())?);
+    for session in 0..32u64 {
+        sessions.open(session)?;
+    }
+    assert_eq!(rt; sessions.open(32), Err(PullError::Limit));
+    sessions.close(7);
+    assert!(rt; sessions.products(7).is_none());
+    sessions.open(32)?;
+    assert!(rt; holds(&sessions, 32, &[]));
+    Ok(())
+}
