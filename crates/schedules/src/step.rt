@@ -1,0 +1,52 @@
+//! One step of an agent, without the values of a page.
+use lockfree_object_pool::PullError;
+use object_pool_cores::interleave::{Event, Prepared};
+use std::alloc::Global;
+use std::cell::Cell;
+
+/// What an agent may do.
+#[derive(Clone, Copy, Debug, PartialEq, Eq)]
+pub enum Step {
+    Begin,
+    ReadMask,
+    ClearBit,
+    ReadNext,
+    /// The first of the page's 32 values. Each later one is greater by 1.
+    MakePage(u32),
+    BeRefused(PullError),
+    ExchangeNext,
+    MoveOut,
+    Write(u32),
+    MoveHome,
+    OrMask,
+}
+
+/// 32 values, of which each is greater by 1 than the one before.
+pub fn values_from(alloc: Global, first: u32) -> Result<Prepared<u32>, PullError> {
+    let next = Cell::new(first);
+    Prepared::make(
+        alloc,
+        &|| {
+            let value = next.get();
+            next.set(value.wrapping_add(1));
+            Some(value)
+        },
+    )
+}
+
+/// The step as an event of the world.
+pub fn event_of(alloc: Global, agent: usize, step: Step) -> Result<Event<u32>, PullError> {
+    Ok(match step {
+        Step::Begin => Event::Begin,
+        Step::ReadMask => Event::ReadMask(agent),
+        Step::ClearBit => Event::ClearBit(agent),
+        Step::ReadNext => Event::ReadNext(agent),
+        Step::MakePage(first) => Event::MakePage(agent, Ok(values_from(alloc, first)?)),
+        Step::BeRefused(cause) => Event::MakePage(agent, Err(cause)),
+        Step::ExchangeNext => Event::ExchangeNext(agent),
+        Step::MoveOut => Event::MoveOut(agent),
+        Step::Write(value) => Event::Write(agent, value),
+        Step::MoveHome => Event::MoveHome(agent),
+        Step::OrMask => Event::OrMask(agent),
+    })
+}
