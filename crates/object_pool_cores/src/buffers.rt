@@ -64,7 +64,10 @@ impl<I: Init<Vec<u8>, Empty>, R: Reset<Vec<u8>, Empty>> BufferPool<I, R> {
     pub fn pull(&self) -> Result<Buffer<'_, I, R>, PullError>
         ensures empty { IfOk result (λ buffer. bytes_of buffer ≡ []) }
         ensures within { IfOk result (λ buffer. IfSome (limit_of_pages self.now) (λ pages. page_of buffer < pages)) }
-        ensures refused { IfErr result (RefusesPull ⊤ (I.answers (maker_of self.now) None)) }
+        ensures refused { IfErr result (RefusesPull (record {
+          limited = ⊤;
+          init_refuses = I.answers (maker_of self.now) None;
+        })) }
     {
         Ok(Buffer::new(self.pool.pull()?))
     }

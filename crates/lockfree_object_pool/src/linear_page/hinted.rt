@@ -7,8 +7,9 @@
 //! those calls have ended, each page with a free item has its hint. Between them a hint may be missing, which costs a walk,
 //! or be left over, which costs a look. Neither decides anything: a page is linked and a limit is answered by the walk
 //! alone, which finds each page full on its own way.
-ghost use Rattle.std.specs.Prelude.{◌≡◌, ◌≤◌, ◌<◌, Option, None, IfSome, IsSome, IfOk, IfErr};
+ghost use Rattle.std.specs.Prelude.{◌≡◌, ◌≤◌, ◌<◌, None, IfSome, IsSome, IfOk, IfErr};
 ghost use Rattle.std.specs.Arc.{arc_value};
+ghost use Rattle.lockfree_object_pool.specs.Answers.{MayOpen};
 ghost use Rattle.lockfree_object_pool.specs.Item.{HasOrigin};
 ghost use Rattle.lockfree_object_pool.specs.LinearPage.{first_page, IsFoundFrom};
 ghost use Rattle.lockfree_object_pool.specs.Page.{page_identity};
@@ -29,14 +30,15 @@ impl<T: Drop, K: Clean<T>, O: Clean<T>> Chain<T, K, O> {
         init: &I,
     ) -> Result<Found<'_, T, K>, PullError>
         requires some_page { IfSome limit (λ pages. 1 ≤ pages) }
-        requires callable { I.pre init.now }
-        requires meets { (answer : Option T) → I.post init.now answer → IfSome answer K.meets }
-        requires opens { (answer : Option T) → I.post init.now answer → IfSome answer O.meets }
+        requires opens { MayOpen (I.pre init.now) (λ answer. I.post init.now answer) K.meets O.meets }
         ensures found { IfOk result (λ found. IsFoundFrom K.meets (first_page self.now) (slot_item found.slot) found.passed) }
         ensures history { IfOk result (λ found. HasOrigin O.meets (slot_item found.slot)) }
         ensures of_page { IfOk result (λ found. (slot_item found.slot).page ≡ page_identity (arc_value found.page.now)) }
         ensures within { IfOk result (λ found. IfSome limit (λ pages. found.passed < pages)) }
-        ensures refused { IfErr result (RefusesPull (IsSome limit) (I.post init.now None)) }
+        ensures refused { IfErr result (RefusesPull (record {
+          limited = IsSome limit;
+          init_refuses = I.post init.now None;
+        })) }
     {
         let pass = PullPass::new();
         let page = self.first.owner();
