@@ -1,5 +1,5 @@
 -- What a page answers, told by what the answer shows and no longer by its user's view.
-use Rattle.std.proofs.Common.{◌≡◌, List, [], ◌∷◌, ◌++◌, ℕ, ◌<◌, Option, Result, Ok, Err, IfOk, refl, ap, sym, ◌∙◌, subst}
+use Rattle.std.proofs.Common.{◌≡◌, List, [], ◌∷◌, ◌++◌, ℕ, ◌<◌, Option, refl, ap, sym, ◌∙◌, subst}
 use Rattle.atomic_table.specs.Seated.{TableId}
 use Rattle.lockfree_object_pool.specs.declared.page.history.PageAct.TheVariants.{Took, Gave}
 use Rattle.lockfree_object_pool.specs.declared.page.user_view.UserView.{UserView}
@@ -89,11 +89,3 @@ module _ {T K : Type 0} where
     is_full = full page (note_opening note) start seen starts.same_opening is.0 is.1 is.2;
     after_note = subst (IsBeginningOf (note_history note)) (sym (is.1.same_since ∙ starts.from_now)) starts.after_known;
   }
-
-  pub answers_fresh : {E : Type 0} (meets : T → Type 0) (page : TableId) (opening : List (Option T)) (start : UserView T) (result : Result (Allocated T K) E) → start.opening ≡ opening → start.own ≡ [] → IfOk result (IsAnswerFrom meets page start) → IfOk result (IsAnswerOf meets page opening)
-  answers_fresh meets page opening start (Ok answer) same none is = answer_fresh meets page opening start answer same none is
-  answers_fresh meets page opening start (Err error) same none is = tt
-
-  pub answers_after : {E : Type 0} (meets : T → Type 0) (page : TableId) (note : PageNote T) (start : UserView T) (result : Result (Allocated T K) E) → StartsFrom (note_view note) start → IfOk result (IsAnswerFrom meets page start) → IfOk result (IsAnswerAfter meets page note)
-  answers_after meets page note start (Ok answer) starts is = answer_after meets page note start answer starts is
-  answers_after meets page note start (Err error) starts is = tt

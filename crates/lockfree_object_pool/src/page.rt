@@ -167,6 +167,13 @@ impl<T, K: Clean<T>> Page<T, K> {
         ensures succeeds { IsOk result }
         ensures answer { IfOk result (IsAnswerOf K.meets (page_identity self.now) (page_opening self.now)) }
     {
+        Ok(self.take(pass))
+    }
+
+    /// As `try_alloc`, which is never refused.
+    pub(crate) fn take<'s, 'p>(&'s self, pass: &'p PullPass) -> Allocated<'s, 'p, T, K>
+        ensures { IsAnswerOf K.meets (page_identity self.now) (page_opening self.now) result }
+    {
         let (word, seat) = self.look();
         self.take_lowest(pass, word, seat)
     }
@@ -183,7 +190,7 @@ impl<T, K: Clean<T>> Page<T, K> {
     {
         let PageNote { mut seat } = note;
         let word = self.look_as(&mut seat);
-        self.take_lowest(pass, word, seat)
+        Ok(self.take_lowest(pass, word, seat))
     }
 
     /// A note of this page, which knows its history up to now.
@@ -212,15 +219,14 @@ impl<T, K: Clean<T>> Page<T, K> {
         pass: &'p PullPass,
         word: u32,
         mut seat: UserSeat<T>,
-    ) -> Result<Allocated<'s, 'p, T, K>, PullError>
+    ) -> Allocated<'s, 'p, T, K>
         requires page { seat.table_id ≡ page_identity self.now }
         requires carries_none { seat.me.1 ≡ [] }
         requires holds_none { seat.me.0.held ≡ None }
         requires here { seat.me.0.gone ≡ false }
         requires sound { IsSound seat.me.0 }
         requires found { (id : ℕ) → id < PAGE_ITEMS → IsOut word id → bit_at seat.me.0.found id ≡ 1 }
-        ensures succeeds { IsOk result }
-        ensures answer { IfOk result (IsAnswerFrom K.meets (page_identity self.now) seat.me.0) }
+        ensures { IsAnswerFrom K.meets (page_identity self.now) seat.me.0 result }
     {
         let mut untried = word;
         while let Some((rest, id)) = take_least(untried) {
@@ -230,11 +236,11 @@ impl<T, K: Clean<T>> Page<T, K> {
                     seat,
                     id,
                 };
-                return Ok(Allocated::Slot(PageSlot::new(taken, value)));
+                return Allocated::Slot(PageSlot::new(taken, value));
             }
             untried = rest;
         }
-        Ok(Allocated::Full(FullSeen { seat, pass }))
+        Allocated::Full(FullSeen { seat, pass })
     }
 
     /// The value goes home, and the slot's id is free again.

@@ -40,23 +40,42 @@ impl<T: Drop, K: Clean<T>, O: Clean<T>> Chain<T, K, O> {
           init_refuses = I.post init.now None;
         })) }
     {
-        let pass = PullPass::new();
         let page = self.first.owner();
-        if let Allocated::Slot(slot) = page.try_alloc(&pass)? {
-            return Ok(Found {
+        match page.take(&PullPass::new()) {
+            Allocated::Slot(slot) => Ok(Found {
                 slot,
                 page,
                 passed: 0,
-            });
+            }),
+            Allocated::Full(_) => self.pull_further(limit, init),
         }
-        match self.pull_hinted(limit, &pass) {
+    }
+
+    /// An item of a page that a hint names, or of the first page that has one.
+    #[inline(never)]
+    fn pull_further<I: Fn() -> Option<T>>(
+        &self,
+        limit: Option<usize>,
+        init: &I,
+    ) -> Result<Found<'_, T, K>, PullError>
+        requires some_page { IfSome limit (λ pages. 1 ≤ pages) }
+        requires callable { I.pre init.now }
+        requires meets { (answer : Option T) → I.post init.now answer → IfSome answer K.meets }
+        requires opens { (answer : Option T) → I.post init.now answer → IfSome answer O.meets }
+        ensures found { IfOk result (λ found. IsFoundFrom K.meets (first_page self.now) (slot_item found.slot) found.passed) }
+        ensures history { IfOk result (λ found. HasOrigin O.meets (slot_item found.slot)) }
+        ensures of_page { IfOk result (λ found. (slot_item found.slot).page ≡ page_identity (arc_value found.page.now)) }
+        ensures within { IfOk result (λ found. IfSome limit (λ pages. found.passed < pages)) }
+        ensures refused { IfErr result (RefusesPull (IsSome limit) (I.post init.now None)) }
+    {
+        match self.pull_hinted(limit) {
             Some(found) => Ok(found),
             None => self.first().walk(limit, init),
         }
     }
 
     /// An item of the first page that a hint names.
-    fn pull_hinted(&self, limit: Option<usize>, pass: &PullPass) -> Option<Found<'_, T, K>>
+    fn pull_hinted(&self, limit: Option<usize>) -> Option<Found<'_, T, K>>
         ensures found { IfSome result (λ found. IsFoundFrom K.meets (first_page self.now) (slot_item found.slot) found.passed) }
         ensures history { IfSome result (λ found. HasOrigin O.meets (slot_item found.slot)) }
         ensures of_page { IfSome result (λ found. (slot_item found.slot).page ≡ page_identity (arc_value found.page.now)) }
@@ -69,7 +88,8 @@ impl<T: Drop, K: Clean<T>, O: Clean<T>> Chain<T, K, O> {
             return None;
         }
         let page = self.directory.linked(number)?.owner();
-        let answer = page.try_alloc(pass).ok()?;
+        let pass = PullPass::new();
+        let answer = page.take(&pass);
         if page.is_full() {
             self.left_full(number, page);
         }

@@ -125,7 +125,7 @@ impl<'c, T: Drop, K: Clean<T>, O: Clean<T>> LinearPage<'c, T, K, O> {
         loop {
             let passed = number - self.number;
             let owner = page.owner();
-            match owner.try_alloc(&pass)? {
+            match owner.take(&pass) {
                 Allocated::Slot(slot) => {
                     return Ok(Found {
                         slot,

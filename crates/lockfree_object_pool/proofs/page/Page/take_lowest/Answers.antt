@@ -10,8 +10,8 @@ use Rattle.lockfree_object_pool.specs.declared.page.user_view.UserView.{UserView
 use Rattle.lockfree_object_pool.proofs.PageActs.{goes_on_further, was_out_from, still_found}
 use Rattle.lockfree_object_pool.proofs.page.Page.take_lowest.Goals as goal
 
-pub returns-in-Some-clear-clause-answer : goal.returns-in-Some-clear-clause-answer
-returns-in-Some-clear-clause-answer g c =
+pub returns-in-Some-clear : goal.returns-in-Some-clear
+returns-in-Some-clear g c =
     let took = c.in-Some-clear.ensures.outcome in
     let item = item_known c.clear.new.seat.table_id c.clear.new.seat.me.0 c.in-Some.id c.in-Some-clear.value in
     let here : IsItemOf g.K.Clean.meets (page_identity c.args.self.now) item = record {
@@ -35,8 +35,8 @@ loop-rest-preserved g c =
       follows = goes_on_further _ c.args.seat.me.0 c.loop-rest.seat.me.0 c.clear.new.seat.me.0 before.follows missed.goes_on;
     }
 
-pub returns-clause-answer : goal.returns-clause-answer
-returns-clause-answer g c =
+pub returns : goal.returns
+returns g c =
     let at_end = c.loop-rest.invariant in
     let none_left : c.loop-rest.untried ≡ 0 = c.in_default.ensures.none.0 (search) in
     let all : (id : ℕ) → id < 32 → bit_at c.loop-rest.seat.me.0.found id ≡ 1 = λ id within. at_end.found_or_untried id within (ap (λ w. bit_at w id) none_left ∙ bit_at-zero id) in
