@@ -13,30 +13,29 @@ use Rattle.lockfree_object_pool.specs.declared.linear_page.directory.LinkPlace.{
 use Rattle.lockfree_object_pool.specs.declared.linear_page.link_note.LinkNote.{LinkNote}
 use Rattle.lockfree_object_pool.specs.declared.page.TheConstants.{PAGE_ITEMS}
 
-module _ {T K O : Type 0} where
-  -- which page the chain's first one is
-  abbrev pub first_page : Chain T K O → TableId
-  first_page chain = page_identity (arc_value chain.first)
+-- which page the chain's first one is
+abbrev pub first_page : {T K O : Type 0} → Chain T K O → TableId
+first_page chain = page_identity (arc_value chain.first)
 
+module _ {T K O : Type 0} {opens : Ghosts O T} where
   -- which page it is
-  abbrev pub shown_page : LinearPage T K O → TableId
+  abbrev pub shown_page : LinearPage T K O opens → TableId
   shown_page page = page_identity (arc_value page.page.now)
 
-  -- how many links the page lies behind the chain's first one
-  abbrev pub page_number : LinearPage T K O → ℕ
+  -- how many links the page lies behind its chain's first one
+  abbrev pub page_number : LinearPage T K O opens → ℕ
   page_number page = page.number
 
   -- which link lies at a place
-  abbrev pub link_at : LinkPlace T K O → ℕ × ℕ
+  abbrev pub link_at : LinkPlace T K O opens → ℕ × ℕ
   link_at place = (cell_name place.row.now, place.offset)
 
   -- which link leads on from a page
-  abbrev pub next_link : LinearPage T K O → ℕ × ℕ
+  abbrev pub next_link : LinearPage T K O opens → ℕ × ℕ
   next_link page = link_at page.next
 
-module _ {T K O : Type 0} {opens : Ghosts O T} where
   -- the page behind a page: a note of the link knows it, and knew no other before
-  pub record IsNextAs (page : LinearPage T K O) (before after : LinkNote T K O opens) (next : LinearPage T K O) : Type 0 where
+  pub record IsNextAs (page : LinearPage T K O opens) (before after : LinkNote T K O opens) (next : LinearPage T K O opens) : Type 0 where
     pub one_further : page_number next ≡ page_number page + 1
     pub known : known_next after ≡ Some (shown_page next)
     pub agrees : IfSome (known_next before) (λ known. known ≡ shown_page next)

@@ -3,6 +3,7 @@ use Rattle.std.specs.Prelude.{◌≡◌, ℕ, ◌+◌, ◌^◌, ◌<◌, List, O
 use Rattle.std.specs.Option.{option_map}
 use Rattle.once_cell.specs.Once.{cell_name}
 use Rattle.once_cell.specs.declared.race.once_box.OnceBox.{OnceBox}
+use Rattle.lockfree_object_pool.specs.declared.clean.Clean.{Ghosts}
 use Rattle.lockfree_object_pool.specs.declared.linear_page.directory.LinkPlace.{LinkPlace}
 use Rattle.lockfree_object_pool.specs.declared.linear_page.directory.Row.{Row}
 
@@ -12,9 +13,7 @@ cell_in_row None offset = None
 cell_in_row (Some row) offset = option_map cell_name (slice_get row.links.items offset)
 
 -- the place of the link to a page: row `b` begins with the link to page `2 ^ b` and has as many links
-pub record IsPlaceOf {T K O : Type 0} (rows : List (OnceBox (Row T K O))) (number : ℕ) (place : LinkPlace T K O) : Type 0 where
-  pub row_number : ℕ
-  pub row : slice_get rows row_number ≡ Some place.row.now
-  pub len : place.len ≡ 2 ^ row_number
-  pub offset : place.len + place.offset ≡ number
-  pub in_row : place.offset < place.len
+pub record IsPlaceOf {T K O : Type 0} {opens : Ghosts O T} (rows : List (OnceBox (Row T K O))) (number : ℕ) (place : LinkPlace T K O opens) : Type 0 where
+  pub row : slice_get rows place.row_number ≡ Some place.row.now
+  pub offset : 2 ^ place.row_number + place.offset ≡ number
+  pub in_row : place.offset < 2 ^ place.row_number

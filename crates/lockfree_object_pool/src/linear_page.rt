@@ -8,6 +8,7 @@
 ghost use Rattle.std.specs.Prelude.{◌≡◌, ◌+◌, ◌^◌, ◌<◌, Option, None, IfSome, IfNone, IfOk, IfErr};
 ghost use Rattle.std.specs.Arc.{arc_value};
 ghost use Rattle.lockfree_object_pool.specs.Answers.{MayOpen};
+ghost use Rattle.lockfree_object_pool.specs.LinkRow.{IsPlaceOf};
 ghost use Rattle.lockfree_object_pool.specs.Page.{page_identity, page_opening, IsFilled};
 ghost use Rattle.lockfree_object_pool.specs.Refusal.{RefusesMaking};
 
@@ -66,6 +67,7 @@ pub struct LinearPage<'c, T, K: Clean<T>, O: Clean<T> = AnyValue> {
     page: &'c OpenedPage<T, K, O>,
     number: usize,
     next: LinkPlace<'c, T, K, O>,
+    ghost next_place: { ∥ (number + 1 < 2 ^ 64 → IsPlaceOf directory.now (number + 1) next) ∥₁ },
 }
 
 impl<T, K: Clean<T>, O: Clean<T>> Copy for LinearPage<'_, T, K, O> {}

@@ -1,6 +1,6 @@
 //! Where the links of a chain lie: row `b` has the links to the pages `2^b` to `2^(b+1) - 1`, and is made when the first of them is needed.
 //! Beside its link each page has a hint, which is set where the page may have a free item.
-ghost use Rattle.std.specs.Prelude.{◌≡◌, ◌<◌, length, IfOk, IfErr, IfSome};
+ghost use Rattle.std.specs.Prelude.{◌≡◌, ◌^◌, ◌<◌, length, IfOk, IfErr, IfSome};
 ghost use Rattle.once_cell.specs.Once.{cell_name};
 ghost use Rattle.lockfree_object_pool.specs.Refusal.{RefusesMaking};
 
@@ -24,11 +24,13 @@ pub(super) struct Row<T, K: Clean<T>, O: Clean<T>> {
 }
 
 impl<T: Drop, K: Clean<T>, O: Clean<T>> Row<T, K, O> {
-    /// A row of links that lead nowhere yet.
-    fn new(alloc: Global, len: usize) -> Result<Box<Row<T, K, O>>, PullError>
-        ensures len { IfOk result (λ row. length row.value.links.items ≡ len) }
+    /// A row of links that lead nowhere yet, with this number.
+    fn new(alloc: Global, number: u32) -> Result<Box<Row<T, K, O>>, PullError>
+        requires { number < 64 }
+        ensures len { IfOk result (λ row. length row.value.links.items ≡ 2 ^ number) }
         ensures refused { IfErr result (RefusesMaking ⊥) }
     {
+        let len = 1 << number;
         let mut links = Vec::with_capacity(alloc, len)?;
         for _ in 0..len {
             links.push(OnceBox::new(alloc))?;
@@ -162,13 +164,12 @@ impl<T: Drop, K: Clean<T>, O: Clean<T>> Directory<T, K, O> {
         requires { 0 < number }
         ensures { IsPlaceOf self.now number result }
     {
-        let row = number.ilog2();
-        let len = 1 << row;
+        let row_number = number.ilog2();
         LinkPlace {
             alloc: self.alloc,
-            row: &self.rows[row as usize],
-            len,
-            offset: number - len,
+            row: &self.rows[row_number as usize],
+            row_number,
+            offset: number - (1 << row_number),
         }
     }
 }
@@ -177,8 +178,9 @@ impl<T: Drop, K: Clean<T>, O: Clean<T>> Directory<T, K, O> {
 pub(super) struct LinkPlace<'c, T, K: Clean<T>, O: Clean<T>> {
     alloc: Global,
     row: &'c OnceBox<Row<T, K, O>>,
-    len: usize,
+    row_number: u32,
     offset: usize,
+    ghost in_directory: { row_number < 64 },
 }
 
 impl<T, K: Clean<T>, O: Clean<T>> Copy for LinkPlace<'_, T, K, O> {}
@@ -227,8 +229,8 @@ impl<'c, T: Drop, K: Clean<T>, O: Clean<T>> LinkPlace<'c, T, K, O> {
         ensures note { IfOk result (IsNewNoteOf (link_at self.now)) }
         ensures refused { IfErr result (RefusesMaking ⊥) }
     {
-        let (alloc, len) = (self.alloc, self.len);
-        self.row.get_or_try_init(move || Row::new(alloc, len))?;
+        let (alloc, number) = (self.alloc, self.row_number);
+        self.row.get_or_try_init(move || Row::new(alloc, number))?;
         self.known_row().ok_or(PullError::Memory)
     }
 

@@ -7,6 +7,7 @@ mod links;
 mod lost_race;
 mod refusals;
 mod sends;
+mod walks;
 
 type Zeros = Chain<u32, AnyValue>;
 

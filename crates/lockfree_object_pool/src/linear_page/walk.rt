@@ -1,5 +1,5 @@
 //! The walk from page to page for an item.
-ghost use Rattle.std.specs.Prelude.{◌≡◌, ◌+◌, ◌≤◌, ◌<◌, ⊤, Option, None, IfSome, IsSome, IfOk, IfErr, OnOk};
+ghost use Rattle.std.specs.Prelude.{◌≡◌, ◌+◌, ◌≤◌, ◌<◌, ⊤, Option, None, Some, IfSome, IsSome, IfOk, IfErr, OnOk};
 ghost use Rattle.std.specs.Arc.{arc_value};
 ghost use Rattle.lockfree_object_pool.specs.Answers.{MayOpen};
 ghost use Rattle.lockfree_object_pool.specs.FullSeen.{full_page};
@@ -9,6 +9,7 @@ ghost use Rattle.lockfree_object_pool.specs.OwnedSlot.{owned_slot_item};
 ghost use Rattle.lockfree_object_pool.specs.Page.{page_identity};
 ghost use Rattle.lockfree_object_pool.specs.Refusal.{RefusesMaking, RefusesPull};
 ghost use Rattle.lockfree_object_pool.specs.Slot.{slot_item};
+ghost use Rattle.lockfree_object_pool.specs.declared.pull_error.PullError.TheVariants.{Limit};
 
 use super::LinearPage;
 use super::opened_page::OpenedPage;
@@ -169,10 +170,7 @@ impl<'c, T: Drop, K: Clean<T>, O: Clean<T>> LinearPage<'c, T, K, O> {
 fn one_more(limit: Option<usize>, passed: usize) -> Result<(), PullError>
     requires within { IfSome limit (λ pages. passed < pages) }
     ensures allowed { OnOk result (IfSome limit (λ pages. passed + 1 < pages)) }
-    ensures refused { IfErr result (RefusesPull (record {
-      limited = IsSome limit;
-      init_refuses = ⊥;
-    })) }
+    ensures refused { IfErr result (λ cause. (cause ≡ Limit) × (limit ≡ Some (passed + 1))) }
 {
     match limit {
         Some(pages) if pages - passed == 1 => Err(PullError::Limit),

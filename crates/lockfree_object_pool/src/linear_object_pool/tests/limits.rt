@@ -75,3 +75,20 @@ fn a_return_to_an_early_page_is_found(rt: HostRuntime) -> Result<(), Fail> {
     assert_eq!(rt; (owned.page_number(), owned.page_id()), (0, 0));
     Ok(())
 }
+
+#[test]
+fn three_pages_are_filled_and_no_fourth_is_made(rt: HostRuntime) -> Result<(), Fail> {
+    let calls = new_calls(rt.alloc())?;
+    let pool = bounded(rt.alloc(), &calls, 3)?;
+    let _before = held(rt.alloc(), &pool, 40)?;
+    let item = pool.pull()?;
+    let _between = held(rt.alloc(), &pool, 54)?;
+    let last = pool.pull()?;
+    assert_eq!(rt; (last.page_number(), last.page_id()), (2, 31));
+    assert_eq!(rt; pool.pull().err(), Some(PullError::Limit));
+    drop(item);
+    let again = pool.pull()?;
+    assert_eq!(rt; (again.page_number(), again.page_id()), (1, 8));
+    assert_eq!(rt; calls.load(SeqCst), 96);
+    Ok(())
+}

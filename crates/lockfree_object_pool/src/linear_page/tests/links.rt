@@ -104,11 +104,11 @@ fn first_place(chain: &Zeros) -> Option<(u8, usize)> {
 }
 
 #[test]
-fn a_thousand_pages_are_linked_and_dropped(rt: HostRuntime) -> Result<(), Fail> {
+fn sixteen_hundred_pages_are_linked_and_dropped(rt: HostRuntime) -> Result<(), Fail> {
     let calls = AtomicUsize::new(0);
     let chain = Zeros::new(rt.alloc(), &|| Some(0))?;
-    let last = grow_by(rt.alloc(), &chain, 999, &calls);
-    assert_eq!(rt; (last, calls.load(SeqCst)), (Some(999), 31_968));
+    let last = grow_by(rt.alloc(), &chain, 1_599, &calls);
+    assert_eq!(rt; (last, calls.load(SeqCst)), (Some(1_599), 51_168));
     assert_eq!(rt; first_place(&chain), Some((0, 0)));
     drop(chain);
     Ok(())
