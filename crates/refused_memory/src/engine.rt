@@ -1,0 +1,119 @@
+//! The engine over devices that never fail: its replies are those of ample memory, but for one refusal.
+ghost use Rattle.object_pool_cores.specs.Engine.{IsPlayable};
+
+use crate::refusals::Refusals;
+use arrayvec::ArrayString;
+use object_pool_cores::engine;
+use object_pool_cores::engine::{EngineError, Kind, Reset};
+use std::alloc::Global;
+use std::fmt::Write as _;
+use std::process::Abort;
+use std::sync::Wait;
+use std::test::Fail;
+
+/// The most pulls that are played: one past the first page.
+const MOST_PULLS: usize = 33;
+
+const PULL: &[u8] = b"pull\n";
+
+/// How many pulls are played on a pool. Where it has no pages, a few show the same.
+fn pulls_on(kind: Kind) -> usize {
+    match kind {
+        Kind::Linear | Kind::Bounded(_) => MOST_PULLS,
+        Kind::Stack | Kind::None => 5,
+    }
+}
+
+/// Where no pull is refused for memory.
+const NOWHERE: usize = usize::MAX;
+
+/// The replies to the pulls, of which the one at an index was refused for memory.
+fn replies(kind: Kind, refused: usize) -> ArrayString<1024> {
+    let mut text = ArrayString::new();
+    let mut pulled = 0usize;
+    for index in 0..pulls_on(kind) {
+        if index == refused {
+            let _ = text.try_push_str("refused memory\n");
+            continue;
+        }
+        let _ = match kind {
+            Kind::Linear | Kind::Bounded(_) => {
+                write!(text, "pulled {pulled} number {pulled} value 0\n")
+            }
+            Kind::Stack | Kind::None => write!(text, "pulled {pulled} value 0\n"),
+        };
+        pulled = pulled.saturating_add(1);
+    }
+    text
+}
+
+/// Whether a text is the replies to the pulls, of which one was refused for memory.
+fn tells_of_one_refusal(kind: Kind, text: &[u8]) -> bool {
+    (0..pulls_on(kind)).any(|refused| replies(kind, refused).as_str().as_bytes() == text)
+}
+
+/// The most lines of input.
+fn pulls() -> [u8; 165] {
+    let mut input = [0; 165];
+    for line in input.chunks_mut(PULL.len()) {
+        if line.len() == PULL.len() {
+            line.copy_from_slice(PULL);
+        }
+    }
+    input
+}
+
+/// Plays the pulls.
+fn plays(rt: &(impl Wait + Abort), refusals: &Refusals, alloc: Global, kind: Kind)
+    requires { IsPlayable kind }
+{
+    let lines = pulls();
+    let (mut input, _) = lines.split_at(lines.len().min(PULL.len().saturating_mul(pulls_on(kind))));
+    let mut room = [0; 1024];
+    let mut output = room.as_mut_slice();
+    let result = engine::run(rt, alloc, kind, Reset::Keep, &mut input, &mut output);
+    let left = output.len();
+    let (text, _) = room.split_at(room.len().saturating_sub(left));
+    let whole = replies(kind, NOWHERE);
+    match result {
+        Ok(()) if text == whole.as_str().as_bytes() => {}
+        Ok(()) => {
+            refusals.note();
+            assert!(rt; tells_of_one_refusal(kind, text), "{kind:?}");
+        }
+        Err(error) => {
+            refusals.note();
+            assert_eq!(rt; error, EngineError::Memory, "{kind:?}");
+            assert!(rt; whole.as_str().as_bytes().starts_with(text), "{kind:?}");
+            assert!(rt; text.last().is_none_or(|byte| *byte == b'\n'), "{kind:?}");
+        }
+    }
+}
+
+#[test]
+fn a_linear_pool_tells_of_refused_memory(rt: HostRuntime) -> Result<(), Fail> {
+    let refusals = Refusals::new();
+    plays(&rt, &refusals, rt.alloc(), Kind::Linear);
+    Ok(refusals.tell(&rt)?)
+}
+
+#[test]
+fn a_bounded_pool_tells_of_refused_memory(rt: HostRuntime) -> Result<(), Fail> {
+    let refusals = Refusals::new();
+    plays(&rt, &refusals, rt.alloc(), Kind::Bounded(2));
+    Ok(refusals.tell(&rt)?)
+}
+
+#[test]
+fn a_stack_tells_of_refused_memory(rt: HostRuntime) -> Result<(), Fail> {
+    let refusals = Refusals::new();
+    plays(&rt, &refusals, rt.alloc(), Kind::Stack);
+    Ok(refusals.tell(&rt)?)
+}
+
+#[test]
+fn fresh_items_tell_of_refused_memory(rt: HostRuntime) -> Result<(), Fail> {
+    let refusals = Refusals::new();
+    plays(&rt, &refusals, rt.alloc(), Kind::None);
+    Ok(refusals.tell(&rt)?)
+}

@@ -1,0 +1,24 @@
+//! Tests of refused memory: of the pools and their parts, of the cores and of the engine.
+//!
+//! Each test holds where any one of its requests for memory is refused, and where none is. It prints which of the two
+//! it met, by which `ci/refuse_memory` knows when each request has had its turn.
+#![tactic(auto)]
+
+#[cfg(test)]
+mod engine;
+#[cfg(test)]
+mod linear_pools;
+#[cfg(test)]
+mod pages;
+#[cfg(test)]
+mod players;
+#[cfg(test)]
+mod refusals;
+#[cfg(test)]
+mod sequential_cores;
+#[cfg(test)]
+mod stack_pools;
+#[cfg(test)]
+mod tallied;
+#[cfg(test)]
+mod worlds;

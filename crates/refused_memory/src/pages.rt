@@ -1,0 +1,106 @@
+//! Pages and chains: what is refused drops what was made for it and links nothing.
+use crate::refusals::Refusals;
+use crate::tallied::{Tallied, Tally, make, new_tally};
+use lockfree_object_pool::PullError;
+use lockfree_object_pool::clean::AnyValue;
+use lockfree_object_pool::linear_page::{Chain, LinearPage};
+use lockfree_object_pool::page::{Allocated, Page, PullPass};
+use std::mem;
+use std::process::Abort;
+use std::sync::Arc;
+use std::test::Fail;
+
+type TalliedPage<'c> = LinearPage<'c, Tallied, AnyValue>;
+
+#[test]
+fn a_page_that_was_refused_is_asked_again(rt: HostRuntime) -> Result<(), Fail> {
+    let refusals = Refusals::new();
+    let tally = refusals.again(&|| new_tally(rt.alloc()))?;
+    let page: Page<Tallied, AnyValue> = refusals.again(&|| Page::new(
+        rt.alloc(),
+        &|| make(&tally),
+    ))?;
+    assert_eq!(rt; (page.get_mask(), tally.living()), (u32::MAX, 32));
+    drop(page);
+    assert_eq!(rt; tally.living(), 0);
+    Ok(refusals.tell(&rt)?)
+}
+
+/// Takes all items of a page out for good.
+fn forget_all(page: &TalliedPage<'_>) -> Option<()> {
+    for _ in 0..32 {
+        mem::forget(page.page().alloc().ok()??);
+    }
+    Some(())
+}
+
+/// What the page behind a full one is, or why there is none.
+fn behind_full<'c>(
+    page: &TalliedPage<'c>,
+    tally: &Arc<Tally>,
+) -> Result<Option<TalliedPage<'c>>, PullError> {
+    let pass = PullPass::new();
+    match page.page().try_alloc(&pass)? {
+        Allocated::Slot(_) => Ok(None),
+        Allocated::Full(seen) => page.get_or_create_next(seen, &|| make(tally)).map(Some),
+    }
+}
+
+/// A chain whose first page has all its items out for good.
+fn used_up(
+    rt: &(impl Abort + AllocGlobal),
+    refusals: &Refusals,
+    tally: &Arc<Tally>,
+) -> Result<Chain<Tallied, AnyValue>, Fail> {
+    let chain = refusals.again(&|| Chain::new(rt.alloc(), &|| make(tally)))?;
+    assert_eq!(rt; tally.living(), 32);
+    forget_all(&chain.first()).ok_or("32 items are free")?;
+    Ok(chain)
+}
+
+#[test]
+fn a_link_that_was_refused_is_asked_again(rt: HostRuntime) -> Result<(), Fail> {
+    let refusals = Refusals::new();
+    let tally = refusals.again(&|| new_tally(rt.alloc()))?;
+    let chain = used_up(&rt, &refusals, &tally)?;
+    let first = chain.first();
+    let next = match behind_full(&first, &tally) {
+        Err(PullError::Memory) => {
+            refusals.note();
+            assert!(rt; first.next().is_none());
+            assert_eq!(rt; tally.living(), 32);
+            behind_full(&first, &tally)?
+        }
+        answer => answer?,
+    };
+    let next = next.ok_or("the first page is full")?;
+    assert_eq!(rt; (next.number(), tally.living()), (1, 64));
+    assert!(rt; first.next().is_some());
+    Ok(refusals.tell(&rt)?)
+}
+
+#[test]
+fn a_walk_that_was_refused_is_asked_again(rt: HostRuntime) -> Result<(), Fail> {
+    let refusals = Refusals::new();
+    let tally = refusals.again(&|| new_tally(rt.alloc()))?;
+    let chain = used_up(&rt, &refusals, &tally)?;
+    let first = chain.first();
+    let (slot, pages) = refusals.again(&|| first.alloc(&|| make(&tally)))?;
+    assert_eq!(rt; (slot.id(), pages, tally.living()), (0, 1, 64));
+    let (owned, pages) = refusals.again(&|| first.alloc_owned(&|| make(&tally)))?;
+    assert_eq!(rt; (owned.id(), pages, tally.living()), (1, 1, 64));
+    Ok(refusals.tell(&rt)?)
+}
+
+#[test]
+fn a_bounded_walk_that_was_refused_is_asked_again(rt: HostRuntime) -> Result<(), Fail> {
+    let refusals = Refusals::new();
+    let tally = refusals.again(&|| new_tally(rt.alloc()))?;
+    let chain = used_up(&rt, &refusals, &tally)?;
+    let first = chain.first();
+    let (owned, pages) = refusals.again(&|| first.alloc_owned_within(2, &|| make(&tally)))?;
+    assert_eq!(rt; (owned.id(), pages, tally.living()), (0, 1, 64));
+    let (slot, pages) = refusals.again(&|| first.alloc_within(2, &|| make(&tally)))?;
+    assert_eq!(rt; (slot.id(), pages, tally.living()), (1, 1, 64));
+    Ok(refusals.tell(&rt)?)
+}

@@ -1,0 +1,136 @@
+//! Pools of one owner: what is refused changes nothing, and can be asked for again.
+use crate::refusals::Refusals;
+use crate::tallied::{Tallied, TalliedValues, Tally, make, new_tally};
+use lockfree_object_pool::PullError;
+use lockfree_object_pool::clean::AnyValue;
+use lockfree_object_pool::closures::Keep;
+use object_pool_cores::sequential::{
+    AttachError, CorePage, Item, LinearCore, NoneCore, SequentialPool, StackCore,
+};
+use std::alloc::Global;
+use std::process::Abort;
+use std::sync::Arc;
+use std::test::Fail;
+
+type Linear = LinearCore<Tallied, TalliedValues, Keep, AnyValue>;
+
+type Stack = StackCore<Tallied, TalliedValues, Keep, AnyValue>;
+
+#[test]
+fn a_page_that_was_refused_is_asked_again(rt: HostRuntime) -> Result<(), Fail> {
+    let refusals = Refusals::new();
+    let tally = refusals.again(&|| new_tally(rt.alloc()))?;
+    let page: CorePage<Tallied, AnyValue> = refusals.again(&|| CorePage::new(
+        rt.alloc(),
+        &|| make(&tally),
+    ))?;
+    assert_eq!(rt; (page.get_mask(), tally.living()), (u32::MAX, 32));
+    Ok(refusals.tell(&rt)?)
+}
+
+fn unbounded(alloc: Global, tally: &Arc<Tally>) -> Result<Linear, PullError> {
+    LinearCore::new(alloc, TalliedValues::new(tally)?, Keep)
+}
+
+fn bounded(alloc: Global, tally: &Arc<Tally>) -> Result<Linear, PullError> {
+    LinearCore::with_limit(alloc, TalliedValues::new(tally)?, Keep, 2)
+}
+
+/// Takes all items of the first page out for good, and one item of the second page.
+fn grows(
+    rt: &impl Abort,
+    refusals: &Refusals,
+    core: &mut Linear,
+    tally: &Tally,
+) -> Result<(), PullError> {
+    assert_eq!(rt; tally.living(), 32);
+    for _ in 0..32 {
+        drop(core.pull()?);
+    }
+    let item = match core.pull() {
+        Err(PullError::Memory) => {
+            refusals.note();
+            assert_eq!(rt; (core.pages(), tally.living()), (1, 0));
+            core.pull()?
+        }
+        answer => answer?,
+    };
+    assert_eq!(rt; item.number(), Some(32));
+    assert_eq!(rt; (core.pages(), tally.living()), (2, 32));
+    Ok(())
+}
+
+#[test]
+fn a_linear_pull_that_was_refused_is_asked_again(rt: HostRuntime) -> Result<(), Fail> {
+    let refusals = Refusals::new();
+    let tally = refusals.again(&|| new_tally(rt.alloc()))?;
+    let mut core = refusals.again(&|| unbounded(rt.alloc(), &tally))?;
+    grows(&rt, &refusals, &mut core, &tally)?;
+    let tally = refusals.again(&|| new_tally(rt.alloc()))?;
+    let mut core = refusals.again(&|| bounded(rt.alloc(), &tally))?;
+    grows(&rt, &refusals, &mut core, &tally)?;
+    Ok(refusals.tell(&rt)?)
+}
+
+/// Gives an item back, where it is the pool's own.
+fn give_back<P: SequentialPool<Tallied>>(rt: &impl Abort, core: &mut P, item: Item<Tallied>) {
+    let is_mine = core.is_mine(&item);
+    assert!(rt; is_mine);
+    if is_mine {
+        core.give(item);
+    }
+}
+
+#[test]
+fn a_stack_pull_that_was_refused_is_asked_again(rt: HostRuntime) -> Result<(), Fail> {
+    let refusals = Refusals::new();
+    let tally = refusals.again(&|| new_tally(rt.alloc()))?;
+    let mut core: Stack = StackCore::new(rt.alloc(), TalliedValues::new(&tally)?, Keep);
+    let item = match core.pull() {
+        Err(PullError::Memory) => {
+            refusals.note();
+            assert_eq!(rt; tally.made(), 0);
+            core.pull()?
+        }
+        answer => answer?,
+    };
+    give_back(&rt, &mut core, item);
+    assert_eq!(rt; (core.pull()?.number, tally.made()), (0, 1));
+    Ok(refusals.tell(&rt)?)
+}
+
+#[test]
+fn an_attached_value_comes_back(rt: HostRuntime) -> Result<(), Fail> {
+    let refusals = Refusals::new();
+    let tally = refusals.again(&|| new_tally(rt.alloc()))?;
+    let mut core: Stack = StackCore::new(rt.alloc(), TalliedValues::new(&tally)?, Keep);
+    let value = make(&tally).ok_or("a value takes no memory")?;
+    let attached = match core.attach(value) {
+        Err(AttachError::Memory(back)) => {
+            refusals.note();
+            assert_eq!(rt; tally.living(), 1);
+            core.attach(back)
+        }
+        answer => answer,
+    };
+    let Ok(item) = attached else {
+        panic!(rt; "refused twice")
+    };
+    give_back(&rt, &mut core, item);
+    assert_eq!(rt; (core.pull()?.number, tally.made()), (0, 1));
+    Ok(refusals.tell(&rt)?)
+}
+
+#[test]
+fn fresh_items_take_no_memory(rt: HostRuntime) -> Result<(), Fail> {
+    let refusals = Refusals::new();
+    let tally = refusals.again(&|| new_tally(rt.alloc()))?;
+    let mut core = NoneCore::new(TalliedValues::new(&tally)?);
+    for number in 0..3usize {
+        let item = core.pull()?;
+        assert_eq!(rt; item.number, number);
+        core.give(item);
+    }
+    assert_eq!(rt; tally.living(), 0);
+    Ok(refusals.tell(&rt)?)
+}
