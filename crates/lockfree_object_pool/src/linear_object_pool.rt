@@ -103,7 +103,23 @@ impl<T: Drop, I: Init<T, K>, R: Reset<T, K>, K: Clean<T>> LinearObjectPool<T, I,
           init_refuses = I.answers (pool_init self.now) None;
         })) }
     {
-        let found = self.find()?;
+        match self.chain.pull_first() {
+            Some(slot) => Ok(LinearReusable::new(self, slot, 0)),
+            None => self.pull_further(),
+        }
+    }
+
+    /// As `pull`, where the first page was full.
+    #[inline(never)]
+    fn pull_further(&self) -> Result<LinearReusable<'_, T, I, R, K>, PullError>
+        ensures pool { IfOk result (λ item. reusable_pool item ≡ self.now) }
+        ensures pulled { IfOk result (λ item. IsPulledFrom K.meets self.now (reusable_item item) (reusable_number item)) }
+        ensures history { IfOk result (λ item. HasOrigin (IsAnswer I.answers) (reusable_item item)) }
+        ensures within { IfOk result (λ item. IfSome (pool_limit self.now) (λ pages. reusable_number item < pages)) }
+        ensures refused { IfErr result (RefusesPull (IsSome (pool_limit self.now)) (I.answers (pool_init self.now) None)) }
+    {
+        let of = &self.init;
+        let found = self.chain.pull_further(self.limit(), &|| of.make())?;
         Ok(LinearReusable::new(self, found.slot, found.passed))
     }
 

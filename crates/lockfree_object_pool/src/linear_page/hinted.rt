@@ -20,7 +20,7 @@ use super::Chain;
 use super::walk::Found;
 use crate::PullError;
 use crate::clean::Clean;
-use crate::page::{Allocated, Page, PullPass};
+use crate::page::{Allocated, Page, PageSlot, PullPass};
 
 impl<T: Drop, K: Clean<T>, O: Clean<T>> Chain<T, K, O> {
     /// An item of the first page, or of a page that a hint names, or of the first page that has one.
@@ -40,20 +40,30 @@ impl<T: Drop, K: Clean<T>, O: Clean<T>> Chain<T, K, O> {
           init_refuses = I.post init.now None;
         })) }
     {
-        let page = self.first.owner();
-        match page.take(&PullPass::new()) {
-            Allocated::Slot(slot) => Ok(Found {
+        match self.pull_first() {
+            Some(slot) => Ok(Found {
                 slot,
-                page,
+                page: self.first.owner(),
                 passed: 0,
             }),
-            Allocated::Full(_) => self.pull_further(limit, init),
+            None => self.pull_further(limit, init),
+        }
+    }
+
+    /// An item of the first page.
+    pub(crate) fn pull_first(&self) -> Option<PageSlot<'_, T, K>>
+        ensures found { IfSome result (λ slot. IsFoundFrom K.meets (first_page self.now) (slot_item slot) 0) }
+        ensures history { IfSome result (λ slot. HasOrigin O.meets (slot_item slot)) }
+        ensures of_page { IfSome result (λ slot. (slot_item slot).page ≡ first_page self.now) }
+    {
+        match self.first.owner().take(&PullPass::new()) {
+            Allocated::Slot(slot) => Some(slot),
+            Allocated::Full(_) => None,
         }
     }
 
     /// An item of a page that a hint names, or of the first page that has one.
-    #[inline(never)]
-    fn pull_further<I: Fn() -> Option<T>>(
+    pub(crate) fn pull_further<I: Fn() -> Option<T>>(
         &self,
         limit: Option<usize>,
         init: &I,
