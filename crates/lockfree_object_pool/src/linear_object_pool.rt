@@ -1,7 +1,7 @@
 //! A pool over a chain of pages: threads pull and return without a lock.
 //!
-//! A pull takes the first free item that it finds, from the first page on, and makes a page where each one was full. No
-//! pull and no return waits for another thread.
+//! A pull takes a free item of the first page, or of a page that a hint names, or of the first page that has one, and makes a
+//! page where each one was full. No pull and no return waits for another thread.
 ghost use Rattle.std.specs.Prelude.{◌≡◌, ◌≤◌, ◌<◌, Option, None, Some, IfSome, IsSome, IfOk, IfErr};
 ghost use Rattle.std.specs.Arc.{arc_value};
 
@@ -74,8 +74,8 @@ impl<T: Drop, I: Init<T, K>, R: Reset<T, K>, K: Clean<T>> LinearObjectPool<T, I,
         ensures limit { IfOk result (λ pool. pool_limit pool ≡ pages_of limit) }
         ensures refused { IfErr result (RefusesMaking (I.answers init None)) }
     {
-        let of = &init;
-        let chain = Chain::new(alloc, &|| of.make())?;
+        let maker = &init;
+        let chain = Chain::new(alloc, &|| maker.make())?;
         Ok(LinearObjectPool {
             init,
             reset,
@@ -92,7 +92,7 @@ impl<T: Drop, I: Init<T, K>, R: Reset<T, K>, K: Clean<T>> LinearObjectPool<T, I,
         Some(*pages)
     }
 
-    /// An item of the first page that has one.
+    /// An item of the first page, or of one that a hint names, or of the first page that has one.
     pub fn pull(&self) -> Result<LinearReusable<'_, T, I, R, K>, PullError>
         ensures pool { IfOk result (λ item. reusable_pool item ≡ self.now) }
         ensures pulled { IfOk result (λ item. IsPulledFrom K.meets self.now (reusable_item item) (reusable_number item)) }
@@ -116,10 +116,13 @@ impl<T: Drop, I: Init<T, K>, R: Reset<T, K>, K: Clean<T>> LinearObjectPool<T, I,
         ensures pulled { IfOk result (λ item. IsPulledFrom K.meets self.now (reusable_item item) (reusable_number item)) }
         ensures history { IfOk result (λ item. HasOrigin (IsAnswer I.answers) (reusable_item item)) }
         ensures within { IfOk result (λ item. IfSome (pool_limit self.now) (λ pages. reusable_number item < pages)) }
-        ensures refused { IfErr result (RefusesPull (IsSome (pool_limit self.now)) (I.answers (pool_init self.now) None)) }
+        ensures refused { IfErr result (RefusesPull (record {
+          limited = IsSome (pool_limit self.now);
+          init_refuses = I.answers (pool_init self.now) None;
+        })) }
     {
-        let of = &self.init;
-        let found = self.chain.pull_further(self.limit(), &|| of.make())?;
+        let init = &self.init;
+        let found = self.chain.pull_further(self.limit(), &|| init.make())?;
         Ok(LinearReusable::new(self, found.slot, found.passed))
     }
 
@@ -146,7 +149,7 @@ impl<T: Drop, I: Init<T, K>, R: Reset<T, K>, K: Clean<T>> LinearObjectPool<T, I,
         }
     }
 
-    /// An item of the first page that has one, and how many pages lie before that page.
+    /// The item of a pull, and how many pages lie before its page.
     fn find(&self) -> Result<Found<'_, T, K>, PullError>
         ensures pulled { IfOk result (λ found. IsPulledFrom K.meets self.now (slot_item found.slot) found.passed) }
         ensures history { IfOk result (λ found. HasOrigin (IsAnswer I.answers) (slot_item found.slot)) }
@@ -157,8 +160,8 @@ impl<T: Drop, I: Init<T, K>, R: Reset<T, K>, K: Clean<T>> LinearObjectPool<T, I,
           init_refuses = I.answers (pool_init self.now) None;
         })) }
     {
-        let of = &self.init;
-        self.chain.pull(self.limit(), &|| of.make())
+        let init = &self.init;
+        self.chain.pull(self.limit(), &|| init.make())
     }
 
     /// Tells the next pulls that a page that was full has a free item now.

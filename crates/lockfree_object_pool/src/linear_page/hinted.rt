@@ -69,14 +69,15 @@ impl<T: Drop, K: Clean<T>, O: Clean<T>> Chain<T, K, O> {
         init: &I,
     ) -> Result<Found<'_, T, K>, PullError>
         requires some_page { IfSome limit (λ pages. 1 ≤ pages) }
-        requires callable { I.pre init.now }
-        requires meets { (answer : Option T) → I.post init.now answer → IfSome answer K.meets }
-        requires opens { (answer : Option T) → I.post init.now answer → IfSome answer O.meets }
+        requires opens { MayOpen (I.pre init.now) (λ answer. I.post init.now answer) K.meets O.meets }
         ensures found { IfOk result (λ found. IsFoundFrom K.meets (first_page self.now) (slot_item found.slot) found.passed) }
         ensures history { IfOk result (λ found. HasOrigin O.meets (slot_item found.slot)) }
         ensures of_page { IfOk result (λ found. (slot_item found.slot).page ≡ page_identity (arc_value found.page.now)) }
         ensures within { IfOk result (λ found. IfSome limit (λ pages. found.passed < pages)) }
-        ensures refused { IfErr result (RefusesPull (IsSome limit) (I.post init.now None)) }
+        ensures refused { IfErr result (RefusesPull (record {
+          limited = IsSome limit;
+          init_refuses = I.post init.now None;
+        })) }
     {
         match self.pull_hinted(limit) {
             Some(found) => Ok(found),
