@@ -158,10 +158,6 @@ module _ {T : Type 0} where
   pub was_out_of : (opening : List (Option T)) (known : UserView T) (id : ℕ) → known.opening ≡ opening → IsSound known → id < 32 → bit_at known.found id ≡ 1 → WasOutBetween opening known.since known.acts id
   was_out_of opening known id same is within one = subst (λ o. WasOutBetween o known.since known.acts id) same (is.found_out id within one)
 
-  -- who knows so much goes on from it
-  pub goes_on_here : (known : UserView T) → known.gone ≡ false → IsSound known → GoesOn [] known known
-  goes_on_here known here sound = record { here = here; same_user = refl; same_opening = refl; same_since = refl; acts = ([], refl); own_before = sound.own_acts; own = refl; sound = sound }
-
   pub goes_on_further : (made : History T) (one two three : UserView T) → GoesOn [] one two → GoesOn made two three → GoesOn made one three
   goes_on_further made one two three first second = record {
     here = second.here;

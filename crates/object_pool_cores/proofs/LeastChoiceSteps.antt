@@ -1,13 +1,10 @@
 -- What makes a pull one by least choice.
-use Rattle.std.proofs.Common.{◌≡◌, ◌≢◌, ℕ, ◌+◌, ◌-◌, ◌*◌, Option, Some, None, List, [], ◌∷◌, length, Ok, Err, refl, sym, ap, subst, ◌∙◌, arith, inl, inr}
+use Rattle.std.proofs.Common.{◌≡◌, ℕ, ◌-◌, ◌*◌, Option, List, [], ◌∷◌, length, Ok, sym, ap, ◌∙◌, arith, inr}
 use Rattle.std.specs.List.{slice_get}
-use Rattle.lockfree_object_pool.specs.declared.pull_error.PullError.{PullError}
-use Rattle.lockfree_object_pool.specs.declared.pull_error.PullError.TheVariants.{Memory, Init, Limit}
-use Rattle.object_pool_cores.specs.Pool.{Pool, Out, IsFree, IsPool, IsSame, AllowsPages, free_with}
+use Rattle.object_pool_cores.specs.Pool.{Pool, Out, IsFree, IsSame, free_with}
 use Rattle.object_pool_cores.specs.Move.{Pull, after, grown}
-use Rattle.object_pool_cores.specs.LeastChoice.{IsExhausted, IsCause, PullsLeast, TakesLeast}
+use Rattle.object_pool_cores.specs.LeastChoice.{IsExhausted, PullsLeast, TakesLeast}
 use Rattle.object_pool_cores.specs.Numbered.{Grows}
-use Rattle.object_pool_cores.specs.Laws.NumberedPlaces.{AllowsPages-more}
 use Rattle.object_pool_cores.specs.Laws.PoolSteps.{grown-new, IsSame-trans, IsSame-with_place}
 
 module _ {T : Type 0} (limit : Option ℕ) (answers : Option T → Type 0) where
@@ -35,19 +32,3 @@ module _ {T : Type 0} (limit : Option ℕ) (answers : Option T → Type 0) where
     lawful = grows.lawful;
     takes = TakesLeast-same middle (grown old grows.values) n v new grows.grown takes;
   })
-
-  -- a refusal of the growth is one of the pull
-  pub PullsLeast-refused : (old : Pool T) (cause : PullError) → IsPool limit old → IsExhausted old → (cause ≡ Limit → limit ≡ Some old.pages) → (limit ≡ Some old.pages → cause ≡ Limit) → (cause ≡ Init → answers None) → PullsLeast limit answers old (Err cause) old
-  PullsLeast-refused old cause pool exhausted at_limit limited none = record {
-    exhausted = exhausted;
-    because = because cause at_limit limited none;
-    same = record { pages = refl; places = λ n. refl };
-  }
-    where
-      below : (c : PullError) → (limit ≡ Some old.pages → c ≡ Limit) → c ≢ Limit → AllowsPages limit (old.pages + 1)
-      below c l other = AllowsPages-more limit old.pages pool.allowed (λ e. other (l e))
-
-      because : (c : PullError) → (c ≡ Limit → limit ≡ Some old.pages) → (limit ≡ Some old.pages → c ≡ Limit) → (c ≡ Init → answers None) → IsCause limit answers old c
-      because Limit a l i = a refl
-      because Memory a l i = below Memory l (λ e. cc)
-      because Init a l i = (below Init l (λ e. cc), i refl)

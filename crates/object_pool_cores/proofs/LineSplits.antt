@@ -1,5 +1,5 @@
 -- Bytes that go on, and their lines.
-use Rattle.std.proofs.Common.{◌≡◌, ◌≢◌, ℕ, ◌+◌, ◌<◌, suc, List, [], ◌∷◌, ◌++◌, length, get_or, take, drop, drop-cons, take-append-drop, refl, sym, ap, ◌∙◌, append_assoc, append-nil}
+use Rattle.std.proofs.Common.{◌≡◌, ◌≢◌, ℕ, ◌+◌, ◌<◌, List, [], ◌∷◌, ◌++◌, length, get_or, take, refl, sym, ap, ◌∙◌, append_assoc, append-nil}
 use Rattle.std.proofs.lemmas.List.{take_more}
 use Rattle.std.specs.Prelude.{flat_map}
 use Rattle.std.proofs.lemmas.List.Elements.{All-nil, All-push, All-append}
@@ -58,13 +58,6 @@ IsLines-front bytes more front back lines others rest last split cut next = (
   ap (λ all. all ++ more) split.whole ∙ append_assoc (flat_map ended lines) rest more
       ∙ ap (λ all. flat_map ended lines ++ all) cut ∙ sym (append_assoc (flat_map ended lines) front back),
 )
-
--- bytes, cut behind one of them
-pub cut_behind : (front bytes : List ℕ) (i byte : ℕ) → i < length bytes → get_or bytes i 0 ≡ byte → front ++ bytes ≡ ((front ++ take i bytes) ++ byte ∷ []) ++ drop (suc i) bytes
-cut_behind front bytes i byte within here =
-    let cut : bytes ≡ take i bytes ++ (byte ∷ drop (suc i) bytes) = sym (take-append-drop i bytes) ∙ ap (λ rest. take i bytes ++ rest) (drop-cons bytes i 0 within ∙ ap (λ b. b ∷ drop (suc i) bytes) here) in
-    ap (λ all. front ++ all) cut ∙ sym (append_assoc front (take i bytes) (byte ∷ drop (suc i) bytes))
-    ∙ sym (append_assoc (front ++ take i bytes) (byte ∷ []) (drop (suc i) bytes))
 
 -- one byte more of some bytes
 pub take_behind : (front bytes : List ℕ) (i byte : ℕ) → i < length bytes → get_or bytes i 0 ≡ byte → front ++ take (i + 1) bytes ≡ (front ++ take i bytes) ++ byte ∷ []

@@ -1,5 +1,5 @@
 -- What an engine wrote, told by the replies of commands on a new pool of numbers.
-use Rattle.std.specs.Prelude.{◌≡◌, ◌≤◌, ℕ, Option, Some, None, List, [], Result, Ok, Err, OnOk, replicate, ⊤}
+use Rattle.std.specs.Prelude.{◌≡◌, ◌≤◌, ℕ, Option, Some, None, List, [], Result, Err, OnOk, replicate, ⊤}
 use Rattle.std.specs.Io.KnownBytes.{Consumes, IsAtEnd}
 use Rattle.lockfree_object_pool.specs.declared.pull_error.PullError.{PullError}
 use Rattle.object_pool_cores.specs.declared.engine.engine_error.EngineError.{EngineError}

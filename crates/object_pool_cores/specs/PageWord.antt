@@ -1,5 +1,5 @@
 -- What a page of one owner keeps: a value at each free id, and a word whose set bits are the free ids.
-use Rattle.std.specs.Prelude.{◌≡◌, ℕ, Option, Some, None, List, length, slice_get}
+use Rattle.std.specs.Prelude.{◌≡◌, ℕ, Option, List, length}
 use Rattle.std.specs.Int.{bit_at}
 use Rattle.object_pool_cores.specs.OnePage.{IsFreeId, IsOutId}
 use Rattle.lockfree_object_pool.specs.declared.page.TheConstants.{PAGE_ITEMS}

@@ -11,7 +11,7 @@ use Rattle.object_pool_cores.specs.declared.sequential.stack_core.StackCore.{Sta
 use Rattle.object_pool_cores.specs.declared.sequential.none_core.NoneCore.{NoneCore}
 use Rattle.object_pool_cores.specs.declared.engine.kind.Kind.TheVariants as kind
 use Rattle.object_pool_cores.specs.Attach.{RefusesAttach}
-use Rattle.object_pool_cores.specs.Engine.{Telling, OnLinear, OnKind, IsFirst, linear_kind, makes_zero, WroteFront, tells_front}
+use Rattle.object_pool_cores.specs.Engine.{Telling, OnLinear, OnKind, linear_kind, makes_zero, WroteFront, tells_front}
 use Rattle.object_pool_cores.specs.Fresh.{PullsFresh}
 use Rattle.object_pool_cores.specs.Held.{Playing}
 use Rattle.object_pool_cores.specs.LastIn.{PullsLast, ReturnsLast, AttachesLast}

@@ -1,7 +1,7 @@
 -- How many pages the steps of a pull look at.
-use Rattle.std.proofs.Common.{◌≡◌, ◌≢◌, ℕ, ◌+◌, ◌*◌, ◌/◌, ◌<◌, ◌≤◌, suc, zero, Option, List, [], ◌∷◌, length, refl, sym, ap, ◌∙◌, arith, inl, inr}
+use Rattle.std.proofs.Common.{◌≡◌, ◌≢◌, ℕ, ◌*◌, ◌<◌, ◌≤◌, suc, zero, Option, refl, sym, ap, ◌∙◌, arith, inl, inr}
 use Rattle.std.proofs.lemmas.Bool.{cases_lt}
-use Rattle.object_pool_cores.specs.Pool.{Pool, Place, Absent, Free, Out, IsFree, IsOut, IsPool}
+use Rattle.object_pool_cores.specs.Pool.{Pool, Place, Absent, Free, Out, IsOut, IsPool}
 use Rattle.object_pool_cores.specs.LeastChoice.{IsExhausted, IsLeastFree}
 use Rattle.object_pool_cores.specs.Looks.{one_if_out, out_below, out_count, LooksAtFew}
 use Rattle.object_pool_cores.specs.Numbered.{Numbered, FindsNone, Grows, Looks, TakesLeastOf, pool_of}

@@ -1,15 +1,14 @@
 -- A page's word and its places change together.
-use Rattle.std.proofs.Common.{◌≡◌, ◌≢◌, ℕ, ◌+◌, ◌-◌, ◌<◌, ◌^◌, ◌↔◌, suc, zero, Option, Some, None, List, [], ◌∷◌, length, map, get_or, slice_set, refl, sym, ap, subst, ◌∙◌, arith, inl, inr, length-set}
-use Rattle.std.specs.Prelude.{All}
+use Rattle.std.proofs.Common.{◌≡◌, ℕ, ◌<◌, ◌^◌, suc, zero, Option, Some, None, List, [], ◌∷◌, length, map, get_or, slice_set, refl, sym, ap, subst, ◌∙◌, arith, inl, inr, length-set}
 use Rattle.std.specs.List.{slice_get}
 use Rattle.std.specs.Int.{bit_at, w32, trailing_zeros}
 use Rattle.std.proofs.lemmas.Bool.{cases_lt}
 use Rattle.std.proofs.lemmas.List.{length-map}
 use Rattle.std.proofs.lemmas.Nat.Bits.{bit_at-zero, bit_at_ones, bit_at-trailing_zeros}
 use Rattle.std.proofs.lemmas.Option.{get_or_from_slice_get, slice_get_within}
-use Rattle.lockfree_object_pool.specs.Word.{IsLeastBit, SetsBit, ClearsBit}
+use Rattle.lockfree_object_pool.specs.Word.{IsLeastBit, ClearsBit}
 use Rattle.object_pool_cores.specs.MadePage.{IsMadePage}
-use Rattle.object_pool_cores.specs.OnePage.{IsFreeId, IsOutId, HasNoFreeId, IsMask, TakesLeastId}
+use Rattle.object_pool_cores.specs.OnePage.{IsFreeId, HasNoFreeId, IsMask, TakesLeastId}
 use Rattle.object_pool_cores.specs.PageWord.{IsKept}
 use Rattle.object_pool_cores.specs.Laws.HeldItems.{slice_get-from_set}
 use Rattle.object_pool_cores.specs.Laws.NumberedPlaces.{value_of-page}
@@ -85,24 +84,6 @@ module _ {T : Type 0} (meets : T → Type 0) (word : ℕ) (page : List (Option T
     free = free;
     least = λ lower w below there. let set = kept.set lower w there in let clear = lowest.lowest lower below in absurd (omega arith);
     taken = refl;
-  }
-
-  -- a bit is set, and a value is put at its id
-  pub IsKept-freed : (id new : ℕ) (v : T) → SetsBit word id new → meets v → IsKept meets new (slice_set page id (Some v))
-  IsKept-freed id new v sets clean = record {
-    whole = length-set page id (Some v) ∙ kept.whole;
-    set = λ other w free. elim (slice_get-from_set page id other (Some v) (Some w) free) [
-      | inl here ↦ ap (bit_at new) here.0 ∙ sets.set
-      | inr apart ↦ sets.others other apart.0 ∙ kept.set other w apart.1
-    ];
-    clear = λ other out. elim (slice_get-from_set page id other (Some v) None out) [
-      | inl here ↦ let never = here.1 in absurd cc
-      | inr apart ↦ sets.others other apart.0 ∙ kept.clear other apart.1
-    ];
-    clean = λ other w free. elim (slice_get-from_set page id other (Some v) (Some w) free) [
-      | inl here ↦ let same : v ≡ w = let e = here.1 in cc in subst meets same clean
-      | inr apart ↦ kept.clean other w apart.1
-    ];
   }
 
 -- each bit of a new page's word is set

@@ -1,15 +1,14 @@
 -- What changes for the numbers where one place of a page changes.
-use Rattle.std.proofs.Common.{◌≡◌, ◌≢◌, ℕ, ◌+◌, ◌-◌, ◌*◌, ◌/◌, ◌<◌, ◌≤◌, ◌↔◌, Option, Some, None, List, [], length, slice_set, min, refl, sym, ap, subst, ◌∙◌, arith, inl, inr, length-set}
-use Rattle.std.specs.Prelude.{All}
+use Rattle.std.proofs.Common.{◌≡◌, ℕ, ◌+◌, ◌-◌, ◌*◌, ◌/◌, ◌<◌, ◌≤◌, ◌↔◌, Option, Some, None, List, [], length, slice_set, min, refl, sym, ap, subst, ◌∙◌, arith, inl, inr, length-set}
 use Rattle.std.specs.List.{slice_get}
 use Rattle.std.proofs.lemmas.Bool.{cases_lt}
 use Rattle.std.proofs.lemmas.List.Elements.{All-set}
-use Rattle.std.proofs.lemmas.Option.{slice_get_past, slice_get_within, get_or_from_slice_get}
-use Rattle.object_pool_cores.specs.Pool.{Free, IsOut, IsFree, IsPool, IsSame, AllowsPages, with_place}
-use Rattle.object_pool_cores.specs.LeastChoice.{IsExhausted, IsLeastFree, TakesLeast}
+use Rattle.std.proofs.lemmas.Option.{slice_get_within, get_or_from_slice_get}
+use Rattle.object_pool_cores.specs.Pool.{Free, IsOut, IsSame, with_place}
+use Rattle.object_pool_cores.specs.LeastChoice.{TakesLeast}
 use Rattle.object_pool_cores.specs.Numbered.{Numbered, IsSound, AreWhole, HasNoneBelow, FindsNone, TakesLeastOf, laid_out, place_of, pool_of}
-use Rattle.object_pool_cores.specs.OnePage.{IsOutId, IsFreeId, TakesLeastId}
-use Rattle.object_pool_cores.specs.Laws.NumberedPlaces.{place_of-out, place_of-free, pool_of-set, IsPool-sound}
+use Rattle.object_pool_cores.specs.OnePage.{IsOutId, TakesLeastId}
+use Rattle.object_pool_cores.specs.Laws.NumberedPlaces.{place_of-out, place_of-free, pool_of-set}
 use Rattle.object_pool_cores.specs.Laws.HeldItems.{slice_get-from_set}
 use Rattle.object_pool_cores.proofs.Cores.PagedPlaces.{length-laid_out, get-laid_out, set-laid_out}
 

@@ -1,12 +1,10 @@
 -- The places of whole pages, one page behind another.
-use Rattle.std.proofs.Common.{◌≡◌, ◌≢◌, ℕ, ◌+◌, ◌-◌, ◌*◌, ◌<◌, suc, zero, Option, Some, None, List, [], ◌∷◌, ◌++◌, length, slice_set, refl, sym, ap, subst, ◌∙◌, arith, inl, inr, length-append, append_assoc, append-nil}
-use Rattle.std.specs.Prelude.{All}
+use Rattle.std.proofs.Common.{◌≡◌, ℕ, ◌+◌, ◌-◌, ◌*◌, ◌<◌, suc, zero, Option, Some, List, [], ◌∷◌, ◌++◌, length, slice_set, refl, sym, ap, ◌∙◌, arith, inl, inr, length-append, append_assoc, append-nil}
 use Rattle.std.specs.List.{slice_get}
 use Rattle.std.proofs.lemmas.Bool.{cases_lt}
 use Rattle.std.proofs.lemmas.List.Elements.{All-head, All-tail}
-use Rattle.std.proofs.lemmas.Option.{slice_get_within}
 use Rattle.object_pool_cores.specs.Numbered.{laid_out, AreWhole, HasNoneBelow}
-use Rattle.object_pool_cores.specs.OnePage.{HasNoFreeId, TakesLeastId}
+use Rattle.object_pool_cores.specs.OnePage.{HasNoFreeId}
 use Rattle.object_pool_cores.specs.Laws.NumberedPlaces.{slice_get-append_front, slice_get-append_back}
 
 module _ {X : Type 0} where

@@ -1,22 +1,16 @@
 -- The bits of a page's word as it changes.
 use Rattle.std.proofs.Common.{◌≡◌, ◌≢◌, ℕ, ◌-◌, ◌^◌, ◌<◌, ◌==◌, true, false, bit_and, bit_or, refl, ap, sym, ◌∙◌, arith}
 use Rattle.std.specs.Int.{w32, bit_at, bit_not}
-use Rattle.std.proofs.lemmas.Bool.{eq-eqb, eqb-true, eqb-false}
+use Rattle.std.proofs.lemmas.Bool.{eq-eqb}
 use Rattle.std.proofs.lemmas.Nat.{one_shl, or_lt, and_le_l}
 use Rattle.std.proofs.Math.Pow.{pow-lt}
-use Rattle.std.proofs.lemmas.Nat.Bits.{bit_at-lt, bit_at-zero, bit_at_ones, bit_at-trailing_zeros, bit_at_set_same, bit_at_set_other, bit_at_clear_same, bit_at_clear_other}
+use Rattle.std.proofs.lemmas.Nat.Bits.{bit_at-zero, bit_at_ones, bit_at-trailing_zeros, bit_at_set_same, bit_at_set_other, bit_at_clear_same, bit_at_clear_other}
 use Rattle.lockfree_object_pool.proofs.WordBits.{clears_least}
 use Rattle.object_pool_cores.specs.World.Machine.{has_bit, with_bit, without_bit, lowest, without_lowest}
 
 -- a bit is set or clear
 clear-bit : (word id : ℕ) → bit_at word id ≡ 0 → has_bit word id ≡ false
 clear-bit word id clear = rw clear refl
-
-pub bit-clear : (word id : ℕ) → has_bit word id ≡ false → bit_at word id ≡ 0
-bit-clear word id clear = let not_one = eqb-false (bit_at word id) 1 clear in let small = bit_at-lt word id in omega arith
-
-pub bit-set : (word id : ℕ) → has_bit word id ≡ true → bit_at word id ≡ 1
-bit-set word id set = eqb-true (bit_at word id) 1 set
 
 -- the word 0 has no bit set, a new page's word has each
 pub has_bit-none : (id : ℕ) → has_bit 0 id ≡ false

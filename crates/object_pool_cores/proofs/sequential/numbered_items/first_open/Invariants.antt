@@ -1,4 +1,4 @@
-use Rattle.std.proofs.Common.{◌≡◌, ◌≤◌, ◌+◌, ◌-◌, ◌*◌, length}
+use Rattle.std.proofs.Common.{◌≤◌, ◌+◌, ◌-◌, ◌*◌, length}
 use Rattle.object_pool_cores.specs.Numbered.{HasNoneBelow, laid_out}
 use Rattle.object_pool_cores.proofs.sequential.numbered_items.first_open.Given as goal
 

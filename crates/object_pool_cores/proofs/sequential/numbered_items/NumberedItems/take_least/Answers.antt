@@ -1,7 +1,6 @@
-use Rattle.std.proofs.Common.{◌≡◌, ◌<◌, ◌≤◌, ◌+◌, ◌*◌, ◌∙◌, arith, length, refl, rules, ap, Some}
+use Rattle.std.proofs.Common.{◌≡◌, ◌<◌, ◌+◌, ◌*◌, ◌∙◌, arith, length, refl, rules, ap, Some}
 use Rattle.std.specs.Vec.{vec_len}
 use Rattle.std.proofs.lemmas.Option.{slice_get_read}
-use Rattle.object_pool_cores.specs.Numbered.{HasNoneBelow, laid_out}
 use Rattle.object_pool_cores.specs.Laws.NumberedPlaces.{IsPool-sound}
 use Rattle.object_pool_cores.proofs.Cores.NumberedSteps.{pages_of, IsSound-passed, FindsNone-passed, TakesAt-page}
 use Rattle.object_pool_cores.proofs.sequential.numbered_items.NumberedItems.take_least.Goals as goal
