@@ -1,0 +1,164 @@
+//! Eight threads on one pool, and what is left of its items behind them.
+use crate::item::{Clears, Item, Maker, Tallied};
+use crate::report::Report;
+use crate::tally::Tally;
+use crate::worker::{Post, Turn, Worker};
+use crossbeam_channel::unbounded;
+use lockfree_object_pool::clean::AnyValue;
+use lockfree_object_pool::free_list::FreeList;
+use lockfree_object_pool::stack_object_pool::StackObjectPool;
+use lockfree_object_pool::stack_owned_reusable::StackOwnedReusable;
+use lockfree_object_pool::{
+    LinearObjectPool, LinearOwnedReusable, MutexObjectPool, PullError, SpinLockObjectPool,
+};
+use std::alloc::Global;
+use std::sync::{Arc, Wait};
+use std::thread;
+use std::thread::{JoinHandle, Threads};
+
+/// How many threads there are.
+const THREADS: u32 = 8;
+
+/// How many pages a linear pool may have: fewer items than the threads ask for.
+const PAGES: usize = 2;
+
+type Linear<T> = LinearObjectPool<T, Maker, Clears, AnyValue>;
+
+type LinearOwned<T> = LinearOwnedReusable<T, Maker, Clears, AnyValue>;
+
+type Mutexed<T> = MutexObjectPool<T, Maker, Clears, AnyValue>;
+
+type SpinLocked<T> = SpinLockObjectPool<T, Maker, Clears, AnyValue>;
+
+type Stack<T, F> = StackObjectPool<T, Maker, Clears, AnyValue, F>;
+
+type StackOwned<T, F, W> = StackOwnedReusable<T, Maker, Clears, AnyValue, F, W>;
+
+/// What makes the items of a pool.
+fn maker(alloc: Global, tally: &Arc<Tally>) -> Result<Maker, PullError> {
+    let tally = Arc::try_clone(tally)?;
+    Ok(Maker { alloc, tally })
+}
+
+/// What the threads saw. An item that lives on behind them wasn't dropped, and but for the forgotten ones each has to be.
+fn end_of<T: Item>(report: Report, tally: &Tally) -> Report {
+    if T::COUNTS_DROPS {
+        report.with_living(tally.living())
+    } else {
+        report
+    }
+}
+
+/// Starts a thread on which a worker works.
+fn start<
+    A: Drop + Send + 'static,
+    J: FnOnce(Worker<A>) -> Report + Drop + Send + 'static,
+    R: Threads,
+>(rt: &R, worker: Worker<A>, work: J) -> Result<JoinHandle<Report>, PullError>
+    requires { J.IsAlwaysCallable work }
+{
+    thread::spawn(rt, move || work(worker)).map_err(|_| PullError::Memory)
+}
+
+/// Eight workers on a pool, each on a thread of its own: what they saw.
+macro_rules! on_eight_threads {
+    ($use_pool:path, $rt:expr, $alloc:expr, $pool:expr, $rounds:expr) => {{
+        let (sender, receiver) = unbounded($alloc)?;
+        let mut threads = Vec::with_capacity($alloc, THREADS as usize)?;
+        for number in 0..THREADS {
+            let (sender, receiver) = (sender.clone()?, receiver.clone()?);
+            let worker = Worker::new($alloc, number + 1, Post { sender, receiver });
+            let (pool, there, rounds) = (Arc::try_clone($pool)?, *$rt, $rounds);
+            let work = move |worker| $use_pool(&there, &pool, worker, rounds);
+            threads.push(start($rt, worker, work)?)?;
+        }
+        let mut report = Report::default();
+        for thread in threads {
+            report = report.with(thread.join($rt));
+        }
+        report
+    }};
+}
+
+/// One thread on a linear pool.
+fn use_linear<T: Item, W: Wait>(
+    rt: &W,
+    pool: &Arc<Linear<T>>,
+    mut worker: Worker<LinearOwned<T>>,
+    rounds: u32,
+) -> Report {
+    for _ in 0..rounds {
+        match worker.next_turn() {
+            Turn::UseBorrowed => worker.use_borrowed(pool.pull()),
+            Turn::UseOwned => worker.use_owned(pool.pull_owned()),
+            Turn::LetGo => worker.let_go(rt),
+            Turn::Receive => worker.receive(rt),
+        }
+    }
+    worker.end()
+}
+
+/// Eight threads on a linear pool.
+pub fn linear<T: Item + Send + 'static, R: Threads + Wait + Copy + Send + 'static>(
+    rt: &R,
+    alloc: Global,
+    rounds: u32,
+) -> Result<Report, PullError> {
+    let tally = Tally::new(alloc)?;
+    let pool: Linear<T> = LinearObjectPool::with_limit(
+        alloc,
+        maker(alloc, &tally)?,
+        Clears,
+        PAGES,
+    )?;
+    let pool = Arc::new(alloc, pool)?;
+    let report = on_eight_threads!(use_linear, rt, alloc, &pool, rounds);
+    drop(pool);
+    Ok(end_of::<T>(report, &tally))
+}
+
+/// One thread on a stack pool.
+fn use_stack<T: Item, F: FreeList<T, AnyValue>, W: Wait + Copy>(
+    rt: &W,
+    pool: &Arc<Stack<T, F>>,
+    mut worker: Worker<StackOwned<T, F, W>>,
+    rounds: u32,
+) -> Report {
+    for _ in 0..rounds {
+        match worker.next_turn() {
+            Turn::UseBorrowed => worker.use_borrowed(pool.pull(rt)),
+            Turn::UseOwned => worker.use_owned(pool.pull_owned(rt)),
+            Turn::LetGo => worker.let_go(rt),
+            Turn::Receive => worker.receive(rt),
+        }
+    }
+    worker.end()
+}
+
+/// Eight threads on a mutex pool of counted items. At any item the check finds no proof that such a pool may be sent.
+pub fn mutex_of_counted<R: Threads + Wait + Copy + Send + 'static>(
+    rt: &R,
+    alloc: Global,
+    rounds: u32,
+) -> Result<Report, PullError> {
+    let tally = Tally::new(alloc)?;
+    let pool: Mutexed<Tallied> = MutexObjectPool::new(alloc, maker(alloc, &tally)?, Clears);
+    let pool = Arc::new(alloc, pool)?;
+    let report = on_eight_threads!(use_stack, rt, alloc, &pool, rounds);
+    drop(pool);
+    Ok(end_of::<Tallied>(report, &tally))
+}
+
+/// Eight threads on a spin lock pool.
+pub fn spin_lock<T: Item + Send + 'static, R: Threads + Wait + Copy + Send + 'static>(
+    rt: &R,
+    alloc: Global,
+    rounds: u32,
+) -> Result<Report, PullError> {
+    let tally = Tally::new(alloc)?;
+    let pool: SpinLocked<T> = SpinLockObjectPool::new(alloc, maker(alloc, &tally)?, Clears)?;
+    let pool = Arc::new(alloc, pool)?;
+    let report = on_eight_threads!(use_stack, rt, alloc, &pool, rounds);
+    drop(pool);
+    Ok(end_of::<T>(report, &tally))
+}

@@ -1,0 +1,44 @@
+//! How many items were made and dropped, on all threads.
+use std::alloc::{AllocError, Global};
+use std::sync::Arc;
+use std::sync::atomic::AtomicUsize;
+use std::sync::atomic::Ordering::SeqCst;
+
+/// Counts of calls that make an item, and of items that were made and dropped.
+#[derive(Drop)]
+pub struct Tally {
+    calls: AtomicUsize,
+    made: AtomicUsize,
+    dropped: AtomicUsize,
+}
+
+impl Tally {
+    pub fn new(alloc: Global) -> Result<Arc<Tally>, AllocError> {
+        let tally = Tally {
+            calls: AtomicUsize::new(0),
+            made: AtomicUsize::new(0),
+            dropped: AtomicUsize::new(0),
+        };
+        Ok(Arc::new(alloc, tally)?)
+    }
+
+    /// The number of this call, counted from 0.
+    pub fn call(&self) -> usize {
+        self.calls.fetch_add(1, SeqCst)
+    }
+
+    pub fn count_made(&self) {
+        self.made.fetch_add(1, SeqCst);
+    }
+
+    pub fn count_dropped(&self) {
+        self.dropped.fetch_add(1, SeqCst);
+    }
+
+    /// How many items were made and not dropped.
+    pub fn living(&self) -> usize {
+        self.made
+            .load(SeqCst)
+            .wrapping_sub(self.dropped.load(SeqCst))
+    }
+}
