@@ -1,19 +1,12 @@
 //! What a test has met of refused memory.
-ghost use Rattle.std.specs.Prelude.{◌≡◌};
-
 use lockfree_object_pool::PullError;
 use std::cell::Cell;
 use std::io;
 
 /// Whether memory was refused until now.
+#[derive(Drop)]
 pub struct Refusals {
     is_met: Cell<bool>,
-}
-
-impl Drop for Refusals {
-    fn drop(self) {
-        let Refusals { is_met: _ } = self;
-    }
 }
 
 impl Refusals {
