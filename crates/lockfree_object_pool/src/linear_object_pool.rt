@@ -164,7 +164,8 @@ impl<T: Drop, I: Init<T, K>, R: Reset<T, K>, K: Clean<T>> LinearObjectPool<T, I,
         self.chain.pull(self.limit(), &|| init.make())
     }
 
-    /// Tells the next pulls that a page that was full has a free item now.
+    /// Tells the next pulls that a page that was full has a free item now. Apart, so that a drop is short enough to be inlined.
+    #[inline(never)]
     pub(crate) fn no_longer_full(&self, page_number: usize) {
         self.chain.no_longer_full(page_number);
     }

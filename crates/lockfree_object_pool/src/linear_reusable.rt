@@ -87,6 +87,7 @@ impl<T: Drop, I: Init<T, K>, R: Reset<T, K>, K: Clean<T>> DerefMut
 }
 
 impl<T: Drop, I: Init<T, K>, R: Reset<T, K>, K: Clean<T>> Drop for LinearReusable<'_, T, I, R, K> {
+    #[inline]
     fn drop(self) {
         let LinearReusable {
             pool,

@@ -234,7 +234,7 @@ impl<T, K: Clean<T>> Page<T, K> {
                 let taken = TakenId {
                     page: self,
                     seat,
-                    id,
+                    id: id as usize,
                 };
                 return Allocated::Slot(PageSlot::new(taken, value));
             }

@@ -16,7 +16,8 @@ use std::sync::Arc;
 pub(crate) struct OwnedTakenId<T, K: Clean<T>> {
     pub(super) page: Arc<Page<T, K>>,
     pub(super) seat: UserSeat<T>,
-    pub(super) id: PageId,
+    /// A whole word, so that an item on its way up is moved by words.
+    pub(super) id: usize,
     ghost of_page: { seat.table_id ≡ page_identity (arc_value page) } by { same_page _ _ },
     ghost in_page: { id < PAGE_ITEMS },
     ghost here: { seat.me.0.gone ≡ false },
@@ -32,7 +33,7 @@ impl<T, K: Clean<T>> OwnedTakenId<T, K> {
         ensures value { result ≡ owned_taken_id self.now }
         ensures in_page { result < PAGE_ITEMS }
     {
-        self.id
+        self.id as PageId
     }
 
     /// The value goes home, and the id is free again.

@@ -18,7 +18,8 @@ use std::sync::Arc;
 pub(crate) struct TakenId<'s, T, K: Clean<T>> {
     pub(super) page: &'s Page<T, K>,
     pub(super) seat: UserSeat<T>,
-    pub(super) id: PageId,
+    /// A whole word, so that an item on its way up is moved by words.
+    pub(super) id: usize,
     ghost of_page: { seat.table_id ≡ page_identity page.now } by { same_page _ _ },
     ghost in_page: { id < PAGE_ITEMS },
     ghost here: { seat.me.0.gone ≡ false },
@@ -34,7 +35,7 @@ impl<'s, T, K: Clean<T>> TakenId<'s, T, K> {
         ensures value { result ≡ taken_id self.now }
         ensures in_page { result < PAGE_ITEMS }
     {
-        self.id
+        self.id as PageId
     }
 
     /// The value goes home, and the id is free again.

@@ -50,7 +50,7 @@ impl<T, K: Clean<T>> Page<T, K> {
     }
 
     /// Moves the value home, then sets its bit. Whether no other bit was set then.
-    pub(super) fn give(&self, mut seat: UserSeat<T>, id: PageId, value: T) -> (UserSeat<T>, bool)
+    pub(super) fn give(&self, mut seat: UserSeat<T>, id: usize, value: T) -> (UserSeat<T>, bool)
         requires page { seat.table_id ≡ page_identity self.now }
         requires in_page { id < PAGE_ITEMS }
         requires holds { seat.me.0.held ≡ Some id }
@@ -64,11 +64,11 @@ impl<T, K: Clean<T>> Page<T, K> {
         ensures returned { GoesOn (Gave result.0.me.0.user id value ∷ []) seat.me.0 result.0.me.0 }
     {
         let words = &self.table.shared;
-        match words.exchange(&mut seat, id as usize, Some(value)) {
+        match words.exchange(&mut seat, id, Some(value)) {
             None => {}
             Some(_) => unreachable!(),
         }
-        let word = words.fetch_or::<SetBit>(&mut seat, 0, with_bit(0, id) as u64);
+        let word = words.fetch_or::<SetBit>(&mut seat, 0, with_bit(0, id as PageId) as u64);
         (seat, word == 0)
     }
 }

@@ -9,7 +9,6 @@ use std::process::Abort;
 use std::test::Fail;
 
 mod refusals;
-mod schedules;
 mod sizes;
 mod values;
 
