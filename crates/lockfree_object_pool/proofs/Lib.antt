@@ -5,7 +5,7 @@ pub mod LockSteps
 pub mod PageActs
 pub mod PageAnswers
 pub mod PageHolders
-pub mod PageKeeps
+pub mod PageSteps
 pub mod PageOpens
 pub mod PageOrder
 pub mod ReusableShared

@@ -5,8 +5,6 @@
 
 pub mod clean;
 pub mod closures;
-#[cfg(test)]
-mod counted;
 pub mod free_list;
 mod lender;
 pub mod linear_object_pool;
@@ -21,8 +19,6 @@ pub mod none_reusable;
 pub mod page;
 mod pull_error;
 pub mod recycling;
-#[cfg(test)]
-mod refused;
 pub mod spin_lock;
 pub mod spin_lock_object_pool;
 pub mod spin_lock_owned_reusable;
@@ -32,7 +28,7 @@ pub mod stack_object_pool;
 pub mod stack_owned_reusable;
 pub mod stack_reusable;
 #[cfg(test)]
-mod zeros;
+mod testing;
 
 pub use linear_object_pool::LinearObjectPool;
 pub use linear_owned_reusable::LinearOwnedReusable;

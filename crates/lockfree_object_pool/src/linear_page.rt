@@ -183,7 +183,7 @@ impl<'c, T: Drop, K: Clean<T>, O: Clean<T>> LinearPage<'c, T, K, O> {
         let Some(number) = self.number.checked_add(1) else {
             return Err(PullError::Memory);
         };
-        let alloc = self.directory.alloc();
+        let alloc = self.directory.allocator();
         let link = self.next.link(note);
         let page = link.get_or_try_init_as(
             || -> Result<_, PullError> { Ok(Box::new(alloc, made_page(alloc, init)?)?) },

@@ -158,8 +158,4 @@ impl<T: Debug> Debug for SpinLockGuard<'_, T> {
 }
 
 #[cfg(test)]
-mod callers;
-#[cfg(test)]
-mod sends;
-#[cfg(test)]
 mod tests;

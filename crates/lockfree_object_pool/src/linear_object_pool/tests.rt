@@ -5,8 +5,8 @@ ghost use Rattle.lockfree_object_pool.specs.LinearPool.{pool_limit};
 use super::*;
 use crate::clean::AnyValue;
 use crate::closures::Keep;
-use crate::counted::{Counted, CountedValues, Counts, NEVER};
-use crate::zeros::{CountedZeros, ToZero, Zero, new_calls};
+use crate::testing::counted::{Counted, CountedValues, Counts, NEVER};
+use crate::testing::zeros::{CountedZeros, ToZero, Zero, new_calls};
 use std::sync::atomic::AtomicUsize;
 use std::sync::atomic::Ordering::SeqCst;
 

@@ -99,7 +99,7 @@ impl<T: Drop, K: Clean<T>, O: Clean<T>> Directory<T, K, O> {
         })
     }
 
-    pub(super) fn alloc(&self) -> Global {
+    pub(super) fn allocator(&self) -> Global {
         self.alloc
     }
 

@@ -3,7 +3,7 @@ ghost use Rattle.std.specs.Prelude.{◌≡◌, None, IsOk, IfOk};
 ghost use Rattle.lockfree_object_pool.specs.NonePool.{none_init, none_with};
 
 use super::*;
-use crate::counted::{Counted, Counts};
+use crate::testing::counted::{Counted, Counts};
 use std::cell::Cell;
 use std::mem;
 use std::test::Fail;

@@ -1,10 +1,13 @@
 use super::*;
-use crate::counted::Counts;
+use crate::testing::counted::Counts;
 use std::mem;
 use std::sync::Arc;
 use std::sync::atomic::AtomicU64;
 use std::sync::atomic::Ordering::SeqCst;
 use std::test::Fail;
+
+mod callers;
+mod sends;
 
 /// A test that still waits after so many turns fails.
 const MOST_TURNS: u32 = 10_000_000;

@@ -1,6 +1,6 @@
 use super::*;
 use crate::clean::AnyValue;
-use crate::counted::{Counted, Counts};
+use crate::testing::counted::{Counted, Counts};
 use std::test::Fail;
 
 #[test]

@@ -5,7 +5,7 @@ use crate::clean::AnyValue;
 use crate::closures::{Copied, Keep};
 use crate::spin_lock::SpinLock;
 use crate::stack::Stack;
-use crate::zeros::{CountedZeros, Zero, new_calls};
+use crate::testing::zeros::{CountedZeros, Zero, new_calls};
 use crate::{MutexObjectPool, SpinLockObjectPool};
 use std::process::Abort;
 use std::sync::atomic::AtomicUsize;

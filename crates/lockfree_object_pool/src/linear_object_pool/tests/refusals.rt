@@ -1,6 +1,6 @@
 //! Pools that are refused values or memory: nothing is lost, and what was refused can be asked for again.
 use super::*;
-use crate::refused::again;
+use crate::testing::refused::again;
 use std::mem;
 use std::test::Fail;
 

@@ -1,6 +1,6 @@
 //! A thread whose page comes too late: its page is dropped, and it goes on to the page that is linked.
 use super::*;
-use crate::counted::{Counted, Counts};
+use crate::testing::counted::{Counted, Counts};
 use std::sync::atomic::AtomicUsize;
 use std::sync::atomic::Ordering::SeqCst;
 use std::test::Fail;

@@ -1,6 +1,6 @@
 //! Chains that are refused values or memory: nothing is linked in part, and what was refused can be asked for again.
 use super::*;
-use crate::counted::Counts;
+use crate::testing::counted::Counts;
 use std::mem;
 use std::test::Fail;
 

@@ -1,8 +1,8 @@
 //! Values that count how often they are made and dropped.
 use crate::PullError;
 use crate::clean::AnyValue;
-use crate::counted::{Counted, Counts};
 use crate::page::{OwnedSlot, Page};
+use crate::testing::counted::{Counted, Counts};
 use std::alloc::Global;
 use std::mem;
 use std::sync::Arc;

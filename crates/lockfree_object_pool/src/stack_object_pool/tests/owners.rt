@@ -1,7 +1,7 @@
 //! Owners of a pool: each owned item lets its own go, so that the pool ends with the last of them
 //! and drops what it keeps.
 use super::*;
-use crate::counted::NEVER;
+use crate::testing::counted::NEVER;
 use std::test::Fail;
 
 fn lets_its_owners_go<F: Kind<Tallied, AnyValue>, W: Abort + Wait + Copy>(

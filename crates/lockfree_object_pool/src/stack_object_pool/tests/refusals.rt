@@ -2,8 +2,8 @@
 //! again.
 use super::kept_items::shown_or_back;
 use super::*;
-use crate::counted::NEVER;
-use crate::refused::again;
+use crate::testing::counted::NEVER;
+use crate::testing::refused::again;
 use std::mem;
 use std::test::Fail;
 

@@ -1,6 +1,6 @@
 use Rattle.std.proofs.Common.{rules, arith, sym, ap, ◌∙◌, ◌∷◌, Some}
 use Rattle.atomic_table.specs.Table.{rest}
-use Rattle.lockfree_object_pool.proofs.PageKeeps.{clears}
+use Rattle.lockfree_object_pool.proofs.PageSteps.{clears}
 use Rattle.lockfree_object_pool.proofs.page.Page.clear.Goals as goal
 
 pub fetch_and-word-requires : goal.fetch_and-word-requires

@@ -1,5 +1,5 @@
 use Rattle.std.proofs.Common.{arith, rules}
-use Rattle.lockfree_object_pool.proofs.PageKeeps.{gives_back}
+use Rattle.lockfree_object_pool.proofs.PageSteps.{gives_back}
 use Rattle.lockfree_object_pool.proofs.page.Page.give.Goals as goal
 
 pub fetch_or-word-requires : goal.fetch_or-word-requires

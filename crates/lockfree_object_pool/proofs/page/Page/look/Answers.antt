@@ -1,5 +1,5 @@
 use Rattle.std.proofs.Common.{arith}
-use Rattle.lockfree_object_pool.proofs.PageKeeps.{looks}
+use Rattle.lockfree_object_pool.proofs.PageSteps.{looks}
 use Rattle.lockfree_object_pool.proofs.page.Page.look.Goals as goal
 
 pub load_new_seat-word-requires : goal.load_new_seat-word-requires

@@ -1,5 +1,5 @@
 use Rattle.std.proofs.Common.{arith}
-use Rattle.lockfree_object_pool.proofs.PageKeeps.{looks_again}
+use Rattle.lockfree_object_pool.proofs.PageSteps.{looks_again}
 use Rattle.lockfree_object_pool.proofs.page.Page.look_as.Goals as goal
 
 pub load-requires : goal.load-requires

@@ -1,5 +1,5 @@
 use Rattle.std.proofs.Common.{arith}
-use Rattle.lockfree_object_pool.proofs.PageKeeps.{tells}
+use Rattle.lockfree_object_pool.proofs.PageSteps.{tells}
 use Rattle.lockfree_object_pool.proofs.page.Page.tell.Goals as goal
 
 pub join_seat-requires : goal.join_seat-requires

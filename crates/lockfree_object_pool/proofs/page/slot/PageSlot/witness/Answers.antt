@@ -1,5 +1,5 @@
 use Rattle.std.proofs.Common.{arith}
-use Rattle.lockfree_object_pool.proofs.PageKeeps.{witnesses}
+use Rattle.lockfree_object_pool.proofs.PageSteps.{witnesses}
 use Rattle.lockfree_object_pool.proofs.page.slot.PageSlot.witness.Goals as goal
 
 pub split_seat-requires : goal.split_seat-requires

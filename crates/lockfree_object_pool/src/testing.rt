@@ -1,0 +1,4 @@
+//! What tests of several modules share.
+pub mod counted;
+pub mod refused;
+pub mod zeros;
