@@ -10,7 +10,7 @@ use Rattle.atomic_table.specs.Table.{State, Me, keeps, takes, gives, opening, re
 use Rattle.atomic_table.proofs.Lists.{at_last, at_longer, at_set, set_here}
 use Rattle.lockfree_object_pool.specs.declared.spin_lock.rule.Visitor.{Visitor}
 use Rattle.lockfree_object_pool.specs.declared.spin_lock.rule.Visitor.TheVariants.{Passing, Holder}
-use Rattle.lockfree_object_pool.specs.Lock.{IsLock, HasValue, HasNothing, GivesIfFree}
+use Rattle.lockfree_object_pool.specs.Lock.{IsLock, HasValue, HasNothing, TakesIfFree}
 
 -- what stands in a list with one more element at its end
 at_end : {A : Type 0} (l : List A) (last a : A) (j : ℕ) → get_elem? (l ++ last ∷ []) j ≡ some a → (get_elem? l j ≡ some a) ⊎ ((j ≡ length l) × (last ≡ a))
@@ -76,7 +76,7 @@ module _ {T : Type 0} where
     none_left : (id : ℕ) → get_elem? s.views id ≡ some Holder → (j : ℕ) → get_elem? (slice_set s.views id Passing) j ≡ some Holder → ⊥
     none_left id here j held = elim (at_set s.views id j Passing Holder held) [ inl same ↦ let unlike = same.1 in cc | inr other ↦ other.0 (lock.one_holder j id other.1 here) ]
 
-  tried : (slots : ℕ) → Arrives IsLock slots 0 (λ _. 1) (GivesIfFree {T = T})
+  tried : (slots : ℕ) → Arrives IsLock slots 0 (λ _. 1) (TakesIfFree {T = T})
   tried slots s lock _ _ = elim (cases_lt 0 (slice_index s.words 0)) [
     | inl is_taken ↦
         let still = taken s lock s.homes Passing lock.one_place (still_held s lock (omega (arith, lock.free_or_taken))) (λ j k one other. lock.one_holder j k (was_there s lock j one) (was_there s lock k other)) in
@@ -90,7 +90,7 @@ module _ {T : Type 0} where
   ]
 
   -- an exchange takes the lock where it is free
-  pub tries : (words slots : ℕ) → words ≡ 1 → (0 < words) × Arrives IsLock slots 0 (λ _. 1) (GivesIfFree {T = T})
+  pub tries : (words slots : ℕ) → words ≡ 1 → (0 < words) × Arrives IsLock slots 0 (λ _. 1) (TakesIfFree {T = T})
   tries words slots one = (omega arith, tried slots)
 
   -- what a holder has taken out of the place

@@ -27,10 +27,10 @@ module _ {T : Type 0} where
   pub beginning_further : (one two three : History T) → IsBeginningOf one two → IsBeginningOf two three → IsBeginningOf one three
   beginning_further one two three first second = (second.0 ++ first.0, second.1 ∙ ap (λ l. second.0 ++ l) first.1 ∙ sym (append_assoc second.0 first.0 one))
 
-  pub beginning_act : (one two : History T) (act : PageAct T) → IsBeginningOf one two → IsBeginningOf one (act ∷ two)
+  beginning_act : (one two : History T) (act : PageAct T) → IsBeginningOf one two → IsBeginningOf one (act ∷ two)
   beginning_act one two act longer = (act ∷ longer.0, ap (λ l. act ∷ l) longer.1)
 
-  pub was_out_later : (opening : List (Option T)) (since acts later : History T) (id : ℕ) → IsBeginningOf acts later → WasOutBetween opening since acts id → WasOutBetween opening since later id
+  was_out_later : (opening : List (Option T)) (since acts later : History T) (id : ℕ) → IsBeginningOf acts later → WasOutBetween opening since acts id → WasOutBetween opening since later id
   was_out_later opening since acts later id longer was = (was.0, was.1, beginning_further was.0 acts later was.2 longer, was.3)
 
   pub acts_of_own : (user : ℕ) (act : PageAct T) (acts : History T) → user_of act ≡ user → acts_of user (act ∷ acts) ≡ act ∷ acts_of user acts
@@ -155,7 +155,7 @@ module _ {T : Type 0} where
   pub lawful_of : (opening : List (Option T)) (known : UserView T) → known.opening ≡ opening → IsSound known → IsLawful opening known.acts
   lawful_of opening known same is = subst (λ o. IsLawful o known.acts) same is.lawful
 
-  pub was_out_of : (opening : List (Option T)) (known : UserView T) (id : ℕ) → known.opening ≡ opening → IsSound known → id < 32 → bit_at known.found id ≡ 1 → WasOutBetween opening known.since known.acts id
+  was_out_of : (opening : List (Option T)) (known : UserView T) (id : ℕ) → known.opening ≡ opening → IsSound known → id < 32 → bit_at known.found id ≡ 1 → WasOutBetween opening known.since known.acts id
   was_out_of opening known id same is within one = subst (λ o. WasOutBetween o known.since known.acts id) same (is.found_out id within one)
 
   pub goes_on_further : (made : History T) (one two three : UserView T) → GoesOn [] one two → GoesOn made two three → GoesOn made one three

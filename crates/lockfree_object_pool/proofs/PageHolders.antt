@@ -113,7 +113,7 @@ module _ {T : Type 0} where
   ]
 
   -- what lies there came from the last return, or from the opening
-  pub came_from : (opening : List (Option T)) (acts : History T) (id : ℕ) (value : T) → value_at opening acts id ≡ Some value → CameFrom opening acts id value
+  came_from : (opening : List (Option T)) (acts : History T) (id : ℕ) (value : T) → value_at opening acts id ≡ Some value → CameFrom opening acts id value
   came_from opening [] id value there = inr record { untouched = tt; opened = there }
   came_from opening (Took user place took ∷ acts) id value there = dite (ℕ_discrete place id)
       (λ same. no_value value (sym there ∙ value_at-took_here opening acts user place id took same))

@@ -31,7 +31,7 @@ module _ (T K : RattleType) (clean : Ghosts K.Denot T.Denot) where
       let type = PageSlot.the_type κ T K clean in
       record { shared = λ slot. (struct_sync (shape type) (search sendable, (taken_sync κ sent, (record { shared = shared.shared }, tt)))).shared (type.to slot) }
 
-  pub owned_taken_sync : IsSend T → IsSync (OwnedTakenId.the_field T K clean).row
+  owned_taken_sync : IsSend T → IsSync (OwnedTakenId.the_field T K clean).row
   owned_taken_sync sent =
       let page = Arc-sync (Page.the_row T K clean) (page.the_send T K clean sent) (page.the_sync T K clean sent) in
       struct_sync (shape (OwnedTakenId.the_type T K clean)) (record { shared = page.shared }, (record { shared = (seat_sync T sent).shared }, (search sendable, tt)))

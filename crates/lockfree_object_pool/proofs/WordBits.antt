@@ -6,7 +6,7 @@ use Rattle.std.proofs.lemmas.Nat.Bits.{bit_at_lowest, bit_at-suc, bit_at_and, bi
 use Rattle.lockfree_object_pool.specs.Word.{all_bits, SetsBit, ClearsBit}
 
 -- one less turns the lowest set bit off, the bits below it on, and leaves those above it
-pub bit_at-less_one : (k word : ℕ) → bit_at word k ≡ 1 → ((i : ℕ) → i < k → bit_at word i ≡ 0) → (i : ℕ) → (i ≡ k → bit_at (word - 1) i ≡ 0) × (k < i → bit_at (word - 1) i ≡ bit_at word i)
+bit_at-less_one : (k word : ℕ) → bit_at word k ≡ 1 → ((i : ℕ) → i < k → bit_at word i ≡ 0) → (i : ℕ) → (i ≡ k → bit_at (word - 1) i ≡ 0) × (k < i → bit_at (word - 1) i ≡ bit_at word i)
 bit_at-less_one zero word set lowest zero =
     let odd = bit_at_lowest word in let low = bit_at_lowest (word - 1) in (λ _. omega arith, λ above. absurd (omega arith))
 bit_at-less_one zero word set lowest (suc i) =

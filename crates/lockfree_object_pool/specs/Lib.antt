@@ -21,4 +21,5 @@ pub mod Refusal
 pub mod Slot
 pub mod StackLends
 pub mod StackPool
+pub mod Walk
 pub mod Word

@@ -25,6 +25,6 @@ module _ {T : Type 0} where
   abbrev pub HasNothing : Me (Option T) Visitor → Type 0
   HasNothing me = me ≡ (Passing, [])
 
-  -- an exchange that found the word free gives the value, and one that found it taken gives nothing
-  abbrev pub GivesIfFree : ℕ → Me (Option T) Visitor → Type 0
-  GivesIfFree found me = (found ≡ 0 → HasValue me) × (found ≢ 0 → HasNothing me)
+  -- an exchange takes the value where the word was free, and nothing where it was taken
+  abbrev pub TakesIfFree : ℕ → Me (Option T) Visitor → Type 0
+  TakesIfFree word me = (word ≡ 0 → HasValue me) × (word ≢ 0 → HasNothing me)

@@ -22,7 +22,7 @@ pub trait Init<T, K: Clean<T>>: Drop {
     ghost answers: { Self → Option T → Type 0 } = { λ _ _. ⊤ };
 
     fn make(&self) -> Option<T>
-        ensures gives { answers self.now result }
+        ensures answer { answers self.now result }
         ensures meets { IfSome result K.meets };
 }
 

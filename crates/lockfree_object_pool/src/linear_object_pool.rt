@@ -9,7 +9,7 @@ use crate::PullError;
 use crate::clean::{AnyValue, Clean};
 use crate::closures::{Init, Reset};
 use crate::linear_owned_reusable::LinearOwnedReusable;
-use crate::linear_page::{Chain, Found};
+use crate::linear_page::{Chain, Reached};
 use crate::linear_reusable::LinearReusable;
 use answer_of::AnswerOf;
 use page_limit::PageLimit;
@@ -122,8 +122,8 @@ impl<T: Drop, I: Init<T, K>, R: Reset<T, K>, K: Clean<T>> LinearObjectPool<T, I,
         })) }
     {
         let init = &self.init;
-        let found = self.chain.pull_further(self.limit(), &|| init.make())?;
-        Ok(LinearReusable::new(self, found.slot, found.passed))
+        let reached = self.chain.pull_further(self.limit(), &|| init.make())?;
+        Ok(LinearReusable::new(self, reached.slot, reached.passed))
     }
 
     /// As `pull`, with a reusable that owns the pool with others. The pool's owners grow by one before an item is taken.
@@ -138,9 +138,9 @@ impl<T: Drop, I: Init<T, K>, R: Reset<T, K>, K: Clean<T>> LinearObjectPool<T, I,
         })) }
     {
         let owner = Arc::try_clone(self)?;
-        let found = self.find()?;
-        let number = found.passed;
-        match found.into_owned() {
+        let reached = self.find()?;
+        let number = reached.passed;
+        match reached.into_owned() {
             Ok((slot, number)) => Ok(LinearOwnedReusable::new(owner, slot, number)),
             Err(refused) => {
                 self.chain.no_longer_full(number);
@@ -150,11 +150,11 @@ impl<T: Drop, I: Init<T, K>, R: Reset<T, K>, K: Clean<T>> LinearObjectPool<T, I,
     }
 
     /// The item of a pull, and how many pages lie before its page.
-    fn find(&self) -> Result<Found<'_, T, K>, PullError>
-        ensures pulled { IfOk result (λ found. IsPulledFrom K.meets self.now (slot_item found.slot) found.passed) }
-        ensures history { IfOk result (λ found. HasOrigin (IsAnswer I.answers) (slot_item found.slot)) }
-        ensures of_page { IfOk result (λ found. (slot_item found.slot).page ≡ page_identity (arc_value found.page.now)) }
-        ensures within { IfOk result (λ found. IfSome (pool_limit self.now) (λ pages. found.passed < pages)) }
+    fn find(&self) -> Result<Reached<'_, T, K, AnswerOf<I, K>>, PullError>
+        ensures pulled { IfOk result (λ reached. IsPulledFrom K.meets self.now (slot_item reached.slot) reached.passed) }
+        ensures history { IfOk result (λ reached. HasOrigin (IsAnswer I.answers) (slot_item reached.slot)) }
+        ensures of_page { IfOk result (λ reached. (slot_item reached.slot).page ≡ page_identity (arc_value reached.page.now)) }
+        ensures within { IfOk result (λ reached. IfSome (pool_limit self.now) (λ pages. reached.passed < pages)) }
         ensures refused { IfErr result (RefusesPull (record {
           limited = IsSome (pool_limit self.now);
           init_refuses = I.answers (pool_init self.now) None;

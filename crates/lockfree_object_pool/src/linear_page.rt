@@ -28,7 +28,7 @@ mod opened_page;
 mod walk;
 
 pub use link_note::LinkNote;
-pub(crate) use walk::Found;
+pub(crate) use walk::Reached;
 
 /// A chain of pages: the first one, and the links behind it.
 ///
@@ -41,6 +41,7 @@ pub struct Chain<T, K: Clean<T>, O: Clean<T> = AnyValue> {
 
 impl<T: Drop, K: Clean<T>, O: Clean<T>> Chain<T, K, O> {
     ghost use Rattle.lockfree_object_pool.specs.LinearPage.{first_page, shown_page, page_number};
+    ghost use Rattle.lockfree_object_pool.specs.Walk.{start_at, start_of};
 
     /// A chain of one page, made as by [`Page::new`].
     pub fn new<I: Fn() -> Option<T>>(alloc: Global, init: &I) -> Result<Chain<T, K, O>, PullError>
@@ -56,6 +57,7 @@ impl<T: Drop, K: Clean<T>, O: Clean<T>> Chain<T, K, O> {
     pub fn first(&self) -> LinearPage<'_, T, K, O>
         ensures page { shown_page result ≡ first_page self.now }
         ensures number { page_number result ≡ 0 }
+        ensures start { start_at result ≡ start_of self.now }
     {
         LinearPage::new(&self.directory, &self.first, 0)
     }
@@ -88,6 +90,7 @@ impl<'c, T: Drop, K: Clean<T>, O: Clean<T>> LinearPage<'c, T, K, O> {
     ghost use Rattle.lockfree_object_pool.specs.FullSeen.{full_page};
     ghost use Rattle.lockfree_object_pool.specs.LinearPage.{shown_page, page_number, next_link, IsNextAs};
     ghost use Rattle.lockfree_object_pool.specs.LinkNote.{IsNewNoteOf, known_link, known_next};
+    ghost use Rattle.lockfree_object_pool.specs.Walk.{start_at};
 
     fn new(
         directory: &'c Directory<T, K, O>,
@@ -96,6 +99,8 @@ impl<'c, T: Drop, K: Clean<T>, O: Clean<T>> LinearPage<'c, T, K, O> {
     ) -> LinearPage<'c, T, K, O>
         ensures page { shown_page result ≡ page_identity (arc_value page.now) }
         ensures number { page_number result ≡ number }
+        ensures links { (start_at result).links ≡ directory.now }
+        ensures next { number + 1 < 2 ^ 64 → IsPlaceOf directory.now (number + 1) result.next }
     {
         LinearPage {
             directory,
@@ -145,7 +150,7 @@ impl<'c, T: Drop, K: Clean<T>, O: Clean<T>> LinearPage<'c, T, K, O> {
         ensures next { IfSome result (IsNextAs self.now note.old note.new) }
     {
         let number = self.number.checked_add(1)?;
-        let page = self.next.link(note).get_as(&mut note.link)?;
+        let page = self.next.get_as(note)?;
         Some(LinearPage::new(self.directory, page, number))
     }
 

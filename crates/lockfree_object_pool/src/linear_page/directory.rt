@@ -83,7 +83,10 @@ impl<T, K: Clean<T>, O: Clean<T>> Model for Directory<T, K, O> {
 }
 
 impl<T: Drop, K: Clean<T>, O: Clean<T>> Directory<T, K, O> {
+    ghost use Rattle.std.specs.Arc.{arc_value};
     ghost use Rattle.lockfree_object_pool.specs.LinkRow.{IsPlaceOf};
+    ghost use Rattle.lockfree_object_pool.specs.Page.{page_identity};
+    ghost use Rattle.lockfree_object_pool.specs.Walk.{IsKnownAt};
 
     pub(super) fn new(alloc: Global) -> Result<Directory<T, K, O>, PullError>
         ensures refused { IfErr result (RefusesMaking ⊥) }
@@ -103,12 +106,15 @@ impl<T: Drop, K: Clean<T>, O: Clean<T>> Directory<T, K, O> {
         self.alloc
     }
 
-    /// The page with this number, where one is linked.
-    pub(super) fn linked(&self, number: usize) -> Option<&OpenedPage<T, K, O>>
+    /// The page with this number, where one is linked, and a note of its link.
+    pub(super) fn linked(&self, number: usize) -> Option<(&OpenedPage<T, K, O>, LinkNote<T, K, O>)>
         requires { 0 < number }
+        ensures { IfSome result (λ linked. IsKnownAt self.now number linked.1 (page_identity (arc_value linked.0.now))) }
     {
         let place = self.place(number);
-        place.row.get()?.links.get(place.offset)?.get()
+        let mut note = place.known_row()?;
+        let page = place.get_as(&mut note)?;
+        Some((page, note))
     }
 
     /// The number of the first page that a hint names.
@@ -198,8 +204,11 @@ impl<T, K: Clean<T>, O: Clean<T>> Clone for LinkPlace<'_, T, K, O> {
 }
 
 impl<'c, T: Drop, K: Clean<T>, O: Clean<T>> LinkPlace<'c, T, K, O> {
+    ghost use Rattle.std.specs.Prelude.{None, Some, IfNone};
+    ghost use Rattle.std.specs.Arc.{arc_value};
     ghost use Rattle.lockfree_object_pool.specs.LinearPage.{link_at};
     ghost use Rattle.lockfree_object_pool.specs.LinkNote.{IsNewNoteOf, known_link, known_next, link_cell};
+    ghost use Rattle.lockfree_object_pool.specs.Page.{page_identity};
 
     /// The word of the page's hint, and the hint's place in it, where the row is there.
     fn hint(&self) -> Option<(&'c HintWord, u32)>
@@ -232,6 +241,18 @@ impl<'c, T: Drop, K: Clean<T>, O: Clean<T>> LinkPlace<'c, T, K, O> {
         let (alloc, number) = (self.alloc, self.row_number);
         self.row.get_or_try_init(move || Row::new(alloc, number))?;
         self.known_row().ok_or(PullError::Memory)
+    }
+
+    /// The page that is linked here, if one is. The note knows it then.
+    pub(super) fn get_as(&self, note: &mut LinkNote<T, K, O>) -> Option<&'c OpenedPage<T, K, O>>
+        requires { known_link note.old ≡ link_at self.now }
+        ensures link { known_link note.new ≡ known_link note.old }
+        ensures none { IfNone result (known_next note.old ≡ None) }
+        ensures unlearned { IfNone result (known_next note.new ≡ known_next note.old) }
+        ensures known { IfSome result (λ page. known_next note.new ≡ Some (page_identity (arc_value page.now))) }
+        ensures agrees { IfSome result (λ page. IfSome (known_next note.old) (λ known. known ≡ page_identity (arc_value page.now))) }
+    {
+        self.link(note).get_as(&mut note.link)
     }
 
     /// The link, by a note of it.

@@ -11,13 +11,14 @@ ghost use Rattle.std.specs.Prelude.{◌≡◌, ◌≤◌, ◌<◌, None, IfSome,
 ghost use Rattle.std.specs.Arc.{arc_value};
 ghost use Rattle.lockfree_object_pool.specs.Answers.{MayOpen};
 ghost use Rattle.lockfree_object_pool.specs.Item.{HasOrigin};
-ghost use Rattle.lockfree_object_pool.specs.LinearPage.{first_page, IsFoundFrom};
+ghost use Rattle.lockfree_object_pool.specs.LinearPage.{first_page, IsItemFrom};
 ghost use Rattle.lockfree_object_pool.specs.Page.{page_identity};
 ghost use Rattle.lockfree_object_pool.specs.Refusal.{RefusesPull};
 ghost use Rattle.lockfree_object_pool.specs.Slot.{slot_item};
+ghost use Rattle.lockfree_object_pool.specs.Walk.{start_of, IsReached};
 
 use super::Chain;
-use super::walk::Found;
+use super::walk::Reached;
 use crate::PullError;
 use crate::clean::Clean;
 use crate::page::{Allocated, Page, PageSlot, PullPass};
@@ -28,23 +29,25 @@ impl<T: Drop, K: Clean<T>, O: Clean<T>> Chain<T, K, O> {
         &self,
         limit: Option<usize>,
         init: &I,
-    ) -> Result<Found<'_, T, K>, PullError>
+    ) -> Result<Reached<'_, T, K, O>, PullError>
         requires some_page { IfSome limit (λ pages. 1 ≤ pages) }
         requires opens { MayOpen (I.pre init.now) (λ answer. I.post init.now answer) K.meets O.meets }
-        ensures found { IfOk result (λ found. IsFoundFrom K.meets (first_page self.now) (slot_item found.slot) found.passed) }
-        ensures history { IfOk result (λ found. HasOrigin O.meets (slot_item found.slot)) }
-        ensures of_page { IfOk result (λ found. (slot_item found.slot).page ≡ page_identity (arc_value found.page.now)) }
-        ensures within { IfOk result (λ found. IfSome limit (λ pages. found.passed < pages)) }
+        ensures item { IfOk result (λ reached. IsItemFrom K.meets (first_page self.now) (slot_item reached.slot) reached.passed) }
+        ensures history { IfOk result (λ reached. HasOrigin O.meets (slot_item reached.slot)) }
+        ensures of_page { IfOk result (λ reached. (slot_item reached.slot).page ≡ page_identity (arc_value reached.page.now)) }
+        ensures number { IfOk result (λ reached. IsReached (start_of self.now) reached.passed reached.note (slot_item reached.slot).page) }
+        ensures within { IfOk result (λ reached. IfSome limit (λ pages. reached.passed < pages)) }
         ensures refused { IfErr result (RefusesPull (record {
           limited = IsSome limit;
           init_refuses = I.post init.now None;
         })) }
     {
         match self.pull_first() {
-            Some(slot) => Ok(Found {
+            Some(slot) => Ok(Reached {
                 slot,
                 page: self.first.owner(),
                 passed: 0,
+                note: None,
             }),
             None => self.pull_further(limit, init),
         }
@@ -52,7 +55,7 @@ impl<T: Drop, K: Clean<T>, O: Clean<T>> Chain<T, K, O> {
 
     /// An item of the first page.
     pub(crate) fn pull_first(&self) -> Option<PageSlot<'_, T, K>>
-        ensures found { IfSome result (λ slot. IsFoundFrom K.meets (first_page self.now) (slot_item slot) 0) }
+        ensures item { IfSome result (λ slot. IsItemFrom K.meets (first_page self.now) (slot_item slot) 0) }
         ensures history { IfSome result (λ slot. HasOrigin O.meets (slot_item slot)) }
         ensures of_page { IfSome result (λ slot. (slot_item slot).page ≡ first_page self.now) }
     {
@@ -67,30 +70,32 @@ impl<T: Drop, K: Clean<T>, O: Clean<T>> Chain<T, K, O> {
         &self,
         limit: Option<usize>,
         init: &I,
-    ) -> Result<Found<'_, T, K>, PullError>
+    ) -> Result<Reached<'_, T, K, O>, PullError>
         requires some_page { IfSome limit (λ pages. 1 ≤ pages) }
         requires opens { MayOpen (I.pre init.now) (λ answer. I.post init.now answer) K.meets O.meets }
-        ensures found { IfOk result (λ found. IsFoundFrom K.meets (first_page self.now) (slot_item found.slot) found.passed) }
-        ensures history { IfOk result (λ found. HasOrigin O.meets (slot_item found.slot)) }
-        ensures of_page { IfOk result (λ found. (slot_item found.slot).page ≡ page_identity (arc_value found.page.now)) }
-        ensures within { IfOk result (λ found. IfSome limit (λ pages. found.passed < pages)) }
+        ensures item { IfOk result (λ reached. IsItemFrom K.meets (first_page self.now) (slot_item reached.slot) reached.passed) }
+        ensures history { IfOk result (λ reached. HasOrigin O.meets (slot_item reached.slot)) }
+        ensures of_page { IfOk result (λ reached. (slot_item reached.slot).page ≡ page_identity (arc_value reached.page.now)) }
+        ensures number { IfOk result (λ reached. IsReached (start_of self.now) reached.passed reached.note (slot_item reached.slot).page) }
+        ensures within { IfOk result (λ reached. IfSome limit (λ pages. reached.passed < pages)) }
         ensures refused { IfErr result (RefusesPull (record {
           limited = IsSome limit;
           init_refuses = I.post init.now None;
         })) }
     {
         match self.pull_hinted(limit) {
-            Some(found) => Ok(found),
+            Some(reached) => Ok(reached),
             None => self.first().walk(limit, init),
         }
     }
 
     /// An item of the first page that a hint names.
-    fn pull_hinted(&self, limit: Option<usize>) -> Option<Found<'_, T, K>>
-        ensures found { IfSome result (λ found. IsFoundFrom K.meets (first_page self.now) (slot_item found.slot) found.passed) }
-        ensures history { IfSome result (λ found. HasOrigin O.meets (slot_item found.slot)) }
-        ensures of_page { IfSome result (λ found. (slot_item found.slot).page ≡ page_identity (arc_value found.page.now)) }
-        ensures within { IfSome result (λ found. IfSome limit (λ pages. found.passed < pages)) }
+    fn pull_hinted(&self, limit: Option<usize>) -> Option<Reached<'_, T, K, O>>
+        ensures item { IfSome result (λ reached. IsItemFrom K.meets (first_page self.now) (slot_item reached.slot) reached.passed) }
+        ensures history { IfSome result (λ reached. HasOrigin O.meets (slot_item reached.slot)) }
+        ensures of_page { IfSome result (λ reached. (slot_item reached.slot).page ≡ page_identity (arc_value reached.page.now)) }
+        ensures number { IfSome result (λ reached. IsReached (start_of self.now) reached.passed reached.note (slot_item reached.slot).page) }
+        ensures within { IfSome result (λ reached. IfSome limit (λ pages. reached.passed < pages)) }
     {
         let number = self.directory.hinted()?;
         if let Some(pages) = limit
@@ -98,17 +103,19 @@ impl<T: Drop, K: Clean<T>, O: Clean<T>> Chain<T, K, O> {
         {
             return None;
         }
-        let page = self.directory.linked(number)?.owner();
+        let (linked, note) = self.directory.linked(number)?;
+        let page = linked.owner();
         let pass = PullPass::new();
         let answer = page.take(&pass);
         if page.is_full() {
             self.left_full(number, page);
         }
         match answer {
-            Allocated::Slot(slot) => Some(Found {
+            Allocated::Slot(slot) => Some(Reached {
                 slot,
                 page,
                 passed: number,
+                note: Some(note),
             }),
             Allocated::Full(_) => None,
         }

@@ -25,9 +25,9 @@ impl<T> TableRule<Option<T>, Visitor, ()> for OneHolder {
 pub struct Take;
 
 impl<T> Play<Option<T>, Visitor> for Take {
-    ghost use Rattle.lockfree_object_pool.specs.Lock.{GivesIfFree};
+    ghost use Rattle.lockfree_object_pool.specs.Lock.{TakesIfFree};
 
-    ghost then = { λ _ _ found after. GivesIfFree found after };
+    ghost then = { λ _ _ word after. TakesIfFree word after };
 }
 
 /// A store of free.
