@@ -37,7 +37,7 @@ class Work(NamedTuple):
         return f"{kind} {self.words} {self.turns(kind)}"
 
 
-# Turns of a linear pool pass by its full pages.
+# Where items are held, the original's linear pool passes by each full page: those tasks have fewer turns.
 WORKS = [
     Work("pull and drop", "pull 0", 1_000_000, 1_000_000),
     Work("owned pull and drop", "pull_owned 0", 1_000_000, 1_000_000),

@@ -12,9 +12,9 @@ use std::sync::atomic::Ordering::SeqCst;
 
 mod callers;
 mod closures;
-mod first_example;
 mod hints;
 mod limits;
+mod makers;
 mod one_thread;
 mod origins;
 mod owners;

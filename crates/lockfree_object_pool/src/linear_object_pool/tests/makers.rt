@@ -1,4 +1,4 @@
-//! The first example of the README, and the caller of CALLING.
+//! A pool by ready-made function objects, by a struct of one's own, and by closures.
 ghost use Rattle.std.specs.Prelude.{◌≡◌};
 
 use crate::clean::AnyValue;
@@ -66,7 +66,7 @@ fn first_item<I: InitBy<u32>, R: ResetBy<u32>>(
 }
 
 #[test]
-fn the_first_example(rt: HostRuntime) -> Result<(), Fail> {
+fn a_pool_is_filled_by_each_kind_of_maker(rt: HostRuntime) -> Result<(), Fail> {
     assert_eq!(rt; kept(rt.alloc())?, 5);
     assert_eq!(rt; cleared(rt.alloc())?, (7, 0));
     let item = first_item(rt.alloc(), || Some(3), |value: &mut u32| *value = 0)?;
