@@ -44,7 +44,7 @@ impl<T: Drop, I: Init<T, K>, R: Reset<T, K>, K: Clean<T>> LinearObjectPool<T, I,
         ensures limit { IfOk result (λ pool. pool_limit pool ≡ None) }
         ensures refused { IfErr result (RefusesMaking (I.answers init None)) }
     {
-        LinearObjectPool::made(alloc, init, reset, None)
+        LinearObjectPool::with_page_limit(alloc, init, reset, None)
     }
 
     /// A pool of one page, which grows to `pages` pages at most.
@@ -60,10 +60,10 @@ impl<T: Drop, I: Init<T, K>, R: Reset<T, K>, K: Clean<T>> LinearObjectPool<T, I,
         ensures limit { IfOk result (λ pool. pool_limit pool ≡ Some pages) }
         ensures refused { IfErr result (RefusesMaking (I.answers init None)) }
     {
-        LinearObjectPool::made(alloc, init, reset, Some(PageLimit { pages }))
+        LinearObjectPool::with_page_limit(alloc, init, reset, Some(PageLimit { pages }))
     }
 
-    fn made(
+    fn with_page_limit(
         alloc: Global,
         init: I,
         reset: R,
