@@ -29,7 +29,8 @@ same_parts (x ∷ a) b (y ∷ c) d front other e =
     (let head : x ≡ y = cc in let tail = rest.0 in cc, rest.1)
 
 -- two numbers are what stands before the first space and behind it
-pub AreNumbers-parts : (text front back : List ℕ) (first second : ℕ) → HasNoSpace front → text ≡ front ++ 32 ∷ back → AreNumbers text first second → IsNumber front first × IsNumber back second
+pub AreNumbers-parts : (text front back : List ℕ) (first second : ℕ) → HasNoSpace front → text ≡ front ++ 32 ∷ back
+    → AreNumbers text first second → IsNumber front first × IsNumber back second
 AreNumbers-parts text front back first second clear cut numbers =
     let same = same_parts numbers.0 numbers.1 front back (HasNoSpace-number numbers.0 first numbers.3) clear (sym numbers.2 ∙ cut) in
     (subst (λ (part : List ℕ). IsNumber part first) same.0 numbers.3, subst (λ (part : List ℕ). IsNumber part second) same.1 numbers.4)
@@ -40,6 +41,9 @@ IsBadLine-write line rest begins none Pull is = let letters : 112 ≡ 119 = ap (
 IsBadLine-write line rest begins none (Write index value) is =
     let same : is.0 ≡ rest = let e = sym is.1 ∙ begins in cc in
     none index value (subst (λ (part : List ℕ). AreNumbers part index value) same is.2)
-IsBadLine-write line rest begins none (Return index) is = let letters : 114 ≡ 119 = ap (λ bytes. slice_index bytes 0) (sym is.1 ∙ begins) in omega (arith, letters)
-IsBadLine-write line rest begins none (Forget index) is = let letters : 102 ≡ 119 = ap (λ bytes. slice_index bytes 0) (sym is.1 ∙ begins) in omega (arith, letters)
-IsBadLine-write line rest begins none (Attach value) is = let letters : 97 ≡ 119 = ap (λ bytes. slice_index bytes 0) (sym is.1 ∙ begins) in omega (arith, letters)
+IsBadLine-write line rest begins none (Return index) is =
+    let letters : 114 ≡ 119 = ap (λ bytes. slice_index bytes 0) (sym is.1 ∙ begins) in omega (arith, letters)
+IsBadLine-write line rest begins none (Forget index) is =
+    let letters : 102 ≡ 119 = ap (λ bytes. slice_index bytes 0) (sym is.1 ∙ begins) in omega (arith, letters)
+IsBadLine-write line rest begins none (Attach value) is =
+    let letters : 97 ≡ 119 = ap (λ bytes. slice_index bytes 0) (sym is.1 ∙ begins) in omega (arith, letters)

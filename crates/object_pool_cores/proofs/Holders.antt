@@ -11,7 +11,7 @@ use Rattle.object_pool_cores.specs.Laws.PoolSteps.{with_place-same, with_place-o
 
 module _ {T : Type 0} where
   -- an agent holds nothing at its stage
-  abbrev pub IsEmptyHanded : Stage T → Type 0
+  abbrev IsEmptyHanded : Stage T → Type 0
   IsEmptyHanded stage = (n : ℕ) (value : T) → stage ≢ Holds n value
 
   looking-empty : (stage : Stage T) → stage ≡ Looking → IsEmptyHanded stage
@@ -21,7 +21,8 @@ module _ {T : Type 0} where
   begun-not-empty stage none n value holds = cc
 
   -- who holds something keeps it through the act of an agent that holds nothing
-  keeps-holding : (act : Act T) (acts : List (Act T)) (a n : ℕ) (value : T) → IsEmptyHanded (stage_of acts (agent_of act)) → stage_of acts a ≡ Holds n value → stage_of (act ∷ acts) a ≡ Holds n value
+  keeps-holding : (act : Act T) (acts : List (Act T)) (a n : ℕ) (value : T) → IsEmptyHanded (stage_of acts (agent_of act))
+      → stage_of acts a ≡ Holds n value → stage_of (act ∷ acts) a ≡ Holds n value
   keeps-holding act acts a n value empty holds =
       elim (cases_eq (agent_of act) a) [
         | inl same ↦ absurd (empty n value (ap (stage_of acts) same ∙ holds))
@@ -29,7 +30,9 @@ module _ {T : Type 0} where
       ]
 
   -- who holds something held it before the act of an agent that then holds nothing
-  held-before : (act : Act T) (acts : List (Act T)) (a n : ℕ) (value : T) → IsEmptyHanded (after_act (stage_of acts (agent_of act)) act) → stage_of (act ∷ acts) a ≡ Holds n value → stage_of acts a ≡ Holds n value
+  held-before : (act : Act T) (acts : List (Act T)) (a n : ℕ) (value : T)
+      → IsEmptyHanded (after_act (stage_of acts (agent_of act)) act) → stage_of (act ∷ acts) a ≡ Holds n value
+      → stage_of acts a ≡ Holds n value
   held-before act acts a n value empty holds =
       elim (cases_eq (agent_of act) a) [
         | inl same ↦ absurd (empty n value (sym (stage_of-own act acts (agent_of act) refl) ∙ ap (stage_of (act ∷ acts)) same ∙ holds))
@@ -48,7 +51,11 @@ module _ {T : Type 0} (first : List T) where
   }
 
   -- an agent that holds nothing acts, and holds nothing afterwards
-  holders-empty : (act : Act T) (acts : List (Act T)) → IsEmptyHanded (stage_of acts (agent_of act)) → IsEmptyHanded (after_act (stage_of acts (agent_of act)) act) → ((n : ℕ) → IsOut (pool_of first (act ∷ acts)) n → IsOut (pool_of first acts) n) → ((n : ℕ) → IsOut (pool_of first acts) n → IsOut (pool_of first (act ∷ acts)) n) → HasHolders first acts → HasHolders first (act ∷ acts)
+  holders-empty : (act : Act T) (acts : List (Act T)) → IsEmptyHanded (stage_of acts (agent_of act))
+      → IsEmptyHanded (after_act (stage_of acts (agent_of act)) act)
+      → ((n : ℕ) → IsOut (pool_of first (act ∷ acts)) n → IsOut (pool_of first acts) n)
+      → ((n : ℕ) → IsOut (pool_of first acts) n → IsOut (pool_of first (act ∷ acts)) n) → HasHolders first acts
+      → HasHolders first (act ∷ acts)
   holders-empty act acts before after was stays holders = record {
     some = λ n out. let (a, value, holds) = holders.some n (was n out) in (a, value, keeps-holding act acts a n value before holds);
     out = λ n a value holds. stays n (holders.out n a value (held-before act acts a n value after holds));
@@ -56,7 +63,8 @@ module _ {T : Type 0} (first : List T) where
   }
 
   -- a write changes the value of what its agent holds
-  wrote-before : (acts : List (Act T)) (b : ℕ) (new : T) (m : ℕ) (old : T) → stage_of acts b ≡ Holds m old → (a n : ℕ) (value : T) → stage_of (Writes b new ∷ acts) a ≡ Holds n value → (before : T) × (stage_of acts a ≡ Holds n before)
+  wrote-before : (acts : List (Act T)) (b : ℕ) (new : T) (m : ℕ) (old : T) → stage_of acts b ≡ Holds m old → (a n : ℕ) (value : T)
+      → stage_of (Writes b new ∷ acts) a ≡ Holds n value → (before : T) × (stage_of acts a ≡ Holds n before)
   wrote-before acts b new m old held a n value holds =
       elim (cases_eq b a) [
         | inl same ↦
@@ -68,7 +76,8 @@ module _ {T : Type 0} (first : List T) where
         | inr other ↦ (value, sym (stage_of-other (Writes b new) acts a other) ∙ holds)
       ]
 
-  wrote-after : (acts : List (Act T)) (b : ℕ) (new : T) (m : ℕ) (old : T) → stage_of acts b ≡ Holds m old → (a n : ℕ) (value : T) → stage_of acts a ≡ Holds n value → (later : T) × (stage_of (Writes b new ∷ acts) a ≡ Holds n later)
+  wrote-after : (acts : List (Act T)) (b : ℕ) (new : T) (m : ℕ) (old : T) → stage_of acts b ≡ Holds m old → (a n : ℕ) (value : T)
+      → stage_of acts a ≡ Holds n value → (later : T) × (stage_of (Writes b new ∷ acts) a ≡ Holds n later)
   wrote-after acts b new m old held a n value holds =
       elim (cases_eq b a) [
         | inl same ↦
@@ -77,7 +86,8 @@ module _ {T : Type 0} (first : List T) where
         | inr other ↦ (value, stage_of-other (Writes b new) acts a other ∙ holds)
       ]
 
-  holders-write : (acts : List (Act T)) (b : ℕ) (new : T) (m : ℕ) (old : T) → stage_of acts b ≡ Holds m old → HasHolders first acts → HasHolders first (Writes b new ∷ acts)
+  holders-write : (acts : List (Act T)) (b : ℕ) (new : T) (m : ℕ) (old : T) → stage_of acts b ≡ Holds m old
+      → HasHolders first acts → HasHolders first (Writes b new ∷ acts)
   holders-write acts b new m old held holders = record {
     some = λ n out. let (a, value, holds) = holders.some n out in let (later, is) = wrote-after acts b new m old held a n value holds in (a, later, is);
     out = λ n a value holds. let (before, was) = wrote-before acts b new m old held a n value holds in holders.out n a before was;
@@ -88,7 +98,9 @@ module _ {T : Type 0} (first : List T) where
   }
 
   -- a pull makes its agent the holder of a number that nobody held
-  pulled : (acts : List (Act T)) (b m : ℕ) (new : T) (a n : ℕ) (value : T) → stage_of (Moves b (Pull m new) ∷ acts) a ≡ Holds n value → ((b ≡ a) × (m ≡ n)) ⊎ ((b ≢ a) × (stage_of acts a ≡ Holds n value))
+  pulled : (acts : List (Act T)) (b m : ℕ) (new : T) (a n : ℕ) (value : T)
+      → stage_of (Moves b (Pull m new) ∷ acts) a ≡ Holds n value
+      → ((b ≡ a) × (m ≡ n)) ⊎ ((b ≢ a) × (stage_of acts a ≡ Holds n value))
   pulled acts b m new a n value holds =
       elim (cases_eq b a) [
         | inl same ↦
@@ -98,10 +110,12 @@ module _ {T : Type 0} (first : List T) where
         | inr other ↦ inr (other, sym (stage_of-other (Moves b (Pull m new)) acts a other) ∙ holds)
       ]
 
-  not-held : (acts : List (Act T)) (m : ℕ) (new : T) → IsFree (pool_of first acts) m new → HasHolders first acts → (a : ℕ) (value : T) → stage_of acts a ≢ Holds m value
+  not-held : (acts : List (Act T)) (m : ℕ) (new : T) → IsFree (pool_of first acts) m new → HasHolders first acts
+      → (a : ℕ) (value : T) → stage_of acts a ≢ Holds m value
   not-held acts m new free holders a value holds = let out = holders.out m a value holds in cc
 
-  holders-pull : (acts : List (Act T)) (b m : ℕ) (new : T) → IsFree (pool_of first acts) m new → stage_of acts b ≡ Looking → HasHolders first acts → HasHolders first (Moves b (Pull m new) ∷ acts)
+  holders-pull : (acts : List (Act T)) (b m : ℕ) (new : T) → IsFree (pool_of first acts) m new → stage_of acts b ≡ Looking
+      → HasHolders first acts → HasHolders first (Moves b (Pull m new) ∷ acts)
   holders-pull acts b m new free looking holders = record {
     some = λ n out. elim (cases_eq n m) [
       | inl same ↦ (b, new, stage_of-own (Moves b (Pull m new)) acts b refl ∙ ap (λ k. Holds k new) (sym same))
@@ -130,13 +144,16 @@ module _ {T : Type 0} (first : List T) where
   }
 
   -- a return leaves its number without a holder
-  holders-return : (acts : List (Act T)) (b m : ℕ) (value kept : T) → stage_of acts b ≡ Holds m value → HasHolders first acts → HasHolders first (Moves b (Return m kept) ∷ acts)
+  holders-return : (acts : List (Act T)) (b m : ℕ) (value kept : T) → stage_of acts b ≡ Holds m value → HasHolders first acts
+      → HasHolders first (Moves b (Return m kept) ∷ acts)
   holders-return acts b m value kept held holders =
       let act = Moves b (Return m kept) in
       let ended : IsEmptyHanded (after_act (stage_of acts b) act) = λ n v is. cc in
       record {
         some = λ n out. elim (cases_eq n m) [
-          | inl same ↦ absurd (free_with-in (Some kept) (sym (with_place-same (pool_of first acts) m (Free kept)) ∙ ap (λ k. (with_place (pool_of first acts) m (Free kept)).at k) (sym same) ∙ out))
+          | inl same ↦
+              absurd (free_with-in (Some kept) (sym (with_place-same (pool_of first acts) m (Free kept))
+              ∙ ap (λ k. (with_place (pool_of first acts) m (Free kept)).at k) (sym same) ∙ out))
           | inr other ↦
               let before : IsOut (pool_of first acts) n = sym (with_place-other (pool_of first acts) m n (Free kept) other) ∙ out in
               let (a, v, holds) = holders.some n before in
@@ -157,14 +174,16 @@ module _ {T : Type 0} (first : List T) where
       }
 
   -- a number that is out is a number of the pages
-  out-inside : (limit : Option ℕ) (acts : List (Act T)) → IsWhole first limit acts → (n : ℕ) → IsOut (pool_of first acts) n → n < 32 * (pool_of first acts).pages
+  out-inside : (limit : Option ℕ) (acts : List (Act T)) → IsWhole first limit acts → (n : ℕ) → IsOut (pool_of first acts) n
+      → n < 32 * (pool_of first acts).pages
   out-inside limit acts whole n out =
       elim (cases_lt n (32 * (pool_of first acts).pages)) [
         | inl below ↦ below
         | inr past ↦ let absent = whole.past n past in cc
       ]
 
-  holders-growth : (limit : Option ℕ) (acts : List (Act T)) (b : ℕ) (values : List T) → stage_of acts b ≡ Looking → IsWhole first limit acts → HasHolders first acts → HasHolders first (Moves b (Growth values) ∷ acts)
+  holders-growth : (limit : Option ℕ) (acts : List (Act T)) (b : ℕ) (values : List T) → stage_of acts b ≡ Looking
+      → IsWhole first limit acts → HasHolders first acts → HasHolders first (Moves b (Growth values) ∷ acts)
   holders-growth limit acts b values looking whole holders =
       let act = Moves b (Growth values) in
       let pool = pool_of first acts in
@@ -195,7 +214,9 @@ module _ {T : Type 0} (first : List T) where
   }
 
   -- the place of one number changes
-  whole-place : (limit : Option ℕ) (acts : List (Act T)) (b m : ℕ) (move : Move T) (place : Place T) → after (pool_of first acts) move ≡ with_place (pool_of first acts) m place → place ≢ Absent → (pool_of first acts).at m ≢ Absent → IsWhole first limit acts → IsWhole first limit (Moves b move ∷ acts)
+  whole-place : (limit : Option ℕ) (acts : List (Act T)) (b m : ℕ) (move : Move T) (place : Place T)
+      → after (pool_of first acts) move ≡ with_place (pool_of first acts) m place → place ≢ Absent
+      → (pool_of first acts).at m ≢ Absent → IsWhole first limit acts → IsWhole first limit (Moves b move ∷ acts)
   whole-place limit acts b m move place same there was whole =
       let pool = pool_of first acts in
       let at : (n : ℕ) → (after pool move).at n ≡ (with_place pool m place).at n = λ n. ap (λ p. p.at n) same in
@@ -212,7 +233,9 @@ module _ {T : Type 0} (first : List T) where
         allowed = let P : ℕ → Type 0 = AllowsPages limit in subst P (sym pages) whole.allowed;
       }
 
-  whole-growth : (limit : Option ℕ) (acts : List (Act T)) (b : ℕ) (values : List T) → length values ≡ 32 → AllowsPages limit ((pool_of first acts).pages + 1) → IsWhole first limit acts → IsWhole first limit (Moves b (Growth values) ∷ acts)
+  whole-growth : (limit : Option ℕ) (acts : List (Act T)) (b : ℕ) (values : List T) → length values ≡ 32
+      → AllowsPages limit ((pool_of first acts).pages + 1) → IsWhole first limit acts
+      → IsWhole first limit (Moves b (Growth values) ∷ acts)
   whole-growth limit acts b values full allowed whole =
       let pool = pool_of first acts in
       record {
@@ -229,14 +252,17 @@ module _ {T : Type 0} (first : List T) where
     pub holders : HasHolders first acts
     pub whole : IsWhole first limit acts
 
-  same-whole : (limit : Option ℕ) (act : Act T) (acts : List (Act T)) → pool_of first (act ∷ acts) ≡ pool_of first acts → IsWhole first limit acts → IsWhole first limit (act ∷ acts)
+  same-whole : (limit : Option ℕ) (act : Act T) (acts : List (Act T)) → pool_of first (act ∷ acts) ≡ pool_of first acts
+      → IsWhole first limit acts → IsWhole first limit (act ∷ acts)
   same-whole limit act acts same whole =
-      let P : Pool T → Type 0 = λ pool. ((n : ℕ) → n < 32 * pool.pages → pool.at n ≢ Absent) × ((n : ℕ) → 32 * pool.pages ≤ n → pool.at n ≡ Absent) × AllowsPages limit pool.pages in
+      let P : Pool T → Type 0 = λ pool. ((n : ℕ) → n < 32 * pool.pages → pool.at n ≢ Absent)
+      × ((n : ℕ) → 32 * pool.pages ≤ n → pool.at n ≡ Absent) × AllowsPages limit pool.pages in
       let all = subst P (sym same) (whole.inside, whole.past, whole.allowed) in
       record { inside = all.0; past = all.1; allowed = all.2 }
 
 module _ {T : Type 0} (Leaves : T → T → Type 0) (limit : Option ℕ) (first : List T) where
-  sound-move : (acts : List (Act T)) (a : ℕ) (move : Move T) → IsLawful limit (pool_of first acts) move → MayMove Leaves limit first acts a move → IsSound first limit acts → IsSound first limit (Moves a move ∷ acts)
+  sound-move : (acts : List (Act T)) (a : ℕ) (move : Move T) → IsLawful limit (pool_of first acts) move
+      → MayMove Leaves limit first acts a move → IsSound first limit acts → IsSound first limit (Moves a move ∷ acts)
   sound-move acts a (Pull n value) free looking sound = record {
     holders = holders-pull first acts a n value free looking sound.holders;
     whole = whole-place first limit acts a n (Pull n value) Out refl (λ e. cc) (λ absent. cc) sound.whole;
@@ -249,8 +275,8 @@ module _ {T : Type 0} (Leaves : T → T → Type 0) (limit : Option ℕ) (first 
     holders = holders-growth first limit acts a values looking sound.whole sound.holders;
     whole = whole-growth first limit acts a values fits.0 fits.1 sound.whole;
   }
-  sound-move acts a (Refusal Limit) may found sound = record {
-    holders = holders-empty first (Moves a (Refusal Limit)) acts (looking-empty _ found.0) (λ n v is. cc) (λ n out. out) (λ n out. out) sound.holders;
+  sound-move acts a (Refusal Limit) may found_out sound = record {
+    holders = holders-empty first (Moves a (Refusal Limit)) acts (looking-empty _ found_out.0) (λ n v is. cc) (λ n out. out) (λ n out. out) sound.holders;
     whole = same-whole first limit (Moves a (Refusal Limit)) acts refl sound.whole;
   }
   sound-move acts a (Refusal Memory) may looking sound = record {

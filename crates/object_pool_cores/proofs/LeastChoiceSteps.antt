@@ -10,9 +10,12 @@ use Rattle.object_pool_cores.specs.Laws.PoolSteps.{grown-new, IsSame-trans, IsSa
 module _ {T : Type 0} (limit : Option ℕ) (answers : Option T → Type 0) where
   -- the first number of a page more is free
   pub IsFree-grown : (old middle : Pool T) → Grows limit answers old middle → (v : T) × IsFree middle (32 * old.pages) v
-  IsFree-grown old middle grows = first grows.values grows.lawful.0 (grows.grown.places (32 * old.pages) ∙ grown-new old grows.values (32 * old.pages) (omega arith))
+  IsFree-grown old middle grows = first grows.values grows.lawful.0 (grows.grown.places (32 * old.pages)
+      ∙ grown-new old grows.values (32 * old.pages) (omega arith))
     where
-      first : (values : List T) → length values ≡ 32 → middle.at (32 * old.pages) ≡ free_with (slice_get values (32 * old.pages - 32 * old.pages)) → (v : T) × IsFree middle (32 * old.pages) v
+      first : (values : List T) → length values ≡ 32
+          → middle.at (32 * old.pages) ≡ free_with (slice_get values (32 * old.pages - 32 * old.pages))
+          → (v : T) × IsFree middle (32 * old.pages) v
       first [] count e = absurd (omega arith)
       first (v ∷ values) count e = let none : 32 * old.pages - 32 * old.pages ≡ 0 = omega arith in (v, e ∙ ap (λ n. free_with (slice_get (v ∷ values) n)) none)
 
@@ -24,7 +27,8 @@ module _ {T : Type 0} (limit : Option ℕ) (answers : Option T → Type 0) where
   }
 
   -- the least number of a page more was pulled, where none was free before
-  pub PullsLeast-grown : (old middle : Pool T) (n : ℕ) (v : T) (new : Pool T) → IsExhausted old → Grows limit answers old middle → TakesLeast middle n v new → PullsLeast limit answers old (Ok (n, v)) new
+  pub PullsLeast-grown : (old middle : Pool T) (n : ℕ) (v : T) (new : Pool T) → IsExhausted old → Grows limit answers old middle
+      → TakesLeast middle n v new → PullsLeast limit answers old (Ok (n, v)) new
   PullsLeast-grown old middle n v new exhausted grows takes = inr (record {
     exhausted = exhausted;
     values = grows.values;

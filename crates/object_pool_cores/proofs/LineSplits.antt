@@ -14,7 +14,8 @@ pub IsLines-rest : (rest : List ℕ) → HasNoLineFeed rest → IsLines rest [] 
 IsLines-rest rest clear = record { whole = refl; each = All-nil HasNoLineFeed; open_end = clear }
 
 -- a byte that is no line feed goes to the rest
-pub IsLines-byte : (bytes : List ℕ) (lines : List (List ℕ)) (rest : List ℕ) (byte : ℕ) → IsLines bytes lines rest → byte ≢ 10 → IsLines (bytes ++ byte ∷ []) lines (rest ++ byte ∷ [])
+pub IsLines-byte : (bytes : List ℕ) (lines : List (List ℕ)) (rest : List ℕ) (byte : ℕ) → IsLines bytes lines rest → byte ≢ 10
+    → IsLines (bytes ++ byte ∷ []) lines (rest ++ byte ∷ [])
 IsLines-byte bytes lines rest byte split other = record {
   whole = ap (λ all. all ++ byte ∷ []) split.whole ∙ append_assoc (flat_map ended lines) rest (byte ∷ []);
   each = split.each;
@@ -33,7 +34,8 @@ IsLines-feed bytes lines rest split = record {
 }
 
 -- lines of some bytes, and of their rest with further bytes
-pub IsLines-join : (bytes more : List ℕ) (lines others : List (List ℕ)) (rest last : List ℕ) → IsLines bytes lines rest → IsLines (rest ++ more) others last → IsLines (bytes ++ more) (lines ++ others) last
+pub IsLines-join : (bytes more : List ℕ) (lines others : List (List ℕ)) (rest last : List ℕ) → IsLines bytes lines rest
+    → IsLines (rest ++ more) others last → IsLines (bytes ++ more) (lines ++ others) last
 IsLines-join bytes more lines others rest last split next = record {
   whole =
       ap (λ all. all ++ more) split.whole ∙ append_assoc (flat_map ended lines) rest more
@@ -45,7 +47,9 @@ IsLines-join bytes more lines others rest last split next = record {
 }
 
 -- a beginning of what comes behind the lines of some bytes
-pub IsLines-front : (bytes more front back : List ℕ) (lines others : List (List ℕ)) (rest last : List ℕ) → IsLines bytes lines rest → rest ++ more ≡ front ++ back → IsLines front others last → IsLines (flat_map ended lines ++ front) (lines ++ others) last × (bytes ++ more ≡ (flat_map ended lines ++ front) ++ back)
+pub IsLines-front : (bytes more front back : List ℕ) (lines others : List (List ℕ)) (rest last : List ℕ)
+    → IsLines bytes lines rest → rest ++ more ≡ front ++ back → IsLines front others last
+    → IsLines (flat_map ended lines ++ front) (lines ++ others) last × (bytes ++ more ≡ (flat_map ended lines ++ front) ++ back)
 IsLines-front bytes more front back lines others rest last split cut next = (
   record {
     whole =
@@ -60,6 +64,7 @@ IsLines-front bytes more front back lines others rest last split cut next = (
 )
 
 -- one byte more of some bytes
-pub take_behind : (front bytes : List ℕ) (i byte : ℕ) → i < length bytes → get_or bytes i 0 ≡ byte → front ++ take (i + 1) bytes ≡ (front ++ take i bytes) ++ byte ∷ []
+pub take_behind : (front bytes : List ℕ) (i byte : ℕ) → i < length bytes → get_or bytes i 0 ≡ byte
+    → front ++ take (i + 1) bytes ≡ (front ++ take i bytes) ++ byte ∷ []
 take_behind front bytes i byte within here =
     ap (λ all. front ++ all) (take_more bytes i 0 within ∙ ap (λ b. take i bytes ++ b ∷ []) here) ∙ sym (append_assoc front (take i bytes) (byte ∷ []))

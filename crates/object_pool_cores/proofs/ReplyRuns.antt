@@ -13,7 +13,8 @@ use Rattle.object_pool_cores.specs.Held.{Playing}
 use Rattle.object_pool_cores.specs.Replies.{Plays, Replies}
 
 -- what the iterator of a vector has given is a front of its items
-pub taken_front : {X A : Type 0} (first : IntoIter X A) (taken : List X) (last : IntoIter X A) → Yields into_iter_steps first taken last → into_iter_items first ≡ taken ++ into_iter_items last
+pub taken_front : {X A : Type 0} (first : IntoIter X A) (taken : List X) (last : IntoIter X A)
+    → Yields into_iter_steps first taken last → into_iter_items first ≡ taken ++ into_iter_items last
 taken_front first [] last yields = ap into_iter_items yields
 taken_front first (x ∷ taken) last yields = yields.1.0 ∙ ap (λ rest. x ∷ rest) (taken_front yields.0 taken last yields.2)
 
@@ -26,9 +27,13 @@ pub no_Ok : {V E : Type 0} (result : Result V E) (P : Type 0) → IsErr result �
 no_Ok (Ok v) P err = elim (false≢true err) [ ]
 no_Ok (Err e) P err = tt
 
-module _ {P T : Type 0} (pulls : P → Result (Item T) PullError → P → Type 0) (gives : P → Item T → P → Type 0) (attaches : P → T → Result (Item T) (AttachError T) → P → Type 0) where
+module _ {P T : Type 0} (pulls : P → Result (Item T) PullError → P → Type 0) (gives : P → Item T → P → Type 0)
+    (attaches : P → T → Result (Item T) (AttachError T) → P → Type 0) where
   -- one command more, with its reply
-  pub Replies-append : (old middle new : Playing P T) (commands : List (Command T)) (replies : List (Reply T)) (command : Command T) (reply : Reply T) → Replies pulls gives attaches old commands replies middle → Plays pulls gives attaches middle command reply new → Replies pulls gives attaches old (commands ++ command ∷ []) (replies ++ reply ∷ []) new
+  pub Replies-append : (old middle new : Playing P T) (commands : List (Command T)) (replies : List (Reply T))
+      (command : Command T) (reply : Reply T) → Replies pulls gives attaches old commands replies middle
+      → Plays pulls gives attaches middle command reply new
+      → Replies pulls gives attaches old (commands ++ command ∷ []) (replies ++ reply ∷ []) new
   Replies-append old middle new [] [] command reply done next =
       (new, subst (λ (state : Playing P T). Plays pulls gives attaches state command reply new) done next, refl)
   Replies-append old middle new (c ∷ commands) (r ∷ replies) command reply done next =

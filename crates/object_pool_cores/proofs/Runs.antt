@@ -1,4 +1,4 @@
--- Facts of runs: what was true stays found, who holds what, and which numbers there are.
+-- Facts of runs: what was true once stays so, who holds what, and which numbers there are.
 use Rattle.std.proofs.Common.{◌≡◌, ◌≢◌, inl, inr, ℕ, Option, Some, None, List, [], ◌∷◌, refl, ap}
 use Rattle.std.proofs.lemmas.Bool.{eq-eqb, ne_eqb}
 use Rattle.object_pool_cores.specs.Pool.{Pool, Out, free_with}
@@ -6,12 +6,14 @@ use Rattle.object_pool_cores.specs.Run.{Act, Opens, Looking, agent_of, after_act
 
 module _ {T : Type 0} where
   -- an agent that looks has begun, so what is true of the pool now was true since then
-  pub since-now : (first : List T) (acts : List (Act T)) (a : ℕ) (P : Pool T → Type 0) → stage_of acts a ≡ Looking → P (pool_of first acts) → Since first a P acts
+  pub since-now : (first : List T) (acts : List (Act T)) (a : ℕ) (P : Pool T → Type 0) → stage_of acts a ≡ Looking
+      → P (pool_of first acts) → Since first a P acts
   since-now first [] a P looking holds = cc
   since-now first (act ∷ acts) a P looking holds = inl holds
 
   -- and it stays so after an act that doesn't open the agent
-  pub since-later : (first : List T) (act : Act T) (acts : List (Act T)) (a : ℕ) (P : Pool T → Type 0) → act ≢ Opens a → Since first a P acts → Since first a P (act ∷ acts)
+  pub since-later : (first : List T) (act : Act T) (acts : List (Act T)) (a : ℕ) (P : Pool T → Type 0) → act ≢ Opens a
+      → Since first a P acts → Since first a P (act ∷ acts)
   since-later first act acts a P other since = inr (other, since)
 
   -- an act of another agent doesn't open this one

@@ -13,7 +13,8 @@ use Rattle.object_pool_cores.specs.Served.{AppendsPart, Serves, ServesAll, Serve
 use Rattle.object_pool_cores.proofs.LineSplits.{IsLines-rest, IsLines-byte, IsLines-feed, IsLines-join, IsLines-front}
 
 -- a part of what comes behind a text
-pub AppendsPart-behind : (first before after : Option (List ℕ)) (text bytes : List ℕ) → Appends first before text → AppendsPart before after bytes → AppendsPart first after (text ++ bytes)
+AppendsPart-behind : (first before after : Option (List ℕ)) (text bytes : List ℕ) → Appends first before text
+    → AppendsPart before after bytes → AppendsPart first after (text ++ bytes)
 AppendsPart-behind first before after text bytes written part = record {
   front = text ++ part.front;
   back = part.back;
@@ -26,9 +27,12 @@ with_last_line-join : (lines others : List (List ℕ)) (rest : List ℕ) → wit
 with_last_line-join lines others [] = refl
 with_last_line-join lines others (byte ∷ rest) = append_assoc lines others ((byte ∷ rest) ∷ [])
 
-module _ {P : Type 0} (pulls : P → Result (Item ℕ) PullError → P → Type 0) (gives : P → Item ℕ → P → Type 0) (attaches : P → ℕ → Result (Item ℕ) (AttachError ℕ) → P → Type 0) where
+module _ {P : Type 0} (pulls : P → Result (Item ℕ) PullError → P → Type 0) (gives : P → Item ℕ → P → Type 0)
+    (attaches : P → ℕ → Result (Item ℕ) (AttachError ℕ) → P → Type 0) where
   -- two transcripts, one after the other
-  pub Transcript-join : (old middle new : Playing P ℕ) (lines others : List (List ℕ)) (text more : List ℕ) → Transcript pulls gives attaches old lines text middle → Transcript pulls gives attaches middle others more new → Transcript pulls gives attaches old (lines ++ others) (text ++ more) new
+  Transcript-join : (old middle new : Playing P ℕ) (lines others : List (List ℕ)) (text more : List ℕ)
+      → Transcript pulls gives attaches old lines text middle → Transcript pulls gives attaches middle others more new
+      → Transcript pulls gives attaches old (lines ++ others) (text ++ more) new
   Transcript-join old middle new [] others text more first next =
       rw first.0 (subst (λ (state : Playing P ℕ). Transcript pulls gives attaches state others more new) first.1 next)
   Transcript-join old middle new (line ∷ lines) others text more first next = (
@@ -41,11 +45,14 @@ module _ {P : Type 0} (pulls : P → Result (Item ℕ) PullError → P → Type 
   )
 
   -- the transcript of one line
-  pub Transcript-line : (old new : Playing P ℕ) (line text : List ℕ) → Answers pulls gives attaches old line text new → Transcript pulls gives attaches old (line ∷ []) text new
+  Transcript-line : (old new : Playing P ℕ) (line text : List ℕ) → Answers pulls gives attaches old line text new
+      → Transcript pulls gives attaches old (line ∷ []) text new
   Transcript-line old new line text answer = (text, [], new, sym (append-nil text), answer, (refl, refl))
 
   module _ (old : Playing P ℕ) (before : Option (List ℕ)) where
-    pub Serves-byte : (bytes rest : List ℕ) (new : Playing P ℕ) (after : Option (List ℕ)) (byte : ℕ) → byte ≢ 10 → Serves pulls gives attaches old before bytes rest new after → Serves pulls gives attaches old before (bytes ++ byte ∷ []) (rest ++ byte ∷ []) new after
+    pub Serves-byte : (bytes rest : List ℕ) (new : Playing P ℕ) (after : Option (List ℕ)) (byte : ℕ) → byte ≢ 10
+        → Serves pulls gives attaches old before bytes rest new after
+        → Serves pulls gives attaches old before (bytes ++ byte ∷ []) (rest ++ byte ∷ []) new after
     Serves-byte bytes rest new after byte other served = record {
       lines = served.lines;
       text = served.text;
@@ -54,7 +61,9 @@ module _ {P : Type 0} (pulls : P → Result (Item ℕ) PullError → P → Type 
       written = served.written;
     }
 
-    pub Serves-line : (bytes rest text : List ℕ) (middle new : Playing P ℕ) (between after : Option (List ℕ)) → Serves pulls gives attaches old before bytes rest middle between → Answers pulls gives attaches middle rest text new → Appends between after text → Serves pulls gives attaches old before (bytes ++ 10 ∷ []) [] new after
+    pub Serves-line : (bytes rest text : List ℕ) (middle new : Playing P ℕ) (between after : Option (List ℕ))
+        → Serves pulls gives attaches old before bytes rest middle between → Answers pulls gives attaches middle rest text new
+        → Appends between after text → Serves pulls gives attaches old before (bytes ++ 10 ∷ []) [] new after
     Serves-line bytes rest text middle new between after served answer written = record {
       lines = served.lines ++ rest ∷ [];
       text = served.text ++ text;
@@ -63,7 +72,10 @@ module _ {P : Type 0} (pulls : P → Result (Item ℕ) PullError → P → Type 
       written = Appends-trans before between after served.text text served.written written;
     }
 
-    pub Serves-join : (bytes more rest last : List ℕ) (middle new : Playing P ℕ) (between after : Option (List ℕ)) → Serves pulls gives attaches old before bytes rest middle between → Serves pulls gives attaches middle between (rest ++ more) last new after → Serves pulls gives attaches old before (bytes ++ more) last new after
+    pub Serves-join : (bytes more rest last : List ℕ) (middle new : Playing P ℕ) (between after : Option (List ℕ))
+        → Serves pulls gives attaches old before bytes rest middle between
+        → Serves pulls gives attaches middle between (rest ++ more) last new after
+        → Serves pulls gives attaches old before (bytes ++ more) last new after
     Serves-join bytes more rest last middle new between after served next = record {
       lines = served.lines ++ next.lines;
       text = served.text ++ next.text;
@@ -73,7 +85,9 @@ module _ {P : Type 0} (pulls : P → Result (Item ℕ) PullError → P → Type 
     }
 
     -- nothing more was written
-    pub ServesFront-kept : (bytes rest all back : List ℕ) (last : Playing P ℕ) (between after : Option (List ℕ)) → Serves pulls gives attaches old before bytes rest last between → Keeps between after → all ≡ bytes ++ back → ServesFront pulls gives attaches old before all after
+    pub ServesFront-kept : (bytes rest all back : List ℕ) (last : Playing P ℕ) (between after : Option (List ℕ))
+        → Serves pulls gives attaches old before bytes rest last between → Keeps between after → all ≡ bytes ++ back
+        → ServesFront pulls gives attaches old before all after
     ServesFront-kept bytes rest all back last between after served kept cut = record {
       front = bytes;
       back = back;
@@ -89,7 +103,10 @@ module _ {P : Type 0} (pulls : P → Result (Item ℕ) PullError → P → Type 
       };
     }
 
-    pub ServesPart-join : (bytes more rest : List ℕ) (middle : Playing P ℕ) (between after : Option (List ℕ)) → Serves pulls gives attaches old before bytes rest middle between → ServesPart pulls gives attaches middle between (rest ++ more) after → ServesPart pulls gives attaches old before (bytes ++ more) after
+    pub ServesPart-join : (bytes more rest : List ℕ) (middle : Playing P ℕ) (between after : Option (List ℕ))
+        → Serves pulls gives attaches old before bytes rest middle between
+        → ServesPart pulls gives attaches middle between (rest ++ more) after
+        → ServesPart pulls gives attaches old before (bytes ++ more) after
     ServesPart-join bytes more rest middle between after served part =
         let behind = IsLines-front bytes more part.front part.back served.lines part.lines rest part.rest served.split part.cut part.split in
         record {
@@ -105,7 +122,10 @@ module _ {P : Type 0} (pulls : P → Result (Item ℕ) PullError → P → Type 
           written = AppendsPart-behind before between after served.text part.text served.written part.written;
         }
 
-    pub ServesFront-join : (bytes more rest : List ℕ) (middle : Playing P ℕ) (between after : Option (List ℕ)) → Serves pulls gives attaches old before bytes rest middle between → ServesFront pulls gives attaches middle between (rest ++ more) after → ServesFront pulls gives attaches old before (bytes ++ more) after
+    pub ServesFront-join : (bytes more rest : List ℕ) (middle : Playing P ℕ) (between after : Option (List ℕ))
+        → Serves pulls gives attaches old before bytes rest middle between
+        → ServesFront pulls gives attaches middle between (rest ++ more) after
+        → ServesFront pulls gives attaches old before (bytes ++ more) after
     ServesFront-join bytes more rest middle between after served part =
         let behind = IsLines-front bytes more part.front part.back served.lines part.served.lines rest part.rest served.split part.cut part.served.split in
         record {
@@ -127,7 +147,9 @@ module _ {P : Type 0} (pulls : P → Result (Item ℕ) PullError → P → Type 
     last_line : (lines : List (List ℕ)) (rest : List ℕ) → with_last_line lines rest ≡ lines ++ with_last_line [] rest
     last_line lines rest = ap (λ all. with_last_line all rest) (sym (append-nil lines)) ∙ with_last_line-join lines [] rest
 
-    pub ServesAll-last : (bytes rest : List ℕ) (middle : Playing P ℕ) (between after : Option (List ℕ)) → Serves pulls gives attaches old before bytes rest middle between → AnswersLast pulls gives attaches middle between rest after → ServesAll pulls gives attaches old before bytes after
+    pub ServesAll-last : (bytes rest : List ℕ) (middle : Playing P ℕ) (between after : Option (List ℕ))
+        → Serves pulls gives attaches old before bytes rest middle between
+        → AnswersLast pulls gives attaches middle between rest after → ServesAll pulls gives attaches old before bytes after
     ServesAll-last bytes rest middle between after served last = record {
       lines = served.lines;
       rest = rest;
@@ -140,7 +162,10 @@ module _ {P : Type 0} (pulls : P → Result (Item ℕ) PullError → P → Type 
       written = Appends-trans before between after served.text last.text served.written last.written;
     }
 
-    pub ServesAllInPart-last : (bytes rest : List ℕ) (middle : Playing P ℕ) (between after : Option (List ℕ)) → Serves pulls gives attaches old before bytes rest middle between → AnswersLastInPart pulls gives attaches middle between rest after → ServesAllInPart pulls gives attaches old before bytes after
+    pub ServesAllInPart-last : (bytes rest : List ℕ) (middle : Playing P ℕ) (between after : Option (List ℕ))
+        → Serves pulls gives attaches old before bytes rest middle between
+        → AnswersLastInPart pulls gives attaches middle between rest after
+        → ServesAllInPart pulls gives attaches old before bytes after
     ServesAllInPart-last bytes rest middle between after served last = record {
       lines = served.lines;
       rest = rest;
@@ -159,13 +184,19 @@ module _ {P : Type 0} (pulls : P → Result (Item ℕ) PullError → P → Type 
     AnswersLast-none (byte ∷ rest) e = cc
 
     -- a last line that has a byte was answered
-    pub AnswersLast-line : (rest text : List ℕ) (last : Playing P ℕ) (after : Option (List ℕ)) → rest ≢ [] → Answers pulls gives attaches old rest text last → Appends before after text → AnswersLast pulls gives attaches old before rest after
+    pub AnswersLast-line : (rest text : List ℕ) (last : Playing P ℕ) (after : Option (List ℕ)) → rest ≢ []
+        → Answers pulls gives attaches old rest text last → Appends before after text
+        → AnswersLast pulls gives attaches old before rest after
     AnswersLast-line [] text last after some answer written = absurd (some refl)
-    AnswersLast-line (byte ∷ rest) text last after some answer written = record { text = text; last = last; told = Transcript-line old last (byte ∷ rest) text answer; written = written }
+    AnswersLast-line (byte ∷ rest) text last after some answer written =
+        record { text = text; last = last; told = Transcript-line old last (byte ∷ rest) text answer; written = written }
 
-    pub AnswersLastInPart-line : (rest text : List ℕ) (last : Playing P ℕ) (after : Option (List ℕ)) → rest ≢ [] → Answers pulls gives attaches old rest text last → AppendsPart before after text → AnswersLastInPart pulls gives attaches old before rest after
+    pub AnswersLastInPart-line : (rest text : List ℕ) (last : Playing P ℕ) (after : Option (List ℕ)) → rest ≢ []
+        → Answers pulls gives attaches old rest text last → AppendsPart before after text
+        → AnswersLastInPart pulls gives attaches old before rest after
     AnswersLastInPart-line [] text last after some answer written = absurd (some refl)
-    AnswersLastInPart-line (byte ∷ rest) text last after some answer written = record { text = text; last = last; told = Transcript-line old last (byte ∷ rest) text answer; written = written }
+    AnswersLastInPart-line (byte ∷ rest) text last after some answer written =
+        record { text = text; last = last; told = Transcript-line old last (byte ∷ rest) text answer; written = written }
 
     -- a rest without a line feed has no line to serve
     pub Serves-none : (rest : List ℕ) → HasNoLineFeed rest → Serves pulls gives attaches old before (rest ++ []) rest old before
@@ -178,7 +209,9 @@ module _ {P : Type 0} (pulls : P → Result (Item ℕ) PullError → P → Type 
     }
 
     -- what was gathered is written, whole or in part
-    pub Serves-written : (bytes rest text : List ℕ) (new : Playing P ℕ) (after : Option (List ℕ)) → Serves pulls gives attaches old (Some []) bytes rest new (Some text) → Appends before after text → Serves pulls gives attaches old before bytes rest new after
+    pub Serves-written : (bytes rest text : List ℕ) (new : Playing P ℕ) (after : Option (List ℕ))
+        → Serves pulls gives attaches old (Some []) bytes rest new (Some text) → Appends before after text
+        → Serves pulls gives attaches old before bytes rest new after
     Serves-written bytes rest text new after served written = record {
       lines = served.lines;
       text = served.text;
@@ -187,7 +220,9 @@ module _ {P : Type 0} (pulls : P → Result (Item ℕ) PullError → P → Type 
       written = subst (Appends before after) served.written written;
     }
 
-    pub ServesPart-written : (bytes rest text : List ℕ) (new : Playing P ℕ) (after : Option (List ℕ)) → Serves pulls gives attaches old (Some []) bytes rest new (Some text) → AppendsPart before after text → ServesPart pulls gives attaches old before bytes after
+    pub ServesPart-written : (bytes rest text : List ℕ) (new : Playing P ℕ) (after : Option (List ℕ))
+        → Serves pulls gives attaches old (Some []) bytes rest new (Some text) → AppendsPart before after text
+        → ServesPart pulls gives attaches old before bytes after
     ServesPart-written bytes rest text new after served part = record {
       front = bytes;
       back = [];
@@ -201,7 +236,9 @@ module _ {P : Type 0} (pulls : P → Result (Item ℕ) PullError → P → Type 
       written = subst (AppendsPart before after) served.written part;
     }
 
-    pub ServesFront-written : (bytes text : List ℕ) (after : Option (List ℕ)) → ServesFront pulls gives attaches old (Some []) bytes (Some text) → Appends before after text → ServesFront pulls gives attaches old before bytes after
+    pub ServesFront-written : (bytes text : List ℕ) (after : Option (List ℕ))
+        → ServesFront pulls gives attaches old (Some []) bytes (Some text) → Appends before after text
+        → ServesFront pulls gives attaches old before bytes after
     ServesFront-written bytes text after stopped written = record {
       front = stopped.front;
       back = stopped.back;
@@ -211,7 +248,9 @@ module _ {P : Type 0} (pulls : P → Result (Item ℕ) PullError → P → Type 
       served = Serves-written stopped.front stopped.rest text stopped.last after stopped.served written;
     }
 
-    pub ServesPart-front : (bytes text : List ℕ) (after : Option (List ℕ)) → ServesFront pulls gives attaches old (Some []) bytes (Some text) → AppendsPart before after text → ServesPart pulls gives attaches old before bytes after
+    pub ServesPart-front : (bytes text : List ℕ) (after : Option (List ℕ))
+        → ServesFront pulls gives attaches old (Some []) bytes (Some text) → AppendsPart before after text
+        → ServesPart pulls gives attaches old before bytes after
     ServesPart-front bytes text after stopped part = record {
       front = stopped.front;
       back = stopped.back;

@@ -33,7 +33,7 @@ module _ {T : Type 0} where
   after_write Done value = Done
 
   -- where a move leaves its agent
-  abbrev pub after_move : Stage T → Move T → Stage T
+  abbrev after_move : Stage T → Move T → Stage T
   after_move stage (Pull n value) = Holds n value
   after_move stage (Return n kept) = Done
   after_move stage (Growth values) = stage
@@ -51,7 +51,7 @@ module _ {T : Type 0} where
   stage_of (act ∷ acts) a = if agent_of act == a then after_act (stage_of acts a) act else stage_of acts a
 
   -- the pool that an act leaves: openings and writes leave it as it was
-  abbrev pub pool_after : Pool T → Act T → Pool T
+  abbrev pool_after : Pool T → Act T → Pool T
   pool_after pool (Opens a) = pool
   pool_after pool (Writes a value) = pool
   pool_after pool (Moves a move) = after pool move
@@ -75,17 +75,18 @@ module _ {T : Type 0} where
   HadPages first acts a count = Since first a (λ pool. pool.pages ≡ count) acts
 
   -- each number of so many pages was found out since the agent began
-  abbrev pub FoundPages : List T → List (Act T) → ℕ → ℕ → Type 0
-  FoundPages first acts a count = (n : ℕ) → n < PAGE_ITEMS * count → FoundOut first acts a n
+  abbrev pub FoundAllOut : List T → List (Act T) → ℕ → ℕ → Type 0
+  FoundAllOut first acts a count = (n : ℕ) → n < PAGE_ITEMS * count → FoundOut first acts a n
 
 module _ {T : Type 0} (Leaves : T → T → Type 0) (limit : Option ℕ) (first : List T) where
-  -- an agent may make the move after these acts: it pulls, grows and is refused while it looks, for the limit only
-  -- after it found each number out, and returns what it holds with a value that reset leaves of its own
+  -- an agent may make the move after these acts: it pulls, grows and is refused while it looks, for the limit
+  -- only after it found each number out, and returns what it holds with a value that reset leaves of its own
   abbrev pub MayMove : List (Act T) → ℕ → Move T → Type 0
   MayMove acts a (Pull n value) = stage_of acts a ≡ Looking
   MayMove acts a (Return n kept) = (value : T) × (stage_of acts a ≡ Holds n value) × Leaves value kept
   MayMove acts a (Growth values) = stage_of acts a ≡ Looking
-  MayMove acts a (Refusal Limit) = (stage_of acts a ≡ Looking) × FoundPages first acts a (pool_of first acts).pages
+  MayMove acts a (Refusal Limit) =
+      (stage_of acts a ≡ Looking) × FoundAllOut first acts a (pool_of first acts).pages
   MayMove acts a (Refusal Memory) = stage_of acts a ≡ Looking
   MayMove acts a (Refusal Init) = stage_of acts a ≡ Looking
 
@@ -102,22 +103,24 @@ module _ {T : Type 0} (Leaves : T → T → Type 0) (limit : Option ℕ) (first 
 
 module _ {T : Type 0} (first : List T) where
   -- what an agent had found before it linked a page, or was refused
-  abbrev pub FoundBefore : List (Act T) → Act T → Type 0
-  FoundBefore acts (Moves a (Growth values)) = FoundPages first acts a (pool_of first acts).pages
-  FoundBefore acts (Moves a (Refusal cause)) = (count : ℕ) × (1 ≤ count) × FoundPages first acts a count × HadPages first acts a count
-  FoundBefore acts (Moves a (Pull n value)) = ⊤
-  FoundBefore acts (Moves a (Return n kept)) = ⊤
-  FoundBefore acts (Opens a) = ⊤
-  FoundBefore acts (Writes a value) = ⊤
+  abbrev pub FoundOutBefore : List (Act T) → Act T → Type 0
+  FoundOutBefore acts (Moves a (Growth values)) = FoundAllOut first acts a (pool_of first acts).pages
+  FoundOutBefore acts (Moves a (Refusal cause)) =
+      (count : ℕ) × (1 ≤ count) × FoundAllOut first acts a count × HadPages first acts a count
+  FoundOutBefore acts (Moves a (Pull n value)) = ⊤
+  FoundOutBefore acts (Moves a (Return n kept)) = ⊤
+  FoundOutBefore acts (Opens a) = ⊤
+  FoundOutBefore acts (Writes a value) = ⊤
 
   -- so it was at each growth and each refusal
-  abbrev pub Found : List (Act T) → Type 0
-  Found [] = ⊤
-  Found (act ∷ acts) = FoundBefore acts act × Found acts
+  abbrev pub FoundOutBeforeEach : List (Act T) → Type 0
+  FoundOutBeforeEach [] = ⊤
+  FoundOutBeforeEach (act ∷ acts) = FoundOutBefore acts act × FoundOutBeforeEach acts
 
   -- each number that is out has one holder, and each other number none
   pub record HasHolders (acts : List (Act T)) : Type 0 where
-    pub some : (n : ℕ) → IsOut (pool_of first acts) n → (a : ℕ) × (value : T) × (stage_of acts a ≡ Holds n value)
+    pub some : (n : ℕ) → IsOut (pool_of first acts) n
+        → (a : ℕ) × (value : T) × (stage_of acts a ≡ Holds n value)
     pub out : (n a : ℕ) (value : T) → stage_of acts a ≡ Holds n value → IsOut (pool_of first acts) n
     pub one : (n a b : ℕ) (v w : T) → stage_of acts a ≡ Holds n v → stage_of acts b ≡ Holds n w → a ≡ b
 

@@ -23,7 +23,7 @@ use Rattle.object_pool_cores.specs.Opens.{Opens}
 use Rattle.object_pool_cores.specs.Pool.{Pool, IsSame, opening}
 use Rattle.object_pool_cores.proofs.LineSplits.{IsLines-none}
 
-abbrev pub by_copy : ℕ → Option ℕ → Type 0
+abbrev by_copy : ℕ → Option ℕ → Type 0
 by_copy copied answer = answer ≡ Some copied
 
 -- a list of zeros
@@ -38,7 +38,7 @@ zeros (v ∷ values) (suc count) counted each =
     cc
 
 module _ (leaves : ℕ → ℕ → Type 0) where
-  pub by_limit : (most : Option ℕ) (tells : Telling) → OnLinear leaves most tells → OnKind leaves (linear_kind most) tells
+  by_limit : (most : Option ℕ) (tells : Telling) → OnLinear leaves most tells → OnKind leaves (linear_kind most) tells
   by_limit None tells told = told
   by_limit (Some pages) tells told = told
 
@@ -61,30 +61,37 @@ module _ {R K : Type 0} (leaves : R → ℕ → ℕ → Type 0) (limit : Option 
   -- the core has this limit, and this makes and resets its values
   pub record IsSetLinear (core : LinearCore ℕ ℕ R K) : Type 0 where
     pub limited : linear.limit_of core ≡ limit
-    pub made : linear.init_of core ≡ 0
+    pub init : linear.init_of core ≡ 0
     pub kept : linear.reset_of core ≡ reset
 
-  pub linear_pull : (old new : LinearCore ℕ ℕ R K) (answer : Result (Item ℕ) PullError) → IsSetLinear old → linear.Pulls (by_copy (linear.init_of old)) old answer new → PullsItem limit makes_zero (linear.pool_of old) answer (linear.pool_of new) × IsSetLinear new
+  pub linear_pull : (old new : LinearCore ℕ ℕ R K) (answer : Result (Item ℕ) PullError) → IsSetLinear old
+      → linear.Pulls (by_copy (linear.init_of old)) old answer new
+      → PullsItem limit makes_zero (linear.pool_of old) answer (linear.pool_of new) × IsSetLinear new
   linear_pull old new answer set pulled = (
-    subst (λ (by : ℕ). PullsItem limit (by_copy by) (linear.pool_of old) answer (linear.pool_of new)) set.made
+    subst (λ (by : ℕ). PullsItem limit (by_copy by) (linear.pool_of old) answer (linear.pool_of new)) set.init
         (subst (λ (most : Option ℕ). PullsItem most (by_copy (linear.init_of old)) (linear.pool_of old) answer (linear.pool_of new)) set.limited pulled.pulled),
-    record { limited = pulled.step.limit ∙ set.limited; made = pulled.step.init ∙ set.made; kept = pulled.step.reset ∙ set.kept },
+    record { limited = pulled.step.limit ∙ set.limited; init = pulled.step.init ∙ set.init; kept = pulled.step.reset ∙ set.kept },
   )
 
-  pub linear_give : (old new : LinearCore ℕ ℕ R K) (item : Item ℕ) → IsSetLinear old → linear.Gives (leaves (linear.reset_of old)) old item new → ReturnsItem (leaves reset) (linear.pool_of old) item (linear.pool_of new) × IsSetLinear new
+  pub linear_give : (old new : LinearCore ℕ ℕ R K) (item : Item ℕ) → IsSetLinear old
+      → linear.Gives (leaves (linear.reset_of old)) old item new
+      → ReturnsItem (leaves reset) (linear.pool_of old) item (linear.pool_of new) × IsSetLinear new
   linear_give old new item set gave = (
     subst (λ (by : R). ReturnsItem (leaves by) (linear.pool_of old) item (linear.pool_of new)) set.kept gave.returned,
-    record { limited = gave.step.limit ∙ set.limited; made = gave.step.init ∙ set.made; kept = gave.step.reset ∙ set.kept },
+    record { limited = gave.step.limit ∙ set.limited; init = gave.step.init ∙ set.init; kept = gave.step.reset ∙ set.kept },
   )
 
-  pub linear_attach : (old new : LinearCore ℕ ℕ R K) (value : ℕ) (answer : Result (Item ℕ) (AttachError ℕ)) → IsSetLinear old → RefusesAttach old value answer new → RefusesAttach (linear.pool_of old) value answer (linear.pool_of new) × IsSetLinear new
+  pub linear_attach : (old new : LinearCore ℕ ℕ R K) (value : ℕ) (answer : Result (Item ℕ) (AttachError ℕ)) → IsSetLinear old
+      → RefusesAttach old value answer new → RefusesAttach (linear.pool_of old) value answer (linear.pool_of new)
+      × IsSetLinear new
   linear_attach old new value answer set refused = ((refused.0, ap linear.pool_of refused.1), subst IsSetLinear (sym refused.1) set)
 
   pub linear_set : (core : LinearCore ℕ ℕ R K) → Opens limit reset core → IsSetLinear core
-  linear_set core opens = record { limited = opens.opening.most; made = opens.init; kept = opens.kept }
+  linear_set core opens = record { limited = opens.opening.most; init = opens.init; kept = opens.kept }
 
   pub on_linear : (old : Playing (LinearCore ℕ ℕ R K) ℕ) → Opens limit reset old.pool → old.held ≡ [] → (tells : Telling)
-      → tells (Pool ℕ) (PullsItem limit makes_zero) (ReturnsItem (leaves reset)) RefusesAttach (record { pool = linear.pool_of old.pool; held = old.held }) → OnKind (leaves reset) (linear_kind limit) tells
+      → tells (Pool ℕ) (PullsItem limit makes_zero) (ReturnsItem (leaves reset)) RefusesAttach
+      (record { pool = linear.pool_of old.pool; held = old.held }) → OnKind (leaves reset) (linear_kind limit) tells
   on_linear old opens none tells told =
       let values = zeros opens.opening.values 32 opens.opening.count opens.opening.answered in
       by_limit (leaves reset) limit tells (
@@ -96,29 +103,37 @@ module _ {R K : Type 0} (leaves : R → ℕ → ℕ → Type 0) (limit : Option 
 module _ {R K : Type 0} (leaves : R → ℕ → ℕ → Type 0) (reset : R) where
   -- this makes and resets the core's values
   pub record IsSetStack (core : StackCore ℕ ℕ R K) : Type 0 where
-    pub made : stack.init_of core ≡ 0
+    pub init : stack.init_of core ≡ 0
     pub kept : stack.reset_of core ≡ reset
 
-  pub stack_pull : (old new : StackCore ℕ ℕ R K) (answer : Result (Item ℕ) PullError) → IsSetStack old → stack.Pulls (by_copy (stack.init_of old)) old answer new → PullsLast makes_zero (stack.kept_of old) answer (stack.kept_of new) × IsSetStack new
+  pub stack_pull : (old new : StackCore ℕ ℕ R K) (answer : Result (Item ℕ) PullError) → IsSetStack old
+      → stack.Pulls (by_copy (stack.init_of old)) old answer new
+      → PullsLast makes_zero (stack.kept_of old) answer (stack.kept_of new) × IsSetStack new
   stack_pull old new answer set pulled = (
-    subst (λ (by : ℕ). PullsLast (by_copy by) (stack.kept_of old) answer (stack.kept_of new)) set.made pulled.pulled,
-    record { made = pulled.step.init ∙ set.made; kept = pulled.step.reset ∙ set.kept },
+    subst (λ (by : ℕ). PullsLast (by_copy by) (stack.kept_of old) answer (stack.kept_of new)) set.init pulled.pulled,
+    record { init = pulled.step.init ∙ set.init; kept = pulled.step.reset ∙ set.kept },
   )
 
-  pub stack_give : (old new : StackCore ℕ ℕ R K) (item : Item ℕ) → IsSetStack old → stack.Gives (leaves (stack.reset_of old)) old item new → ReturnsLast (leaves reset) (stack.kept_of old) item (stack.kept_of new) × IsSetStack new
+  pub stack_give : (old new : StackCore ℕ ℕ R K) (item : Item ℕ) → IsSetStack old
+      → stack.Gives (leaves (stack.reset_of old)) old item new
+      → ReturnsLast (leaves reset) (stack.kept_of old) item (stack.kept_of new) × IsSetStack new
   stack_give old new item set gave = (
     subst (λ (by : R). ReturnsLast (leaves by) (stack.kept_of old) item (stack.kept_of new)) set.kept gave.returned,
-    record { made = gave.step.init ∙ set.made; kept = gave.step.reset ∙ set.kept },
+    record { init = gave.step.init ∙ set.init; kept = gave.step.reset ∙ set.kept },
   )
 
-  pub stack_attach : (old new : StackCore ℕ ℕ R K) (value : ℕ) (answer : Result (Item ℕ) (AttachError ℕ)) → IsSetStack old → stack.Attaches old value answer new → AttachesLast (stack.kept_of old) value answer (stack.kept_of new) × IsSetStack new
+  pub stack_attach : (old new : StackCore ℕ ℕ R K) (value : ℕ) (answer : Result (Item ℕ) (AttachError ℕ)) → IsSetStack old
+      → stack.Attaches old value answer new → AttachesLast (stack.kept_of old) value answer (stack.kept_of new) × IsSetStack new
   stack_attach old new value answer set attached = (attached.attached, subst IsSetStack (sym attached.same) set)
 
   pub on_stack : (old : Playing (StackCore ℕ ℕ R K) ℕ) → stack.kept_of old.pool ≡ [] → old.held ≡ [] → (tells : Telling)
-      → tells (List ℕ) (PullsLast makes_zero) (ReturnsLast (leaves reset)) AttachesLast (record { pool = stack.kept_of old.pool; held = old.held }) → OnKind (leaves reset) kind.Stack tells
+      → tells (List ℕ) (PullsLast makes_zero) (ReturnsLast (leaves reset)) AttachesLast
+      (record { pool = stack.kept_of old.pool; held = old.held }) → OnKind (leaves reset) kind.Stack tells
   on_stack old none_kept none tells told =
-      subst (λ (held : List (Option (Item ℕ))). tells (List ℕ) (PullsLast makes_zero) (ReturnsLast (leaves reset)) AttachesLast (record { pool = []; held = held })) none
-      (subst (λ (values : List ℕ). tells (List ℕ) (PullsLast makes_zero) (ReturnsLast (leaves reset)) AttachesLast (record { pool = values; held = old.held })) none_kept told)
+      subst (λ (held : List (Option (Item ℕ))). tells (List ℕ) (PullsLast makes_zero) (ReturnsLast (leaves reset)) AttachesLast
+      (record { pool = []; held = held })) none
+      (subst (λ (values : List ℕ). tells (List ℕ) (PullsLast makes_zero) (ReturnsLast (leaves reset)) AttachesLast
+      (record { pool = values; held = old.held })) none_kept told)
 
 -- this makes the core's values
 abbrev pub IsSetNone : NoneCore ℕ ℕ → Type 0
@@ -127,16 +142,20 @@ IsSetNone core = fresh.init_of core ≡ 0
 abbrev pub no_pool : NoneCore ℕ ℕ → Unit {0}
 no_pool core = tt
 
-pub none_pull : (old new : NoneCore ℕ ℕ) (answer : Result (Item ℕ) PullError) → IsSetNone old → fresh.Pulls (by_copy (fresh.init_of old)) old answer new → PullsFresh makes_zero answer × IsSetNone new
+pub none_pull : (old new : NoneCore ℕ ℕ) (answer : Result (Item ℕ) PullError) → IsSetNone old
+    → fresh.Pulls (by_copy (fresh.init_of old)) old answer new → PullsFresh makes_zero answer × IsSetNone new
 none_pull old new answer set pulled = (subst (λ (by : ℕ). PullsFresh (by_copy by) answer) set pulled.1, ap fresh.init_of pulled.0 ∙ set)
 
-pub none_attach : (old new : NoneCore ℕ ℕ) (value : ℕ) (answer : Result (Item ℕ) (AttachError ℕ)) → IsSetNone old → RefusesAttach old value answer new → RefusesAttach (no_pool old) value answer (no_pool new) × IsSetNone new
+pub none_attach : (old new : NoneCore ℕ ℕ) (value : ℕ) (answer : Result (Item ℕ) (AttachError ℕ)) → IsSetNone old
+    → RefusesAttach old value answer new → RefusesAttach (no_pool old) value answer (no_pool new) × IsSetNone new
 none_attach old new value answer set refused = ((refused.0, refl), ap fresh.init_of refused.1 ∙ set)
 
 pub none_give : (old new : NoneCore ℕ ℕ) (item : Item ℕ) → IsSetNone old → new ≡ old → Unit {0} × IsSetNone new
 none_give old new item set same = (tt, ap fresh.init_of same ∙ set)
 
 pub on_none : (leaves : ℕ → ℕ → Type 0) (old : Playing (NoneCore ℕ ℕ) ℕ) → old.held ≡ [] → (tells : Telling)
-    → tells (Unit {0}) (λ old answer new. PullsFresh makes_zero answer) (λ old item new. Unit {0}) RefusesAttach (record { pool = tt; held = old.held }) → OnKind leaves kind.None tells
+    → tells (Unit {0}) (λ old answer new. PullsFresh makes_zero answer) (λ old item new. Unit {0}) RefusesAttach
+    (record { pool = tt; held = old.held }) → OnKind leaves kind.None tells
 on_none leaves old none tells told =
-    subst (λ (held : List (Option (Item ℕ))). tells (Unit {0}) (λ old answer new. PullsFresh makes_zero answer) (λ old item new. Unit {0}) RefusesAttach (record { pool = tt; held = held })) none told
+    subst (λ (held : List (Option (Item ℕ))). tells (Unit {0}) (λ old answer new. PullsFresh makes_zero answer)
+    (λ old item new. Unit {0}) RefusesAttach (record { pool = tt; held = held })) none told

@@ -24,27 +24,31 @@ module _ {T : Type 0} where
   is_out Out there taken = refl
 
   -- the numbers below the least free one are out
-  pub out_count-least : (limit : Option ℕ) (pool : Pool T) (n : ℕ) (v : T) → IsPool limit pool → IsLeastFree pool n v → n ≤ out_count pool
+  out_count-least : (limit : Option ℕ) (pool : Pool T) (n : ℕ) (v : T) → IsPool limit pool → IsLeastFree pool n v → n ≤ out_count pool
   out_count-least limit pool n v sound least = elim (cases_lt n (32 * pool.pages)) [
     | inl within ↦
-        out_below-first pool n (32 * pool.pages) (λ k below. is_out (pool.at k) (sound.inside k (omega arith)) (λ w free. let first = least.least k w free in absurd (omega arith))) (omega arith)
+        out_below-first pool n (32 * pool.pages) (λ k below. is_out (pool.at k) (sound.inside k (omega arith))
+        (λ w free. let first = least.least k w free in absurd (omega arith))) (omega arith)
     | inr past ↦ let never : Absent ≡ Free v = sym (sound.past n past) ∙ least.free in absurd cc
   ]
 
   -- where none is free, each number is out
-  pub out_count-exhausted : (limit : Option ℕ) (pool : Pool T) → IsPool limit pool → IsExhausted pool → 32 * pool.pages ≤ out_count pool
-  out_count-exhausted limit pool sound exhausted = out_below-first pool (32 * pool.pages) (32 * pool.pages) (λ k below. is_out (pool.at k) (sound.inside k below) (exhausted k)) (omega arith)
+  out_count-exhausted : (limit : Option ℕ) (pool : Pool T) → IsPool limit pool → IsExhausted pool → 32 * pool.pages ≤ out_count pool
+  out_count-exhausted limit pool sound exhausted = out_below-first pool (32 * pool.pages) (32 * pool.pages)
+      (λ k below. is_out (pool.at k) (sound.inside k below) (exhausted k)) (omega arith)
 
   -- the least free number was taken
-  pub LooksAtFew-found : (old new : Numbered T) (n : ℕ) (v : T) → IsPool old.limit (pool_of old) → TakesLeastOf old n v new → Looks old 1 new → LooksAtFew (pool_of old) old.looked new.looked
-  LooksAtFew-found old new n v sound takes looks =
+  pub LooksAtFew-taken : (old new : Numbered T) (n : ℕ) (v : T) → IsPool old.limit (pool_of old) → TakesLeastOf old n v new
+      → Looks old 1 new → LooksAtFew (pool_of old) old.looked new.looked
+  LooksAtFew-taken old new n v sound takes looks =
       let few = out_count-least old.limit (pool_of old) n v sound takes.takes.least in
       let each = looks.each in
       let starts = takes.starts in
       (looks.more, omega arith)
 
   -- no number was free
-  pub LooksAtFew-none : (old middle : Numbered T) → IsPool old.limit (pool_of old) → FindsNone old middle → Looks old 0 middle → LooksAtFew (pool_of old) old.looked middle.looked
+  pub LooksAtFew-none : (old middle : Numbered T) → IsPool old.limit (pool_of old) → FindsNone old middle → Looks old 0 middle
+      → LooksAtFew (pool_of old) old.looked middle.looked
   LooksAtFew-none old middle sound none looks =
       let few = out_count-exhausted old.limit (pool_of old) sound none.exhausted in
       let each = looks.each in
@@ -52,8 +56,10 @@ module _ {T : Type 0} where
       (looks.more, omega arith)
 
   -- no number was free, and the first of a page more was taken
-  pub LooksAtFew-grown : (answers : Option T → Type 0) (old middle grown new : Numbered T) (n : ℕ) (v : T) → IsPool old.limit (pool_of old) → FindsNone old middle → Looks old 0 middle
-      → Grows old.limit answers (pool_of old) (pool_of grown) → grown.start ≡ middle.start → grown.looked ≡ middle.looked → TakesLeastOf grown n v new → Looks grown 1 new → LooksAtFew (pool_of old) old.looked new.looked
+  pub LooksAtFew-grown : (answers : Option T → Type 0) (old middle grown new : Numbered T) (n : ℕ) (v : T)
+      → IsPool old.limit (pool_of old) → FindsNone old middle → Looks old 0 middle
+      → Grows old.limit answers (pool_of old) (pool_of grown) → grown.start ≡ middle.start → grown.looked ≡ middle.looked
+      → TakesLeastOf grown n v new → Looks grown 1 new → LooksAtFew (pool_of old) old.looked new.looked
   LooksAtFew-grown answers old middle grown new n v sound none looks grows same_start same_looked takes more =
       let few = out_count-exhausted old.limit (pool_of old) sound none.exhausted in
       let first = IsFree-grown old.limit answers (pool_of old) (pool_of grown) grows in

@@ -16,7 +16,7 @@ module _ {X : Type 0} where
   length-listed at (suc n) = length-append (listed at n) (at n ∷ []) ∙ omega (arith, length-listed at n)
 
   -- what is read of the table
-  pub slice_get-listed : (at : ℕ → Option X) (n i : ℕ) → i < n → slice_get (listed at n) i ≡ Some (at i)
+  slice_get-listed : (at : ℕ → Option X) (n i : ℕ) → i < n → slice_get (listed at n) i ≡ Some (at i)
   slice_get-listed at zero i within = absurd (omega arith)
   slice_get-listed at (suc n) i within = elim (cases_lt i n) [
     | inl before ↦ slice_get-append_front (listed at n) (at n ∷ []) i (omega (arith, before, length-listed at n)) ∙ slice_get-listed at n i before
@@ -33,7 +33,7 @@ module _ {X : Type 0} where
   ]
 
   -- the same at each index is the same table
-  pub listed-same : (at other : ℕ → Option X) (n : ℕ) → ((k : ℕ) → k < n → other k ≡ at k) → listed other n ≡ listed at n
+  listed-same : (at other : ℕ → Option X) (n : ℕ) → ((k : ℕ) → k < n → other k ≡ at k) → listed other n ≡ listed at n
   listed-same at other zero same = refl
   listed-same at other (suc n) same =
       let front = listed-same at other n (λ k within. same k (omega arith)) in
@@ -57,7 +57,8 @@ module _ {X : Type 0} where
 
 module _ {X : Type 0} where
   -- another thing at one index
-  pub listed-set : (at other : ℕ → Option X) (n i : ℕ) (place : Option X) → other i ≡ place → ((k : ℕ) → k ≢ i → other k ≡ at k) → listed other n ≡ slice_set (listed at n) i place
+  pub listed-set : (at other : ℕ → Option X) (n i : ℕ) (place : Option X) → other i ≡ place → ((k : ℕ) → k ≢ i → other k ≡ at k)
+      → listed other n ≡ slice_set (listed at n) i place
   listed-set at other zero i place here apart = refl
   listed-set at other (suc n) i place here apart = elim (cases_lt i n) [
     | inl before ↦
@@ -77,7 +78,8 @@ module _ {X : Type 0} where
   ]
 
   -- something at the next index
-  pub listed-push : (at other : ℕ → Option X) (n m : ℕ) (place : Option X) → m ≡ n + 1 → other n ≡ place → ((k : ℕ) → k ≢ n → other k ≡ at k) → listed other m ≡ listed at n ++ place ∷ []
+  pub listed-push : (at other : ℕ → Option X) (n m : ℕ) (place : Option X) → m ≡ n + 1 → other n ≡ place
+      → ((k : ℕ) → k ≢ n → other k ≡ at k) → listed other m ≡ listed at n ++ place ∷ []
   listed-push at other n m place more here apart =
       let front = listed-same at other n (λ k within. apart k (omega arith)) in
       let next : m ≡ suc n = omega (arith, more) in
@@ -90,17 +92,21 @@ OnSome-always (Some x) p = p
 
 module _ {T : Type 0} where
   -- the value at one index of the map is replaced
-  pub IsReplaced-listed : (at other : ℕ → Option (Item T)) (n index : ℕ) (value : T) (there : Bool) → ((k : ℕ) → n ≤ k → at k ≡ None) → there ≡ is_some (at index) → other index ≡ option_map (λ item. with_value item value) (at index)
+  pub IsReplaced-listed : (at other : ℕ → Option (Item T)) (n index : ℕ) (value : T) (there : Bool)
+      → ((k : ℕ) → n ≤ k → at k ≡ None) → there ≡ is_some (at index)
+      → other index ≡ option_map (λ item. with_value item value) (at index)
       → ((k : ℕ) → k ≢ index → other k ≡ at k) → IsReplaced (listed at n) index value (held_at (listed at n) index) there (listed other n)
-  IsReplaced-listed at other n index value there past found here apart =
-      rw (unwrap_or-listed at n index past) (by_item (at index) refl found here)
+  IsReplaced-listed at other n index value there past lookup here apart =
+      rw (unwrap_or-listed at n index past) (by_item (at index) refl lookup here)
     where
-      by_item : (o : Option (Item T)) → at index ≡ o → there ≡ is_some o → other index ≡ option_map (λ item. with_value item value) o → IsReplaced (listed at n) index value o there (listed other n)
-      by_item None none found same = (
-        found,
+      by_item : (o : Option (Item T)) → at index ≡ o → there ≡ is_some o
+          → other index ≡ option_map (λ item. with_value item value) o
+          → IsReplaced (listed at n) index value o there (listed other n)
+      by_item None none lookup same = (
+        lookup,
         listed-same at other n (λ k within. elim (cases_eq k index) [
           | inl here ↦ ap other here ∙ same ∙ sym none ∙ sym (ap at here)
           | inr differ ↦ apart k differ
         ]),
       )
-      by_item (Some item) some found same = (found, listed-set at other n index (Some (with_value item value)) same apart)
+      by_item (Some item) some lookup same = (lookup, listed-set at other n index (Some (with_value item value)) same apart)

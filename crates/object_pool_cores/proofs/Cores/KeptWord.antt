@@ -87,7 +87,8 @@ module _ {T : Type 0} (meets : T → Type 0) (word : ℕ) (page : List (Option T
   }
 
 -- each bit of a new page's word is set
-pub IsKept-made : {T : Type 0} (answers : Option T → Type 0) (meets : T → Type 0) (page : List (Option T)) → IsMadePage answers meets page → IsKept meets 4294967295 page
+pub IsKept-made : {T : Type 0} (answers : Option T → Type 0) (meets : T → Type 0) (page : List (Option T))
+    → IsMadePage answers meets page → IsKept meets 4294967295 page
 IsKept-made answers meets page made = rw made.free (record {
   whole = length-map made.values Some ∙ made.count;
   set = λ id v free.
@@ -102,7 +103,8 @@ IsKept-made answers meets page made = rw made.free (record {
 })
 
 -- what init answered, told by other words
-pub IsMadePage-map : {T : Type 0} (answers others : Option T → Type 0) (meets : T → Type 0) (page : List (Option T)) → ((v : T) → answers (Some v) → others (Some v)) → IsMadePage answers meets page → IsMadePage others meets page
+pub IsMadePage-map : {T : Type 0} (answers others : Option T → Type 0) (meets : T → Type 0) (page : List (Option T))
+    → ((v : T) → answers (Some v) → others (Some v)) → IsMadePage answers meets page → IsMadePage others meets page
 IsMadePage-map answers others meets page leads made = record {
   values = made.values;
   count = made.count;

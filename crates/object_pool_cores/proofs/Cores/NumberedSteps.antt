@@ -14,19 +14,22 @@ use Rattle.object_pool_cores.proofs.Cores.PagedPlaces.{length-laid_out, get-laid
 
 module _ {T : Type 0} where
   -- the items of these pages
-  abbrev pub items_of : List (List (Option T)) → Option ℕ → ℕ → ℕ → Numbered T
+  abbrev items_of : List (List (Option T)) → Option ℕ → ℕ → ℕ → Numbered T
   items_of pages limit start looked = record { places = laid_out pages; limit = limit; start = start; looked = looked }
 
   pub pages_of : (pages : List (List (Option T))) → AreWhole pages → length (laid_out pages) / 32 ≡ length pages
   pages_of pages whole = let count = length-laid_out pages whole in omega arith
 
   -- a number is out where its id is
-  pub IsOut-at : (pages : List (List (Option T))) (limit : Option ℕ) (start looked k id n : ℕ) (page : List (Option T)) → AreWhole pages → slice_get pages k ≡ Some page → id < 32 → n ≡ 32 * k + id → IsOutId page id ↔ IsOut (pool_of (items_of pages limit start looked)) n
+  pub IsOut-at : (pages : List (List (Option T))) (limit : Option ℕ) (start looked k id n : ℕ) (page : List (Option T))
+      → AreWhole pages → slice_get pages k ≡ Some page → id < 32 → n ≡ 32 * k + id
+      → IsOutId page id ↔ IsOut (pool_of (items_of pages limit start looked)) n
   IsOut-at pages limit start looked k id n page whole here within e =
       let place = get-laid_out pages k id n page whole here within e in
       (λ out. ap place_of (place ∙ out), λ out. sym place ∙ place_of-out (slice_get (laid_out pages) n) out)
 
-  pub IsOut-within : (pages : List (List (Option T))) (limit : Option ℕ) (start looked n : ℕ) → AreWhole pages → IsOut (pool_of (items_of pages limit start looked)) n → n < 32 * length pages
+  pub IsOut-within : (pages : List (List (Option T))) (limit : Option ℕ) (start looked n : ℕ) → AreWhole pages
+      → IsOut (pool_of (items_of pages limit start looked)) n → n < 32 * length pages
   IsOut-within pages limit start looked n whole out =
       let within = slice_get_within (laid_out pages) n None (place_of-out (slice_get (laid_out pages) n) out) in
       let count = length-laid_out pages whole in omega arith
@@ -35,11 +38,13 @@ module _ {T : Type 0} where
   length-at pages k page whole here =
       ap length (sym (get_or_from_slice_get pages k page [] here)) ∙ whole k [] (slice_get_within pages k page here)
 
-  pub HasNoneBelow-fewer : (places : List (Option T)) (less more : ℕ) → less ≤ more → HasNoneBelow places more → HasNoneBelow places less
+  HasNoneBelow-fewer : (places : List (Option T)) (less more : ℕ) → less ≤ more → HasNoneBelow places more → HasNoneBelow places less
   HasNoneBelow-fewer places less more fewer none n v below free = none n v (omega arith) free
 
   -- a place changes: to a clean value at or behind the start, or to none
-  pub IsSound-set : (meets : T → Type 0) (items : Numbered T) (n : ℕ) (place : Option T) (start looked : ℕ) → IsSound meets items → ((v : T) → place ≡ Some v → meets v × (32 * start ≤ n)) → start ≤ length items.places / 32 → HasNoneBelow items.places (32 * start)
+  IsSound-set : (meets : T → Type 0) (items : Numbered T) (n : ℕ) (place : Option T) (start looked : ℕ) → IsSound meets items
+      → ((v : T) → place ≡ Some v → meets v × (32 * start ≤ n)) → start ≤ length items.places / 32
+      → HasNoneBelow items.places (32 * start)
       → IsSound meets (record { places = slice_set items.places n place; limit = items.limit; start = start; looked = looked })
   IsSound-set meets items n place start looked sound clean starts passed = record {
     whole = rw length-set sound.whole;
@@ -56,7 +61,9 @@ module _ {T : Type 0} where
   }
 
   -- the least free id of the first page that isn't full is the least free number
-  pub TakesLeast-at : (pages : List (List (Option T))) (limit : Option ℕ) (start looked k id n : ℕ) (v : T) (page left : List (Option T)) (after : Numbered T) → AreWhole pages → slice_get pages k ≡ Some page → n ≡ 32 * k + id → TakesLeastId page id v left → HasNoneBelow (laid_out pages) (32 * k)
+  TakesLeast-at : (pages : List (List (Option T))) (limit : Option ℕ) (start looked k id n : ℕ) (v : T)
+      (page left : List (Option T)) (after : Numbered T) → AreWhole pages → slice_get pages k ≡ Some page → n ≡ 32 * k + id
+      → TakesLeastId page id v left → HasNoneBelow (laid_out pages) (32 * k)
       → after.places ≡ laid_out (slice_set pages k left) → TakesLeast (pool_of (items_of pages limit start looked)) n v (pool_of after)
   TakesLeast-at pages limit start looked k id n v page left after whole here e takes passed places =
       let there = get-laid_out pages k id n page whole here takes.in_page e ∙ takes.free in
@@ -80,12 +87,15 @@ module _ {T : Type 0} where
                 ]
               ];
         };
-        taken = subst (λ (all : List (Option T)). IsSame (pool_of (record items { places = all })) (with_place (pool_of items) n (place_of (Some None)))) (sym changed)
+        taken = subst (λ (all : List (Option T)). IsSame (pool_of (record items { places = all }))
+            (with_place (pool_of items) n (place_of (Some None)))) (sym changed)
             (pool_of-set items n None (slice_get_within (laid_out pages) n (Some v) there));
       }
 
   -- all pages were passed
-  pub FindsNone-passed : (pages : List (List (Option T))) (limit : Option ℕ) (start looked : ℕ) (after : Numbered T) → AreWhole pages → HasNoneBelow (laid_out pages) (32 * length pages) → after.places ≡ laid_out pages → after.start ≡ length pages → FindsNone (items_of pages limit start looked) after
+  pub FindsNone-passed : (pages : List (List (Option T))) (limit : Option ℕ) (start looked : ℕ) (after : Numbered T)
+      → AreWhole pages → HasNoneBelow (laid_out pages) (32 * length pages) → after.places ≡ laid_out pages
+      → after.start ≡ length pages → FindsNone (items_of pages limit start looked) after
   FindsNone-passed pages limit start looked after whole passed places at = record {
     exhausted = λ n v free.
         let lies = place_of-free (slice_get (laid_out pages) n) v free in
@@ -102,8 +112,10 @@ module _ {T : Type 0} where
     pub sound : IsSound meets (items_of pages before.limit start before.looked)
     pub returned : IsSame (pool_of (items_of pages before.limit start before.looked)) (with_place (pool_of before) n (Free v))
 
-  pub Puts-at : (meets : T → Type 0) (pages : List (List (Option T))) (limit : Option ℕ) (start looked k id n : ℕ) (v : T) (page left : List (Option T)) (new_start : ℕ) → AreWhole pages → IsSound meets (items_of pages limit start looked)
-      → slice_get pages k ≡ Some page → id < 32 → n ≡ 32 * k + id → left ≡ slice_set page id (Some v) → meets v → new_start ≡ min start k → Puts meets (items_of pages limit start looked) n v (slice_set pages k left) new_start
+  pub Puts-at : (meets : T → Type 0) (pages : List (List (Option T))) (limit : Option ℕ) (start looked k id n : ℕ) (v : T)
+      (page left : List (Option T)) (new_start : ℕ) → AreWhole pages → IsSound meets (items_of pages limit start looked)
+      → slice_get pages k ≡ Some page → id < 32 → n ≡ 32 * k + id → left ≡ slice_set page id (Some v) → meets v
+      → new_start ≡ min start k → Puts meets (items_of pages limit start looked) n v (slice_set pages k left) new_start
   Puts-at meets pages limit start looked k id n v page left new_start whole sound here within e puts clean lower =
       let there = set-laid_out pages k id n page (Some v) whole here within e in
       let changed : laid_out (slice_set pages k left) ≡ slice_set (laid_out pages) n (Some v) = ap (λ p. laid_out (slice_set pages k p)) puts ∙ there in
@@ -116,7 +128,9 @@ module _ {T : Type 0} where
         sound = subst (λ (all : List (Option T)). IsSound meets (record { places = all; limit = limit; start = new_start; looked = looked })) (sym changed)
             (IsSound-set meets items n (Some v) new_start looked sound (λ w same. (subst meets (let s : v ≡ w = cc in s) clean, omega arith)) (omega arith)
             (HasNoneBelow-fewer (laid_out pages) (32 * new_start) (32 * start) (omega arith) sound.passed));
-        returned = subst (λ (all : List (Option T)). IsSame (pool_of (record { places = all; limit = limit; start = new_start; looked = looked })) (with_place (pool_of items) n (Free v))) (sym changed)
+        returned = subst (λ (all : List (Option T)). IsSame (pool_of
+            (record { places = all; limit = limit; start = new_start; looked = looked })) (with_place (pool_of items) n (Free v)))
+            (sym changed)
             (let set = pool_of-set items n (Some v) (omega arith) in record { pages = set.pages; places = set.places });
       }
 
@@ -126,8 +140,10 @@ module _ {T : Type 0} where
     pub sound : IsSound meets (items_of pages before.limit start looked)
     pub least : TakesLeastOf before n v (items_of pages before.limit start looked)
 
-  pub TakesAt-page : (meets : T → Type 0) (pages : List (List (Option T))) (limit : Option ℕ) (start looked k id n : ℕ) (v : T) (page left : List (Option T)) (new_looked : ℕ) → AreWhole pages → IsSound meets (items_of pages limit start looked)
-      → slice_get pages k ≡ Some page → n ≡ 32 * k + id → TakesLeastId page id v left → HasNoneBelow (laid_out pages) (32 * k) → TakesAt meets (items_of pages limit start looked) n v (slice_set pages k left) k new_looked
+  pub TakesAt-page : (meets : T → Type 0) (pages : List (List (Option T))) (limit : Option ℕ) (start looked k id n : ℕ) (v : T)
+      (page left : List (Option T)) (new_looked : ℕ) → AreWhole pages → IsSound meets (items_of pages limit start looked)
+      → slice_get pages k ≡ Some page → n ≡ 32 * k + id → TakesLeastId page id v left → HasNoneBelow (laid_out pages) (32 * k)
+      → TakesAt meets (items_of pages limit start looked) n v (slice_set pages k left) k new_looked
   TakesAt-page meets pages limit start looked k id n v page left new_looked whole sound here e takes passed =
       let there = set-laid_out pages k id n page None whole here takes.in_page e in
       let changed : laid_out (slice_set pages k left) ≡ slice_set (laid_out pages) n None = ap (λ p. laid_out (slice_set pages k p)) takes.taken ∙ there in
@@ -139,13 +155,16 @@ module _ {T : Type 0} where
         sound = subst (λ (all : List (Option T)). IsSound meets (record { places = all; limit = limit; start = k; looked = new_looked })) (sym changed)
             (IsSound-set meets (items_of pages limit start looked) n None k new_looked sound (λ w never. absurd cc) (omega arith) passed);
         least = record {
-          takes = TakesLeast-at pages limit start looked k id n v page left (items_of (slice_set pages k left) limit k new_looked) whole here e takes passed refl;
+          takes = TakesLeast-at pages limit start looked k id n v page left
+              (items_of (slice_set pages k left) limit k new_looked) whole here e takes passed refl;
           starts = omega arith;
         };
       }
 
   -- all pages are full
-  pub IsSound-passed : (meets : T → Type 0) (pages : List (List (Option T))) (limit : Option ℕ) (start looked k new_looked : ℕ) → AreWhole pages → IsSound meets (items_of pages limit start looked) → k ≤ length pages → HasNoneBelow (laid_out pages) (32 * k) → IsSound meets (items_of pages limit k new_looked)
+  pub IsSound-passed : (meets : T → Type 0) (pages : List (List (Option T))) (limit : Option ℕ) (start looked k new_looked : ℕ)
+      → AreWhole pages → IsSound meets (items_of pages limit start looked) → k ≤ length pages
+      → HasNoneBelow (laid_out pages) (32 * k) → IsSound meets (items_of pages limit k new_looked)
   IsSound-passed meets pages limit start looked k new_looked whole sound bound passed = record {
     whole = sound.whole;
     allowed = sound.allowed;

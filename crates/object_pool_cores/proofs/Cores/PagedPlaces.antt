@@ -27,7 +27,8 @@ module _ {T : Type 0} where
       let behind = length-laid_out pages (All-tail (λ p. length p ≡ 32) page pages whole) in
       length-append page (laid_out pages) ∙ omega (arith, here, behind)
 
-  pub get-laid_out : (pages : List (List (Option T))) (k id n : ℕ) (page : List (Option T)) → AreWhole pages → slice_get pages k ≡ Some page → id < 32 → n ≡ 32 * k + id → slice_get (laid_out pages) n ≡ slice_get page id
+  pub get-laid_out : (pages : List (List (Option T))) (k id n : ℕ) (page : List (Option T)) → AreWhole pages
+      → slice_get pages k ≡ Some page → id < 32 → n ≡ 32 * k + id → slice_get (laid_out pages) n ≡ slice_get page id
   get-laid_out [] k id n page whole here within e = absurd cc
   get-laid_out (first ∷ pages) zero id n page whole here within e =
       let count = All-head (λ p. length p ≡ 32) first pages whole in
@@ -40,7 +41,8 @@ module _ {T : Type 0} where
       ap (slice_get (first ++ laid_out pages)) place ∙ slice_get-append_back first (laid_out pages) (32 * k + id)
       ∙ get-laid_out pages k id (32 * k + id) page (All-tail (λ p. length p ≡ 32) first pages whole) here within refl
 
-  pub set-laid_out : (pages : List (List (Option T))) (k id n : ℕ) (page : List (Option T)) (place : Option T) → AreWhole pages → slice_get pages k ≡ Some page → id < 32 → n ≡ 32 * k + id
+  pub set-laid_out : (pages : List (List (Option T))) (k id n : ℕ) (page : List (Option T)) (place : Option T) → AreWhole pages
+      → slice_get pages k ≡ Some page → id < 32 → n ≡ 32 * k + id
       → laid_out (slice_set pages k (slice_set page id place)) ≡ slice_set (laid_out pages) n place
   set-laid_out [] k id n page place whole here within e = absurd cc
   set-laid_out (first ∷ pages) zero id n page place whole here within e =
@@ -60,7 +62,9 @@ module _ {T : Type 0} where
   laid_out-push (first ∷ pages) page = ap (λ rest. first ++ rest) (laid_out-push pages page) ∙ sym (append_assoc first (laid_out pages) page)
 
   -- a full page is passed
-  pub HasNoneBelow-full : (pages : List (List (Option T))) (k : ℕ) (page : List (Option T)) → AreWhole pages → slice_get pages k ≡ Some page → HasNoFreeId page → HasNoneBelow (laid_out pages) (32 * k) → HasNoneBelow (laid_out pages) (32 * (k + 1))
+  pub HasNoneBelow-full : (pages : List (List (Option T))) (k : ℕ) (page : List (Option T)) → AreWhole pages
+      → slice_get pages k ≡ Some page → HasNoFreeId page → HasNoneBelow (laid_out pages) (32 * k)
+      → HasNoneBelow (laid_out pages) (32 * (k + 1))
   HasNoneBelow-full pages k page whole here full passed n v below free = elim (cases_lt n (32 * k)) [
     | inl before ↦ passed n v before free
     | inr inside ↦

@@ -22,59 +22,75 @@ use Rattle.object_pool_cores.specs.Engine.{Telling, OnKind, Ends, tells_all, tel
 use Rattle.object_pool_cores.proofs.ReplyRuns.{OnOk-map}
 
 -- the steps of a pool
-abbrev pub PullStep : Type 0 → Type 1
+abbrev PullStep : Type 0 → Type 1
 PullStep P = P → Result (Item ℕ) PullError → P → Type 0
 
-abbrev pub ReturnStep : Type 0 → Type 1
+abbrev ReturnStep : Type 0 → Type 1
 ReturnStep P = P → Item ℕ → P → Type 0
 
-abbrev pub AttachStep : Type 0 → Type 1
+abbrev AttachStep : Type 0 → Type 1
 AttachStep P = P → ℕ → Result (Item ℕ) (AttachError ℕ) → P → Type 0
 
 -- A core shows a pool, as long as it is set so: each of its steps is a step of the pool, and it stays set.
-module _ {C P : Type 0} (show : C → P) (IsSet : C → Type 0) (pulls : PullStep C) (gives : ReturnStep C) (attaches : AttachStep C) (shown_pulls : PullStep P) (shown_gives : ReturnStep P) (shown_attaches : AttachStep P)
+module _ {C P : Type 0} (show : C → P) (IsSet : C → Type 0) (pulls : PullStep C) (gives : ReturnStep C) (attaches : AttachStep C)
+    (shown_pulls : PullStep P) (shown_gives : ReturnStep P) (shown_attaches : AttachStep P)
     (pull_shown : (old new : C) (answer : Result (Item ℕ) PullError) → IsSet old → pulls old answer new → shown_pulls (show old) answer (show new) × IsSet new)
     (give_shown : (old new : C) (item : Item ℕ) → IsSet old → gives old item new → shown_gives (show old) item (show new) × IsSet new)
-    (attach_shown : (old new : C) (value : ℕ) (answer : Result (Item ℕ) (AttachError ℕ)) → IsSet old → attaches old value answer new → shown_attaches (show old) value answer (show new) × IsSet new) where
+    (attach_shown : (old new : C) (value : ℕ) (answer : Result (Item ℕ) (AttachError ℕ)) → IsSet old
+    → attaches old value answer new → shown_attaches (show old) value answer (show new) × IsSet new) where
   abbrev pub shown : Playing C ℕ → Playing P ℕ
   shown playing = record { pool = show playing.pool; held = playing.held }
 
   kept : (old new : Playing C ℕ) → new ≡ old → IsSet old.pool → IsSet new.pool
   kept old new same set = subst (λ (state : Playing C ℕ). IsSet state.pool) (sym same) set
 
-  write_shown : (old new : Playing C ℕ) (index value : ℕ) (held : Option (Item ℕ)) (reply : Reply ℕ) → IsSet old.pool → AfterWrite pulls gives attaches old index value held reply new → AfterWrite shown_pulls shown_gives shown_attaches (shown old) index value held reply (shown new) × IsSet new.pool
+  write_shown : (old new : Playing C ℕ) (index value : ℕ) (held : Option (Item ℕ)) (reply : Reply ℕ) → IsSet old.pool
+      → AfterWrite pulls gives attaches old index value held reply new
+      → AfterWrite shown_pulls shown_gives shown_attaches (shown old) index value held reply (shown new) × IsSet new.pool
   write_shown old new index value None reply set played = ((played.0, ap shown played.1), kept old new played.1 set)
-  write_shown old new index value (Some item) reply set played = ((played.0, ap shown played.1), subst (λ (state : Playing C ℕ). IsSet state.pool) (sym played.1) set)
+  write_shown old new index value (Some item) reply set played =
+      ((played.0, ap shown played.1), subst (λ (state : Playing C ℕ). IsSet state.pool) (sym played.1) set)
 
-  forget_shown : (old new : Playing C ℕ) (index : ℕ) (held : Option (Item ℕ)) (reply : Reply ℕ) → IsSet old.pool → AfterForget pulls gives attaches old index held reply new → AfterForget shown_pulls shown_gives shown_attaches (shown old) index held reply (shown new) × IsSet new.pool
+  forget_shown : (old new : Playing C ℕ) (index : ℕ) (held : Option (Item ℕ)) (reply : Reply ℕ) → IsSet old.pool
+      → AfterForget pulls gives attaches old index held reply new
+      → AfterForget shown_pulls shown_gives shown_attaches (shown old) index held reply (shown new) × IsSet new.pool
   forget_shown old new index None reply set played = ((played.0, ap shown played.1), kept old new played.1 set)
-  forget_shown old new index (Some item) reply set played = ((played.0, ap shown played.1), subst (λ (state : Playing C ℕ). IsSet state.pool) (sym played.1) set)
+  forget_shown old new index (Some item) reply set played =
+      ((played.0, ap shown played.1), subst (λ (state : Playing C ℕ). IsSet state.pool) (sym played.1) set)
 
-  return_shown : (old new : Playing C ℕ) (index : ℕ) (held : Option (Item ℕ)) (reply : Reply ℕ) → IsSet old.pool → AfterReturn pulls gives attaches old index held reply new → AfterReturn shown_pulls shown_gives shown_attaches (shown old) index held reply (shown new) × IsSet new.pool
+  return_shown : (old new : Playing C ℕ) (index : ℕ) (held : Option (Item ℕ)) (reply : Reply ℕ) → IsSet old.pool
+      → AfterReturn pulls gives attaches old index held reply new
+      → AfterReturn shown_pulls shown_gives shown_attaches (shown old) index held reply (shown new) × IsSet new.pool
   return_shown old new index None reply set played = ((played.0, ap shown played.1), kept old new played.1 set)
   return_shown old new index (Some item) reply set played = let gave = give_shown old.pool new.pool item set played.1 in ((played.0, gave.0, played.2), gave.1)
 
-  plays_shown : (old new : Playing C ℕ) (command : Command ℕ) (reply : Reply ℕ) → IsSet old.pool → Plays pulls gives attaches old command reply new → Plays shown_pulls shown_gives shown_attaches (shown old) command reply (shown new) × IsSet new.pool
+  plays_shown : (old new : Playing C ℕ) (command : Command ℕ) (reply : Reply ℕ) → IsSet old.pool
+      → Plays pulls gives attaches old command reply new
+      → Plays shown_pulls shown_gives shown_attaches (shown old) command reply (shown new) × IsSet new.pool
   plays_shown old new Pull reply set played = let pulled = pull_shown old.pool new.pool played.0 set played.1 in ((played.0, pulled.0, played.2), pulled.1)
   plays_shown old new (Write index value) reply set played = write_shown old new index value (held_at old.held index) reply set played
   plays_shown old new (Return index) reply set played = return_shown old new index (held_at old.held index) reply set played
   plays_shown old new (Forget index) reply set played = forget_shown old new index (held_at old.held index) reply set played
-  plays_shown old new (Attach value) reply set played = let attached = attach_shown old.pool new.pool value played.0 set played.1 in ((played.0, attached.0, played.2), attached.1)
+  plays_shown old new (Attach value) reply set played =
+      let attached = attach_shown old.pool new.pool value played.0 set played.1 in ((played.0, attached.0, played.2), attached.1)
 
-  answers_shown : (old new : Playing C ℕ) (line text : List ℕ) → IsSet old.pool → Answers pulls gives attaches old line text new → Answers shown_pulls shown_gives shown_attaches (shown old) line text (shown new) × IsSet new.pool
+  answers_shown : (old new : Playing C ℕ) (line text : List ℕ) → IsSet old.pool → Answers pulls gives attaches old line text new
+      → Answers shown_pulls shown_gives shown_attaches (shown old) line text (shown new) × IsSet new.pool
   answers_shown old new line text set (inl answer) =
       let played = plays_shown old new answer.command answer.reply set answer.played in
       (inl (record { command = answer.command; reply = answer.reply; written = answer.written; played = played.0; said = answer.said }), played.1)
   answers_shown old new line text set (inr bad) = (inr (record { bad = bad.bad; same = ap shown bad.same; said = bad.said }), kept old new bad.same set)
 
-  transcript_shown : (old new : Playing C ℕ) (lines : List (List ℕ)) (text : List ℕ) → IsSet old.pool → Transcript pulls gives attaches old lines text new → Transcript shown_pulls shown_gives shown_attaches (shown old) lines text (shown new)
+  transcript_shown : (old new : Playing C ℕ) (lines : List (List ℕ)) (text : List ℕ) → IsSet old.pool
+      → Transcript pulls gives attaches old lines text new
+      → Transcript shown_pulls shown_gives shown_attaches (shown old) lines text (shown new)
   transcript_shown old new [] text set told = (told.0, ap shown told.1)
   transcript_shown old new (line ∷ lines) text set told =
       let answer = answers_shown old told.2 line told.0 set told.4 in
       (told.0, told.1, shown told.2, told.3, answer.0, transcript_shown told.2 new lines told.1 answer.1 told.5)
 
   module _ (old : Playing C ℕ) (set : IsSet old.pool) (before : Option (List ℕ)) (bytes : List ℕ) (after : Option (List ℕ)) where
-    pub ServesAll-shown : ServesAll pulls gives attaches old before bytes after → ServesAll shown_pulls shown_gives shown_attaches (shown old) before bytes after
+    ServesAll-shown : ServesAll pulls gives attaches old before bytes after → ServesAll shown_pulls shown_gives shown_attaches (shown old) before bytes after
     ServesAll-shown served = record {
       lines = served.lines;
       rest = served.rest;
@@ -85,7 +101,8 @@ module _ {C P : Type 0} (show : C → P) (IsSet : C → Type 0) (pulls : PullSte
       written = served.written;
     }
 
-    pub Serves-shown : (rest : List ℕ) (last : Playing C ℕ) → Serves pulls gives attaches old before bytes rest last after → Serves shown_pulls shown_gives shown_attaches (shown old) before bytes rest (shown last) after
+    Serves-shown : (rest : List ℕ) (last : Playing C ℕ) → Serves pulls gives attaches old before bytes rest last after
+        → Serves shown_pulls shown_gives shown_attaches (shown old) before bytes rest (shown last) after
     Serves-shown rest last served = record {
       lines = served.lines;
       text = served.text;
@@ -108,7 +125,8 @@ module _ {C P : Type 0} (show : C → P) (IsSet : C → Type 0) (pulls : PullSte
       written = served.written;
     }
 
-    all_in_part_shown : ServesAllInPart pulls gives attaches old before bytes after → ServesAllInPart shown_pulls shown_gives shown_attaches (shown old) before bytes after
+    all_in_part_shown : ServesAllInPart pulls gives attaches old before bytes after
+        → ServesAllInPart shown_pulls shown_gives shown_attaches (shown old) before bytes after
     all_in_part_shown served = record {
       lines = served.lines;
       rest = served.rest;
@@ -119,12 +137,14 @@ module _ {C P : Type 0} (show : C → P) (IsSet : C → Type 0) (pulls : PullSte
       written = served.written;
     }
 
-    pub StopsWriting-shown : (all_read : Type 0) → StopsWriting pulls gives attaches all_read old before bytes after → StopsWriting shown_pulls shown_gives shown_attaches all_read (shown old) before bytes after
+    StopsWriting-shown : (all_read : Type 0) → StopsWriting pulls gives attaches all_read old before bytes after
+        → StopsWriting shown_pulls shown_gives shown_attaches all_read (shown old) before bytes after
     StopsWriting-shown all_read (inl served) = inl (part_shown served)
     StopsWriting-shown all_read (inr served) = inr (served.0, all_in_part_shown served.1)
 
   module _ (old : Playing C ℕ) (set : IsSet old.pool) (before : Option (List ℕ)) (bytes : List ℕ) (after : Option (List ℕ)) where
-    pub ServesFront-shown : ServesFront pulls gives attaches old before bytes after → ServesFront shown_pulls shown_gives shown_attaches (shown old) before bytes after
+    ServesFront-shown : ServesFront pulls gives attaches old before bytes after
+        → ServesFront shown_pulls shown_gives shown_attaches (shown old) before bytes after
     ServesFront-shown served = record {
       front = served.front;
       back = served.back;
@@ -139,13 +159,35 @@ module _ {C P : Type 0} (show : C → P) (IsSet : C → Type 0) (pulls : PullSte
       (on_kind : (tells : Telling) → tells P shown_pulls shown_gives shown_attaches (shown old) → OnKind leaves kind tells)
       (result : Result (Unit {0}) EngineError) (unread left before after : Option (List ℕ)) where
     pub Ends-served : OnOk result ((bytes : List ℕ) × Consumes unread left bytes × IsAtEnd left × ServesAll pulls gives attaches old before bytes after)
-        → (result ≡ Err Read → (bytes rest : List ℕ) × (last : Playing C ℕ) × Consumes unread left bytes × Serves pulls gives attaches old before bytes rest last after)
+        → (result ≡ Err Read → (bytes rest : List ℕ) × (last : Playing C ℕ) × Consumes unread left bytes
+        × Serves pulls gives attaches old before bytes rest last after)
         → (result ≡ Err engine.Write → (bytes : List ℕ) × Consumes unread left bytes × StopsWriting pulls gives attaches (IsAtEnd left) old before bytes after)
         → (result ≡ Err Memory → (bytes : List ℕ) × Consumes unread left bytes × ServesFront pulls gives attaches old before bytes after)
         → Ends kind leaves result unread left before after
     Ends-served ok read write memory = record {
-      ok = OnOk-map result (λ served. (served.0, served.1, served.2, on_kind (tells_all before served.0 after) (ServesAll-shown old set before served.0 after served.3))) ok;
-      read = λ e. let served = read e in (served.0, served.3, on_kind (tells_lines before served.0 after) (served.1, shown served.2, Serves-shown old set before served.0 after served.1 served.2 served.4));
-      write = λ e. let served = write e in (served.0, served.1, on_kind (tells_part before served.0 after (IsAtEnd left)) (StopsWriting-shown old set before served.0 after (IsAtEnd left) served.2));
-      memory = λ e. let served = memory e in (served.0, served.1, on_kind (tells_front before served.0 after) (ServesFront-shown old set before served.0 after served.2));
+      ok = OnOk-map result (λ served. (
+        served.0,
+        served.1,
+        served.2,
+        on_kind (tells_all before served.0 after)
+            (ServesAll-shown old set before served.0 after served.3),
+      )) ok;
+      read = λ e. let served = read e in (
+        served.0,
+        served.3,
+        on_kind (tells_lines before served.0 after)
+            (served.1, shown served.2, Serves-shown old set before served.0 after served.1 served.2 served.4),
+      );
+      write = λ e. let served = write e in (
+        served.0,
+        served.1,
+        on_kind (tells_part before served.0 after (IsAtEnd left))
+            (StopsWriting-shown old set before served.0 after (IsAtEnd left) served.2),
+      );
+      memory = λ e. let served = memory e in (
+        served.0,
+        served.1,
+        on_kind (tells_front before served.0 after)
+            (ServesFront-shown old set before served.0 after served.2),
+      );
     }

@@ -37,40 +37,62 @@ idle-not_enabled _ idle memory = absurd (cc)
 
 module _ {T : Type 0} (Leaves : T → T → Type 0) (old : State T) (a : ℕ) (answer : Seen) (new : State T) where
   -- the row of an event, for an agent at this point
-  abbrev pub RowAt : Option (Point T) → Event T → Type 0
-  RowAt found event.Begin = ⊤
-  RowAt found (event.ReadMask b) = IsOutcome (read_mask old a found) answer new
-  RowAt found (event.ClearBit b) = IsOutcome (clear_bit old a found) answer new
-  RowAt found (event.ReadNext b) = IsOutcome (read_next old a found) answer new
-  RowAt found (event.MakePage b made) = IsOutcome (make_page old a made found) answer new
-  RowAt found (event.ExchangeNext b) = IsOutcome (exchange_next old a found) answer new
-  RowAt found (event.MoveOut b) = IsOutcome (move_out old a found) answer new
-  RowAt found (event.Write b value) = IsOutcome (write old a value found) answer new
-  RowAt found (event.MoveHome b) = MovesHome Leaves old a found answer new
-  RowAt found (event.OrMask b) = IsOutcome (or_mask old a found) answer new
+  abbrev RowAt : Option (Point T) → Event T → Type 0
+  RowAt lookup event.Begin = ⊤
+  RowAt lookup (event.ReadMask b) = IsOutcome (read_mask old a lookup) answer new
+  RowAt lookup (event.ClearBit b) = IsOutcome (clear_bit old a lookup) answer new
+  RowAt lookup (event.ReadNext b) = IsOutcome (read_next old a lookup) answer new
+  RowAt lookup (event.MakePage b prepared) = IsOutcome (make_page old a prepared lookup) answer new
+  RowAt lookup (event.ExchangeNext b) = IsOutcome (exchange_next old a lookup) answer new
+  RowAt lookup (event.MoveOut b) = IsOutcome (move_out old a lookup) answer new
+  RowAt lookup (event.Write b value) = IsOutcome (write old a value lookup) answer new
+  RowAt lookup (event.MoveHome b) = MovesHome Leaves old a lookup answer new
+  RowAt lookup (event.OrMask b) = IsOutcome (or_mask old a lookup) answer new
 
   named : (b : ℕ) → ◌≡◌ {A = Option ℕ} (Some b) (Some a) → b ≡ a
   named b same = cc
 
   -- a step of the agent is the row for its point
-  row-at : (found : Option (Point T)) (e : Event T) → agent_of e ≡ Some a → slice_get old.agents a ≡ found → Row Leaves old e answer new → RowAt found e
-  row-at found event.Begin who at row = tt
-  row-at found (event.ReadMask b) who at row = let P : ℕ → Type 0 = λ c. IsOutcome (read_mask old c (slice_get old.agents c)) answer new in let Q : Option (Point T) → Type 0 = λ f. IsOutcome (read_mask old a f) answer new in subst Q at (subst P (named b who) row)
-  row-at found (event.ClearBit b) who at row = let P : ℕ → Type 0 = λ c. IsOutcome (clear_bit old c (slice_get old.agents c)) answer new in let Q : Option (Point T) → Type 0 = λ f. IsOutcome (clear_bit old a f) answer new in subst Q at (subst P (named b who) row)
-  row-at found (event.ReadNext b) who at row = let P : ℕ → Type 0 = λ c. IsOutcome (read_next old c (slice_get old.agents c)) answer new in let Q : Option (Point T) → Type 0 = λ f. IsOutcome (read_next old a f) answer new in subst Q at (subst P (named b who) row)
-  row-at found (event.MakePage b made) who at row = let P : ℕ → Type 0 = λ c. IsOutcome (make_page old c made (slice_get old.agents c)) answer new in let Q : Option (Point T) → Type 0 = λ f. IsOutcome (make_page old a made f) answer new in subst Q at (subst P (named b who) row)
-  row-at found (event.ExchangeNext b) who at row = let P : ℕ → Type 0 = λ c. IsOutcome (exchange_next old c (slice_get old.agents c)) answer new in let Q : Option (Point T) → Type 0 = λ f. IsOutcome (exchange_next old a f) answer new in subst Q at (subst P (named b who) row.0)
-  row-at found (event.MoveOut b) who at row = let P : ℕ → Type 0 = λ c. IsOutcome (move_out old c (slice_get old.agents c)) answer new in let Q : Option (Point T) → Type 0 = λ f. IsOutcome (move_out old a f) answer new in subst Q at (subst P (named b who) row)
-  row-at found (event.Write b value) who at row = let P : ℕ → Type 0 = λ c. IsOutcome (write old c value (slice_get old.agents c)) answer new in let Q : Option (Point T) → Type 0 = λ f. IsOutcome (write old a value f) answer new in subst Q at (subst P (named b who) row)
-  row-at found (event.MoveHome b) who at row = let P : ℕ → Type 0 = λ c. MovesHome Leaves old c (slice_get old.agents c) answer new in let Q : Option (Point T) → Type 0 = λ f. MovesHome Leaves old a f answer new in subst Q at (subst P (named b who) row)
-  row-at found (event.OrMask b) who at row = let P : ℕ → Type 0 = λ c. IsOutcome (or_mask old c (slice_get old.agents c)) answer new in let Q : Option (Point T) → Type 0 = λ f. IsOutcome (or_mask old a f) answer new in subst Q at (subst P (named b who) row)
+  row-at : (lookup : Option (Point T)) (e : Event T) → agent_of e ≡ Some a → slice_get old.agents a ≡ lookup → Row Leaves old e answer new → RowAt lookup e
+  row-at lookup event.Begin who at row = tt
+  row-at lookup (event.ReadMask b) who at row =
+      let P : ℕ → Type 0 = λ c. IsOutcome (read_mask old c (slice_get old.agents c)) answer new in
+      let Q : Option (Point T) → Type 0 = λ f. IsOutcome (read_mask old a f) answer new in subst Q at (subst P (named b who) row)
+  row-at lookup (event.ClearBit b) who at row =
+      let P : ℕ → Type 0 = λ c. IsOutcome (clear_bit old c (slice_get old.agents c)) answer new in
+      let Q : Option (Point T) → Type 0 = λ f. IsOutcome (clear_bit old a f) answer new in subst Q at (subst P (named b who) row)
+  row-at lookup (event.ReadNext b) who at row =
+      let P : ℕ → Type 0 = λ c. IsOutcome (read_next old c (slice_get old.agents c)) answer new in
+      let Q : Option (Point T) → Type 0 = λ f. IsOutcome (read_next old a f) answer new in subst Q at (subst P (named b who) row)
+  row-at lookup (event.MakePage b prepared) who at row =
+      let P : ℕ → Type 0 = λ c. IsOutcome (make_page old c prepared (slice_get old.agents c)) answer new in
+      let Q : Option (Point T) → Type 0 = λ f. IsOutcome (make_page old a prepared f) answer new in
+      subst Q at (subst P (named b who) row)
+  row-at lookup (event.ExchangeNext b) who at row =
+      let P : ℕ → Type 0 = λ c. IsOutcome (exchange_next old c (slice_get old.agents c)) answer new in
+      let Q : Option (Point T) → Type 0 = λ f. IsOutcome (exchange_next old a f) answer new in
+      subst Q at (subst P (named b who) row.0)
+  row-at lookup (event.MoveOut b) who at row =
+      let P : ℕ → Type 0 = λ c. IsOutcome (move_out old c (slice_get old.agents c)) answer new in
+      let Q : Option (Point T) → Type 0 = λ f. IsOutcome (move_out old a f) answer new in subst Q at (subst P (named b who) row)
+  row-at lookup (event.Write b value) who at row =
+      let P : ℕ → Type 0 = λ c. IsOutcome (write old c value (slice_get old.agents c)) answer new in
+      let Q : Option (Point T) → Type 0 = λ f. IsOutcome (write old a value f) answer new in
+      subst Q at (subst P (named b who) row)
+  row-at lookup (event.MoveHome b) who at row =
+      let P : ℕ → Type 0 = λ c. MovesHome Leaves old c (slice_get old.agents c) answer new in
+      let Q : Option (Point T) → Type 0 = λ f. MovesHome Leaves old a f answer new in subst Q at (subst P (named b who) row)
+  row-at lookup (event.OrMask b) who at row =
+      let P : ℕ → Type 0 = λ c. IsOutcome (or_mask old c (slice_get old.agents c)) answer new in
+      let Q : Option (Point T) → Type 0 = λ f. IsOutcome (or_mask old a f) answer new in subst Q at (subst P (named b who) row)
 
   -- a busy step isn't one that isn't enabled
   busy-not : {R : Type 0} → is_idle answer ≡ false → IsOutcome (not_enabled old) answer new → R
-  busy-not busy gives = absurd (let idle : is_idle answer ≡ true = ap is_idle gives.0 in cc)
+  busy-not busy row = absurd (let idle : is_idle answer ≡ true = ap is_idle row.0 in cc)
 
   -- what the only busy step of an agent does, by its point
-  reading-row : (k : ℕ) (e : Event T) → is_idle answer ≡ false → agent_of e ≡ Some a → RowAt (Some (Reading k)) e → IsOutcome (read_mask old a (Some (Reading k))) answer new
+  reading-row : (k : ℕ) (e : Event T) → is_idle answer ≡ false → agent_of e ≡ Some a → RowAt (Some (Reading k)) e
+      → IsOutcome (read_mask old a (Some (Reading k))) answer new
   reading-row k (event.ReadMask b) busy who row = row
   reading-row k event.Begin busy who row = absurd (cc)
   reading-row k (event.MakePage b (Ok values)) busy who row = busy-not busy row
@@ -79,7 +101,8 @@ module _ {T : Type 0} (Leaves : T → T → Type 0) (old : State T) (a : ℕ) (a
   reading-row k (event.MakePage b (Err Limit)) busy who row = busy-not busy row
   reading-row k _ busy who row = busy-not busy row
 
-  link-row : (k : ℕ) (e : Event T) → is_idle answer ≡ false → agent_of e ≡ Some a → RowAt (Some (AtLink k)) e → IsOutcome (read_next old a (Some (AtLink k))) answer new
+  link-row : (k : ℕ) (e : Event T) → is_idle answer ≡ false → agent_of e ≡ Some a → RowAt (Some (AtLink k)) e
+      → IsOutcome (read_next old a (Some (AtLink k))) answer new
   link-row k (event.ReadNext b) busy who row = row
   link-row k event.Begin busy who row = absurd (cc)
   link-row k (event.MakePage b (Ok values)) busy who row = busy-not busy row
@@ -88,7 +111,8 @@ module _ {T : Type 0} (Leaves : T → T → Type 0) (old : State T) (a : ℕ) (a
   link-row k (event.MakePage b (Err Limit)) busy who row = busy-not busy row
   link-row k _ busy who row = busy-not busy row
 
-  clearing-row : (k mask : ℕ) (e : Event T) → is_idle answer ≡ false → agent_of e ≡ Some a → RowAt (Some (Clearing k mask)) e → IsOutcome (clear_bit old a (Some (Clearing k mask))) answer new
+  clearing-row : (k mask : ℕ) (e : Event T) → is_idle answer ≡ false → agent_of e ≡ Some a → RowAt (Some (Clearing k mask)) e
+      → IsOutcome (clear_bit old a (Some (Clearing k mask))) answer new
   clearing-row k mask (event.ClearBit b) busy who row = row
   clearing-row k mask event.Begin busy who row = absurd (cc)
   clearing-row k mask (event.MakePage b (Ok values)) busy who row = busy-not busy row
@@ -97,7 +121,8 @@ module _ {T : Type 0} (Leaves : T → T → Type 0) (old : State T) (a : ℕ) (a
   clearing-row k mask (event.MakePage b (Err Limit)) busy who row = busy-not busy row
   clearing-row k mask _ busy who row = busy-not busy row
 
-  taken-row : (k id : ℕ) (e : Event T) → is_idle answer ≡ false → agent_of e ≡ Some a → RowAt (Some (Taken k id)) e → IsOutcome (move_out old a (Some (Taken k id))) answer new
+  taken-row : (k id : ℕ) (e : Event T) → is_idle answer ≡ false → agent_of e ≡ Some a → RowAt (Some (Taken k id)) e
+      → IsOutcome (move_out old a (Some (Taken k id))) answer new
   taken-row k id (event.MoveOut b) busy who row = row
   taken-row k id event.Begin busy who row = absurd (cc)
   taken-row k id (event.MakePage b (Ok values)) busy who row = busy-not busy row
@@ -106,7 +131,8 @@ module _ {T : Type 0} (Leaves : T → T → Type 0) (old : State T) (a : ℕ) (a
   taken-row k id (event.MakePage b (Err Limit)) busy who row = busy-not busy row
   taken-row k id _ busy who row = busy-not busy row
 
-  linking-row : (k : ℕ) (values : List T) (e : Event T) → is_idle answer ≡ false → agent_of e ≡ Some a → RowAt (Some (Linking k values)) e → IsOutcome (exchange_next old a (Some (Linking k values))) answer new
+  linking-row : (k : ℕ) (values : List T) (e : Event T) → is_idle answer ≡ false → agent_of e ≡ Some a
+      → RowAt (Some (Linking k values)) e → IsOutcome (exchange_next old a (Some (Linking k values))) answer new
   linking-row k values (event.ExchangeNext b) busy who row = row
   linking-row k values event.Begin busy who row = absurd (cc)
   linking-row k values (event.MakePage b (Ok other)) busy who row = busy-not busy row
@@ -115,16 +141,18 @@ module _ {T : Type 0} (Leaves : T → T → Type 0) (old : State T) (a : ℕ) (a
   linking-row k values (event.MakePage b (Err Limit)) busy who row = busy-not busy row
   linking-row k values _ busy who row = busy-not busy row
 
-  making-row : (k : ℕ) (e : Event T) → is_idle answer ≡ false → agent_of e ≡ Some a → BringsPage e answer → RowAt (Some (Making k)) e → (values : List T) × IsOutcome (make_page old a (Ok values) (Some (Making k))) answer new
+  making-row : (k : ℕ) (e : Event T) → is_idle answer ≡ false → agent_of e ≡ Some a → BringsPage e answer
+      → RowAt (Some (Making k)) e → (values : List T) × IsOutcome (make_page old a (Ok values) (Some (Making k))) answer new
   making-row k (event.MakePage b (Ok values)) busy who brings row = (values, row)
   making-row k event.Begin busy who brings row = absurd (cc)
   making-row k (event.MakePage b (Err cause)) busy who brings row = absurd (let idle : is_idle answer ≡ true = ap is_idle brings in cc)
   making-row k _ busy who brings row = busy-not busy row
 
   -- a busy step is a row, since it didn't lack memory
-  pub alone-row : (e : Event T) → IsBusyStep a e answer → (found : Option (Point T)) → slice_get old.agents a ≡ found → Steps Leaves old e answer new → RowAt found e
-  alone-row e alone found at (inl row) = row-at found e alone.own at row
-  alone-row e alone found at (inr (may, lacks, same)) = absurd (let idle : is_idle answer ≡ true = ap is_idle lacks in let busy = alone.busy in cc)
+  alone-row : (e : Event T) → IsBusyStep a e answer → (lookup : Option (Point T)) → slice_get old.agents a ≡ lookup
+      → Steps Leaves old e answer new → RowAt lookup e
+  alone-row e alone lookup at (inl row) = row-at lookup e alone.own at row
+  alone-row e alone lookup at (inr (may, lacks, same)) = absurd (let idle : is_idle answer ≡ true = ap is_idle lacks in let busy = alone.busy in cc)
 
 -- there is no limit below the pages that there are
 no-limit : (limit : Option ℕ) (pages count : ℕ) → count < pages → AllowsPages limit pages → is_limit limit count ≡ false
@@ -133,68 +161,86 @@ no-limit (Some limit) pages count less allowed = ne_eqb limit count (λ is. absu
 
 module _ {T : Type 0} where
   -- where an agent is that has page k as the first with a free number, after n steps from its step c on
-  pub data Walk (pages : List (PageState T)) (k c n a : ℕ) (log : Log T) (world : State T) (found : Option (Point T)) : Type 0 where
-    AtWord : (j : ℕ) → j ≤ k → n ≡ c + 2 * j → found ≡ Some (Reading j) → world.pages ≡ pages → Walk pages k c n a log world found
-    AtChain : (j : ℕ) → j < k → n ≡ c + 2 * j + 1 → found ≡ Some (AtLink j) → world.pages ≡ pages → Walk pages k c n a log world found
-    AtBits : n ≡ c + 2 * k + 1 → found ≡ Some (Clearing k (word_of pages k)) → world.pages ≡ pages → Walk pages k c n a log world found
-    HasTaken : (id : ℕ) → n ≡ c + 2 * k + 2 → found ≡ Some (Taken k id) → Walk pages k c n a log world found
-    HasMoved : c + 2 * k + 3 ≤ n → IsAnswered log (seen.MovedOut a) → (n ≡ c + 2 * k + 3 → HasMovedOut found) → Walk pages k c n a log world found
+  pub data Walk (pages : List (PageState T)) (k c n a : ℕ) (log : Log T) (world : State T) (lookup : Option (Point T)) : Type 0 where
+    AtWord : (j : ℕ) → j ≤ k → n ≡ c + 2 * j → lookup ≡ Some (Reading j) → world.pages ≡ pages → Walk pages k c n a log world lookup
+    AtChain : (j : ℕ) → j < k → n ≡ c + 2 * j + 1 → lookup ≡ Some (AtLink j) → world.pages ≡ pages → Walk pages k c n a log world lookup
+    AtBits : n ≡ c + 2 * k + 1 → lookup ≡ Some (Clearing k (word_of pages k)) → world.pages ≡ pages → Walk pages k c n a log world lookup
+    HasTaken : (id : ℕ) → n ≡ c + 2 * k + 2 → lookup ≡ Some (Taken k id) → Walk pages k c n a log world lookup
+    HasMoved : c + 2 * k + 3 ≤ n → IsAnswered log (seen.MovedOut a) → (n ≡ c + 2 * k + 3 → HasMovedOut lookup) → Walk pages k c n a log world lookup
 
   -- where an agent is that found all pages full, after the steps of the log
-  pub data Chain (pages : List (PageState T)) (limit : Option ℕ) (a : ℕ) (log : Log T) (n : ℕ) (world : State T) (found : Option (Point T)) : Type 0 where
-    FullWord : (j : ℕ) → j < length pages → n ≡ 2 * j → found ≡ Some (Reading j) → world.pages ≡ pages → world.limit ≡ limit → Chain pages limit a log n world found
-    FullLink : (j : ℕ) → j < length pages → n ≡ 2 * j + 1 → found ≡ Some (AtLink j) → world.pages ≡ pages → world.limit ≡ limit → Chain pages limit a log n world found
-    FullMake : (k : ℕ) → length pages ≡ k + 1 → n ≡ 2 * length pages → found ≡ Some (Making k) → world.pages ≡ pages → limit ≢ Some (length pages) → Chain pages limit a log n world found
-    FullMade : (k : ℕ) (values : List T) → length pages ≡ k + 1 → n ≡ 2 * length pages + 1 → found ≡ Some (Linking k values) → world.pages ≡ pages → limit ≢ Some (length pages) → Chain pages limit a log n world found
-    FullLinked : (values : List T) → 2 * length pages + 2 ≤ n → limit ≢ Some (length pages) → Walk (pages ++ linked_page values ∷ []) (length pages) 2 n a log world found → Chain pages limit a log n world found
-    FullRefused : limit ≡ Some (length pages) → 2 * length pages ≤ n → IsAnswered log (seen.Refused a Limit) → Chain pages limit a log n world found
+  pub data Chain (pages : List (PageState T)) (limit : Option ℕ) (a : ℕ) (log : Log T) (n : ℕ) (world : State T) (lookup : Option (Point T)) : Type 0 where
+    FullWord : (j : ℕ) → j < length pages → n ≡ 2 * j → lookup ≡ Some (Reading j) → world.pages ≡ pages → world.limit ≡ limit
+        → Chain pages limit a log n world lookup
+    FullLink : (j : ℕ) → j < length pages → n ≡ 2 * j + 1 → lookup ≡ Some (AtLink j) → world.pages ≡ pages → world.limit ≡ limit
+        → Chain pages limit a log n world lookup
+    FullMake : (k : ℕ) → length pages ≡ k + 1 → n ≡ 2 * length pages → lookup ≡ Some (Making k) → world.pages ≡ pages
+        → limit ≢ Some (length pages) → Chain pages limit a log n world lookup
+    FullMade : (k : ℕ) (values : List T) → length pages ≡ k + 1 → n ≡ 2 * length pages + 1 → lookup ≡ Some (Linking k values)
+        → world.pages ≡ pages → limit ≢ Some (length pages) → Chain pages limit a log n world lookup
+    FullLinked : (values : List T) → 2 * length pages + 2 ≤ n → limit ≢ Some (length pages)
+        → Walk (pages ++ linked_page values ∷ []) (length pages) 2 n a log world lookup → Chain pages limit a log n world lookup
+    FullRefused : limit ≡ Some (length pages) → 2 * length pages ≤ n → IsAnswered log (seen.Refused a Limit) → Chain pages limit a log n world lookup
 
   -- an entry more, with which nothing changes
-  walk-later : (pages : List (PageState T)) (k c n a : ℕ) (entry : Event T × Seen) (log : Log T) (world : State T) (found : Option (Point T)) → Walk pages k c n a log world found → Walk pages k c n a (entry ∷ log) world found
-  walk-later pages k c n a entry log world found (AtWord j below is at same) = AtWord j below is at same
-  walk-later pages k c n a entry log world found (AtChain j below is at same) = AtChain j below is at same
-  walk-later pages k c n a entry log world found (AtBits is at same) = AtBits is at same
-  walk-later pages k c n a entry log world found (HasTaken id is at) = HasTaken id is at
-  walk-later pages k c n a entry log world found (HasMoved past told holds) = HasMoved past (inr told) holds
+  walk-later : (pages : List (PageState T)) (k c n a : ℕ) (entry : Event T × Seen) (log : Log T) (world : State T)
+      (lookup : Option (Point T)) → Walk pages k c n a log world lookup → Walk pages k c n a (entry ∷ log) world lookup
+  walk-later pages k c n a entry log world lookup (AtWord j below is at same) = AtWord j below is at same
+  walk-later pages k c n a entry log world lookup (AtChain j below is at same) = AtChain j below is at same
+  walk-later pages k c n a entry log world lookup (AtBits is at same) = AtBits is at same
+  walk-later pages k c n a entry log world lookup (HasTaken id is at) = HasTaken id is at
+  walk-later pages k c n a entry log world lookup (HasMoved past told holds) = HasMoved past (inr told) holds
 
-  chain-later : (pages : List (PageState T)) (limit : Option ℕ) (a : ℕ) (entry : Event T × Seen) (log : Log T) (n : ℕ) (world : State T) (found : Option (Point T)) → Chain pages limit a log n world found → Chain pages limit a (entry ∷ log) n world found
-  chain-later pages limit a entry log n world found (FullWord j below is at same bound) = FullWord j below is at same bound
-  chain-later pages limit a entry log n world found (FullLink j below is at same bound) = FullLink j below is at same bound
-  chain-later pages limit a entry log n world found (FullMake k last is at same other) = FullMake k last is at same other
-  chain-later pages limit a entry log n world found (FullMade k values last is at same other) = FullMade k values last is at same other
-  chain-later pages limit a entry log n world found (FullLinked values past other walk) = FullLinked values past other (walk-later (pages ++ linked_page values ∷ []) (length pages) 2 n a entry log world found walk)
-  chain-later pages limit a entry log n world found (FullRefused limited past told) = FullRefused limited past (inr told)
+  chain-later : (pages : List (PageState T)) (limit : Option ℕ) (a : ℕ) (entry : Event T × Seen) (log : Log T) (n : ℕ)
+      (world : State T) (lookup : Option (Point T)) → Chain pages limit a log n world lookup
+      → Chain pages limit a (entry ∷ log) n world lookup
+  chain-later pages limit a entry log n world lookup (FullWord j below is at same bound) = FullWord j below is at same bound
+  chain-later pages limit a entry log n world lookup (FullLink j below is at same bound) = FullLink j below is at same bound
+  chain-later pages limit a entry log n world lookup (FullMake k last is at same other) = FullMake k last is at same other
+  chain-later pages limit a entry log n world lookup (FullMade k values last is at same other) = FullMade k values last is at same other
+  chain-later pages limit a entry log n world lookup (FullLinked values past other walk) =
+      FullLinked values past other (walk-later (pages ++ linked_page values ∷ [])
+      (length pages) 2 n a entry log world lookup walk)
+  chain-later pages limit a entry log n world lookup (FullRefused limited past told) = FullRefused limited past (inr told)
 
   -- a test that is known
-  known-test : (test : Bool) (one other : Outcome T) (answer : Seen) (new : State T) → test ≡ true → IsOutcome (if test then one else other) answer new → IsOutcome one answer new
-  known-test true one other answer new is gives = gives
-  known-test false one other answer new is gives = absurd (cc)
+  known-test : (test : Bool) (one other : Outcome T) (answer : Seen) (new : State T) → test ≡ true
+      → IsOutcome (if test then one else other) answer new → IsOutcome one answer new
+  known-test true one other answer new is row = row
+  known-test false one other answer new is row = absurd (cc)
 
-  failed-test : (test : Bool) (one other : Outcome T) (answer : Seen) (new : State T) → test ≡ false → IsOutcome (if test then one else other) answer new → IsOutcome other answer new
-  failed-test false one other answer new is gives = gives
-  failed-test true one other answer new is gives = absurd (cc)
+  failed-test : (test : Bool) (one other : Outcome T) (answer : Seen) (new : State T) → test ≡ false
+      → IsOutcome (if test then one else other) answer new → IsOutcome other answer new
+  failed-test false one other answer new is row = row
+  failed-test true one other answer new is row = absurd (cc)
 
   -- where an agent is after it moved
-  moved-to : (old new : State T) (a : ℕ) (from point : Point T) → slice_get old.agents a ≡ Some from → new.agents ≡ slice_set old.agents a point → slice_get new.agents a ≡ Some point
+  moved-to : (old new : State T) (a : ℕ) (from point : Point T) → slice_get old.agents a ≡ Some from
+      → new.agents ≡ slice_set old.agents a point → slice_get new.agents a ≡ Some point
   moved-to old new a from point at moved = ap (λ all. slice_get all a) moved ∙ get-set_same old.agents a from point at
 
-module _ {T : Type 0} (Leaves : T → T → Type 0) (first : List T) (log : Log T) (acts : List (Act T)) (old : State T) (agrees : Agrees Leaves first log acts old) (a : ℕ) (e : Event T) (answer : Seen) (new : State T) (alone : IsBusyStep a e answer) (step : Steps Leaves old e answer new) where
+module _ {T : Type 0} (Leaves : T → T → Type 0) (first : List T) (log : Log T) (acts : List (Act T)) (old : State T)
+    (agrees : Agrees Leaves first log acts old) (a : ℕ) (e : Event T) (answer : Seen) (new : State T)
+    (alone : IsBusyStep a e answer) (step : Steps Leaves old e answer new) where
   -- an agent reads a word
-  read-word : (j word : ℕ) → slice_get old.agents a ≡ Some (Reading j) → word_of old.pages j ≡ word → (slice_get new.agents a ≡ Some (tries j word)) × (new.pages ≡ old.pages) × (new.limit ≡ old.limit)
+  read-word : (j word : ℕ) → slice_get old.agents a ≡ Some (Reading j) → word_of old.pages j ≡ word
+      → (slice_get new.agents a ≡ Some (tries j word)) × (new.pages ≡ old.pages) × (new.limit ≡ old.limit)
   read-word j word at is =
-      let gives = reading-row Leaves old a answer new j e alone.busy alone.own (alone-row Leaves old a answer new e alone (Some (Reading j)) at step) in
-      let there = moved-to old new a (Reading j) (tries j (word_of old.pages j)) at (ap (λ w. w.agents) gives.1) in
-      (there ∙ ap (λ w. Some (tries j w)) is, ap (λ w. w.pages) gives.1, ap (λ w. w.limit) gives.1)
+      let row = reading-row Leaves old a answer new j e alone.busy alone.own (alone-row Leaves old a answer new e alone (Some (Reading j)) at step) in
+      let there = moved-to old new a (Reading j) (tries j (word_of old.pages j)) at (ap (λ w. w.agents) row.1) in
+      (there ∙ ap (λ w. Some (tries j w)) is, ap (λ w. w.pages) row.1, ap (λ w. w.limit) row.1)
 
   -- an agent goes on to a page that is linked
-  go-on : (j : ℕ) → slice_get old.agents a ≡ Some (AtLink j) → j + 1 < length old.pages → (slice_get new.agents a ≡ Some (Reading (j + 1))) × (new.pages ≡ old.pages) × (new.limit ≡ old.limit)
+  go-on : (j : ℕ) → slice_get old.agents a ≡ Some (AtLink j) → j + 1 < length old.pages
+      → (slice_get new.agents a ≡ Some (Reading (j + 1))) × (new.pages ≡ old.pages) × (new.limit ≡ old.limit)
   go-on j at more =
       let one : Outcome T = (seen.Refused a Limit, at_point old a Ended) in
       let two : Outcome T = (seen.Next a false, at_point old a (Making j)) in
       let three : Outcome T = (seen.Next a true, at_point old a (Reading (j + 1))) in
       let rest : Outcome T = if length old.pages == j + 1 then two else three in
-      let gives = link-row Leaves old a answer new j e alone.busy alone.own (alone-row Leaves old a answer new e alone (Some (AtLink j)) at step) in
-      let there = known-test (nat_lt j (length old.pages)) (if is_limit old.limit (j + 1) then one else rest) (not_enabled old) answer new (lt-ltb j (length old.pages) (omega arith)) gives in
+      let row = link-row Leaves old a answer new j e alone.busy alone.own (alone-row Leaves old a answer new e alone (Some (AtLink j)) at step) in
+      let there = known-test (nat_lt j (length old.pages)) (if is_limit old.limit (j + 1) then one else rest)
+      (not_enabled old) answer new (lt-ltb j (length old.pages) (omega arith)) row in
       let below = failed-test (is_limit old.limit (j + 1)) one rest answer new (no-limit old.limit (length old.pages) (j + 1) more agrees.allowed) there in
       let last = failed-test (length old.pages == j + 1) two three answer new (ne_eqb (length old.pages) (j + 1) (λ is. absurd (omega arith))) below in
       (moved-to old new a (AtLink j) (Reading (j + 1)) at (ap (λ w. w.agents) last.1), ap (λ w. w.pages) last.1, ap (λ w. w.limit) last.1)
@@ -205,19 +251,23 @@ module _ {T : Type 0} (Leaves : T → T → Type 0) (first : List T) (log : Log 
   tries-some : (j word : ℕ) → 0 < word → tries {T = T} j word ≡ Clearing j word
   tries-some j word some = rw (ne_eqb word 0 (λ is. absurd (omega arith))) refl
 
-  taken-step : (k id : ℕ) → slice_get old.agents a ≡ Some (Taken k id) → (found : Option T) → IsOutcome (takes old a k id found) answer new → (answer ≡ seen.MovedOut a) × HasMovedOut (slice_get new.agents a)
-  taken-step k id at None gives = busy-not Leaves old a answer new alone.busy gives
-  taken-step k id at (Some value) gives =
+  taken-step : (k id : ℕ) → slice_get old.agents a ≡ Some (Taken k id) → (lookup : Option T)
+      → IsOutcome (takes old a k id lookup) answer new → (answer ≡ seen.MovedOut a) × HasMovedOut (slice_get new.agents a)
+  taken-step k id at None row = busy-not Leaves old a answer new alone.busy row
+  taken-step k id at (Some value) row =
       let P : Option (Point T) → Type 0 = HasMovedOut in
-      (gives.0, subst P (sym (moved-to old new a (Taken k id) (Holding k id value) at (ap (λ w. w.agents) gives.1))) tt)
+      (row.0, subst P (sym (moved-to old new a (Taken k id) (Holding k id value) at (ap (λ w. w.agents) row.1))) tt)
 
-  pub walk-step : (pages : List (PageState T)) (k c n : ℕ) (so_far : Log T) → IsFirstFree pages k → Walk pages k c n a so_far old (slice_get old.agents a) → Walk pages k c (n + 1) a ((e, answer) ∷ so_far) new (slice_get new.agents a)
+  walk-step : (pages : List (PageState T)) (k c n : ℕ) (so_far : Log T) → IsFirstFree pages k
+      → Walk pages k c n a so_far old (slice_get old.agents a)
+      → Walk pages k c (n + 1) a ((e, answer) ∷ so_far) new (slice_get new.agents a)
   walk-step pages k c n so_far free (AtWord j below is at same) =
       let (there, kept, limit) = read-word j (word_of pages j) at (ap (λ all. word_of all j) same) in
       elim (cases_eq j k) [
         | inl here ↦
             let word : word_of pages j ≡ word_of pages k = ap (word_of pages) here in
-            let point : tries {T = T} j (word_of pages j) ≡ Clearing k (word_of pages k) = ap (tries j) word ∙ ap (λ i. tries i (word_of pages k)) here ∙ tries-some k (word_of pages k) free.free in
+            let point : tries {T = T} j (word_of pages j) ≡ Clearing k (word_of pages k) = ap (tries j) word
+            ∙ ap (λ i. tries i (word_of pages k)) here ∙ tries-some k (word_of pages k) free.free in
             AtBits (omega arith) (there ∙ ap Some point) (kept ∙ same)
         | inr other ↦
             AtChain j (omega arith) (omega arith) (there ∙ ap Some (tries-none j (word_of pages j) (free.full j (omega arith)))) (kept ∙ same)
@@ -233,15 +283,21 @@ module _ {T : Type 0} (Leaves : T → T → Type 0) (first : List T) (log : Log 
       let some = bits.some in
       let id = lowest word in
       let now : word_of old.pages k ≡ word = ap (λ all. word_of all k) same in
-      let one : Outcome T = (seen.Pulled a (number k id), at_point (with_pages old (with_word old.pages k (without_bit (word_of old.pages k) id))) a (Taken k id)) in
+      let one : Outcome T = (
+        seen.Pulled a (number k id),
+        at_point
+            (with_pages old (with_word old.pages k (without_bit (word_of old.pages k) id))) a (Taken k id),
+      ) in
       let two : Outcome T = (seen.Found a (word_of old.pages k), at_point old a (tries k (without_lowest word))) in
-      let gives = clearing-row Leaves old a answer new k word e alone.busy alone.own (alone-row Leaves old a answer new e alone (Some (Clearing k word)) at step) in
-      let more = failed-test (word == 0) (not_enabled old) (clears old a k word (word_of old.pages k)) answer new (ne_eqb word 0 (λ none. absurd (omega arith))) gives in
+      let row = clearing-row Leaves old a answer new k word e alone.busy alone.own
+      (alone-row Leaves old a answer new e alone (Some (Clearing k word)) at step) in
+      let more = failed-test (word == 0) (not_enabled old)
+      (clears old a k word (word_of old.pages k)) answer new (ne_eqb word 0 (λ none. absurd (omega arith))) row in
       let set = known-test (has_bit (word_of old.pages k) id) one two answer new (ap (λ w. has_bit w id) now ∙ has_bit-lowest word some bits.in_word) more in
       HasTaken id (omega arith) (moved-to old new a (Clearing k word) (Taken k id) at (ap (λ w. w.agents) set.1))
   walk-step pages k c n so_far free (HasTaken id is at) =
-      let gives = taken-row Leaves old a answer new k id e alone.busy alone.own (alone-row Leaves old a answer new e alone (Some (Taken k id)) at step) in
-      let taken = taken-step k id at (value_at old.pages k id) gives in
+      let row = taken-row Leaves old a answer new k id e alone.busy alone.own (alone-row Leaves old a answer new e alone (Some (Taken k id)) at step) in
+      let taken = taken-step k id at (value_at old.pages k id) row in
       HasMoved (omega arith) (inl taken.0) (λ now. taken.1)
   walk-step pages k c n so_far free (HasMoved past told holds) = HasMoved (omega arith) (inr told) (λ now. absurd (omega arith))
 
@@ -250,10 +306,13 @@ module _ {T : Type 0} (Leaves : T → T → Type 0) (first : List T) (log : Log 
   linked-free pages values all = record {
     linked = omega (arith, length-append pages (linked_page values ∷ []));
     full = λ j below. ap word_in (get-push_old pages (linked_page values) j below) ∙ all.full j below;
-    free = let word : word_of (pages ++ linked_page values ∷ []) (length pages) ≡ 4294967295 = ap word_in (get-push_new pages (linked_page values)) in omega arith;
+    free = let word : word_of (pages ++ linked_page values ∷ [])
+        (length pages) ≡ 4294967295 = ap word_in (get-push_new pages (linked_page values)) in omega arith;
   }
 
-  pub chain-step : (pages : List (PageState T)) (limit : Option ℕ) (so_far : Log T) (n : ℕ) → AllFull pages → (limit ≢ Some (length pages) → BringsPage e answer) → Chain pages limit a so_far n old (slice_get old.agents a) → Chain pages limit a ((e, answer) ∷ so_far) (n + 1) new (slice_get new.agents a)
+  chain-step : (pages : List (PageState T)) (limit : Option ℕ) (so_far : Log T) (n : ℕ) → AllFull pages
+      → (limit ≢ Some (length pages) → BringsPage e answer) → Chain pages limit a so_far n old (slice_get old.agents a)
+      → Chain pages limit a ((e, answer) ∷ so_far) (n + 1) new (slice_get new.agents a)
   chain-step pages limit so_far n all brings (FullWord j below is at same bound) =
       let (there, kept, limit_kept) = read-word j (word_of pages j) at (ap (λ every. word_of every j) same) in
       FullLink j below (omega arith) (there ∙ ap Some (tries-none j (word_of pages j) (all.full j below))) (kept ∙ same) (limit_kept ∙ bound)
@@ -263,8 +322,9 @@ module _ {T : Type 0} (Leaves : T → T → Type 0) (first : List T) (log : Log 
       let two : Outcome T = (seen.Next a false, at_point old a (Making j)) in
       let three : Outcome T = (seen.Next a true, at_point old a (Reading (j + 1))) in
       let rest : Outcome T = if length old.pages == j + 1 then two else three in
-      let gives = link-row Leaves old a answer new j e alone.busy alone.own (alone-row Leaves old a answer new e alone (Some (AtLink j)) at step) in
-      let there = known-test (nat_lt j (length old.pages)) (if is_limit old.limit (j + 1) then one else rest) (not_enabled old) answer new (lt-ltb j (length old.pages) (omega arith)) gives in
+      let row = link-row Leaves old a answer new j e alone.busy alone.own (alone-row Leaves old a answer new e alone (Some (AtLink j)) at step) in
+      let there = known-test (nat_lt j (length old.pages)) (if is_limit old.limit (j + 1) then one else rest)
+      (not_enabled old) answer new (lt-ltb j (length old.pages) (omega arith)) row in
       elim (cases_eq (length pages) (j + 1)) [
         | inl last ↦ elim (cases_Bool (is_limit old.limit (j + 1))) [
           | inl at_limit ↦
@@ -282,52 +342,67 @@ module _ {T : Type 0} (Leaves : T → T → Type 0) (first : List T) (log : Log 
       ]
   chain-step pages limit so_far n all brings (FullMake k last is at same unlimited) =
       let count : length old.pages ≡ length pages = ap length same in
-      let (values, gives) = making-row Leaves old a answer new k e alone.busy alone.own (brings unlimited) (alone-row Leaves old a answer new e alone (Some (Making k)) at step) in
+      let (values, row) = making-row Leaves old a answer new k e alone.busy alone.own (brings unlimited)
+      (alone-row Leaves old a answer new e alone (Some (Making k)) at step) in
       let one : Outcome T = (seen.Made a, at_point old a (Linking k values)) in
-      let made = known-test (nat_lt k (length old.pages)) one (not_enabled old) answer new (lt-ltb k (length old.pages) (omega arith)) gives in
-      FullMade k values last (omega arith) (moved-to old new a (Making k) (Linking k values) at (ap (λ w. w.agents) made.1)) (ap (λ w. w.pages) made.1 ∙ same) unlimited
+      let made = known-test (nat_lt k (length old.pages)) one (not_enabled old) answer new (lt-ltb k (length old.pages) (omega arith)) row in
+      FullMade k values last (omega arith) (moved-to old new a (Making k) (Linking k values) at (ap (λ w. w.agents) made.1))
+      (ap (λ w. w.pages) made.1 ∙ same) unlimited
   chain-step pages limit so_far n all brings (FullMade k values last is at same unlimited) =
       let count : length old.pages ≡ length pages = ap length same in
       let one : Outcome T = (seen.Linked a, at_point (with_pages old (old.pages ++ linked_page values ∷ [])) a (Reading (k + 1))) in
       let two : Outcome T = (seen.Lost a, at_point old a (Reading (k + 1))) in
-      let gives = linking-row Leaves old a answer new k values e alone.busy alone.own (alone-row Leaves old a answer new e alone (Some (Linking k values)) at step) in
-      let there = known-test (nat_lt k (length old.pages)) (if length old.pages == k + 1 then one else two) (not_enabled old) answer new (lt-ltb k (length old.pages) (omega arith)) gives in
+      let row = linking-row Leaves old a answer new k values e alone.busy alone.own
+      (alone-row Leaves old a answer new e alone (Some (Linking k values)) at step) in
+      let there = known-test (nat_lt k (length old.pages)) (if length old.pages == k + 1 then one else two)
+      (not_enabled old) answer new (lt-ltb k (length old.pages) (omega arith)) row in
       let linked = known-test (length old.pages == k + 1) one two answer new (eq-eqb (length old.pages) (k + 1) (omega arith)) there in
       FullLinked values (omega arith) unlimited
-      (AtWord (k + 1) (omega arith) (omega arith) (moved-to old new a (Linking k values) (Reading (k + 1)) at (ap (λ w. w.agents) linked.1)) (ap (λ w. w.pages) linked.1 ∙ ap (λ every. every ++ linked_page values ∷ []) same))
+      (AtWord (k + 1) (omega arith) (omega arith) (moved-to old new a (Linking k values)
+      (Reading (k + 1)) at (ap (λ w. w.agents) linked.1))
+      (ap (λ w. w.pages) linked.1 ∙ ap (λ every. every ++ linked_page values ∷ []) same))
   chain-step pages limit so_far n all brings (FullLinked values past unlimited walk) =
       FullLinked values (omega arith) unlimited (walk-step (pages ++ linked_page values ∷ []) (length pages) 2 n so_far (linked-free pages values all) walk)
   chain-step pages limit so_far n all brings (FullRefused limited past told) = FullRefused limited (omega arith) (inr told)
 
 -- ---- what an agent alone comes to
 module _ {T : Type 0} where
-  walk-takes : (pages : List (PageState T)) (k c n a : ℕ) (log : Log T) (world : State T) (found : Option (Point T)) → c + 2 * k + 3 ≤ n → Walk pages k c n a log world found → IsAnswered log (seen.MovedOut a) × (n ≡ c + 2 * k + 3 → HasMovedOut found)
-  walk-takes pages k c n a log world found now (AtWord j below is at same) = absurd (omega arith)
-  walk-takes pages k c n a log world found now (AtChain j below is at same) = absurd (omega arith)
-  walk-takes pages k c n a log world found now (AtBits is at same) = absurd (omega arith)
-  walk-takes pages k c n a log world found now (HasTaken id is at) = absurd (omega arith)
-  walk-takes pages k c n a log world found now (HasMoved past told holds) = (told, holds)
+  walk-takes : (pages : List (PageState T)) (k c n a : ℕ) (log : Log T) (world : State T) (lookup : Option (Point T))
+      → c + 2 * k + 3 ≤ n → Walk pages k c n a log world lookup
+      → IsAnswered log (seen.MovedOut a) × (n ≡ c + 2 * k + 3 → HasMovedOut lookup)
+  walk-takes pages k c n a log world lookup now (AtWord j below is at same) = absurd (omega arith)
+  walk-takes pages k c n a log world lookup now (AtChain j below is at same) = absurd (omega arith)
+  walk-takes pages k c n a log world lookup now (AtBits is at same) = absurd (omega arith)
+  walk-takes pages k c n a log world lookup now (HasTaken id is at) = absurd (omega arith)
+  walk-takes pages k c n a log world lookup now (HasMoved past told holds) = (told, holds)
 
-  chain-links : (pages : List (PageState T)) (limit : Option ℕ) (a : ℕ) (log : Log T) (n : ℕ) (world : State T) (found : Option (Point T)) → limit ≢ Some (length pages) → 2 * length pages + 5 ≤ n → Chain pages limit a log n world found → IsAnswered log (seen.MovedOut a) × (n ≡ 2 + 2 * length pages + 3 → HasMovedOut found)
-  chain-links pages limit a log n world found unlimited now (FullWord j below is at same bound) = absurd (omega arith)
-  chain-links pages limit a log n world found unlimited now (FullLink j below is at same bound) = absurd (omega arith)
-  chain-links pages limit a log n world found unlimited now (FullMake k last is at same other) = absurd (omega arith)
-  chain-links pages limit a log n world found unlimited now (FullMade k values last is at same other) = absurd (omega arith)
-  chain-links pages limit a log n world found unlimited now (FullLinked values past other walk) = walk-takes (pages ++ linked_page values ∷ []) (length pages) 2 n a log world found (omega arith) walk
-  chain-links pages limit a log n world found unlimited now (FullRefused limited past told) = absurd (unlimited limited)
+  chain-links : (pages : List (PageState T)) (limit : Option ℕ) (a : ℕ) (log : Log T) (n : ℕ) (world : State T)
+      (lookup : Option (Point T)) → limit ≢ Some (length pages) → 2 * length pages + 5 ≤ n
+      → Chain pages limit a log n world lookup → IsAnswered log (seen.MovedOut a)
+      × (n ≡ 2 + 2 * length pages + 3 → HasMovedOut lookup)
+  chain-links pages limit a log n world lookup unlimited now (FullWord j below is at same bound) = absurd (omega arith)
+  chain-links pages limit a log n world lookup unlimited now (FullLink j below is at same bound) = absurd (omega arith)
+  chain-links pages limit a log n world lookup unlimited now (FullMake k last is at same other) = absurd (omega arith)
+  chain-links pages limit a log n world lookup unlimited now (FullMade k values last is at same other) = absurd (omega arith)
+  chain-links pages limit a log n world lookup unlimited now (FullLinked values past other walk) =
+      walk-takes (pages ++ linked_page values ∷ []) (length pages) 2 n a log world lookup (omega arith) walk
+  chain-links pages limit a log n world lookup unlimited now (FullRefused limited past told) = absurd (unlimited limited)
 
-  chain-refused : (pages : List (PageState T)) (limit : Option ℕ) (a : ℕ) (log : Log T) (n : ℕ) (world : State T) (found : Option (Point T)) → limit ≡ Some (length pages) → 2 * length pages ≤ n → Chain pages limit a log n world found → IsAnswered log (seen.Refused a Limit)
-  chain-refused pages limit a log n world found limited now (FullWord j below is at same bound) = absurd (omega arith)
-  chain-refused pages limit a log n world found limited now (FullLink j below is at same bound) = absurd (omega arith)
-  chain-refused pages limit a log n world found limited now (FullMake k last is at same other) = absurd (other limited)
-  chain-refused pages limit a log n world found limited now (FullMade k values last is at same other) = absurd (other limited)
-  chain-refused pages limit a log n world found limited now (FullLinked values past other walk) = absurd (other limited)
-  chain-refused pages limit a log n world found limited now (FullRefused same past told) = told
+  chain-refused : (pages : List (PageState T)) (limit : Option ℕ) (a : ℕ) (log : Log T) (n : ℕ) (world : State T)
+      (lookup : Option (Point T)) → limit ≡ Some (length pages) → 2 * length pages ≤ n → Chain pages limit a log n world lookup
+      → IsAnswered log (seen.Refused a Limit)
+  chain-refused pages limit a log n world lookup limited now (FullWord j below is at same bound) = absurd (omega arith)
+  chain-refused pages limit a log n world lookup limited now (FullLink j below is at same bound) = absurd (omega arith)
+  chain-refused pages limit a log n world lookup limited now (FullMake k last is at same other) = absurd (other limited)
+  chain-refused pages limit a log n world lookup limited now (FullMade k values last is at same other) = absurd (other limited)
+  chain-refused pages limit a log n world lookup limited now (FullLinked values past other walk) = absurd (other limited)
+  chain-refused pages limit a log n world lookup limited now (FullRefused same past told) = told
 
   -- where an agent is after the events of a log that are all its own
   pub record Stands (old : State T) (log : Log T) (new : State T) (a : ℕ) : Type 0 where
     pub walks : (k : ℕ) → IsFirstFree old.pages k → Walk old.pages k 0 (own_steps log a) a log new (slice_get new.agents a)
-    pub chains : AllFull old.pages → (old.limit ≢ Some (length old.pages) → BringsPages log) → Chain old.pages old.limit a log (own_steps log a) new (slice_get new.agents a)
+    pub chains : AllFull old.pages → (old.limit ≢ Some (length old.pages) → BringsPages log)
+        → Chain old.pages old.limit a log (own_steps log a) new (slice_get new.agents a)
 
   pub stands-first : (old : State T) (a : ℕ) → slice_get old.agents a ≡ Some (Reading 0) → Stands old [] old a
   stands-first old a at = record {
@@ -343,10 +418,12 @@ module _ {T : Type 0} where
       ∙ ap (λ b. if b then own_steps log a + 1 else own_steps log a) (eq-eqb a a refl)
 
   -- by an event that isn't enabled
-  stands-idle : (start old : State T) (log : Log T) (a : ℕ) (e : Event T) (answer : Seen) (new : State T) → is_idle answer ≡ true → new ≡ old → Stands start log old a → Stands start ((e, answer) ∷ log) new a
+  stands-idle : (start old : State T) (log : Log T) (a : ℕ) (e : Event T) (answer : Seen) (new : State T) → is_idle answer ≡ true
+      → new ≡ old → Stands start log old a → Stands start ((e, answer) ∷ log) new a
   stands-idle start old log a e answer new idle same stands =
       let entry : Event T × Seen = (e, answer) in
-      let count : own_steps log a ≡ own_steps (entry ∷ log) a = sym (ap (λ i. if (if i then false else names (agent_of e) a) then own_steps log a + 1 else own_steps log a) idle) in
+      let count : own_steps log a ≡ own_steps (entry ∷ log) a = sym
+      (ap (λ i. if (if i then false else names (agent_of e) a) then own_steps log a + 1 else own_steps log a) idle) in
       record {
         walks = λ k free.
             let P : ℕ → Type 0 = λ n. Walk start.pages k 0 n a (entry ∷ log) old (slice_get old.agents a) in
@@ -355,24 +432,33 @@ module _ {T : Type 0} where
         chains = λ all brings.
             let P : ℕ → Type 0 = λ n. Chain start.pages start.limit a (entry ∷ log) n old (slice_get old.agents a) in
             let Q : State T → Type 0 = λ world. Chain start.pages start.limit a (entry ∷ log) (own_steps (entry ∷ log) a) world (slice_get world.agents a) in
-            subst Q (sym same) (subst P count (chain-later start.pages start.limit a entry log (own_steps log a) old (slice_get old.agents a) (stands.chains all (λ other. (brings other).1))));
+            subst Q (sym same)
+            (subst P count (chain-later start.pages start.limit a entry log (own_steps log a) old (slice_get old.agents a)
+            (stands.chains all (λ other. (brings other).1))));
       }
 
   -- by a step
-  stands-busy : (Leaves : T → T → Type 0) (first : List T) (before : Log T) (acts : List (Act T)) (start old : State T) → Agrees Leaves first before acts old → (log : Log T) (a : ℕ) (e : Event T) (answer : Seen) (new : State T) → IsBusyStep a e answer → Steps Leaves old e answer new → Stands start log old a → Stands start ((e, answer) ∷ log) new a
+  stands-busy : (Leaves : T → T → Type 0) (first : List T) (before : Log T) (acts : List (Act T)) (start old : State T)
+      → Agrees Leaves first before acts old → (log : Log T) (a : ℕ) (e : Event T) (answer : Seen) (new : State T)
+      → IsBusyStep a e answer → Steps Leaves old e answer new → Stands start log old a → Stands start ((e, answer) ∷ log) new a
   stands-busy Leaves first before acts start old agrees log a e answer new alone step stands =
       let entry : Event T × Seen = (e, answer) in
       let count : own_steps log a + 1 ≡ own_steps (entry ∷ log) a = sym (own_steps-busy log a e answer alone) in
       record {
         walks = λ k free.
             let P : ℕ → Type 0 = λ n. Walk start.pages k 0 n a (entry ∷ log) new (slice_get new.agents a) in
-            subst P count (walk-step Leaves first before acts old agrees a e answer new alone step start.pages k 0 (own_steps log a) log free (stands.walks k free));
+            subst P count (walk-step Leaves first before acts old agrees a e answer new alone step start.pages k 0
+            (own_steps log a) log free (stands.walks k free));
         chains = λ all brings.
             let P : ℕ → Type 0 = λ n. Chain start.pages start.limit a (entry ∷ log) n new (slice_get new.agents a) in
-            subst P count (chain-step Leaves first before acts old agrees a e answer new alone step start.pages start.limit log (own_steps log a) all (λ other. (brings other).0) (stands.chains all (λ other. (brings other).1)));
+            subst P count (chain-step Leaves first before acts old agrees a e answer new alone step start.pages start.limit log
+            (own_steps log a) all (λ other. (brings other).0) (stands.chains all (λ other. (brings other).1)));
       }
 
-  pub stands-next : (Leaves : T → T → Type 0) (first : List T) (before : Log T) (acts : List (Act T)) (start old : State T) → Agrees Leaves first before acts old → (log : Log T) (a : ℕ) (e : Event T) (answer : Seen) (new : State T) → IsStepAlone a e answer → Steps Leaves old e answer new → IsExact old e answer new → Stands start log old a → Stands start ((e, answer) ∷ log) new a
+  pub stands-next : (Leaves : T → T → Type 0) (first : List T) (before : Log T) (acts : List (Act T)) (start old : State T)
+      → Agrees Leaves first before acts old → (log : Log T) (a : ℕ) (e : Event T) (answer : Seen) (new : State T)
+      → IsStepAlone a e answer → Steps Leaves old e answer new → IsExact old e answer new → Stands start log old a
+      → Stands start ((e, answer) ∷ log) new a
   stands-next Leaves first before acts start old agrees log a e answer new alone step exact stands =
       elim (cases_Bool (is_idle answer)) [
         | inl idle ↦ stands-idle start old log a e answer new idle (exact.unchanged (idle-not_enabled answer idle alone.memory)) stands

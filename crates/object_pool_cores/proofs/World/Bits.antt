@@ -34,11 +34,13 @@ with_bit-lt word id within fits = or_lt 32 word (2 ^ id) fits (pow-lt within)
 -- one bit is cleared
 pub has_bit-clear_same : (word id : ℕ) → id < 32 → has_bit (without_bit word id) id ≡ false
 has_bit-clear_same word id within =
-    clear-bit (without_bit word id) id (ap (λ one. bit_at (bit_and word (bit_not w32 one)) id) (sym (one_shl id 32 within)) ∙ bit_at_clear_same w32 word id within)
+    clear-bit (without_bit word id) id (ap (λ one. bit_at (bit_and word (bit_not w32 one)) id) (sym (one_shl id 32 within))
+    ∙ bit_at_clear_same w32 word id within)
 
 pub has_bit-clear_other : (word id i : ℕ) → id < 32 → i < 32 → i ≢ id → has_bit (without_bit word id) i ≡ has_bit word i
 has_bit-clear_other word id i within inside other =
-    ap (λ bit. bit == 1) (ap (λ one. bit_at (bit_and word (bit_not w32 one)) i) (sym (one_shl id 32 within)) ∙ bit_at_clear_other w32 word id within i inside other)
+    ap (λ bit. bit == 1) (ap (λ one. bit_at (bit_and word (bit_not w32 one)) i) (sym (one_shl id 32 within))
+    ∙ bit_at_clear_other w32 word id within i inside other)
 
 pub without_bit-lt : (word id : ℕ) → word < 2 ^ 32 → without_bit word id < 2 ^ 32
 without_bit-lt word id fits = let less = and_le_l word (bit_not w32 (2 ^ id)) in omega arith
@@ -52,8 +54,8 @@ has_bit-lowest mask some fits = eq-eqb (bit_at mask (lowest mask)) 1 (bit_at-tra
 
 pub has_bit-without_lowest : (mask i : ℕ) → 0 < mask → mask < 2 ^ 32 → i ≢ lowest mask → has_bit (without_lowest mask) i ≡ has_bit mask i
 has_bit-without_lowest mask i some fits other =
-    let found = bit_at-trailing_zeros w32 mask some fits in
-    ap (λ bit. bit == 1) ((clears_least mask (lowest mask) found.1 found.2).others i other)
+    let lowest_bit = bit_at-trailing_zeros w32 mask some fits in
+    ap (λ bit. bit == 1) ((clears_least mask (lowest mask) lowest_bit.1 lowest_bit.2).others i other)
 
 pub without_lowest-lt : (mask : ℕ) → mask < 2 ^ 32 → without_lowest mask < 2 ^ 32
 without_lowest-lt mask fits = let less = and_le_l mask (mask - 1) in omega arith

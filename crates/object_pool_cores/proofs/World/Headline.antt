@@ -40,20 +40,31 @@ module _ {T : Type 0} where
   nothing-made (event.OrMask a) b = refl
 
 module _ {T : Type 0} (Leaves : T → T → Type 0) (first : List T) (full : length first ≡ 32) where
-  row-goes : (log : Log T) (acts : List (Act T)) (old : State T) → Agrees Leaves first log acts old → (e : Event T) (answer : Seen) (new : State T) → Row Leaves old e answer new → GoesOn Leaves first log e answer new
+  row-goes : (log : Log T) (acts : List (Act T)) (old : State T) → Agrees Leaves first log acts old
+      → (e : Event T) (answer : Seen) (new : State T) → Row Leaves old e answer new → GoesOn Leaves first log e answer new
   row-goes log acts old agrees event.Begin answer new row = begin-goes Leaves first log acts old agrees answer new row
-  row-goes log acts old agrees (event.ReadMask a) answer new row = read_mask-goes Leaves first log acts old agrees a (slice_get old.agents a) refl answer new row
-  row-goes log acts old agrees (event.ClearBit a) answer new row = clear_bit-goes Leaves first log acts old agrees full a (slice_get old.agents a) refl answer new row
-  row-goes log acts old agrees (event.ReadNext a) answer new row = read_next-goes Leaves first log acts old agrees a (slice_get old.agents a) refl answer new row
-  row-goes log acts old agrees (event.MakePage a made) answer new row = make_page-goes Leaves first log acts old agrees a made (slice_get old.agents a) refl answer new row
-  row-goes log acts old agrees (event.ExchangeNext a) answer new row = exchange_next-goes Leaves first log acts old agrees a (slice_get old.agents a) refl answer new row.0 row.1
-  row-goes log acts old agrees (event.MoveOut a) answer new row = move_out-goes Leaves first log acts old agrees full a (slice_get old.agents a) refl answer new row
-  row-goes log acts old agrees (event.Write a value) answer new row = write-goes Leaves first log acts old agrees a value (slice_get old.agents a) refl answer new row
-  row-goes log acts old agrees (event.MoveHome a) answer new row = move_home-goes Leaves first log acts old agrees full a (slice_get old.agents a) refl answer new row
-  row-goes log acts old agrees (event.OrMask a) answer new row = or_mask-goes Leaves first log acts old agrees full a (slice_get old.agents a) refl answer new row
+  row-goes log acts old agrees (event.ReadMask a) answer new row =
+      read_mask-goes Leaves first log acts old agrees a (slice_get old.agents a) refl answer new row
+  row-goes log acts old agrees (event.ClearBit a) answer new row =
+      clear_bit-goes Leaves first log acts old agrees full a (slice_get old.agents a) refl answer new row
+  row-goes log acts old agrees (event.ReadNext a) answer new row =
+      read_next-goes Leaves first log acts old agrees a (slice_get old.agents a) refl answer new row
+  row-goes log acts old agrees (event.MakePage a prepared) answer new row =
+      make_page-goes Leaves first log acts old agrees a prepared (slice_get old.agents a) refl answer new row
+  row-goes log acts old agrees (event.ExchangeNext a) answer new row =
+      exchange_next-goes Leaves first log acts old agrees a (slice_get old.agents a) refl answer new row.0 row.1
+  row-goes log acts old agrees (event.MoveOut a) answer new row =
+      move_out-goes Leaves first log acts old agrees full a (slice_get old.agents a) refl answer new row
+  row-goes log acts old agrees (event.Write a value) answer new row =
+      write-goes Leaves first log acts old agrees a value (slice_get old.agents a) refl answer new row
+  row-goes log acts old agrees (event.MoveHome a) answer new row =
+      move_home-goes Leaves first log acts old agrees full a (slice_get old.agents a) refl answer new row
+  row-goes log acts old agrees (event.OrMask a) answer new row =
+      or_mask-goes Leaves first log acts old agrees full a (slice_get old.agents a) refl answer new row
 
   -- a step keeps the invariant
-  pub step-goes : (log : Log T) (acts : List (Act T)) (old : State T) → Agrees Leaves first log acts old → (e : Event T) (answer : Seen) (new : State T) → Steps Leaves old e answer new → GoesOn Leaves first log e answer new
+  step-goes : (log : Log T) (acts : List (Act T)) (old : State T) → Agrees Leaves first log acts old
+      → (e : Event T) (answer : Seen) (new : State T) → Steps Leaves old e answer new → GoesOn Leaves first log e answer new
   step-goes log acts old agrees e answer new (inl row) = row-goes log acts old agrees e answer new row
   step-goes log acts old agrees e answer new (inr (may, lacks, same)) =
       let P : Seen → Type 0 = λ seen. GoesOn Leaves first log e seen old in
@@ -65,7 +76,9 @@ module _ {T : Type 0} (Leaves : T → T → Type 0) (first : List T) (full : len
   opening-reads limit =
       let none : Pool T = record { pages = 0; at = λ n. Absent } in
       let empty : State T = record { pages = []; agents = []; limit = limit } in
-      let grows : IsSame (grown none first) (reading (opening_world first limit)) = same-grown none empty (opening_world first limit) first full (record { pages = refl; places = λ n. refl }) refl in
+      let grows : IsSame (grown none first)
+      (reading (opening_world first limit)) =
+      same-grown none empty (opening_world first limit) first full (record { pages = refl; places = λ n. refl }) refl in
       record {
         pages = refl;
         places = λ n.
@@ -77,22 +90,22 @@ module _ {T : Type 0} (Leaves : T → T → Type 0) (first : List T) (full : len
   opening-agrees limit allowed = record {
     reads = refl;
     run = tt;
-    found = tt;
+    found_out = tt;
     same = opening-reads limit;
-    words = pushed-all (λ page. page.word < 2 ^ 32) [] (linked_page first) (lit< tt) (λ j page found. cc);
-    places = pushed-all (λ page. length page.places ≡ 32) [] (linked_page first) (length-map first Some ∙ full) (λ j page found. cc);
+    words = pushed-all (λ page. page.word < 2 ^ 32) [] (linked_page first) (lit< tt) (λ j page lookup. cc);
+    places = pushed-all (λ page. length page.places ≡ 32) [] (linked_page first) (length-map first Some ∙ full) (λ j page lookup. cc);
     allowed = allowed;
     agents = λ a. refl;
   }
 
-  -- what the steps so far show
-  pub record Shown (log : Log T) (world : State T) : Type 0 where
+  -- the acts that the steps so far show, which agree with the world
+  pub record Agreement (log : Log T) (world : State T) : Type 0 where
     pub acts : List (Act T)
     pub agrees : Agrees Leaves first log acts world
 
-  pub ran-agrees : (limit : Option ℕ) → AllowsPages limit 1 → (log : Log T) (new : State T) → Ran Leaves (opening_world first limit) log new → Shown log new
+  pub ran-agrees : (limit : Option ℕ) → AllowsPages limit 1 → (log : Log T) (new : State T) → Ran Leaves (opening_world first limit) log new → Agreement log new
   ran-agrees limit allowed [] new same =
-      let P : State T → Type 0 = Shown [] in
+      let P : State T → Type 0 = Agreement [] in
       subst P (sym same) (record { acts = []; agrees = opening-agrees limit allowed })
   ran-agrees limit allowed ((e, answer) ∷ log) new (between, ran, step, exact) =
       let before = ran-agrees limit allowed log between ran in
@@ -100,7 +113,9 @@ module _ {T : Type 0} (Leaves : T → T → Type 0) (first : List T) (full : len
       record { acts = goes.acts; agrees = goes.agrees }
 
   -- an agent that has an item in the world holds it in the run
-  held-is : (log : Log T) (acts : List (Act T)) (world : State T) → Agrees Leaves first log acts world → (a n : ℕ) (value : T) (found : Option (Point T)) → slice_get world.agents a ≡ found → item_of found ≡ Some (n, value) → stage_of acts a ≡ Holds n value
+  held-is : (log : Log T) (acts : List (Act T)) (world : State T) → Agrees Leaves first log acts world
+      → (a n : ℕ) (value : T) (lookup : Option (Point T)) → slice_get world.agents a ≡ lookup → item_of lookup ≡ Some (n, value)
+      → stage_of acts a ≡ Holds n value
   held-is log acts world agrees a n value (Some (Holding k id has)) at held =
       let holds : HoldsAt acts world a k id has = known Leaves first log acts world agrees a (Holding k id has) at in
       let both : ◌≡◌ {A = ℕ × T} (number k id, has) (n, value) = cc in
@@ -108,7 +123,9 @@ module _ {T : Type 0} (Leaves : T → T → Type 0) (first : List T) (full : len
   held-is log acts world agrees a n value _ at held = absurd (cc)
 
   -- an agent that has a number out in the world holds it in the run
-  out-is : (log : Log T) (acts : List (Act T)) (world : State T) → Agrees Leaves first log acts world → (a n : ℕ) (found : Option (Point T)) → slice_get world.agents a ≡ found → number_out found ≡ Some n → (value : T) × (stage_of acts a ≡ Holds n value)
+  out-is : (log : Log T) (acts : List (Act T)) (world : State T) → Agrees Leaves first log acts world
+      → (a n : ℕ) (lookup : Option (Point T)) → slice_get world.agents a ≡ lookup → number_out lookup ≡ Some n
+      → (value : T) × (stage_of acts a ≡ Holds n value)
   out-is log acts world agrees a n (Some (Taken k id)) at out =
       let (value, holds, lies) = known Leaves first log acts world agrees a (Taken k id) at in
       let is : number k id ≡ n = cc in
@@ -123,7 +140,7 @@ module _ {T : Type 0} (Leaves : T → T → Type 0) (first : List T) (full : len
       (value, holds.stage ∙ ap (λ m. Holds m value) is)
   out-is log acts world agrees a n _ at out = absurd (cc)
 
-  pub agrees-run : (log : Log T) (acts : List (Act T)) (world : State T) → Agrees Leaves first log acts world → IsRun Leaves first log world
+  agrees-run : (log : Log T) (acts : List (Act T)) (world : State T) → Agrees Leaves first log acts world → IsRun Leaves first log world
   agrees-run log acts world agrees =
       let some = pages-some first acts in
       let pages = agrees.same.pages in
@@ -138,12 +155,13 @@ module _ {T : Type 0} (Leaves : T → T → Type 0) (first : List T) (full : len
         holders = holders-run Leaves world.limit first full allowed acts agrees.run;
         held = λ a n value has. held-is log acts world agrees a n value (slice_get world.agents a) refl has;
         out = λ a n has. out-is log acts world agrees a n (slice_get world.agents a) refl has;
-        found = agrees.found;
+        found_out = agrees.found_out;
       }
 
 -- from a world in which no agent has begun the steps are a run
-pub ran-is_run : {T : Type 0} (Leaves : T → T → Type 0) (old : State T) (start : IsNew old) (log : Log T) (new : State T) → Ran Leaves old log new → IsRun Leaves start.first log new
+pub ran-is_run : {T : Type 0} (Leaves : T → T → Type 0) (old : State T) (start : IsNew old) (log : Log T) (new : State T)
+    → Ran Leaves old log new → IsRun Leaves start.first log new
 ran-is_run {T} Leaves old start log new ran =
     let P : State T → Type 0 = λ world. Ran Leaves world log new in
-    let shown = ran-agrees Leaves start.first start.full old.limit start.allowed log new (subst P start.same ran) in
-    agrees-run Leaves start.first start.full log shown.acts new shown.agrees
+    let agreed = ran-agrees Leaves start.first start.full old.limit start.allowed log new (subst P start.same ran) in
+    agrees-run Leaves start.first start.full log agreed.acts new agreed.agrees

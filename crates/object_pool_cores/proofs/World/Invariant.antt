@@ -7,7 +7,7 @@ use Rattle.object_pool_cores.specs.declared.interleave.point.Point.{Point}
 use Rattle.object_pool_cores.specs.declared.interleave.point.Point.TheVariants.{Reading, Clearing, AtLink, Making, Linking, Taken, Holding, Home, Ended}
 use Rattle.object_pool_cores.specs.Pool.{Pool, IsSame, IsOut, AllowsPages, number}
 use Rattle.object_pool_cores.specs.Move.{Pull, Return, Growth, Refusal}
-use Rattle.object_pool_cores.specs.Run.{Act, Opens, Writes, Moves, Holds, agent_of, stage_of, pool_of, FoundOut, HadPages, MayCome, FoundBefore}
+use Rattle.object_pool_cores.specs.Run.{Act, Opens, Writes, Moves, Holds, agent_of, stage_of, pool_of, FoundOut, HadPages, MayCome, FoundOutBefore}
 use Rattle.object_pool_cores.specs.World.PageState.{PageState}
 use Rattle.object_pool_cores.specs.World.State.{State}
 use Rattle.object_pool_cores.specs.World.Machine.{Outcome, IsOutcome, value_at}
@@ -32,7 +32,8 @@ module _ {T : Type 0} (first : List T) where
     pub pages : length old.pages ≤ length new.pages
     pub limit : new.limit ≡ old.limit
     pub made : last_made later b ≡ last_made log b
-    pub values : (k id : ℕ) (value : T) → k < length old.pages → id < 32 → stage_of acts b ≡ Holds (number k id) value → value_at new.pages k id ≡ value_at old.pages k id
+    pub values : (k id : ℕ) (value : T) → k < length old.pages → id < 32 → stage_of acts b ≡ Holds (number k id) value
+        → value_at new.pages k id ≡ value_at old.pages k id
 
 module _ {T : Type 0} (Leaves : T → T → Type 0) (first : List T) where
   module _ (log later : Log T) (acts more : List (Act T)) (old new : State T) (b : ℕ) (carries : Carries first log later acts more old new b) where
@@ -40,14 +41,14 @@ module _ {T : Type 0} (Leaves : T → T → Type 0) (first : List T) where
     looks-carried k looks = record {
       looking = carries.stage ∙ looks.looking;
       linked = let below = looks.linked in let more_pages = carries.pages in omega arith;
-      found = λ n below. carries.out n (looks.found n below);
+      found_out = λ n below. carries.out n (looks.found_out n below);
     }
 
     past-carried : (k : ℕ) → IsPast first acts old b k → IsPast first more new b k
     past-carried k past = record {
       looking = carries.stage ∙ past.looking;
       linked = let below = past.linked in let more_pages = carries.pages in omega arith;
-      found = λ n below. carries.out n (past.found n below);
+      found_out = λ n below. carries.out n (past.found_out n below);
     }
 
     end-carried : (k : ℕ) → IsAtEnd first acts old b k → IsAtEnd first more new b k
@@ -66,8 +67,15 @@ module _ {T : Type 0} (Leaves : T → T → Type 0) (first : List T) where
 
     knows-carried : (point : Point T) → Knows Leaves first log acts old b point → Knows Leaves first later more new b point
     knows-carried (Reading k) knows = looks-carried k knows
-    knows-carried (Clearing k mask) knows =
-        (looks-carried k knows.0, record { some = knows.1.some; in_word = knows.1.in_word; others = λ id within clear. carries.out (number k id) (knows.1.others id within clear) })
+    knows-carried (Clearing k mask) knows = (
+      looks-carried k knows.0,
+      record {
+        some = knows.1.some;
+        in_word = knows.1.in_word;
+        others = λ id within clear. carries.out (number k id)
+            (knows.1.others id within clear);
+      },
+    )
     knows-carried (AtLink k) knows = past-carried k knows
     knows-carried (Making k) knows = end-carried k knows
     knows-carried (Linking k values) knows = (end-carried k knows.0, carries.made ∙ knows.1)
@@ -78,7 +86,7 @@ module _ {T : Type 0} (Leaves : T → T → Type 0) (first : List T) where
         (value, kept, holds-carried k id value holds, leaves, carries.values k id value holds.linked holds.in_page holds.stage ∙ lies)
     knows-carried Ended knows = tt
 
-    pub known-carried : (found : Option (Point T)) → KnowsIf Leaves first log acts old b found → KnowsIf Leaves first later more new b found
+    pub known-carried : (lookup : Option (Point T)) → KnowsIf Leaves first log acts old b lookup → KnowsIf Leaves first later more new b lookup
     known-carried None knows = carries.stage ∙ knows
     known-carried (Some point) knows = knows-carried point knows
 
@@ -112,10 +120,12 @@ module _ {T : Type 0} (Leaves : T → T → Type 0) (first : List T) where
     pub words : (k : ℕ) (page : PageState T) → slice_get pages k ≡ Some page → page.word < 2 ^ 32
     pub places : (k : ℕ) (page : PageState T) → slice_get pages k ≡ Some page → length page.places ≡ 32
     pub allowed : AllowsPages world.limit (length pages)
-    pub values : (b k id : ℕ) (value : T) → a ≢ b → k < length world.pages → id < 32 → stage_of acts b ≡ Holds (number k id) value → value_at pages k id ≡ value_at world.pages k id
+    pub values : (b k id : ℕ) (value : T) → a ≢ b → k < length world.pages → id < 32 → stage_of acts b ≡ Holds (number k id) value
+        → value_at pages k id ≡ value_at world.pages k id
 
   -- the pages stay
-  pub pages-stay : (log : Log T) (acts more : List (Act T)) (world : State T) (a : ℕ) → Agrees Leaves first log acts world → pool_of first more ≡ pool_of first acts → StepsPages acts more world world.pages a
+  pub pages-stay : (log : Log T) (acts more : List (Act T)) (world : State T) (a : ℕ) → Agrees Leaves first log acts world
+      → pool_of first more ≡ pool_of first acts → StepsPages acts more world world.pages a
   pages-stay log acts more world a agrees pool = record {
     count = omega arith;
     same = let P : Pool T → Type 0 = λ p. IsSame p (reading world) in subst P (sym pool) agrees.same;
@@ -126,12 +136,17 @@ module _ {T : Type 0} (Leaves : T → T → Type 0) (first : List T) where
   }
 
   -- the agents after one of them moved
-  agents-moved : (log later : Log T) (acts more : List (Act T)) (old new : State T) (a : ℕ) (from point : Point T) → slice_get old.agents a ≡ Some from → Knows Leaves first later more new a point → ((b : ℕ) → a ≢ b → Carries first log later acts more old new b) → ((b : ℕ) → KnowsIf Leaves first log acts old b (slice_get old.agents b)) → (b : ℕ) → KnowsIf Leaves first later more new b (slice_get (slice_set old.agents a point) b)
+  agents-moved : (log later : Log T) (acts more : List (Act T)) (old new : State T) (a : ℕ) (from point : Point T)
+      → slice_get old.agents a ≡ Some from → Knows Leaves first later more new a point
+      → ((b : ℕ) → a ≢ b → Carries first log later acts more old new b)
+      → ((b : ℕ) → KnowsIf Leaves first log acts old b (slice_get old.agents b)) → (b : ℕ)
+      → KnowsIf Leaves first later more new b (slice_get (slice_set old.agents a point) b)
   agents-moved log later acts more old new a from point at own others before b =
       let Known : Option (Point T) → Type 0 = KnowsIf Leaves first later more new b in
       elim (cases_eq a b) [
         | inl same ↦
-            let is : slice_get (slice_set old.agents a point) b ≡ Some point = ap (λ c. slice_get (slice_set old.agents a point) c) (sym same) ∙ get-set_same old.agents a from point at in
+            let is : slice_get (slice_set old.agents a point) b ≡ Some point = ap
+            (λ c. slice_get (slice_set old.agents a point) c) (sym same) ∙ get-set_same old.agents a from point at in
             let P : ℕ → Type 0 = λ c. Knows Leaves first later more new c point in
             subst Known (sym is) (subst P same own)
         | inr other ↦
@@ -140,11 +155,15 @@ module _ {T : Type 0} (Leaves : T → T → Type 0) (first : List T) where
       ]
 
   -- a step whose answer shows nothing
-  pub hidden-step : (log : Log T) (acts : List (Act T)) (world : State T) (e : Event T) (answer : Seen) (a : ℕ) (from point : Point T) (pages : List (PageState T)) → Agrees Leaves first log acts world → slice_get world.agents a ≡ Some from → IsHidden answer → ((b : ℕ) → a ≢ b → made_by e answer b ≡ None) → StepsPages acts acts world pages a → Knows Leaves first ((e, answer) ∷ log) acts (moved world pages a point) a point → Agrees Leaves first ((e, answer) ∷ log) acts (moved world pages a point)
+  pub hidden-step : (log : Log T) (acts : List (Act T)) (world : State T) (e : Event T) (answer : Seen) (a : ℕ)
+      (from point : Point T) (pages : List (PageState T)) → Agrees Leaves first log acts world
+      → slice_get world.agents a ≡ Some from → IsHidden answer → ((b : ℕ) → a ≢ b → made_by e answer b ≡ None)
+      → StepsPages acts acts world pages a → Knows Leaves first ((e, answer) ∷ log) acts (moved world pages a point) a point
+      → Agrees Leaves first ((e, answer) ∷ log) acts (moved world pages a point)
   hidden-step log acts world e answer a from point pages agrees at hidden made left own = record {
     reads = inl (hidden, agrees.reads);
     run = agrees.run;
-    found = agrees.found;
+    found_out = agrees.found_out;
     same = record { pages = left.same.pages; places = left.same.places };
     words = left.words;
     places = left.places;
@@ -152,22 +171,28 @@ module _ {T : Type 0} (Leaves : T → T → Type 0) (first : List T) where
     agents = agents-moved log ((e, answer) ∷ log) acts acts world (moved world pages a point) a from point at own
         (λ b other. record {
           stage = refl;
-          out = λ n found. found;
-          had = λ count found. found;
+          out = λ n out. out;
+          had = λ count had. had;
           pages = left.count;
           limit = refl;
-          made = ap (λ found. or_else found (last_made log b)) (made b other);
+          made = ap (λ lookup. or_else lookup (last_made log b)) (made b other);
           values = λ k id value linked within holds. left.values b k id value other linked within holds;
         })
         agrees.agents;
   }
 
   -- a step whose answer shows an act
-  pub shown-step : (log : Log T) (acts : List (Act T)) (world : State T) (e : Event T) (answer : Seen) (a : ℕ) (from point : Point T) (pages : List (PageState T)) (act : Act T) → Agrees Leaves first log acts world → slice_get world.agents a ≡ Some from → Shows log e answer act → MayCome Leaves world.limit first acts act → FoundBefore first acts act → agent_of act ≡ a → ((b : ℕ) → a ≢ b → made_by e answer b ≡ None) → StepsPages acts (act ∷ acts) world pages a → Knows Leaves first ((e, answer) ∷ log) (act ∷ acts) (moved world pages a point) a point → Agrees Leaves first ((e, answer) ∷ log) (act ∷ acts) (moved world pages a point)
-  shown-step log acts world e answer a from point pages act agrees at shows may found agent made left own = record {
+  pub visible-step : (log : Log T) (acts : List (Act T)) (world : State T) (e : Event T) (answer : Seen) (a : ℕ)
+      (from point : Point T) (pages : List (PageState T)) (act : Act T) → Agrees Leaves first log acts world
+      → slice_get world.agents a ≡ Some from → Shows log e answer act → MayCome Leaves world.limit first acts act
+      → FoundOutBefore first acts act → agent_of act ≡ a → ((b : ℕ) → a ≢ b → made_by e answer b ≡ None)
+      → StepsPages acts (act ∷ acts) world pages a
+      → Knows Leaves first ((e, answer) ∷ log) (act ∷ acts) (moved world pages a point) a point
+      → Agrees Leaves first ((e, answer) ∷ log) (act ∷ acts) (moved world pages a point)
+  visible-step log acts world e answer a from point pages act agrees at shows may found_out agent made left own = record {
     reads = inr (act, acts, refl, shows, agrees.reads);
     run = (may, agrees.run);
-    found = (found, agrees.found);
+    found_out = (found_out, agrees.found_out);
     same = record { pages = left.same.pages; places = left.same.places };
     words = left.words;
     places = left.places;
@@ -181,7 +206,7 @@ module _ {T : Type 0} (Leaves : T → T → Type 0) (first : List T) where
           had = λ count had. since-later first act acts b (λ pool. pool.pages ≡ count) (other-opens act b apart) had;
           pages = left.count;
           limit = refl;
-          made = ap (λ found. or_else found (last_made log b)) (made b other);
+          made = ap (λ lookup. or_else lookup (last_made log b)) (made b other);
           values = λ k id value linked within holds. left.values b k id value other linked within holds;
         })
         agrees.agents;
@@ -193,24 +218,29 @@ module _ {T : Type 0} (Leaves : T → T → Type 0) (first : List T) where
     pub agrees : Agrees Leaves first ((e, answer) ∷ log) acts new
 
   -- an answer and a world are those of an outcome
-  pub from-gives : (log : Log T) (e : Event T) (outcome : Outcome T) (answer : Seen) (new : State T) → GoesOn log e outcome.0 outcome.1 → IsOutcome outcome answer new → GoesOn log e answer new
-  from-gives log e outcome answer new goes gives =
+  pub from-outcome : (log : Log T) (e : Event T) (outcome : Outcome T) (answer : Seen) (new : State T)
+      → GoesOn log e outcome.0 outcome.1 → IsOutcome outcome answer new → GoesOn log e answer new
+  from-outcome log e outcome answer new goes row =
       let P : Seen → Type 0 = λ seen. GoesOn log e seen outcome.1 in
       let Q : State T → Type 0 = λ world. GoesOn log e answer world in
-      subst Q (sym gives.1) (subst P (sym gives.0) goes)
+      subst Q (sym row.1) (subst P (sym row.0) goes)
 
-  pub from-if : (log : Log T) (e : Event T) (test : Bool) (one other : Outcome T) (answer : Seen) (new : State T) → (test ≡ true → IsOutcome one answer new → GoesOn log e answer new) → (test ≡ false → IsOutcome other answer new → GoesOn log e answer new) → IsOutcome (if test then one else other) answer new → GoesOn log e answer new
-  from-if log e true one other answer new then_goes else_goes gives = then_goes refl gives
-  from-if log e false one other answer new then_goes else_goes gives = else_goes refl gives
+  pub from-if : (log : Log T) (e : Event T) (test : Bool) (one other : Outcome T) (answer : Seen) (new : State T)
+      → (test ≡ true → IsOutcome one answer new → GoesOn log e answer new)
+      → (test ≡ false → IsOutcome other answer new → GoesOn log e answer new) → IsOutcome (if test then one else other) answer new
+      → GoesOn log e answer new
+  from-if log e true one other answer new then_goes else_goes row = then_goes refl row
+  from-if log e false one other answer new then_goes else_goes row = else_goes refl row
 
   -- nothing happens
-  pub idle : (log : Log T) (acts : List (Act T)) (world : State T) (e : Event T) (answer : Seen) → Agrees Leaves first log acts world → IsHidden answer → ((b : ℕ) → made_by e answer b ≡ None) → GoesOn log e answer world
+  pub idle : (log : Log T) (acts : List (Act T)) (world : State T) (e : Event T) (answer : Seen)
+      → Agrees Leaves first log acts world → IsHidden answer → ((b : ℕ) → made_by e answer b ≡ None) → GoesOn log e answer world
   idle log acts world e answer agrees hidden made = record {
     acts = acts;
     agrees = record {
       reads = inl (hidden, agrees.reads);
       run = agrees.run;
-      found = agrees.found;
+      found_out = agrees.found_out;
       same = agrees.same;
       words = agrees.words;
       places = agrees.places;
@@ -218,11 +248,11 @@ module _ {T : Type 0} (Leaves : T → T → Type 0) (first : List T) where
       agents = λ b. known-carried Leaves first log ((e, answer) ∷ log) acts acts world world b
           (record {
             stage = refl;
-            out = λ n found. found;
-            had = λ count found. found;
+            out = λ n out. out;
+            had = λ count had. had;
             pages = omega arith;
             limit = refl;
-            made = ap (λ found. or_else found (last_made log b)) (made b);
+            made = ap (λ lookup. or_else lookup (last_made log b)) (made b);
             values = λ k id value linked within holds. refl;
           })
           (slice_get world.agents b) (agrees.agents b);

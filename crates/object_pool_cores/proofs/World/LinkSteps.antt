@@ -12,7 +12,7 @@ use Rattle.object_pool_cores.specs.declared.interleave.point.Point.{Point}
 use Rattle.object_pool_cores.specs.declared.interleave.point.Point.TheVariants.{Reading, AtLink, Making, Linking, Ended}
 use Rattle.object_pool_cores.specs.Pool.{IsOut, AllowsPages}
 use Rattle.object_pool_cores.specs.Move.{Growth, Refusal}
-use Rattle.object_pool_cores.specs.Run.{Act, Opens, Moves, Looking, stage_of, pool_of, FoundPages, HadPages, MayCome}
+use Rattle.object_pool_cores.specs.Run.{Act, Opens, Moves, Looking, stage_of, pool_of, FoundAllOut, HadPages, MayCome}
 use Rattle.object_pool_cores.specs.World.PageState.{PageState}
 use Rattle.object_pool_cores.specs.World.State.{State}
 use Rattle.object_pool_cores.specs.World.Machine.{Outcome, IsOutcome, not_enabled, is_limit, linked_page, value_in, prepared_by, read_next, make_page, exchange_next, LinksWhole}
@@ -20,7 +20,7 @@ use Rattle.object_pool_cores.specs.World.Visible.{Log, IsHidden, made_by, or_els
 use Rattle.object_pool_cores.specs.World.Invariant.{IsPast, IsAtEnd, Agrees}
 use Rattle.object_pool_cores.proofs.Runs.{since-now, since-later, stage_of-own}
 use Rattle.object_pool_cores.proofs.World.Reading.{get-push_old, pushed-all, same-grown}
-use Rattle.object_pool_cores.proofs.World.Invariant.{GoesOn, moved, pages-stay, hidden-step, shown-step, from-gives, from-if, allows-fewer}
+use Rattle.object_pool_cores.proofs.World.Invariant.{GoesOn, moved, pages-stay, hidden-step, visible-step, from-outcome, from-if, allows-fewer}
 use Rattle.object_pool_cores.proofs.World.WordSteps.{known, disabled}
 
 -- there is this limit
@@ -37,23 +37,29 @@ allows-next : (limit : Option ℕ) (count : ℕ) → is_limit limit count ≡ fa
 allows-next None count not allowed = tt
 allows-next (Some limit) count not allowed = let other = eqb-false limit count not in omega arith
 
-module _ {T : Type 0} (Leaves : T → T → Type 0) (first : List T) (log : Log T) (acts : List (Act T)) (old : State T) (agrees : Agrees Leaves first log acts old) where
+module _ {T : Type 0} (Leaves : T → T → Type 0) (first : List T) (log : Log T) (acts : List (Act T)) (old : State T)
+    (agrees : Agrees Leaves first log acts old) where
   -- there are so many pages now
   had-now : (a count : ℕ) → stage_of acts a ≡ Looking → length old.pages ≡ count → HadPages first acts a count
   had-now a count looking pages = since-now first acts a (λ pool. pool.pages ≡ count) looking (agrees.same.pages ∙ pages)
 
   -- the agent is refused
-  refused : (e : Event T) (a k count : ℕ) (from : Point T) (cause : PullError) → slice_get old.agents a ≡ Some from → ((b : ℕ) → made_by e (seen.Refused a cause) b ≡ None) → MayCome Leaves old.limit first acts (Moves a (Refusal cause)) → FoundPages first acts a (k + 1) → HadPages first acts a (k + 1) → GoesOn Leaves first log e (seen.Refused a cause) (moved Leaves first old old.pages a Ended)
-  refused e a k count from cause at made may found had =
+  refused : (e : Event T) (a k count : ℕ) (from : Point T) (cause : PullError) → slice_get old.agents a ≡ Some from
+      → ((b : ℕ) → made_by e (seen.Refused a cause) b ≡ None) → MayCome Leaves old.limit first acts (Moves a (Refusal cause))
+      → FoundAllOut first acts a (k + 1) → HadPages first acts a (k + 1)
+      → GoesOn Leaves first log e (seen.Refused a cause) (moved Leaves first old old.pages a Ended)
+  refused e a k count from cause at made may found_out had =
       let act : Act T = Moves a (Refusal cause) in
       record {
         acts = act ∷ acts;
-        agrees = shown-step Leaves first log acts old e (seen.Refused a cause) a from Ended old.pages act agrees at refl may (k + 1, omega arith, found, had) refl (λ b other. made b)
+        agrees = visible-step Leaves first log acts old e (seen.Refused a cause) a from Ended old.pages act agrees at refl may
+            (k + 1, omega arith, found_out, had) refl (λ b other. made b)
             (pages-stay Leaves first log acts (act ∷ acts) old a agrees refl)
             tt;
       }
 
-  at-limit : (a k : ℕ) → slice_get old.agents a ≡ Some (AtLink k) → is_limit old.limit (k + 1) ≡ true → GoesOn Leaves first log (event.ReadNext a) (seen.Refused a Limit) (moved Leaves first old old.pages a Ended)
+  at-limit : (a k : ℕ) → slice_get old.agents a ≡ Some (AtLink k) → is_limit old.limit (k + 1) ≡ true
+      → GoesOn Leaves first log (event.ReadNext a) (seen.Refused a Limit) (moved Leaves first old old.pages a Ended)
   at-limit a k at is =
       let past : IsPast first acts old a k = known Leaves first log acts old agrees a (AtLink k) at in
       let limit = limit-is old.limit (k + 1) is in
@@ -62,11 +68,12 @@ module _ {T : Type 0} (Leaves : T → T → Type 0) (first : List T) (log : Log 
       let linked = past.linked in
       let count : length old.pages ≡ k + 1 = omega arith in
       let pages : (pool_of first acts).pages ≡ k + 1 = agrees.same.pages ∙ count in
-      let Q : ℕ → Type 0 = FoundPages first acts a in
+      let Q : ℕ → Type 0 = FoundAllOut first acts a in
       refused (event.ReadNext a) a k (k + 1) (AtLink k) Limit at (λ b. refl)
-      (limit ∙ ap Some (sym pages), (past.looking, subst Q (sym pages) past.found)) past.found (had-now a (k + 1) past.looking count)
+      (limit ∙ ap Some (sym pages), (past.looking, subst Q (sym pages) past.found_out)) past.found_out (had-now a (k + 1) past.looking count)
 
-  at-end : (a k : ℕ) → slice_get old.agents a ≡ Some (AtLink k) → is_limit old.limit (k + 1) ≡ false → length old.pages ≡ k + 1 → GoesOn Leaves first log (event.ReadNext a) (seen.Next a false) (moved Leaves first old old.pages a (Making k))
+  at-end : (a k : ℕ) → slice_get old.agents a ≡ Some (AtLink k) → is_limit old.limit (k + 1) ≡ false → length old.pages ≡ k + 1
+      → GoesOn Leaves first log (event.ReadNext a) (seen.Next a false) (moved Leaves first old old.pages a (Making k))
   at-end a k at not count =
       let past : IsPast first acts old a k = known Leaves first log acts old agrees a (AtLink k) at in
       let P : ℕ → Type 0 = AllowsPages old.limit in
@@ -75,25 +82,28 @@ module _ {T : Type 0} (Leaves : T → T → Type 0) (first : List T) (log : Log 
         agrees = hidden-step Leaves first log acts old (event.ReadNext a) (seen.Next a false) a (AtLink k) (Making k) old.pages agrees at tt (λ b other. refl)
             (pages-stay Leaves first log acts acts old a agrees refl)
             (record {
-              past = record { looking = past.looking; linked = past.linked; found = past.found };
+              past = record { looking = past.looking; linked = past.linked; found_out = past.found_out };
               last = had-now a (k + 1) past.looking count;
               allowed = allows-next old.limit (k + 1) not (subst P count agrees.allowed);
             });
       }
 
   -- the agent goes to the next page, which is linked
-  goes-next : (e : Event T) (answer : Seen) (a k : ℕ) (from : Point T) → slice_get old.agents a ≡ Some from → IsHidden answer × ((b : ℕ) → made_by e answer b ≡ None) → IsPast first acts old a k → (length old.pages ≡ k + 1 → ⊥) → GoesOn Leaves first log e answer (moved Leaves first old old.pages a (Reading (k + 1)))
+  goes-next : (e : Event T) (answer : Seen) (a k : ℕ) (from : Point T) → slice_get old.agents a ≡ Some from
+      → IsHidden answer × ((b : ℕ) → made_by e answer b ≡ None) → IsPast first acts old a k → (length old.pages ≡ k + 1 → ⊥)
+      → GoesOn Leaves first log e answer (moved Leaves first old old.pages a (Reading (k + 1)))
   goes-next e answer a k from at hidden past more =
       let linked = past.linked in
       record {
         acts = acts;
         agrees = hidden-step Leaves first log acts old e answer a from (Reading (k + 1)) old.pages agrees at hidden.0 (λ b other. hidden.1 b)
             (pages-stay Leaves first log acts acts old a agrees refl)
-            (record { looking = past.looking; linked = omega arith; found = past.found });
+            (record { looking = past.looking; linked = omega arith; found_out = past.found_out });
       }
 
-  pub read_next-goes : (a : ℕ) (found : Option (Point T)) → slice_get old.agents a ≡ found → (answer : Seen) (new : State T) → IsOutcome (read_next old a found) answer new → GoesOn Leaves first log (event.ReadNext a) answer new
-  read_next-goes a (Some (AtLink k)) at answer new gives =
+  pub read_next-goes : (a : ℕ) (lookup : Option (Point T)) → slice_get old.agents a ≡ lookup → (answer : Seen) (new : State T)
+      → IsOutcome (read_next old a lookup) answer new → GoesOn Leaves first log (event.ReadNext a) answer new
+  read_next-goes a (Some (AtLink k)) at answer new row =
       let e : Event T = event.ReadNext a in
       let past : IsPast first acts old a k = known Leaves first log acts old agrees a (AtLink k) at in
       let one : Outcome T = (seen.Refused a Limit, moved Leaves first old old.pages a Ended) in
@@ -102,58 +112,71 @@ module _ {T : Type 0} (Leaves : T → T → Type 0) (first : List T) (log : Log 
       let rest : Outcome T = if length old.pages == k + 1 then two else three in
       from-if Leaves first log e (nat_lt k (length old.pages)) (if is_limit old.limit (k + 1) then one else rest) (not_enabled old) answer new
       (λ linked gave. from-if Leaves first log e (is_limit old.limit (k + 1)) one rest answer new
-      (λ is given. from-gives Leaves first log e one answer new (at-limit a k at is) given)
+      (λ is given. from-outcome Leaves first log e one answer new (at-limit a k at is) given)
       (λ not given. from-if Leaves first log e (length old.pages == k + 1) two three answer new
-      (λ last this. from-gives Leaves first log e two answer new (at-end a k at not (eqb-true (length old.pages) (k + 1) last)) this)
-      (λ more this. from-gives Leaves first log e three answer new (goes-next e (seen.Next a true) a k (AtLink k) at (tt, λ b. refl) past (eqb-false (length old.pages) (k + 1) more)) this)
+      (λ last this. from-outcome Leaves first log e two answer new (at-end a k at not (eqb-true (length old.pages) (k + 1) last)) this)
+      (λ more this. from-outcome Leaves first log e three answer new
+      (goes-next e (seen.Next a true) a k (AtLink k) at (tt, λ b. refl) past (eqb-false (length old.pages) (k + 1) more))
+      this)
       given)
       gave)
       (λ none gave. disabled Leaves first log acts old agrees e (λ b. refl) answer new gave)
-      gives
-  read_next-goes a _ at answer new gives = disabled Leaves first log acts old agrees (event.ReadNext a) (λ b. refl) answer new gives
+      row
+  read_next-goes a _ at answer new row = disabled Leaves first log acts old agrees (event.ReadNext a) (λ b. refl) answer new row
 
   -- the values of a page are made
-  made : (a k : ℕ) (values : List T) → slice_get old.agents a ≡ Some (Making k) → GoesOn Leaves first log (event.MakePage a (Ok values)) (seen.Made a) (moved Leaves first old old.pages a (Linking k values))
+  made : (a k : ℕ) (values : List T) → slice_get old.agents a ≡ Some (Making k)
+      → GoesOn Leaves first log (event.MakePage a (Ok values)) (seen.Made a)
+      (moved Leaves first old old.pages a (Linking k values))
   made a k values at =
       let end : IsAtEnd first acts old a k = known Leaves first log acts old agrees a (Making k) at in
       let e : Event T = event.MakePage a (Ok values) in
       let own : made_by e (seen.Made a) a ≡ Some values = rw (eq-eqb a a refl) refl in
       record {
         acts = acts;
-        agrees = hidden-step Leaves first log acts old e (seen.Made a) a (Making k) (Linking k values) old.pages agrees at tt (λ b other. rw (ne_eqb a b other) refl)
+        agrees = hidden-step Leaves first log acts old e (seen.Made a) a (Making k)
+            (Linking k values) old.pages agrees at tt (λ b other. rw (ne_eqb a b other) refl)
             (pages-stay Leaves first log acts acts old a agrees refl) (
               record {
-                past = record { looking = end.past.looking; linked = end.past.linked; found = end.past.found };
+                past = record { looking = end.past.looking; linked = end.past.linked; found_out = end.past.found_out };
                 last = end.last;
                 allowed = end.allowed;
               },
-              ap (λ found. or_else found (last_made log a)) own,
+              ap (λ lookup. or_else lookup (last_made log a)) own,
             );
       }
 
-  pub make_page-goes : (a : ℕ) (made_is : Result (List T) PullError) (found : Option (Point T)) → slice_get old.agents a ≡ found → (answer : Seen) (new : State T) → IsOutcome (make_page old a made_is found) answer new → GoesOn Leaves first log (event.MakePage a made_is) answer new
-  make_page-goes a (Ok values) (Some (Making k)) at answer new gives =
+  pub make_page-goes : (a : ℕ) (prepared : Result (List T) PullError) (lookup : Option (Point T))
+      → slice_get old.agents a ≡ lookup → (answer : Seen) (new : State T) → IsOutcome (make_page old a prepared lookup) answer new
+      → GoesOn Leaves first log (event.MakePage a prepared) answer new
+  make_page-goes a (Ok values) (Some (Making k)) at answer new row =
       let e : Event T = event.MakePage a (Ok values) in
       let one : Outcome T = (seen.Made a, moved Leaves first old old.pages a (Linking k values)) in
       from-if Leaves first log e (nat_lt k (length old.pages)) one (not_enabled old) answer new
-      (λ linked gave. from-gives Leaves first log e one answer new (made a k values at) gave)
+      (λ linked gave. from-outcome Leaves first log e one answer new (made a k values at) gave)
       (λ none gave. disabled Leaves first log acts old agrees e (λ b. refl) answer new gave)
-      gives
-  make_page-goes a (Err Memory) (Some (Making k)) at answer new gives =
+      row
+  make_page-goes a (Err Memory) (Some (Making k)) at answer new row =
       let end : IsAtEnd first acts old a k = known Leaves first log acts old agrees a (Making k) at in
       let one : Outcome T = (seen.Refused a Memory, moved Leaves first old old.pages a Ended) in
-      from-gives Leaves first log (event.MakePage a (Err Memory)) one answer new (refused (event.MakePage a (Err Memory)) a k 0 (Making k) Memory at (λ b. refl) (tt, end.past.looking) end.past.found end.last) gives
-  make_page-goes a (Err Init) (Some (Making k)) at answer new gives =
+      from-outcome Leaves first log (event.MakePage a (Err Memory)) one answer new
+      (refused (event.MakePage a (Err Memory)) a k 0 (Making k) Memory at (λ b. refl)
+      (tt, end.past.looking) end.past.found_out end.last) row
+  make_page-goes a (Err Init) (Some (Making k)) at answer new row =
       let end : IsAtEnd first acts old a k = known Leaves first log acts old agrees a (Making k) at in
       let one : Outcome T = (seen.Refused a Init, moved Leaves first old old.pages a Ended) in
-      from-gives Leaves first log (event.MakePage a (Err Init)) one answer new (refused (event.MakePage a (Err Init)) a k 0 (Making k) Init at (λ b. refl) (tt, end.past.looking) end.past.found end.last) gives
-  make_page-goes a (Ok values) _ at answer new gives = disabled Leaves first log acts old agrees (event.MakePage a (Ok values)) (λ b. refl) answer new gives
-  make_page-goes a (Err Limit) _ at answer new gives = disabled Leaves first log acts old agrees (event.MakePage a (Err Limit)) (λ b. refl) answer new gives
-  make_page-goes a (Err Memory) _ at answer new gives = disabled Leaves first log acts old agrees (event.MakePage a (Err Memory)) (λ b. refl) answer new gives
-  make_page-goes a (Err Init) _ at answer new gives = disabled Leaves first log acts old agrees (event.MakePage a (Err Init)) (λ b. refl) answer new gives
+      from-outcome Leaves first log (event.MakePage a (Err Init)) one answer new
+      (refused (event.MakePage a (Err Init)) a k 0 (Making k) Init at (λ b. refl)
+      (tt, end.past.looking) end.past.found_out end.last) row
+  make_page-goes a (Ok values) _ at answer new row = disabled Leaves first log acts old agrees (event.MakePage a (Ok values)) (λ b. refl) answer new row
+  make_page-goes a (Err Limit) _ at answer new row = disabled Leaves first log acts old agrees (event.MakePage a (Err Limit)) (λ b. refl) answer new row
+  make_page-goes a (Err Memory) _ at answer new row = disabled Leaves first log acts old agrees (event.MakePage a (Err Memory)) (λ b. refl) answer new row
+  make_page-goes a (Err Init) _ at answer new row = disabled Leaves first log acts old agrees (event.MakePage a (Err Init)) (λ b. refl) answer new row
 
   -- the agent's own page is linked
-  linked : (a k : ℕ) (values : List T) → slice_get old.agents a ≡ Some (Linking k values) → length values ≡ 32 → length old.pages ≡ k + 1 → GoesOn Leaves first log (event.ExchangeNext a) (seen.Linked a) (moved Leaves first old (old.pages ++ linked_page values ∷ []) a (Reading (k + 1)))
+  linked : (a k : ℕ) (values : List T) → slice_get old.agents a ≡ Some (Linking k values) → length values ≡ 32
+      → length old.pages ≡ k + 1 → GoesOn Leaves first log (event.ExchangeNext a) (seen.Linked a)
+      (moved Leaves first old (old.pages ++ linked_page values ∷ []) a (Reading (k + 1)))
   linked a k values at full count =
       let (end, last) = known Leaves first log acts old agrees a (Linking k values) at in
       let act : Act T = Moves a (Growth values) in
@@ -161,30 +184,33 @@ module _ {T : Type 0} (Leaves : T → T → Type 0) (first : List T) (log : Log 
       let more : length pages ≡ length old.pages + 1 = length-append old.pages (linked_page values ∷ []) in
       let pool_pages : (pool_of first acts).pages ≡ k + 1 = agrees.same.pages ∙ count in
       let looking = end.past.looking in
-      let Q : ℕ → Type 0 = FoundPages first acts a in
+      let Q : ℕ → Type 0 = FoundAllOut first acts a in
       let not_opens : act ≢ Opens a = λ is. cc in
       record {
         acts = act ∷ acts;
-        agrees = shown-step Leaves first log acts old (event.ExchangeNext a) (seen.Linked a) a (Linking k values) (Reading (k + 1)) pages act agrees at (values, last, refl)
+        agrees = visible-step Leaves first log acts old (event.ExchangeNext a) (seen.Linked a) a (Linking k values)
+            (Reading (k + 1)) pages act agrees at (values, last, refl)
             ((full, allows-fewer old.limit ((pool_of first acts).pages + 1) (k + 1 + 1) (omega arith) end.allowed), looking)
-            (subst Q (sym pool_pages) end.past.found) refl (λ b other. refl)
+            (subst Q (sym pool_pages) end.past.found_out) refl (λ b other. refl)
             (record {
               count = omega arith;
               same = same-grown (pool_of first acts) old (record { pages = pages; agents = old.agents; limit = old.limit }) values full agrees.same refl;
               words = pushed-all (λ p. p.word < 2 ^ 32) old.pages (linked_page values) (lit< tt) agrees.words;
               places = pushed-all (λ p. length p.places ≡ 32) old.pages (linked_page values) (length-map values Some ∙ full) agrees.places;
               allowed = allows-fewer old.limit (length pages) (k + 1 + 1) (omega arith) end.allowed;
-              values = λ b j i value other below within holds. ap (λ found. value_in found i) (get-push_old old.pages (linked_page values) j below);
+              values = λ b j i value other below within holds. ap (λ lookup. value_in lookup i) (get-push_old old.pages (linked_page values) j below);
             })
             (record {
               looking = stage_of-own act acts a refl ∙ looking;
               linked = omega arith;
-              found = λ n below. since-later first act acts a (λ pool. IsOut pool n) not_opens (end.past.found n below);
+              found_out = λ n below. since-later first act acts a (λ pool. IsOut pool n) not_opens (end.past.found_out n below);
             });
       }
 
-  pub exchange_next-goes : (a : ℕ) (found : Option (Point T)) → slice_get old.agents a ≡ found → (answer : Seen) (new : State T) → IsOutcome (exchange_next old a found) answer new → LinksWhole answer (prepared_by found) → GoesOn Leaves first log (event.ExchangeNext a) answer new
-  exchange_next-goes a (Some (Linking k values)) at answer new gives whole =
+  pub exchange_next-goes : (a : ℕ) (lookup : Option (Point T)) → slice_get old.agents a ≡ lookup → (answer : Seen) (new : State T)
+      → IsOutcome (exchange_next old a lookup) answer new → LinksWhole answer (prepared_by lookup)
+      → GoesOn Leaves first log (event.ExchangeNext a) answer new
+  exchange_next-goes a (Some (Linking k values)) at answer new row whole =
       let e : Event T = event.ExchangeNext a in
       let (end, last) = known Leaves first log acts old agrees a (Linking k values) at in
       let one : Outcome T = (seen.Linked a, moved Leaves first old (old.pages ++ linked_page values ∷ []) a (Reading (k + 1))) in
@@ -192,9 +218,12 @@ module _ {T : Type 0} (Leaves : T → T → Type 0) (first : List T) (log : Log 
       let Whole : Seen → Type 0 = λ seen. LinksWhole seen (Some values) in
       from-if Leaves first log e (nat_lt k (length old.pages)) (if length old.pages == k + 1 then one else two) (not_enabled old) answer new
       (λ there gave. from-if Leaves first log e (length old.pages == k + 1) one two answer new
-      (λ is given. from-gives Leaves first log e one answer new (linked a k values at (subst Whole given.0 whole) (eqb-true (length old.pages) (k + 1) is)) given)
-      (λ not given. from-gives Leaves first log e two answer new (goes-next e (seen.Lost a) a k (Linking k values) at (tt, λ b. refl) end.past (eqb-false (length old.pages) (k + 1) not)) given)
+      (λ is given. from-outcome Leaves first log e one answer new (linked a k values at (subst Whole given.0 whole)
+      (eqb-true (length old.pages) (k + 1) is)) given)
+      (λ not given. from-outcome Leaves first log e two answer new
+      (goes-next e (seen.Lost a) a k (Linking k values) at (tt, λ b. refl) end.past
+      (eqb-false (length old.pages) (k + 1) not)) given)
       gave)
       (λ none gave. disabled Leaves first log acts old agrees e (λ b. refl) answer new gave)
-      gives
-  exchange_next-goes a _ at answer new gives whole = disabled Leaves first log acts old agrees (event.ExchangeNext a) (λ b. refl) answer new gives
+      row
+  exchange_next-goes a _ at answer new row whole = disabled Leaves first log acts old agrees (event.ExchangeNext a) (λ b. refl) answer new row

@@ -10,11 +10,11 @@ use Rattle.object_pool_cores.specs.World.Machine.{lowest}
 -- there is one lowest bit
 pub lowest_is : (mask id : ℕ) → mask < 2 ^ 32 → 0 < mask → IsLeastBit mask id → id ≡ lowest mask
 lowest_is mask id fits some least =
-    let found = bit_at-trailing_zeros w32 mask some fits in
+    let lowest_bit = bit_at-trailing_zeros w32 mask some fits in
     elim (cases_lt id (lowest mask)) [
-      | inl below ↦ let clear = found.2 id below in let set = least.set in absurd (omega arith)
+      | inl below ↦ let clear = lowest_bit.2 id below in let set = least.set in absurd (omega arith)
       | inr above ↦ elim (cases_lt (lowest mask) id) [
-        | inl past ↦ let clear = least.lowest (lowest mask) past in let set = found.1 in absurd (omega arith)
+        | inl past ↦ let clear = least.lowest (lowest mask) past in let set = lowest_bit.1 in absurd (omega arith)
         | inr same ↦ omega arith
       ]
     ]

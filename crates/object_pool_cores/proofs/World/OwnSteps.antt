@@ -24,11 +24,11 @@ use Rattle.object_pool_cores.proofs.World.Bits.{lowest-lt, without_lowest-lt}
 use Rattle.object_pool_cores.proofs.World.WordSteps.{known}
 
 -- ---- the bits that are tried go up
-pub lowest-grows : (mask : ℕ) → 0 < mask → mask < 2 ^ 32 → without_lowest mask < 2 ^ 32 → 0 < without_lowest mask → lowest mask < lowest (without_lowest mask)
+lowest-grows : (mask : ℕ) → 0 < mask → mask < 2 ^ 32 → without_lowest mask < 2 ^ 32 → 0 < without_lowest mask → lowest mask < lowest (without_lowest mask)
 lowest-grows mask some fits rest_fits more =
-    let found = bit_at-trailing_zeros w32 mask some fits in
+    let lowest_bit = bit_at-trailing_zeros w32 mask some fits in
     let rest = bit_at-trailing_zeros w32 (without_lowest mask) more rest_fits in
-    let cleared = clears_least mask (lowest mask) found.1 found.2 in
+    let cleared = clears_least mask (lowest mask) lowest_bit.1 lowest_bit.2 in
     elim (cases_lt (lowest mask) (lowest (without_lowest mask))) [
       | inl below ↦ below
       | inr above ↦ elim (cases_eq (lowest (without_lowest mask)) (lowest mask)) [
@@ -38,7 +38,7 @@ lowest-grows mask some fits rest_fits more =
             absurd (omega arith)
         | inr other ↦
             let was = cleared.others (lowest (without_lowest mask)) other in
-            let zero = found.2 (lowest (without_lowest mask)) (omega arith) in
+            let zero = lowest_bit.2 (lowest (without_lowest mask)) (omega arith) in
             let set = rest.1 in
             absurd (omega arith)
       ]
@@ -46,7 +46,7 @@ lowest-grows mask some fits rest_fits more =
 
 module _ {T : Type 0} where
   -- how far an agent is that looks: 36 for each page before, and what it did on this one
-  abbrev pub progress : Point T → Option ℕ
+  abbrev progress : Point T → Option ℕ
   progress (Reading k) = Some (36 * k)
   progress (Clearing k mask) = Some (36 * k + 1 + lowest mask)
   progress (AtLink k) = Some (36 * k + 33)
@@ -65,15 +65,16 @@ module _ {T : Type 0} where
     Goes : (from point : Point T) → (own ≡ true) → (old ≡ Some from) → (new ≡ Some point) → Advances from point → Effect old new own
 
   advances-to : (from point : Point T) (sooner later : ℕ) → progress from ≡ Some sooner → progress point ≡ Some later → sooner + 1 ≤ later → Advances from point
-  advances-to from point sooner later is to less other found =
-      let same : Some later ≡ Some other = sym to ∙ found in
+  advances-to from point sooner later is to less other lookup =
+      let same : Some later ≡ Some other = sym to ∙ lookup in
       let equal : later ≡ other = cc in
       (sooner, is, omega arith)
 
   advances-past : (from point : Point T) → progress point ≡ None → Advances from point
-  advances-past from point none later found = absurd (let both : None ≡ Some later = sym none ∙ found in cc)
+  advances-past from point none later lookup = absurd (let both : None ≡ Some later = sym none ∙ lookup in cc)
 
-  advances-tries : (from : Point T) (k mask sooner : ℕ) → progress from ≡ Some sooner → sooner + 1 ≤ 36 * k + 33 → (0 < mask → sooner + 1 ≤ 36 * k + 1 + lowest mask) → Advances from (tries k mask)
+  advances-tries : (from : Point T) (k mask sooner : ℕ) → progress from ≡ Some sooner → sooner + 1 ≤ 36 * k + 33
+      → (0 < mask → sooner + 1 ≤ 36 * k + 1 + lowest mask) → Advances from (tries k mask)
   advances-tries from k mask sooner is link bits =
       let P : Point T → Type 0 = Advances from in
       elim (cases_eq mask 0) [
@@ -86,48 +87,59 @@ module _ {T : Type 0} where
       ]
 
   -- a world in which an agent moved, by an event that names it
-  goes : (e : Event T) (old new : State T) (answer : Seen) (b : ℕ) (from point : Point T) → agent_of e ≡ Some b → is_idle answer ≡ false → slice_get old.agents b ≡ Some from → new.agents ≡ slice_set old.agents b point → Advances from point → (a : ℕ) → Effect (slice_get old.agents a) (slice_get new.agents a) (is_step_of e answer a)
+  goes : (e : Event T) (old new : State T) (answer : Seen) (b : ℕ) (from point : Point T) → agent_of e ≡ Some b
+      → is_idle answer ≡ false → slice_get old.agents b ≡ Some from → new.agents ≡ slice_set old.agents b point
+      → Advances from point → (a : ℕ) → Effect (slice_get old.agents a) (slice_get new.agents a) (is_step_of e answer a)
   goes e old new answer b from point who busy at moved further a =
       let own : is_step_of e answer a ≡ (b == a) = ap (λ idle. if idle then false else names (agent_of e) a) busy ∙ ap (λ agent. names agent a) who in
       elim (cases_eq b a) [
         | inl same ↦
             let was : slice_get old.agents a ≡ Some from = ap (λ c. slice_get old.agents c) (sym same) ∙ at in
-            let is : slice_get new.agents a ≡ Some point = ap (λ all. slice_get all a) moved ∙ ap (λ c. slice_get (slice_set old.agents b point) c) (sym same) ∙ get-set_same old.agents b from point at in
+            let is : slice_get new.agents a ≡ Some point = ap (λ all. slice_get all a) moved
+            ∙ ap (λ c. slice_get (slice_set old.agents b point) c) (sym same) ∙ get-set_same old.agents b from point at in
             Goes from point (own ∙ eq-eqb b a same) was is further
         | inr other ↦
             Stays (own ∙ ne_eqb b a other) (ap (λ all. slice_get all a) moved ∙ get-set_other old.agents b a point (λ is. other (sym is)))
       ]
 
   -- nothing happens
-  stays : (e : Event T) (old new : State T) (answer : Seen) → is_idle answer ≡ true → new ≡ old → (a : ℕ) → Effect (slice_get old.agents a) (slice_get new.agents a) (is_step_of e answer a)
+  stays : (e : Event T) (old new : State T) (answer : Seen) → is_idle answer ≡ true → new ≡ old → (a : ℕ)
+      → Effect (slice_get old.agents a) (slice_get new.agents a) (is_step_of e answer a)
   stays e old new answer idle same a = Stays (ap (λ idle. if idle then false else names (agent_of e) a) idle) (ap (λ world. slice_get world.agents a) same)
 
   -- by the outcome of a test
-  by-test : (P : Type 0) (test : Bool) (one other : Outcome T) (answer : Seen) (new : State T) → IsOutcome (if test then one else other) answer new → (test ≡ true → IsOutcome one answer new → P) → (test ≡ false → IsOutcome other answer new → P) → P
-  by-test P true one other answer new gives then_is else_is = then_is refl gives
-  by-test P false one other answer new gives then_is else_is = else_is refl gives
+  by-test : (P : Type 0) (test : Bool) (one other : Outcome T) (answer : Seen) (new : State T)
+      → IsOutcome (if test then one else other) answer new → (test ≡ true → IsOutcome one answer new → P)
+      → (test ≡ false → IsOutcome other answer new → P) → P
+  by-test P true one other answer new row then_is else_is = then_is refl row
+  by-test P false one other answer new row then_is else_is = else_is refl row
 
-module _ {T : Type 0} (Leaves : T → T → Type 0) (first : List T) (log : Log T) (acts : List (Act T)) (old : State T) (agrees : Agrees Leaves first log acts old) (answer : Seen) (new : State T) where
+module _ {T : Type 0} (Leaves : T → T → Type 0) (first : List T) (log : Log T) (acts : List (Act T)) (old : State T)
+    (agrees : Agrees Leaves first log acts old) (answer : Seen) (new : State T) where
   abbrev Does : Event T → Type 0
   Does e = (a : ℕ) → Effect (slice_get old.agents a) (slice_get new.agents a) (is_step_of e answer a)
 
   -- the event isn't enabled
   idles : (e : Event T) → IsOutcome (not_enabled old) answer new → Does e
-  idles e gives = stays e old new answer (ap is_idle gives.0) gives.1
+  idles e row = stays e old new answer (ap is_idle row.0) row.1
 
   -- its agent moves
-  moves : (e : Event T) (b : ℕ) (from point : Point T) (outcome : Outcome T) → agent_of e ≡ Some b → is_idle outcome.0 ≡ false → slice_get old.agents b ≡ Some from → outcome.1.agents ≡ slice_set old.agents b point → Advances from point → IsOutcome outcome answer new → Does e
-  moves e b from point outcome who busy at moved further gives =
-      goes e old new answer b from point who (ap is_idle gives.0 ∙ busy) at (ap (λ world. world.agents) gives.1 ∙ moved) further
+  moves : (e : Event T) (b : ℕ) (from point : Point T) (outcome : Outcome T) → agent_of e ≡ Some b → is_idle outcome.0 ≡ false
+      → slice_get old.agents b ≡ Some from → outcome.1.agents ≡ slice_set old.agents b point → Advances from point
+      → IsOutcome outcome answer new → Does e
+  moves e b from point outcome who busy at moved further row =
+      goes e old new answer b from point who (ap is_idle row.0 ∙ busy) at (ap (λ world. world.agents) row.1 ∙ moved) further
 
-  read_mask-does : (b : ℕ) (found : Option (Point T)) → slice_get old.agents b ≡ found → IsOutcome (read_mask old b found) answer new → Does (event.ReadMask b)
-  read_mask-does b (Some (Reading k)) at gives =
+  read_mask-does : (b : ℕ) (lookup : Option (Point T)) → slice_get old.agents b ≡ lookup
+      → IsOutcome (read_mask old b lookup) answer new → Does (event.ReadMask b)
+  read_mask-does b (Some (Reading k)) at row =
       moves (event.ReadMask b) b (Reading k) (tries k (word_of old.pages k)) (read_mask old b (Some (Reading k))) refl refl at refl
-      (advances-tries (Reading k) k (word_of old.pages k) (36 * k) refl (omega arith) (λ some. omega arith)) gives
-  read_mask-does b _ at gives = idles (event.ReadMask b) gives
+      (advances-tries (Reading k) k (word_of old.pages k) (36 * k) refl (omega arith) (λ some. omega arith)) row
+  read_mask-does b _ at row = idles (event.ReadMask b) row
 
-  clear_bit-does : (b : ℕ) (found : Option (Point T)) → slice_get old.agents b ≡ found → IsOutcome (clear_bit old b found) answer new → Does (event.ClearBit b)
-  clear_bit-does b (Some (Clearing k mask)) at gives =
+  clear_bit-does : (b : ℕ) (lookup : Option (Point T)) → slice_get old.agents b ≡ lookup
+      → IsOutcome (clear_bit old b lookup) answer new → Does (event.ClearBit b)
+  clear_bit-does b (Some (Clearing k mask)) at row =
       let e : Event T = event.ClearBit b in
       let bits = (known Leaves first log acts old agrees b (Clearing k mask) at).1 in
       let word = word_of old.pages k in
@@ -138,92 +150,112 @@ module _ {T : Type 0} (Leaves : T → T → Type 0) (first : List T) (log : Log 
       let within = lowest-lt mask some fits in
       let one : Outcome T = (seen.Pulled b (number k id), at_point (with_pages old (with_word old.pages k (without_bit word id))) b (Taken k id)) in
       let two : Outcome T = (seen.Found b word, at_point old b (tries k rest)) in
-      by-test (Does e) (mask == 0) (not_enabled old) (clears old b k mask word) answer new gives
+      by-test (Does e) (mask == 0) (not_enabled old) (clears old b k mask word) answer new row
       (λ none gave. idles e gave)
       (λ more gave. by-test (Does e) (has_bit word id) one two answer new gave
       (λ set given. moves e b (Clearing k mask) (Taken k id) one refl refl at refl (advances-past {T = T} (Clearing k mask) (Taken k id) refl) given)
       (λ clear given. moves e b (Clearing k mask) (tries k rest) two refl refl at refl
       (advances-tries (Clearing k mask) k rest (36 * k + 1 + id) refl (omega arith)
       (λ left. let up = lowest-grows mask some fits (without_lowest-lt mask fits) left in omega arith)) given))
-  clear_bit-does b _ at gives = idles (event.ClearBit b) gives
+  clear_bit-does b _ at row = idles (event.ClearBit b) row
 
-  read_next-does : (b : ℕ) (found : Option (Point T)) → slice_get old.agents b ≡ found → IsOutcome (read_next old b found) answer new → Does (event.ReadNext b)
-  read_next-does b (Some (AtLink k)) at gives =
+  read_next-does : (b : ℕ) (lookup : Option (Point T)) → slice_get old.agents b ≡ lookup
+      → IsOutcome (read_next old b lookup) answer new → Does (event.ReadNext b)
+  read_next-does b (Some (AtLink k)) at row =
       let e : Event T = event.ReadNext b in
       let one : Outcome T = (seen.Refused b Limit, at_point old b Ended) in
       let two : Outcome T = (seen.Next b false, at_point old b (Making k)) in
       let three : Outcome T = (seen.Next b true, at_point old b (Reading (k + 1))) in
       let rest : Outcome T = if length old.pages == k + 1 then two else three in
-      by-test (Does e) (nat_lt k (length old.pages)) (if is_limit old.limit (k + 1) then one else rest) (not_enabled old) answer new gives
+      by-test (Does e) (nat_lt k (length old.pages)) (if is_limit old.limit (k + 1) then one else rest) (not_enabled old) answer new row
       (λ there gave. by-test (Does e) (is_limit old.limit (k + 1)) one rest answer new gave
       (λ limit given. moves e b (AtLink k) Ended one refl refl at refl (advances-past {T = T} (AtLink k) Ended refl) given)
       (λ below given. by-test (Does e) (length old.pages == k + 1) two three answer new given
-      (λ last this. moves e b (AtLink k) (Making k) two refl refl at refl (advances-to {T = T} (AtLink k) (Making k) (36 * k + 33) (36 * k + 34) refl refl (omega arith)) this)
-      (λ more this. moves e b (AtLink k) (Reading (k + 1)) three refl refl at refl (advances-to {T = T} (AtLink k) (Reading (k + 1)) (36 * k + 33) (36 * (k + 1)) refl refl (omega arith)) this)))
+      (λ last this. moves e b (AtLink k) (Making k) two refl refl at refl (advances-to {T = T} (AtLink k) (Making k) (36 * k + 33)
+      (36 * k + 34) refl refl (omega arith)) this)
+      (λ more this. moves e b (AtLink k) (Reading (k + 1)) three refl refl at refl (advances-to {T = T} (AtLink k)
+      (Reading (k + 1)) (36 * k + 33) (36 * (k + 1)) refl refl (omega arith)) this)))
       (λ beyond gave. idles e gave)
-  read_next-does b _ at gives = idles (event.ReadNext b) gives
+  read_next-does b _ at row = idles (event.ReadNext b) row
 
-  make_page-does : (b : ℕ) (made : Result (List T) _) (found : Option (Point T)) → slice_get old.agents b ≡ found → IsOutcome (make_page old b made found) answer new → Does (event.MakePage b made)
-  make_page-does b (Ok values) (Some (Making k)) at gives =
+  make_page-does : (b : ℕ) (prepared : Result (List T) _) (lookup : Option (Point T)) → slice_get old.agents b ≡ lookup
+      → IsOutcome (make_page old b prepared lookup) answer new → Does (event.MakePage b prepared)
+  make_page-does b (Ok values) (Some (Making k)) at row =
       let e : Event T = event.MakePage b (Ok values) in
       let one : Outcome T = (seen.Made b, at_point old b (Linking k values)) in
-      by-test (Does e) (nat_lt k (length old.pages)) one (not_enabled old) answer new gives
-      (λ there gave. moves e b (Making k) (Linking k values) one refl refl at refl (advances-to {T = T} (Making k) (Linking k values) (36 * k + 34) (36 * k + 35) refl refl (omega arith)) gave)
+      by-test (Does e) (nat_lt k (length old.pages)) one (not_enabled old) answer new row
+      (λ there gave. moves e b (Making k) (Linking k values) one refl refl at refl (advances-to {T = T} (Making k)
+      (Linking k values) (36 * k + 34) (36 * k + 35) refl refl (omega arith)) gave)
       (λ beyond gave. idles e gave)
-  make_page-does b (Err Memory) (Some (Making k)) at gives = moves (event.MakePage b (Err Memory)) b (Making k) Ended (seen.Refused b Memory, at_point old b Ended) refl refl at refl (advances-past {T = T} (Making k) Ended refl) gives
-  make_page-does b (Err Init) (Some (Making k)) at gives = moves (event.MakePage b (Err Init)) b (Making k) Ended (seen.Refused b Init, at_point old b Ended) refl refl at refl (advances-past {T = T} (Making k) Ended refl) gives
-  make_page-does b (Ok values) _ at gives = idles (event.MakePage b (Ok values)) gives
-  make_page-does b (Err Limit) _ at gives = idles (event.MakePage b (Err Limit)) gives
-  make_page-does b (Err Memory) _ at gives = idles (event.MakePage b (Err Memory)) gives
-  make_page-does b (Err Init) _ at gives = idles (event.MakePage b (Err Init)) gives
+  make_page-does b (Err Memory) (Some (Making k)) at row =
+      moves (event.MakePage b (Err Memory)) b (Making k) Ended (seen.Refused b Memory, at_point old b Ended) refl refl at refl
+      (advances-past {T = T} (Making k) Ended refl) row
+  make_page-does b (Err Init) (Some (Making k)) at row =
+      moves (event.MakePage b (Err Init)) b (Making k) Ended (seen.Refused b Init, at_point old b Ended) refl refl at refl
+      (advances-past {T = T} (Making k) Ended refl) row
+  make_page-does b (Ok values) _ at row = idles (event.MakePage b (Ok values)) row
+  make_page-does b (Err Limit) _ at row = idles (event.MakePage b (Err Limit)) row
+  make_page-does b (Err Memory) _ at row = idles (event.MakePage b (Err Memory)) row
+  make_page-does b (Err Init) _ at row = idles (event.MakePage b (Err Init)) row
 
-  exchange_next-does : (b : ℕ) (found : Option (Point T)) → slice_get old.agents b ≡ found → IsOutcome (exchange_next old b found) answer new → Does (event.ExchangeNext b)
-  exchange_next-does b (Some (Linking k values)) at gives =
+  exchange_next-does : (b : ℕ) (lookup : Option (Point T)) → slice_get old.agents b ≡ lookup
+      → IsOutcome (exchange_next old b lookup) answer new → Does (event.ExchangeNext b)
+  exchange_next-does b (Some (Linking k values)) at row =
       let e : Event T = event.ExchangeNext b in
       let one : Outcome T = (seen.Linked b, at_point (with_pages old (old.pages ++ linked_page values ∷ [])) b (Reading (k + 1))) in
       let two : Outcome T = (seen.Lost b, at_point old b (Reading (k + 1))) in
-      let further : Advances (Linking k values) (Reading (k + 1)) = advances-to {T = T} (Linking k values) (Reading (k + 1)) (36 * k + 35) (36 * (k + 1)) refl refl (omega arith) in
-      by-test (Does e) (nat_lt k (length old.pages)) (if length old.pages == k + 1 then one else two) (not_enabled old) answer new gives
+      let further : Advances (Linking k values) (Reading (k + 1)) = advances-to {T = T} (Linking k values) (Reading (k + 1))
+      (36 * k + 35) (36 * (k + 1)) refl refl (omega arith) in
+      by-test (Does e) (nat_lt k (length old.pages)) (if length old.pages == k + 1 then one else two) (not_enabled old) answer new row
       (λ there gave. by-test (Does e) (length old.pages == k + 1) one two answer new gave
       (λ last given. moves e b (Linking k values) (Reading (k + 1)) one refl refl at refl further given)
       (λ more given. moves e b (Linking k values) (Reading (k + 1)) two refl refl at refl further given))
       (λ beyond gave. idles e gave)
-  exchange_next-does b _ at gives = idles (event.ExchangeNext b) gives
+  exchange_next-does b _ at row = idles (event.ExchangeNext b) row
 
-  takes-does : (b k id : ℕ) → slice_get old.agents b ≡ Some (Taken k id) → (found : Option T) → IsOutcome (takes old b k id found) answer new → Does (event.MoveOut b)
-  takes-does b k id at None gives = idles (event.MoveOut b) gives
-  takes-does b k id at (Some value) gives = moves (event.MoveOut b) b (Taken k id) (Holding k id value) (takes old b k id (Some value)) refl refl at refl (advances-past {T = T} (Taken k id) (Holding k id value) refl) gives
+  takes-does : (b k id : ℕ) → slice_get old.agents b ≡ Some (Taken k id) → (lookup : Option T)
+      → IsOutcome (takes old b k id lookup) answer new → Does (event.MoveOut b)
+  takes-does b k id at None row = idles (event.MoveOut b) row
+  takes-does b k id at (Some value) row = moves (event.MoveOut b) b (Taken k id) (Holding k id value)
+      (takes old b k id (Some value)) refl refl at refl (advances-past {T = T} (Taken k id) (Holding k id value) refl) row
 
-  move_out-does : (b : ℕ) (found : Option (Point T)) → slice_get old.agents b ≡ found → IsOutcome (move_out old b found) answer new → Does (event.MoveOut b)
-  move_out-does b (Some (Taken k id)) at gives = takes-does b k id at (value_at old.pages k id) gives
-  move_out-does b _ at gives = idles (event.MoveOut b) gives
+  move_out-does : (b : ℕ) (lookup : Option (Point T)) → slice_get old.agents b ≡ lookup → IsOutcome (move_out old b lookup) answer new → Does (event.MoveOut b)
+  move_out-does b (Some (Taken k id)) at row = takes-does b k id at (value_at old.pages k id) row
+  move_out-does b _ at row = idles (event.MoveOut b) row
 
-  write-does : (b : ℕ) (value : T) (found : Option (Point T)) → slice_get old.agents b ≡ found → IsOutcome (write old b value found) answer new → Does (event.Write b value)
-  write-does b value (Some (Holding k id before)) at gives = moves (event.Write b value) b (Holding k id before) (Holding k id value) (write old b value (Some (Holding k id before))) refl refl at refl (advances-past {T = T} (Holding k id before) (Holding k id value) refl) gives
-  write-does b value _ at gives = idles (event.Write b value) gives
+  write-does : (b : ℕ) (value : T) (lookup : Option (Point T)) → slice_get old.agents b ≡ lookup
+      → IsOutcome (write old b value lookup) answer new → Does (event.Write b value)
+  write-does b value (Some (Holding k id before)) at row = moves (event.Write b value) b (Holding k id before)
+      (Holding k id value)
+      (write old b value (Some (Holding k id before))) refl refl at refl (advances-past {T = T} (Holding k id before)
+      (Holding k id value) refl) row
+  write-does b value _ at row = idles (event.Write b value) row
 
-  move_home-does : (b : ℕ) (found : Option (Point T)) → slice_get old.agents b ≡ found → MovesHome Leaves old b found answer new → Does (event.MoveHome b)
-  move_home-does b (Some (Holding k id value)) at (kept, leaves, gives) = moves (event.MoveHome b) b (Holding k id value) (Home k id) (puts old b k id kept) refl refl at refl (advances-past {T = T} (Holding k id value) (Home k id) refl) gives
-  move_home-does b None at gives = idles (event.MoveHome b) gives
-  move_home-does b _ at gives = idles (event.MoveHome b) gives
+  move_home-does : (b : ℕ) (lookup : Option (Point T)) → slice_get old.agents b ≡ lookup → MovesHome Leaves old b lookup answer new → Does (event.MoveHome b)
+  move_home-does b (Some (Holding k id value)) at (kept, leaves, row) = moves (event.MoveHome b) b (Holding k id value)
+      (Home k id) (puts old b k id kept) refl refl at refl (advances-past {T = T} (Holding k id value) (Home k id) refl) row
+  move_home-does b None at row = idles (event.MoveHome b) row
+  move_home-does b _ at row = idles (event.MoveHome b) row
 
-  or_mask-does : (b : ℕ) (found : Option (Point T)) → slice_get old.agents b ≡ found → IsOutcome (or_mask old b found) answer new → Does (event.OrMask b)
-  or_mask-does b (Some (Home k id)) at gives =
+  or_mask-does : (b : ℕ) (lookup : Option (Point T)) → slice_get old.agents b ≡ lookup → IsOutcome (or_mask old b lookup) answer new → Does (event.OrMask b)
+  or_mask-does b (Some (Home k id)) at row =
       let e : Event T = event.OrMask b in
       let one : Outcome T = (seen.Returned b (number k id), at_point (with_pages old (with_word old.pages k (with_bit (word_of old.pages k) id))) b Ended) in
-      by-test (Does e) (nat_lt id 32) one (not_enabled old) answer new gives
+      by-test (Does e) (nat_lt id 32) one (not_enabled old) answer new row
       (λ within gave. moves e b (Home k id) Ended one refl refl at refl (advances-past {T = T} (Home k id) Ended refl) gave)
       (λ beyond gave. idles e gave)
-  or_mask-does b _ at gives = idles (event.OrMask b) gives
+  or_mask-does b _ at row = idles (event.OrMask b) row
 
   begin-does : IsOutcome (begin old) answer new → Does event.Begin
-  begin-does gives a =
-      let agents : new.agents ≡ old.agents ++ Reading 0 ∷ [] = ap (λ world. world.agents) gives.1 in
-      let own : is_step_of {T = T} event.Begin answer a ≡ false = ap (λ idle. if idle then false else false) (ap is_idle gives.0) in
+  begin-does row a =
+      let agents : new.agents ≡ old.agents ++ Reading 0 ∷ [] = ap (λ world. world.agents) row.1 in
+      let own : is_step_of {T = T} event.Begin answer a ≡ false = ap (λ idle. if idle then false else false) (ap is_idle row.0) in
       elim (cases_lt a (length old.agents)) [
         | inl below ↦ Stays own (ap (λ all. slice_get all a) agents ∙ get-push_old old.agents (Reading 0) a below)
         | inr past ↦ elim (cases_eq a (length old.agents)) [
-          | inl same ↦ Begins own (slice_get_past old.agents a past) (ap (λ all. slice_get all a) agents ∙ ap (λ c. slice_get (old.agents ++ Reading 0 ∷ []) c) same ∙ get-push_new old.agents (Reading 0))
+          | inl same ↦ Begins own (slice_get_past old.agents a past)
+              (ap (λ all. slice_get all a) agents ∙ ap (λ c. slice_get (old.agents ++ Reading 0 ∷ []) c) same
+              ∙ get-push_new old.agents (Reading 0))
           | inr other ↦
               Stays own
               (ap (λ all. slice_get all a) agents
@@ -237,7 +269,7 @@ module _ {T : Type 0} (Leaves : T → T → Type 0) (first : List T) (log : Log 
   row-does (event.ReadMask b) row = read_mask-does b (slice_get old.agents b) refl row
   row-does (event.ClearBit b) row = clear_bit-does b (slice_get old.agents b) refl row
   row-does (event.ReadNext b) row = read_next-does b (slice_get old.agents b) refl row
-  row-does (event.MakePage b made) row = make_page-does b made (slice_get old.agents b) refl row
+  row-does (event.MakePage b prepared) row = make_page-does b prepared (slice_get old.agents b) refl row
   row-does (event.ExchangeNext b) row = exchange_next-does b (slice_get old.agents b) refl row.0
   row-does (event.MoveOut b) row = move_out-does b (slice_get old.agents b) refl row
   row-does (event.Write b value) row = write-does b value (slice_get old.agents b) refl row
@@ -264,11 +296,12 @@ module _ {T : Type 0} where
   begin-advances start old new n was is before =
       let P : Option (Point T) → Type 0 = AdvancedTo start n in
       let (none, same) = subst P was before in
-      let at : AdvancedTo start n (Some (Reading 0)) = λ later found. (0, ap start_of same, omega arith) in
+      let at : AdvancedTo start n (Some (Reading 0)) = λ later lookup. (0, ap start_of same, omega arith) in
       subst P (sym is) at
 
   -- by one step more
-  pub effect-advances : (start old new : Option (Point T)) (n : ℕ) (own : Bool) → Effect old new own → AdvancedTo start n old → AdvancedTo start (if own then n + 1 else n) new
+  pub effect-advances : (start old new : Option (Point T)) (n : ℕ) (own : Bool) → Effect old new own → AdvancedTo start n old
+      → AdvancedTo start (if own then n + 1 else n) new
   effect-advances start old new n own (Stays not same) before =
       let P : Option (Point T) → Type 0 = AdvancedTo start n in
       let Q : Bool → Type 0 = λ b. AdvancedTo start (if b then n + 1 else n) new in
@@ -281,12 +314,12 @@ module _ {T : Type 0} where
       let R : Option (Point T) → Type 0 = AdvancedTo start (n + 1) in
       let Q : Bool → Type 0 = λ b. AdvancedTo start (if b then n + 1 else n) new in
       let there : AdvancedTo start n (Some from) = subst P was before in
-      let at : AdvancedTo start (n + 1) (Some point) = λ later found.
-      let (middle, from_is, less) = further later found in
+      let at : AdvancedTo start (n + 1) (Some point) = λ later lookup.
+      let (middle, from_is, less) = further later lookup in
       let (sooner, start_is, few) = there middle from_is in
       (sooner, start_is, omega arith) in
       subst Q (sym mine) (subst R (sym is) at)
 
   pub none-advanced : (start : Option (Point T)) → AdvancedTo start 0 start
   none-advanced None = (refl, refl)
-  none-advanced (Some point) = λ later found. (later, found, omega arith)
+  none-advanced (Some point) = λ later lookup. (later, lookup, omega arith)

@@ -11,7 +11,8 @@ module _ {T : Type 0} where
   values_of-push (Some first ∷ places) value = ap (λ rest. first ∷ rest) (values_of-push places value)
 
   -- a list in which each place has its value stays one
-  pub full-push : (places : List (Option T)) (value : T) → places ≡ map Some (values_of places) → places ++ Some value ∷ [] ≡ map Some (values_of (places ++ Some value ∷ []))
+  pub full-push : (places : List (Option T)) (value : T) → places ≡ map Some (values_of places)
+      → places ++ Some value ∷ [] ≡ map Some (values_of (places ++ Some value ∷ []))
   full-push places value full =
       ap (λ all. all ++ Some value ∷ []) full
       ∙ sym (map-append Some (values_of places) (value ∷ []))

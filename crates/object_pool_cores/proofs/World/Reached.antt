@@ -14,7 +14,8 @@ use Rattle.object_pool_cores.proofs.World.OwnSteps.{AdvancedTo, effect-advances,
 
 module _ {T : Type 0} (Leaves : T → T → Type 0) where
   -- steps that follow others
-  pub ran-append : (old between : State T) (earlier : Log T) → Ran Leaves old earlier between → (later : Log T) (new : State T) → Ran Leaves between later new → Ran Leaves old (later ++ earlier) new
+  pub ran-append : (old between : State T) (earlier : Log T) → Ran Leaves old earlier between → (later : Log T) (new : State T)
+      → Ran Leaves between later new → Ran Leaves old (later ++ earlier) new
   ran-append old between earlier before [] new same =
       let P : State T → Type 0 = Ran Leaves old earlier in
       subst P (sym same) before
@@ -30,24 +31,27 @@ module _ {T : Type 0} (Leaves : T → T → Type 0) where
       reached-step Leaves between e answer new (ran-reached old reached log between ran) step
 
   -- an agent goes on by its own steps
-  pub ran-advances : (old : State T) → IsReached old → (a : ℕ) (log : Log T) (new : State T) → Ran Leaves old log new → AdvancedTo (slice_get old.agents a) (own_steps log a) (slice_get new.agents a)
+  pub ran-advances : (old : State T) → IsReached old → (a : ℕ) (log : Log T) (new : State T) → Ran Leaves old log new
+      → AdvancedTo (slice_get old.agents a) (own_steps log a) (slice_get new.agents a)
   ran-advances old reached a [] new same =
       let P : State T → Type 0 = λ world. AdvancedTo (slice_get old.agents a) 0 (slice_get world.agents a) in
       subst P (sym same) (none-advanced (slice_get old.agents a))
   ran-advances old reached a ((e, answer) ∷ log) new (between, ran, step, exact) =
       let there = ran-reached old reached log between ran in
-      let shown = reached-agrees between there in
+      let agreed = reached-agrees between there in
       effect-advances (slice_get old.agents a) (slice_get between.agents a) (slice_get new.agents a) (own_steps log a) (is_step_of e answer a)
-      (step-does (λ before kept. ⊤) there.is_new.first there.log shown.acts between shown.agrees answer new e (any-step Leaves between e answer new step) a)
+      (step-does (λ before kept. ⊤) there.is_new.first there.log agreed.acts between agreed.agrees answer new e (any-step Leaves between e answer new step) a)
       (ran-advances old reached a log between ran)
 
   -- an agent that steps alone
-  pub ran-stands : (old : State T) → IsReached old → (a : ℕ) → slice_get old.agents a ≡ Some (Reading 0) → (log : Log T) (new : State T) → Ran Leaves old log new → IsAlone a log → Stands old log new a
+  pub ran-stands : (old : State T) → IsReached old → (a : ℕ) → slice_get old.agents a ≡ Some (Reading 0)
+      → (log : Log T) (new : State T) → Ran Leaves old log new → IsAlone a log → Stands old log new a
   ran-stands old reached a at [] new same alone =
       let P : State T → Type 0 = λ world. Stands old [] world a in
       subst P (sym same) (stands-first old a at)
   ran-stands old reached a at ((e, answer) ∷ log) new (between, ran, step, exact) alone =
       let there = ran-reached old reached log between ran in
-      let shown = reached-agrees between there in
-      stands-next (λ before kept. ⊤) there.is_new.first there.log shown.acts old between shown.agrees log a e answer new alone.0 (any-step Leaves between e answer new step) exact
+      let agreed = reached-agrees between there in
+      stands-next (λ before kept. ⊤) there.is_new.first there.log agreed.acts old between agreed.agrees log a e answer new alone.0
+      (any-step Leaves between e answer new step) exact
       (ran-stands old reached a at log between ran alone.1)

@@ -41,13 +41,14 @@ module _ {T : Type 0} (f : PageState T → PageState T) where
   abbrev pub changed : List (PageState T) → ℕ → List (PageState T)
   changed pages k = with_page pages k (option_map f (slice_get pages k))
 
-  pub changed-is : (pages : List (PageState T)) (k : ℕ) (page : PageState T) → slice_get pages k ≡ Some page → changed pages k ≡ slice_set pages k (f page)
-  changed-is pages k page at = ap (λ found. with_page pages k (option_map f found)) at
+  changed-is : (pages : List (PageState T)) (k : ℕ) (page : PageState T) → slice_get pages k ≡ Some page → changed pages k ≡ slice_set pages k (f page)
+  changed-is pages k page at = ap (λ lookup. with_page pages k (option_map f lookup)) at
 
-  pub get-changed_same : (pages : List (PageState T)) (k : ℕ) (page : PageState T) → slice_get pages k ≡ Some page → slice_get (changed pages k) k ≡ Some (f page)
+  get-changed_same : (pages : List (PageState T)) (k : ℕ) (page : PageState T) → slice_get pages k ≡ Some page → slice_get (changed pages k) k ≡ Some (f page)
   get-changed_same pages k page at = ap (λ all. slice_get all k) (changed-is pages k page at) ∙ get-set_same pages k page (f page) at
 
-  pub get-changed_other : (pages : List (PageState T)) (k j : ℕ) (page : PageState T) → slice_get pages k ≡ Some page → j ≢ k → slice_get (changed pages k) j ≡ slice_get pages j
+  get-changed_other : (pages : List (PageState T)) (k j : ℕ) (page : PageState T) → slice_get pages k ≡ Some page → j ≢ k
+      → slice_get (changed pages k) j ≡ slice_get pages j
   get-changed_other pages k j page at other = ap (λ all. slice_get all j) (changed-is pages k page at) ∙ get-set_other pages k j (f page) other
 
   pub length-changed : (pages : List (PageState T)) (k : ℕ) (page : PageState T) → slice_get pages k ≡ Some page → length (changed pages k) ≡ length pages
@@ -65,36 +66,43 @@ number_of n = omega arith
 
 module _ {T : Type 0} where
   -- what a number reads as, by its page and id
-  pub reads-number : (world : State T) (k id : ℕ) (page : PageState T) → id < 32 → slice_get world.pages k ≡ Some page → (reading world).at (number k id) ≡ place_of (has_bit page.word id) (value_at world.pages k id)
+  pub reads-number : (world : State T) (k id : ℕ) (page : PageState T) → id < 32 → slice_get world.pages k ≡ Some page
+      → (reading world).at (number k id) ≡ place_of (has_bit page.word id) (value_at world.pages k id)
   reads-number world k id page within at =
       ap (λ j. place_on (slice_get world.pages j) (number k id % 32)) (page_of (number k id) k id within refl)
       ∙ ap (λ i. place_on (slice_get world.pages k) i) (id_of (number k id) k id within refl)
-      ∙ ap (λ found. place_on found id) at
-      ∙ ap (λ found. place_of (has_bit page.word id) (value_in found id)) (sym at)
+      ∙ ap (λ lookup. place_on lookup id) at
+      ∙ ap (λ lookup. place_of (has_bit page.word id) (value_in lookup id)) (sym at)
 
   -- worlds whose pages read alike on each page and id read alike
-  pub reads-alike : (old new : State T) → ((k id : ℕ) → id < 32 → place_on (slice_get new.pages k) id ≡ place_on (slice_get old.pages k) id) → (n : ℕ) → (reading new).at n ≡ (reading old).at n
+  reads-alike :
+      (old new : State T) → ((k id : ℕ) → id < 32 → place_on (slice_get new.pages k) id ≡ place_on (slice_get old.pages k) id)
+      → (n : ℕ) → (reading new).at n ≡ (reading old).at n
   reads-alike old new alike n = alike (n / 32) (n % 32) (omega arith)
 
 -- ---- what holds of each page
 module _ {T : Type 0} (P : PageState T → Type 0) where
-  pub changed-all : (f : PageState T → PageState T) (pages : List (PageState T)) (k : ℕ) (page : PageState T) → slice_get pages k ≡ Some page → P (f page) → ((j : ℕ) (p : PageState T) → slice_get pages j ≡ Some p → P p) → (j : ℕ) (p : PageState T) → slice_get (changed f pages k) j ≡ Some p → P p
-  changed-all f pages k page at here there j p found =
+  pub changed-all : (f : PageState T → PageState T) (pages : List (PageState T)) (k : ℕ) (page : PageState T)
+      → slice_get pages k ≡ Some page → P (f page) → ((j : ℕ) (p : PageState T) → slice_get pages j ≡ Some p → P p)
+      → (j : ℕ) (p : PageState T) → slice_get (changed f pages k) j ≡ Some p → P p
+  changed-all f pages k page at here there j p lookup =
       elim (cases_eq j k) [
         | inl same ↦
-            let both : Some (f page) ≡ Some p = sym (get-changed_same f pages k page at) ∙ ap (λ i. slice_get (changed f pages k) i) (sym same) ∙ found in
+            let both : Some (f page) ≡ Some p = sym (get-changed_same f pages k page at) ∙ ap (λ i. slice_get (changed f pages k) i) (sym same) ∙ lookup in
             let is : f page ≡ p = cc in
             subst P is here
-        | inr other ↦ there j p (sym (get-changed_other f pages k j page at other) ∙ found)
+        | inr other ↦ there j p (sym (get-changed_other f pages k j page at other) ∙ lookup)
       ]
 
-  pub pushed-all : (pages : List (PageState T)) (last : PageState T) → P last → ((j : ℕ) (p : PageState T) → slice_get pages j ≡ Some p → P p) → (j : ℕ) (p : PageState T) → slice_get (pages ++ last ∷ []) j ≡ Some p → P p
-  pushed-all pages last here there j p found =
+  pub pushed-all : (pages : List (PageState T)) (last : PageState T) → P last
+      → ((j : ℕ) (p : PageState T) → slice_get pages j ≡ Some p → P p) → (j : ℕ) (p : PageState T)
+      → slice_get (pages ++ last ∷ []) j ≡ Some p → P p
+  pushed-all pages last here there j p lookup =
       elim (cases_lt j (length pages)) [
-        | inl below ↦ there j p (sym (get-push_old pages last j below) ∙ found)
+        | inl below ↦ there j p (sym (get-push_old pages last j below) ∙ lookup)
         | inr past ↦ elim (cases_eq j (length pages)) [
           | inl same ↦
-              let both : Some last ≡ Some p = sym (get-push_new pages last) ∙ ap (λ i. slice_get (pages ++ last ∷ []) i) (sym same) ∙ found in
+              let both : Some last ≡ Some p = sym (get-push_new pages last) ∙ ap (λ i. slice_get (pages ++ last ∷ []) i) (sym same) ∙ lookup in
               let is : last ≡ p = cc in
               subst P is here
           | inr other ↦ let none = slice_get_past (pages ++ last ∷ []) j (omega (arith, length-append pages (last ∷ []))) in absurd (cc)
@@ -103,48 +111,59 @@ module _ {T : Type 0} (P : PageState T → Type 0) where
 
 -- ---- the values at places
 module _ {T : Type 0} where
-  pub value-word : (pages : List (PageState T)) (k word : ℕ) (page : PageState T) → slice_get pages k ≡ Some page → (j i : ℕ) → value_at (with_word pages k word) j i ≡ value_at pages j i
+  pub value-word : (pages : List (PageState T)) (k word : ℕ) (page : PageState T) → slice_get pages k ≡ Some page → (j i : ℕ)
+      → value_at (with_word pages k word) j i ≡ value_at pages j i
   value-word pages k word page at j i =
       let f : PageState T → PageState T = λ page. record { word = word; places = page.places } in
       elim (cases_eq j k) [
         | inl same ↦
-            let old : value_at pages j i ≡ value_in (Some page) i = ap (λ found. value_in found i) (ap (λ m. slice_get pages m) same ∙ at) in
-            let new : value_at (with_word pages k word) j i ≡ value_in (Some (f page)) i = ap (λ found. value_in found i) (ap (λ m. slice_get (with_word pages k word) m) same ∙ get-changed_same f pages k page at) in
+            let old : value_at pages j i ≡ value_in (Some page) i = ap (λ lookup. value_in lookup i) (ap (λ m. slice_get pages m) same ∙ at) in
+            let new : value_at (with_word pages k word) j i ≡ value_in (Some (f page)) i = ap (λ lookup. value_in lookup i)
+            (ap (λ m. slice_get (with_word pages k word) m) same ∙ get-changed_same f pages k page at) in
             new ∙ sym old
-        | inr other ↦ ap (λ found. value_in found i) (get-changed_other f pages k j page at other)
+        | inr other ↦ ap (λ lookup. value_in lookup i) (get-changed_other f pages k j page at other)
       ]
 
-  pub value-put_same : (pages : List (PageState T)) (k id : ℕ) (value : Option T) (page : PageState T) → slice_get pages k ≡ Some page → id < length page.places → value_at (with_value pages k id value) k id ≡ value
+  pub value-put_same : (pages : List (PageState T)) (k id : ℕ) (value : Option T) (page : PageState T)
+      → slice_get pages k ≡ Some page → id < length page.places → value_at (with_value pages k id value) k id ≡ value
   value-put_same pages k id value page at within =
       let f : PageState T → PageState T = λ page. record { word = page.word; places = slice_set page.places id value } in
       let (old, is) = get-some page.places id within in
-      ap (λ found. value_in found id) (get-changed_same f pages k page at) ∙ ap (option_and_then (λ place. place)) (get-set_same page.places id old value is)
+      ap (λ lookup. value_in lookup id) (get-changed_same f pages k page at) ∙ ap (option_and_then (λ place. place)) (get-set_same page.places id old value is)
 
-  pub value-put_other : (pages : List (PageState T)) (k id : ℕ) (value : Option T) (page : PageState T) → slice_get pages k ≡ Some page → (j i : ℕ) → ((j ≢ k) ⊎ (i ≢ id)) → value_at (with_value pages k id value) j i ≡ value_at pages j i
+  pub value-put_other : (pages : List (PageState T)) (k id : ℕ) (value : Option T) (page : PageState T)
+      → slice_get pages k ≡ Some page → (j i : ℕ) → ((j ≢ k) ⊎ (i ≢ id))
+      → value_at (with_value pages k id value) j i ≡ value_at pages j i
   value-put_other pages k id value page at j i apart =
       let f : PageState T → PageState T = λ page. record { word = page.word; places = slice_set page.places id value } in
       elim (cases_eq j k) [
         | inl same ↦
-            let old : value_at pages j i ≡ value_in (Some page) i = ap (λ found. value_in found i) (ap (λ m. slice_get pages m) same ∙ at) in
-            let new : value_at (with_value pages k id value) j i ≡ value_in (Some (f page)) i = ap (λ found. value_in found i) (ap (λ m. slice_get (with_value pages k id value) m) same ∙ get-changed_same f pages k page at) in
+            let old : value_at pages j i ≡ value_in (Some page) i = ap (λ lookup. value_in lookup i) (ap (λ m. slice_get pages m) same ∙ at) in
+            let new : value_at (with_value pages k id value) j i ≡ value_in (Some (f page)) i = ap (λ lookup. value_in lookup i)
+            (ap (λ m. slice_get (with_value pages k id value) m) same ∙ get-changed_same f pages k page at) in
             elim apart [
               | inl other ↦ absurd (other same)
               | inr other ↦ new ∙ ap (option_and_then (λ place. place)) (get-set_other page.places id i value other) ∙ sym old
             ]
-        | inr other ↦ ap (λ found. value_in found i) (get-changed_other f pages k j page at other)
+        | inr other ↦ ap (λ lookup. value_in lookup i) (get-changed_other f pages k j page at other)
       ]
 
 -- ---- the pool after a change
 module _ {T : Type 0} where
   -- nothing changes that can be read
-  pub same-kept : (pool : Pool T) (old new : State T) → IsSame pool (reading old) → length new.pages ≡ length old.pages → ((k id : ℕ) → id < 32 → place_on (slice_get new.pages k) id ≡ place_on (slice_get old.pages k) id) → IsSame pool (reading new)
+  same-kept : (pool : Pool T) (old new : State T) → IsSame pool (reading old) → length new.pages ≡ length old.pages
+      → ((k id : ℕ) → id < 32 → place_on (slice_get new.pages k) id ≡ place_on (slice_get old.pages k) id)
+      → IsSame pool (reading new)
   same-kept pool old new same pages alike = record {
     pages = same.pages ∙ sym pages;
     places = λ n. same.places n ∙ sym (reads-alike old new alike n);
   }
 
   -- one number changes
-  pub same-placed : (pool : Pool T) (old new : State T) (k id : ℕ) (place : Place T) → id < 32 → IsSame pool (reading old) → length new.pages ≡ length old.pages → place_on (slice_get new.pages k) id ≡ place → ((j i : ℕ) → i < 32 → ((j ≢ k) ⊎ (i ≢ id)) → place_on (slice_get new.pages j) i ≡ place_on (slice_get old.pages j) i) → IsSame (with_place pool (number k id) place) (reading new)
+  same-placed : (pool : Pool T) (old new : State T) (k id : ℕ) (place : Place T) → id < 32 → IsSame pool (reading old)
+      → length new.pages ≡ length old.pages → place_on (slice_get new.pages k) id ≡ place
+      → ((j i : ℕ) → i < 32 → ((j ≢ k) ⊎ (i ≢ id)) → place_on (slice_get new.pages j) i ≡ place_on (slice_get old.pages j) i)
+      → IsSame (with_place pool (number k id) place) (reading new)
   same-placed pool old new k id place within same pages here there = record {
     pages = same.pages ∙ sym pages;
     places = λ n. elim (cases_eq n (number k id)) [
@@ -161,35 +180,40 @@ module _ {T : Type 0} where
   }
 
   -- the bit of an id is cleared
-  pub same-cleared : (pool : Pool T) (world new : State T) (k id : ℕ) (page : PageState T) → id < 32 → slice_get world.pages k ≡ Some page → IsSame pool (reading world) → new.pages ≡ with_word world.pages k (without_bit page.word id) → IsSame (with_place pool (number k id) Out) (reading new)
+  pub same-cleared : (pool : Pool T) (world new : State T) (k id : ℕ) (page : PageState T) → id < 32
+      → slice_get world.pages k ≡ Some page → IsSame pool (reading world)
+      → new.pages ≡ with_word world.pages k (without_bit page.word id) → IsSame (with_place pool (number k id) Out) (reading new)
   same-cleared pool world new k id page within at same is =
       let f : PageState T → PageState T = λ p. record { word = without_bit page.word id; places = p.places } in
       let all : List (PageState T) → List (PageState T) = λ pages. pages in
       same-placed pool world new k id Out within same
       (ap length is ∙ length-changed f world.pages k page at)
       (ap (λ pages. place_on (slice_get pages k) id) is
-      ∙ ap (λ found. place_on found id) (get-changed_same f world.pages k page at)
+      ∙ ap (λ lookup. place_on lookup id) (get-changed_same f world.pages k page at)
       ∙ ap (λ bit. place_of bit (value_in (Some page) id)) (has_bit-clear_same page.word id within))
       (λ j i inside apart.
       ap (λ pages. place_on (slice_get pages j) i) is
       ∙ elim (cases_eq j k) [
         | inl same ↦
             let other : i ≢ id = elim apart [ inl not ↦ absurd (not same) | inr not ↦ not ] in
-            ap (λ found. place_on found i) (ap (λ m. slice_get (changed f world.pages k) m) same ∙ get-changed_same f world.pages k page at)
+            ap (λ lookup. place_on lookup i) (ap (λ m. slice_get (changed f world.pages k) m) same ∙ get-changed_same f world.pages k page at)
             ∙ ap (λ bit. place_of bit (value_in (Some page) i)) (has_bit-clear_other page.word id i within inside other)
-            ∙ ap (λ found. place_on found i) (sym (ap (λ m. slice_get world.pages m) same ∙ at))
-        | inr other ↦ ap (λ found. place_on found i) (get-changed_other f world.pages k j page at other)
+            ∙ ap (λ lookup. place_on lookup i) (sym (ap (λ m. slice_get world.pages m) same ∙ at))
+        | inr other ↦ ap (λ lookup. place_on lookup i) (get-changed_other f world.pages k j page at other)
       ])
 
   -- the bit of an id is set, where this value lies
-  pub same-set : (pool : Pool T) (world new : State T) (k id : ℕ) (page : PageState T) (value : T) → id < 32 → slice_get world.pages k ≡ Some page → value_at world.pages k id ≡ Some value → IsSame pool (reading world) → new.pages ≡ with_word world.pages k (with_bit page.word id) → IsSame (with_place pool (number k id) (Free value)) (reading new)
+  pub same-set : (pool : Pool T) (world new : State T) (k id : ℕ) (page : PageState T) (value : T) → id < 32
+      → slice_get world.pages k ≡ Some page → value_at world.pages k id ≡ Some value → IsSame pool (reading world)
+      → new.pages ≡ with_word world.pages k (with_bit page.word id)
+      → IsSame (with_place pool (number k id) (Free value)) (reading new)
   same-set pool world new k id page value within at lies same is =
       let f : PageState T → PageState T = λ p. record { word = with_bit page.word id; places = p.places } in
-      let here : value_in (Some page) id ≡ Some value = ap (λ found. value_in found id) (sym at) ∙ lies in
+      let here : value_in (Some page) id ≡ Some value = ap (λ lookup. value_in lookup id) (sym at) ∙ lies in
       same-placed pool world new k id (Free value) within same
       (ap length is ∙ length-changed f world.pages k page at)
       (ap (λ pages. place_on (slice_get pages k) id) is
-      ∙ ap (λ found. place_on found id) (get-changed_same f world.pages k page at)
+      ∙ ap (λ lookup. place_on lookup id) (get-changed_same f world.pages k page at)
       ∙ ap (λ bit. place_of bit (value_in (Some page) id)) (has_bit-set_same page.word id within)
       ∙ ap free_with here)
       (λ j i inside apart.
@@ -197,14 +221,16 @@ module _ {T : Type 0} where
       ∙ elim (cases_eq j k) [
         | inl same ↦
             let other : i ≢ id = elim apart [ inl not ↦ absurd (not same) | inr not ↦ not ] in
-            ap (λ found. place_on found i) (ap (λ m. slice_get (changed f world.pages k) m) same ∙ get-changed_same f world.pages k page at)
+            ap (λ lookup. place_on lookup i) (ap (λ m. slice_get (changed f world.pages k) m) same ∙ get-changed_same f world.pages k page at)
             ∙ ap (λ bit. place_of bit (value_in (Some page) i)) (has_bit-set_other page.word id i within other)
-            ∙ ap (λ found. place_on found i) (sym (ap (λ m. slice_get world.pages m) same ∙ at))
-        | inr other ↦ ap (λ found. place_on found i) (get-changed_other f world.pages k j page at other)
+            ∙ ap (λ lookup. place_on lookup i) (sym (ap (λ m. slice_get world.pages m) same ∙ at))
+        | inr other ↦ ap (λ lookup. place_on lookup i) (get-changed_other f world.pages k j page at other)
       ])
 
   -- a value comes or goes where the bit is clear
-  pub same-moved : (pool : Pool T) (world new : State T) (k id : ℕ) (value : Option T) (page : PageState T) → id < 32 → slice_get world.pages k ≡ Some page → has_bit page.word id ≡ false → IsSame pool (reading world) → new.pages ≡ with_value world.pages k id value → IsSame pool (reading new)
+  pub same-moved : (pool : Pool T) (world new : State T) (k id : ℕ) (value : Option T) (page : PageState T) → id < 32
+      → slice_get world.pages k ≡ Some page → has_bit page.word id ≡ false → IsSame pool (reading world)
+      → new.pages ≡ with_value world.pages k id value → IsSame pool (reading new)
   same-moved pool world new k id value page within at clear same is =
       let f : PageState T → PageState T = λ p. record { word = p.word; places = slice_set p.places id value } in
       same-kept pool world new same
@@ -213,20 +239,25 @@ module _ {T : Type 0} where
       ap (λ pages. place_on (slice_get pages j) i) is
       ∙ elim (cases_eq j k) [
         | inl same ↦
-            let old : place_on (slice_get world.pages j) i ≡ place_of (has_bit page.word i) (value_in (Some page) i) = ap (λ found. place_on found i) (ap (λ m. slice_get world.pages m) same ∙ at) in
-            let new : place_on (slice_get (changed f world.pages k) j) i ≡ place_of (has_bit page.word i) (value_in (Some (f page)) i) = ap (λ found. place_on found i) (ap (λ m. slice_get (changed f world.pages k) m) same ∙ get-changed_same f world.pages k page at) in
+            let old : place_on (slice_get world.pages j) i ≡ place_of (has_bit page.word i)
+            (value_in (Some page) i) = ap (λ lookup. place_on lookup i) (ap (λ m. slice_get world.pages m) same ∙ at) in
+            let new : place_on (slice_get (changed f world.pages k) j) i ≡ place_of (has_bit page.word i)
+            (value_in (Some (f page)) i) = ap (λ lookup. place_on lookup i)
+            (ap (λ m. slice_get (changed f world.pages k) m) same ∙ get-changed_same f world.pages k page at) in
             elim (cases_eq i id) [
               | inl own ↦
                   let bit : has_bit page.word i ≡ false = ap (has_bit page.word) own ∙ clear in
                   new ∙ ap (λ b. place_of b (value_in (Some (f page)) i)) bit ∙ sym (old ∙ ap (λ b. place_of b (value_in (Some page) i)) bit)
               | inr other ↦
-                  new ∙ ap (λ found. place_of (has_bit page.word i) (option_and_then (λ place. place) found)) (get-set_other page.places id i value other) ∙ sym old
+                  new ∙ ap (λ lookup. place_of (has_bit page.word i) (option_and_then (λ place. place) lookup))
+                  (get-set_other page.places id i value other) ∙ sym old
             ]
-        | inr other ↦ ap (λ found. place_on found i) (get-changed_other f world.pages k j page at other)
+        | inr other ↦ ap (λ lookup. place_on lookup i) (get-changed_other f world.pages k j page at other)
       ])
 
   -- a page is linked
-  pub same-grown : (pool : Pool T) (world new : State T) (values : List T) → length values ≡ 32 → IsSame pool (reading world) → new.pages ≡ world.pages ++ linked_page values ∷ [] → IsSame (grown pool values) (reading new)
+  pub same-grown : (pool : Pool T) (world new : State T) (values : List T) → length values ≡ 32 → IsSame pool (reading world)
+      → new.pages ≡ world.pages ++ linked_page values ∷ [] → IsSame (grown pool values) (reading new)
   same-grown pool world new values full same is =
       let count : length new.pages ≡ length world.pages + 1 = ap length is ∙ length-append world.pages (linked_page values ∷ []) in
       let pages : pool.pages ≡ length world.pages = same.pages in
@@ -235,24 +266,26 @@ module _ {T : Type 0} where
         places = λ n. elim (cases_lt n (32 * pool.pages)) [
           | inl old ↦
               grown-old pool values n old ∙ same.places n
-              ∙ sym (ap (λ all. place_on (slice_get all (n / 32)) (n % 32)) is ∙ ap (λ found. place_on found (n % 32)) (get-push_old world.pages (linked_page values) (n / 32) (omega arith)))
+              ∙ sym (ap (λ all. place_on (slice_get all (n / 32)) (n % 32)) is
+              ∙ ap (λ lookup. place_on lookup (n % 32)) (get-push_old world.pages (linked_page values) (n / 32) (omega arith)))
           | inr past ↦
               grown-new pool values n past
               ∙ elim (cases_eq (n / 32) (length world.pages)) [
                 | inl last ↦
                     let index : n - 32 * pool.pages ≡ n % 32 = omega arith in
                     let lies : slice_get (map Some values) (n % 32) ≡ option_map Some (slice_get values (n % 32)) = slice_get-map Some values (n % 32) in
-                    let flat : (found : Option T) → free_with found ≡ free_with (option_and_then (λ place. place) (option_map Some found)) = elim [ None ↦ refl | Some v ↦ refl ] in
+                    let flat : (lookup : Option T) → free_with lookup ≡ free_with (option_and_then (λ place. place)
+                    (option_map Some lookup)) = elim [ None ↦ refl | Some v ↦ refl ] in
                     ap (λ i. free_with (slice_get values i)) index
                     ∙ flat (slice_get values (n % 32))
-                    ∙ ap (λ found. free_with (option_and_then (λ place. place) found)) (sym lies)
+                    ∙ ap (λ lookup. free_with (option_and_then (λ place. place) lookup)) (sym lies)
                     ∙ sym (ap (λ all. place_on (slice_get all (n / 32)) (n % 32)) is
                     ∙ ap (λ j. place_on (slice_get (world.pages ++ linked_page values ∷ []) j) (n % 32)) last
-                    ∙ ap (λ found. place_on found (n % 32)) (get-push_new world.pages (linked_page values))
+                    ∙ ap (λ lookup. place_on lookup (n % 32)) (get-push_new world.pages (linked_page values))
                     ∙ ap (λ bit. place_of bit (value_in (Some (linked_page values)) (n % 32))) (has_bit-all (n % 32) (omega arith)))
                 | inr beyond ↦
                     ap free_with (slice_get_past values (n - 32 * pool.pages) (omega arith))
-                    ∙ sym (ap (λ found. place_on found (n % 32)) (slice_get_past new.pages (n / 32) (omega arith)))
+                    ∙ sym (ap (λ lookup. place_on lookup (n % 32)) (slice_get_past new.pages (n / 32) (omega arith)))
               ]
         ];
       }

@@ -12,5 +12,6 @@ module _ {T : Type 0} where
   room_for capacity _ needs = tt
 
   -- an agent may move to a point that needs no room
-  pub room-moved : (capacity : ℕ) (agents : List (Point T)) (a : ℕ) (point : Point T) → All (HasRoom capacity) agents → NeedsNoRoom point → All (HasRoom capacity) (slice_set agents a point)
+  pub room-moved : (capacity : ℕ) (agents : List (Point T)) (a : ℕ) (point : Point T) → All (HasRoom capacity) agents
+      → NeedsNoRoom point → All (HasRoom capacity) (slice_set agents a point)
   room-moved capacity agents a point room needs = All-set (HasRoom capacity) agents a point (room_for capacity point needs) room

@@ -19,7 +19,7 @@ use Rattle.object_pool_cores.specs.World.Reached.{IsReached}
 use Rattle.object_pool_cores.specs.World.Headline.{IsNew, Ran}
 use Rattle.object_pool_cores.specs.World.Invariant.{IsPast, IsAtEnd, Agrees}
 use Rattle.object_pool_cores.proofs.World.WordSteps.{known}
-use Rattle.object_pool_cores.proofs.World.Headline.{ran-agrees, Shown}
+use Rattle.object_pool_cores.proofs.World.Headline.{ran-agrees, Agreement}
 
 module _ {T : Type 0} (old : State T) (answer : Seen) (new : State T) where
   -- exact, of an event with a row or without one
@@ -34,41 +34,49 @@ module _ {T : Type 0} (old : State T) (answer : Seen) (new : State T) where
 
   -- the table has no row
   row-missing : (HasRowHere : Type 0) → (HasRowHere → ⊥) → IsOutcome (not_enabled old) answer new → ExactAt HasRowHere
-  row-missing HasRowHere none gives = record { never = λ is here. none here; always = λ none. gives.0; unchanged = λ is. gives.1 }
+  row-missing HasRowHere none row = record { never = λ is here. none here; always = λ none. row.0; unchanged = λ is. row.1 }
 
   -- the outcome of a test
-  by-test : (test : Bool) (one other : Outcome T) → IsOutcome (if test then one else other) answer new → (test ≡ true → answer ≡ one.0 → answer ≢ seen.NotEnabled) → (test ≡ false → answer ≡ other.0 → answer ≢ seen.NotEnabled) → answer ≢ seen.NotEnabled
-  by-test true one other gives then_is else_is = then_is refl gives.0
-  by-test false one other gives then_is else_is = else_is refl gives.0
+  by-test : (test : Bool) (one other : Outcome T) → IsOutcome (if test then one else other) answer new
+      → (test ≡ true → answer ≡ one.0 → answer ≢ seen.NotEnabled) → (test ≡ false → answer ≡ other.0 → answer ≢ seen.NotEnabled)
+      → answer ≢ seen.NotEnabled
+  by-test true one other row then_is else_is = then_is refl row.0
+  by-test false one other row then_is else_is = else_is refl row.0
 
-  by-test-2 : (test : Bool) (one other : Outcome T) → IsOutcome (if test then one else other) answer new → (test ≡ true → IsOutcome one answer new → answer ≢ seen.NotEnabled) → (test ≡ false → IsOutcome other answer new → answer ≢ seen.NotEnabled) → answer ≢ seen.NotEnabled
-  by-test-2 true one other gives then_is else_is = then_is refl gives
-  by-test-2 false one other gives then_is else_is = else_is refl gives
+  by-test-2 : (test : Bool) (one other : Outcome T) → IsOutcome (if test then one else other) answer new
+      → (test ≡ true → IsOutcome one answer new → answer ≢ seen.NotEnabled)
+      → (test ≡ false → IsOutcome other answer new → answer ≢ seen.NotEnabled) → answer ≢ seen.NotEnabled
+  by-test-2 true one other row then_is else_is = then_is refl row
+  by-test-2 false one other row then_is else_is = else_is refl row
 
-module _ {T : Type 0} (Leaves : T → T → Type 0) (first : List T) (log : Log T) (acts : List (Act T)) (old : State T) (agrees : Agrees Leaves first log acts old) (answer : Seen) (new : State T) where
-  read_mask-exact : (a : ℕ) (found : Option (Point T)) → IsOutcome (read_mask old a found) answer new → ExactAt old answer new (HasRow (event.ReadMask a) found)
-  read_mask-exact a (Some (Reading k)) gives = row-there old answer new _ tt (λ is. let word = gives.0 in cc)
-  read_mask-exact a _ gives = row-missing old answer new _ (λ row. row) gives
+module _ {T : Type 0} (Leaves : T → T → Type 0) (first : List T) (log : Log T) (acts : List (Act T)) (old : State T)
+    (agrees : Agrees Leaves first log acts old) (answer : Seen) (new : State T) where
+  read_mask-exact : (a : ℕ) (lookup : Option (Point T)) → IsOutcome (read_mask old a lookup) answer new
+      → ExactAt old answer new (HasRow (event.ReadMask a) lookup)
+  read_mask-exact a (Some (Reading k)) row = row-there old answer new _ tt (λ is. let word = row.0 in cc)
+  read_mask-exact a _ row = row-missing old answer new _ (λ has. has) row
 
   clears-answers : (a k mask word : ℕ) → IsOutcome (clears old a k mask word) answer new → answer ≢ seen.NotEnabled
-  clears-answers a k mask word gives =
+  clears-answers a k mask word row =
       let id = lowest mask in
       let one : Outcome T = (seen.Pulled a (number k id), at_point (with_pages old (with_word old.pages k (without_bit word id))) a (Taken k id)) in
       let two : Outcome T = (seen.Found a word, at_point old a (tries k (without_lowest mask))) in
-      by-test old answer new (has_bit word id) one two gives (λ set is no_row. cc) (λ clear is no_row. cc)
+      by-test old answer new (has_bit word id) one two row (λ set is no_row. cc) (λ clear is no_row. cc)
 
-  clear_bit-exact : (a : ℕ) (found : Option (Point T)) → slice_get old.agents a ≡ found → IsOutcome (clear_bit old a found) answer new → ExactAt old answer new (HasRow (event.ClearBit a) found)
-  clear_bit-exact a (Some (Clearing k mask)) at gives =
+  clear_bit-exact : (a : ℕ) (lookup : Option (Point T)) → slice_get old.agents a ≡ lookup
+      → IsOutcome (clear_bit old a lookup) answer new → ExactAt old answer new (HasRow (event.ClearBit a) lookup)
+  clear_bit-exact a (Some (Clearing k mask)) at row =
       let bits = (known Leaves first log acts old agrees a (Clearing k mask) at).1 in
       let some = bits.some in
       row-there old answer new _ tt
-      (by-test-2 old answer new _ _ _ gives
+      (by-test-2 old answer new _ _ _ row
       (λ none gave. let zero = eqb-true mask 0 none in absurd (omega arith))
       (λ more gave. clears-answers a k mask (word_of old.pages k) gave))
-  clear_bit-exact a _ at gives = row-missing old answer new _ (λ row. row) gives
+  clear_bit-exact a _ at row = row-missing old answer new _ (λ has. has) row
 
-  read_next-exact : (a : ℕ) (found : Option (Point T)) → slice_get old.agents a ≡ found → IsOutcome (read_next old a found) answer new → ExactAt old answer new (HasRow (event.ReadNext a) found)
-  read_next-exact a (Some (AtLink k)) at gives =
+  read_next-exact : (a : ℕ) (lookup : Option (Point T)) → slice_get old.agents a ≡ lookup
+      → IsOutcome (read_next old a lookup) answer new → ExactAt old answer new (HasRow (event.ReadNext a) lookup)
+  read_next-exact a (Some (AtLink k)) at row =
       let past : IsPast first acts old a k = known Leaves first log acts old agrees a (AtLink k) at in
       let linked = past.linked in
       let one : Outcome T = (seen.Refused a Limit, at_point old a Ended) in
@@ -76,71 +84,77 @@ module _ {T : Type 0} (Leaves : T → T → Type 0) (first : List T) (log : Log 
       let three : Outcome T = (seen.Next a true, at_point old a (Reading (k + 1))) in
       let rest : Outcome T = if length old.pages == k + 1 then two else three in
       row-there old answer new _ tt
-      (by-test-2 old answer new _ _ _ gives
+      (by-test-2 old answer new _ _ _ row
       (λ there gave. by-test-2 old answer new (is_limit old.limit (k + 1)) one rest gave
       (λ limit given no_row. let is = given.0 in cc)
       (λ below given. by-test old answer new (length old.pages == k + 1) two three given (λ last is no_row. cc) (λ more is no_row. cc)))
       (λ beyond gave. let none = ltb-false k (length old.pages) beyond in absurd (omega arith)))
-  read_next-exact a _ at gives = row-missing old answer new _ (λ row. row) gives
+  read_next-exact a _ at row = row-missing old answer new _ (λ has. has) row
 
-  make_page-exact : (a : ℕ) (made : Result (List T) _) (found : Option (Point T)) → slice_get old.agents a ≡ found → IsOutcome (make_page old a made found) answer new → ExactAt old answer new (HasRow (event.MakePage a made) found)
-  make_page-exact a (Ok values) (Some (Making k)) at gives =
+  make_page-exact : (a : ℕ) (prepared : Result (List T) _) (lookup : Option (Point T)) → slice_get old.agents a ≡ lookup
+      → IsOutcome (make_page old a prepared lookup) answer new
+      → ExactAt old answer new (HasRow (event.MakePage a prepared) lookup)
+  make_page-exact a (Ok values) (Some (Making k)) at row =
       let end : IsAtEnd first acts old a k = known Leaves first log acts old agrees a (Making k) at in
       let linked = end.past.linked in
       row-there old answer new _ tt
-      (by-test old answer new _ _ _ gives (λ there is no_row. cc) (λ beyond is. let none = ltb-false k (length old.pages) beyond in absurd (omega arith)))
-  make_page-exact a (Err Memory) (Some (Making k)) at gives = row-there old answer new _ tt (λ is. let refused = gives.0 in cc)
-  make_page-exact a (Err Init) (Some (Making k)) at gives = row-there old answer new _ tt (λ is. let refused = gives.0 in cc)
-  make_page-exact a (Ok values) _ at gives = row-missing old answer new _ (λ row. row) gives
-  make_page-exact a (Err Limit) _ at gives = row-missing old answer new _ (λ row. row) gives
-  make_page-exact a (Err Memory) _ at gives = row-missing old answer new _ (λ row. row) gives
-  make_page-exact a (Err Init) _ at gives = row-missing old answer new _ (λ row. row) gives
+      (by-test old answer new _ _ _ row (λ there is no_row. cc) (λ beyond is. let none = ltb-false k (length old.pages) beyond in absurd (omega arith)))
+  make_page-exact a (Err Memory) (Some (Making k)) at row = row-there old answer new _ tt (λ is. let refused = row.0 in cc)
+  make_page-exact a (Err Init) (Some (Making k)) at row = row-there old answer new _ tt (λ is. let refused = row.0 in cc)
+  make_page-exact a (Ok values) _ at row = row-missing old answer new _ (λ has. has) row
+  make_page-exact a (Err Limit) _ at row = row-missing old answer new _ (λ has. has) row
+  make_page-exact a (Err Memory) _ at row = row-missing old answer new _ (λ has. has) row
+  make_page-exact a (Err Init) _ at row = row-missing old answer new _ (λ has. has) row
 
-  exchange_next-exact : (a : ℕ) (found : Option (Point T)) → slice_get old.agents a ≡ found → IsOutcome (exchange_next old a found) answer new → ExactAt old answer new (HasRow (event.ExchangeNext a) found)
-  exchange_next-exact a (Some (Linking k values)) at gives =
+  exchange_next-exact : (a : ℕ) (lookup : Option (Point T)) → slice_get old.agents a ≡ lookup
+      → IsOutcome (exchange_next old a lookup) answer new → ExactAt old answer new (HasRow (event.ExchangeNext a) lookup)
+  exchange_next-exact a (Some (Linking k values)) at row =
       let end = (known Leaves first log acts old agrees a (Linking k values) at).0 in
       let linked = end.past.linked in
       let one : Outcome T = (seen.Linked a, at_point (with_pages old (old.pages ++ linked_page values ∷ [])) a (Reading (k + 1))) in
       let two : Outcome T = (seen.Lost a, at_point old a (Reading (k + 1))) in
       row-there old answer new _ tt
-      (by-test-2 old answer new _ _ _ gives
+      (by-test-2 old answer new _ _ _ row
       (λ there gave. by-test old answer new (length old.pages == k + 1) one two gave (λ last is no_row. cc) (λ more is no_row. cc))
       (λ beyond gave. let none = ltb-false k (length old.pages) beyond in absurd (omega arith)))
-  exchange_next-exact a _ at gives = row-missing old answer new _ (λ row. row) gives
+  exchange_next-exact a _ at row = row-missing old answer new _ (λ has. has) row
 
-  takes-answers : (a k id : ℕ) (value : T) (found : Option T) → found ≡ Some value → IsOutcome (takes old a k id found) answer new → answer ≢ seen.NotEnabled
-  takes-answers a k id value None some gives is = cc
-  takes-answers a k id value (Some other) some gives is = let out = gives.0 in cc
+  takes-answers : (a k id : ℕ) (value : T) (lookup : Option T) → lookup ≡ Some value → IsOutcome (takes old a k id lookup) answer new → answer ≢ seen.NotEnabled
+  takes-answers a k id value None some row is = cc
+  takes-answers a k id value (Some other) some row is = let out = row.0 in cc
 
-  move_out-exact : (a : ℕ) (found : Option (Point T)) → slice_get old.agents a ≡ found → IsOutcome (move_out old a found) answer new → ExactAt old answer new (HasRow (event.MoveOut a) found)
-  move_out-exact a (Some (Taken k id)) at gives =
+  move_out-exact : (a : ℕ) (lookup : Option (Point T)) → slice_get old.agents a ≡ lookup
+      → IsOutcome (move_out old a lookup) answer new → ExactAt old answer new (HasRow (event.MoveOut a) lookup)
+  move_out-exact a (Some (Taken k id)) at row =
       let (value, holds, lies) = known Leaves first log acts old agrees a (Taken k id) at in
-      row-there old answer new _ tt (takes-answers a k id value (value_at old.pages k id) lies gives)
-  move_out-exact a _ at gives = row-missing old answer new _ (λ row. row) gives
+      row-there old answer new _ tt (takes-answers a k id value (value_at old.pages k id) lies row)
+  move_out-exact a _ at row = row-missing old answer new _ (λ has. has) row
 
-  write-exact : (a : ℕ) (value : T) (found : Option (Point T)) → IsOutcome (write old a value found) answer new → ExactAt old answer new (HasRow (event.Write a value) found)
-  write-exact a value (Some (Holding k id before)) gives = row-there old answer new _ tt (λ is. let wrote = gives.0 in cc)
-  write-exact a value _ gives = row-missing old answer new _ (λ row. row) gives
+  write-exact : (a : ℕ) (value : T) (lookup : Option (Point T)) → IsOutcome (write old a value lookup) answer new
+      → ExactAt old answer new (HasRow (event.Write a value) lookup)
+  write-exact a value (Some (Holding k id before)) row = row-there old answer new _ tt (λ is. let wrote = row.0 in cc)
+  write-exact a value _ row = row-missing old answer new _ (λ has. has) row
 
-  move_home-exact : (a : ℕ) (found : Option (Point T)) → MovesHome Leaves old a found answer new → ExactAt old answer new (HasRow (event.MoveHome a) found)
-  move_home-exact a (Some (Holding k id value)) (kept, leaves, gives) = row-there old answer new _ tt (λ is. let home = gives.0 in cc)
-  move_home-exact a None gives = row-missing old answer new _ (λ row. row) gives
-  move_home-exact a _ gives = row-missing old answer new _ (λ row. row) gives
+  move_home-exact : (a : ℕ) (lookup : Option (Point T)) → MovesHome Leaves old a lookup answer new → ExactAt old answer new (HasRow (event.MoveHome a) lookup)
+  move_home-exact a (Some (Holding k id value)) (kept, leaves, row) = row-there old answer new _ tt (λ is. let home = row.0 in cc)
+  move_home-exact a None row = row-missing old answer new _ (λ has. has) row
+  move_home-exact a _ row = row-missing old answer new _ (λ has. has) row
 
-  or_mask-exact : (a : ℕ) (found : Option (Point T)) → slice_get old.agents a ≡ found → IsOutcome (or_mask old a found) answer new → ExactAt old answer new (HasRow (event.OrMask a) found)
-  or_mask-exact a (Some (Home k id)) at gives =
+  or_mask-exact : (a : ℕ) (lookup : Option (Point T)) → slice_get old.agents a ≡ lookup
+      → IsOutcome (or_mask old a lookup) answer new → ExactAt old answer new (HasRow (event.OrMask a) lookup)
+  or_mask-exact a (Some (Home k id)) at row =
       let (value, kept, holds, leaves, lies) = known Leaves first log acts old agrees a (Home k id) at in
       let within = holds.in_page in
       row-there old answer new _ tt
-      (by-test old answer new _ _ _ gives (λ there is no_row. cc) (λ beyond is. let none = ltb-false id 32 beyond in absurd (omega arith)))
-  or_mask-exact a _ at gives = row-missing old answer new _ (λ row. row) gives
+      (by-test old answer new _ _ _ row (λ there is no_row. cc) (λ beyond is. let none = ltb-false id 32 beyond in absurd (omega arith)))
+  or_mask-exact a _ at row = row-missing old answer new _ (λ has. has) row
 
   row-exact : (e : Event T) → Row Leaves old e answer new → ExactAt old answer new (HasRow e (point_of old e))
   row-exact event.Begin row = row-there old answer new _ tt (λ is. let began = row.0 in cc)
   row-exact (event.ReadMask a) row = read_mask-exact a (slice_get old.agents a) row
   row-exact (event.ClearBit a) row = clear_bit-exact a (slice_get old.agents a) refl row
   row-exact (event.ReadNext a) row = read_next-exact a (slice_get old.agents a) refl row
-  row-exact (event.MakePage a made) row = make_page-exact a made (slice_get old.agents a) refl row
+  row-exact (event.MakePage a prepared) row = make_page-exact a prepared (slice_get old.agents a) refl row
   row-exact (event.ExchangeNext a) row = exchange_next-exact a (slice_get old.agents a) refl row.0
   row-exact (event.MoveOut a) row = move_out-exact a (slice_get old.agents a) refl row
   row-exact (event.Write a value) row = write-exact a value (slice_get old.agents a) row
@@ -148,8 +162,8 @@ module _ {T : Type 0} (Leaves : T → T → Type 0) (first : List T) (log : Log 
   row-exact (event.OrMask a) row = or_mask-exact a (slice_get old.agents a) refl row
 
   -- what may have to grow has a row
-  grows-row : (e : Event T) (found : Option (Point T)) → MayGrow e found → HasRow e found
-  grows-row event.Begin found may = tt
+  grows-row : (e : Event T) (lookup : Option (Point T)) → MayGrow e lookup → HasRow e lookup
+  grows-row event.Begin lookup may = tt
   grows-row (event.MakePage a (Ok values)) (Some (Making k)) may = tt
   grows-row _ _ may = absurd may
 
@@ -158,20 +172,22 @@ module _ {T : Type 0} (Leaves : T → T → Type 0) (first : List T) (log : Log 
   step-exact e (inr (may, lacks, same)) = row-there old answer new _ (grows-row e (point_of old e) may) (λ is. cc)
 
 module _ {T : Type 0} where
-  any-row : (Leaves : T → T → Type 0) (old : State T) (a : ℕ) (found : Option (Point T)) (answer : Seen) (new : State T) → MovesHome Leaves old a found answer new → MovesHome (λ before kept. ⊤) old a found answer new
-  any-row Leaves old a (Some (Holding k id value)) answer new (kept, leaves, gives) = (kept, tt, gives)
-  any-row Leaves old a None answer new gives = gives
-  any-row Leaves old a _ answer new gives = gives
+  any-row : (Leaves : T → T → Type 0) (old : State T) (a : ℕ) (lookup : Option (Point T)) (answer : Seen) (new : State T)
+      → MovesHome Leaves old a lookup answer new → MovesHome (λ before kept. ⊤) old a lookup answer new
+  any-row Leaves old a (Some (Holding k id value)) answer new (kept, leaves, row) = (kept, tt, row)
+  any-row Leaves old a None answer new row = row
+  any-row Leaves old a _ answer new row = row
 
   -- a step of one reset is a step of any
-  pub any-step : (Leaves : T → T → Type 0) (old : State T) (e : Event T) (answer : Seen) (new : State T) → Steps Leaves old e answer new → Steps (λ before kept. ⊤) old e answer new
+  pub any-step : (Leaves : T → T → Type 0) (old : State T) (e : Event T) (answer : Seen) (new : State T)
+      → Steps Leaves old e answer new → Steps (λ before kept. ⊤) old e answer new
   any-step Leaves old e answer new (inr lacks) = inr lacks
   any-step Leaves old (event.MoveHome a) answer new (inl row) = inl (any-row Leaves old a (slice_get old.agents a) answer new row)
   any-step Leaves old event.Begin answer new (inl row) = inl row
   any-step Leaves old (event.ReadMask a) answer new (inl row) = inl row
   any-step Leaves old (event.ClearBit a) answer new (inl row) = inl row
   any-step Leaves old (event.ReadNext a) answer new (inl row) = inl row
-  any-step Leaves old (event.MakePage a made) answer new (inl row) = inl row
+  any-step Leaves old (event.MakePage a prepared) answer new (inl row) = inl row
   any-step Leaves old (event.ExchangeNext a) answer new (inl row) = inl row
   any-step Leaves old (event.MoveOut a) answer new (inl row) = inl row
   any-step Leaves old (event.Write a value) answer new (inl row) = inl row
@@ -182,20 +198,23 @@ module _ {T : Type 0} where
   reached-new world is_new = record { start = world; is_new = is_new; log = []; ran = refl }
 
   -- what the invariant knows of a world that can be reached
-  pub reached-agrees : (world : State T) (reached : IsReached world) → Shown (λ before kept. ⊤) reached.is_new.first reached.is_new.full reached.log world
+  pub reached-agrees : (world : State T) (reached : IsReached world) → Agreement (λ before kept. ⊤) reached.is_new.first reached.is_new.full reached.log world
   reached-agrees world reached =
       let start = reached.is_new in
       let P : State T → Type 0 = λ old. Ran (λ before kept. ⊤) old reached.log world in
       ran-agrees (λ before kept. ⊤) start.first start.full reached.start.limit start.allowed reached.log world (subst P start.same reached.ran)
 
-  pub reached-exact : (Leaves : T → T → Type 0) (old : State T) (e : Event T) (answer : Seen) (new : State T) → IsReached old → Steps Leaves old e answer new → IsExact old e answer new
+  pub reached-exact : (Leaves : T → T → Type 0) (old : State T) (e : Event T) (answer : Seen) (new : State T) → IsReached old
+      → Steps Leaves old e answer new → IsExact old e answer new
   reached-exact Leaves old e answer new reached step =
-      let shown = reached-agrees old reached in
-      let exact = step-exact (λ before kept. ⊤) reached.is_new.first reached.log shown.acts old shown.agrees answer new e (any-step Leaves old e answer new step) in
+      let agreed = reached-agrees old reached in
+      let exact = step-exact (λ before kept. ⊤) reached.is_new.first reached.log agreed.acts old agreed.agrees answer new e
+      (any-step Leaves old e answer new step) in
       record { enabled = (exact.never, exact.always); unchanged = exact.unchanged }
 
   -- so is what a step leaves of a world that can be reached
-  pub reached-step : (Leaves : T → T → Type 0) (old : State T) (e : Event T) (answer : Seen) (new : State T) → IsReached old → Steps Leaves old e answer new → IsReached new
+  pub reached-step : (Leaves : T → T → Type 0) (old : State T) (e : Event T) (answer : Seen) (new : State T) → IsReached old
+      → Steps Leaves old e answer new → IsReached new
   reached-step Leaves old e answer new reached step = record {
     start = reached.start;
     is_new = reached.is_new;

@@ -46,10 +46,11 @@ module _ {T : Type 0} where
   no-steps later part earlier a none = ap (λ log. own_steps log a) (no-events later part earlier none)
 
   -- what is known of an agent in a world that can be reached
-  known-reached : (new : State T) (reached : IsReached new) (a : ℕ) (point : Point T) → slice_get new.agents a ≡ Some point → Knows (λ before kept. ⊤) reached.is_new.first reached.log (reached-agrees new reached).acts new a point
+  known-reached : (new : State T) (reached : IsReached new) (a : ℕ) (point : Point T) → slice_get new.agents a ≡ Some point
+      → Knows (λ before kept. ⊤) reached.is_new.first reached.log (reached-agrees new reached).acts new a point
   known-reached new reached a point at =
-      let shown = reached-agrees new reached in
-      known (λ before kept. ⊤) reached.is_new.first reached.log shown.acts new shown.agrees a point at
+      let agreed = reached-agrees new reached in
+      known (λ before kept. ⊤) reached.is_new.first reached.log agreed.acts new agreed.agrees a point at
 
   allowed-under : (new : State T) → IsReached new → (limit : ℕ) → new.limit ≡ Some limit → length new.pages ≤ limit
   allowed-under new reached limit is =
@@ -57,7 +58,9 @@ module _ {T : Type 0} where
       subst P is (reached-agrees new reached).agrees.allowed
 
   -- the steps on one page
-  page-steps-at : (start : Option (Point T)) (new : State T) (log : Log T) (a k : ℕ) → IsReached new → start ≡ Some (Reading k) → (found : Option (Point T)) → slice_get new.agents a ≡ found → AdvancedTo start (own_steps log a) found → IsOnPage k found → own_steps log a < 33
+  page-steps-at : (start : Option (Point T)) (new : State T) (log : Log T) (a k : ℕ) → IsReached new → start ≡ Some (Reading k)
+      → (lookup : Option (Point T)) → slice_get new.agents a ≡ lookup → AdvancedTo start (own_steps log a) lookup
+      → IsOnPage k lookup → own_steps log a < 33
   page-steps-at start new log a k reached is (Some (Reading j)) at advanced here =
       let (sooner, start_is, few) = advanced (36 * j) refl in
       let same : Some (36 * k) ≡ Some sooner = sym (ap start_of is) ∙ start_is in
@@ -79,7 +82,9 @@ module _ {T : Type 0} where
       let zero : 0 ≡ sooner = cc in
       omega arith
 
-  limit-steps-at : (start : Option (Point T)) (new : State T) (log : Log T) (a limit : ℕ) → IsReached new → new.limit ≡ Some limit → start ≡ None → (found : Option (Point T)) → slice_get new.agents a ≡ found → AdvancedTo start (own_steps log a) found → IsLooking found → own_steps log a < 36 * limit - 2
+  limit-steps-at : (start : Option (Point T)) (new : State T) (log : Log T) (a limit : ℕ) → IsReached new → new.limit ≡ Some limit
+      → start ≡ None → (lookup : Option (Point T)) → slice_get new.agents a ≡ lookup → AdvancedTo start (own_steps log a) lookup
+      → IsLooking lookup → own_steps log a < 36 * limit - 2
   limit-steps-at start new log a limit reached is none (Some (Reading k)) at advanced looks =
       let (sooner, start_is, few) = advanced (36 * k) refl in
       let most = since-begun start (own_steps log a) (36 * k) none sooner start_is few in
@@ -125,11 +130,13 @@ module _ {T : Type 0} (Leaves : T → T → Type 0) where
     per_page = λ part is a k at here.
         let there = ran-reached Leaves whole.from reached is.earlier part.from is.before in
         let end = ran-reached Leaves part.from there part.log part.to is.steps in
-        page-steps-at (slice_get part.from.agents a) part.to part.log a k end at (slice_get part.to.agents a) refl (ran-advances Leaves part.from there a part.log part.to is.steps) here;
+        page-steps-at (slice_get part.from.agents a) part.to part.log a k end at (slice_get part.to.agents a) refl
+        (ran-advances Leaves part.from there a part.log part.to is.steps) here;
     bounded = λ part is a limit none limited looks.
         let there = ran-reached Leaves whole.from reached is.earlier part.from is.before in
         let end = ran-reached Leaves part.from there part.log part.to is.steps in
-        limit-steps-at (slice_get part.from.agents a) part.to part.log a limit end limited none (slice_get part.to.agents a) refl (ran-advances Leaves part.from there a part.log part.to is.steps) looks;
+        limit-steps-at (slice_get part.from.agents a) part.to part.log a limit end limited none (slice_get part.to.agents a) refl
+        (ran-advances Leaves part.from there a part.log part.to is.steps) looks;
     alone = λ part is a at only.
         let there = ran-reached Leaves whole.from reached is.earlier part.from is.before in
         stands-alone part.from part.log part.to a (ran-stands Leaves part.from there a at part.log part.to is.steps only);
@@ -160,14 +167,16 @@ module _ {T : Type 0} (Leaves : T → T → Type 0) where
   new-limit start is_new a = ap (λ world. slice_get world.agents a) is_new.same
 
   -- all that was done since the world was new
-  pub ran-since_new : (start : State T) (is_new : IsNew start) (log : Log T) (new : State T) → Ran Leaves start log new → SinceNew Leaves is_new.first (record { from = start; log = log; to = new })
+  ran-since_new : (start : State T) (is_new : IsNew start) (log : Log T) (new : State T) → Ran Leaves start log new
+      → SinceNew Leaves is_new.first (record { from = start; log = log; to = new })
   ran-since_new start is_new log new ran =
       let reached = reached-new start is_new in
       let end = ran-reached Leaves start reached log new ran in
       record {
         headline = ran-is_run Leaves start is_new log new ran;
         bounded = λ a limit is looks.
-            limit-steps-at (slice_get start.agents a) new log a limit end is (new-limit start is_new a) (slice_get new.agents a) refl (ran-advances Leaves start reached a log new ran) looks;
+            limit-steps-at (slice_get start.agents a) new log a limit end is (new-limit start is_new a)
+            (slice_get new.agents a) refl (ran-advances Leaves start reached a log new ran) looks;
         advances = reached-leads (record { from = start; log = log; to = new }) reached;
       }
 
@@ -197,7 +206,9 @@ module _ {T : Type 0} (Leaves : T → T → Type 0) (old : State T) (events : Li
   first-reached log between (inr first) reached = first
 
   -- one event more
-  pub replayed-more : (rest : List (Event T)) (after : List Seen) (between : State T) (e : Event T) (answer : Seen) (new : State T) → Replayed (e ∷ rest) after between → IsReached between → Steps Leaves between e answer new → IsExact between e answer new → Replayed rest (after ++ answer ∷ []) new
+  replayed-more : (rest : List (Event T)) (after : List Seen) (between : State T) (e : Event T) (answer : Seen) (new : State T)
+      → Replayed (e ∷ rest) after between → IsReached between → Steps Leaves between e answer new → IsExact between e answer new
+      → Replayed rest (after ++ answer ∷ []) new
   replayed-more rest after between e answer new replayed reached step exact =
       let log : Log T = replayed.log in
       let entry : Event T × Seen = (e, answer) in
@@ -221,7 +232,9 @@ module _ {T : Type 0} (Leaves : T → T → Type 0) (old : State T) (events : Li
       }
 
   -- the same, of a list whose last event is done next
-  pub replayed-next : (items rest : List (Event T)) (after later : List Seen) (between : State T) (e : Event T) (answer : Seen) (new : State T) → items ≡ rest ++ e ∷ [] → later ≡ after ++ answer ∷ [] → Replayed (reverse items) after between → IsReached between → Steps Leaves between e answer new → IsExact between e answer new → Replayed (reverse rest) later new
+  pub replayed-next : (items rest : List (Event T)) (after later : List Seen) (between : State T) (e : Event T) (answer : Seen)
+      (new : State T) → items ≡ rest ++ e ∷ [] → later ≡ after ++ answer ∷ [] → Replayed (reverse items) after between
+      → IsReached between → Steps Leaves between e answer new → IsExact between e answer new → Replayed (reverse rest) later new
   replayed-next items rest after later between e answer new last answered replayed reached step exact =
       let P : List (Event T) → Type 0 = λ all. Replayed all after between in
       let Q : List Seen → Type 0 = λ all. Replayed (reverse rest) all new in
@@ -233,10 +246,14 @@ module _ {T : Type 0} (Leaves : T → T → Type 0) (old : State T) (events : Li
   replayed-leads log new (inl none) = nothing-leads Leaves (record { from = old; log = log; to = new }) none.0
   replayed-leads log new (inr reached) = reached-leads Leaves (record { from = old; log = log; to = new }) reached
 
-  pub runs_events-from : (rest : List (Event T)) (after : List Seen) (new : State T) (result : Result (Unit {0}) RunError) → Replayed rest after new → OnOk result (rest ≡ []) → RunsEvents Leaves (record { world = old; events = events; seen = before }) (record { world = new; seen = after; result = result })
+  pub runs_events-from : (rest : List (Event T)) (after : List Seen) (new : State T) (result : Result (Unit {0}) RunError)
+      → Replayed rest after new → OnOk result (rest ≡ [])
+      → RunsEvents Leaves (record { world = old; events = events; seen = before })
+      (record { world = new; seen = after; result = result })
   runs_events-from rest after new result replayed all = record {
     log = replayed.log;
-    since_new = λ past. ran-since_new Leaves past.start past.is_new (replayed.log ++ past.log) new (ran-append Leaves past.start old past.log past.ran replayed.log new replayed.steps);
+    since_new = λ past. ran-since_new Leaves past.start past.is_new (replayed.log ++ past.log) new
+        (ran-append Leaves past.start old past.log past.ran replayed.log new replayed.steps);
     rest = rest;
     done = replayed.done;
     all = all;

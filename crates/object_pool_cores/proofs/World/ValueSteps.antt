@@ -18,22 +18,27 @@ use Rattle.object_pool_cores.specs.World.Visible.{Log}
 use Rattle.object_pool_cores.specs.World.Invariant.{HoldsAt, KnowsIf, Agrees}
 use Rattle.object_pool_cores.proofs.Runs.{stage_of-own, stage_of-other, since-later, other-opens, free_with-in}
 use Rattle.object_pool_cores.proofs.World.Reading.{get-some, get-push_old, get-push_new, length-changed, changed-all, value-put_same, value-put_other, same-moved}
-use Rattle.object_pool_cores.proofs.World.Invariant.{GoesOn, StepsPages, pages-stay, hidden-step, shown-step, from-gives, sound-of, allows-fewer, pages-some, Carries, known-carried}
+use Rattle.object_pool_cores.proofs.World.Invariant.{GoesOn, StepsPages, pages-stay, hidden-step, visible-step, from-outcome, sound-of, allows-fewer, pages-some, Carries, known-carried}
 use Rattle.object_pool_cores.proofs.World.WordSteps.{known, lies-at, disabled}
 
-module _ {T : Type 0} (Leaves : T → T → Type 0) (first : List T) (log : Log T) (acts : List (Act T)) (old : State T) (agrees : Agrees Leaves first log acts old) where
+module _ {T : Type 0} (Leaves : T → T → Type 0) (first : List T) (log : Log T) (acts : List (Act T)) (old : State T)
+    (agrees : Agrees Leaves first log acts old) where
   -- the bit of a number that an agent holds is clear
-  clear-held : length first ≡ 32 → (a k id : ℕ) (value : T) (page : PageState T) → HoldsAt acts old a k id value → slice_get old.pages k ≡ Some page → has_bit page.word id ≡ false
+  clear-held : length first ≡ 32 → (a k id : ℕ) (value : T) (page : PageState T) → HoldsAt acts old a k id value
+      → slice_get old.pages k ≡ Some page → has_bit page.word id ≡ false
   clear-held full a k id value page holds here =
       let sound = sound-of Leaves first log acts old full agrees in
       let out = sound.holders.out (number k id) a value holds.stage in
       elim (cases_Bool (has_bit page.word id)) [
-        | inl set ↦ absurd (free_with-in (value_at old.pages k id) (sym (lies-at Leaves first log acts old agrees k id page holds.in_page here ∙ ap (λ bit. place_of bit (value_at old.pages k id)) set) ∙ out))
+        | inl set ↦ absurd (free_with-in (value_at old.pages k id)
+            (sym (lies-at Leaves first log acts old agrees k id page holds.in_page here
+            ∙ ap (λ bit. place_of bit (value_at old.pages k id)) set) ∙ out))
         | inr clear ↦ clear
       ]
 
   -- the pages after a value came to the place that an agent holds, or went from it
-  placed : length first ≡ 32 → (a k id : ℕ) (held : T) (value : Option T) (page : PageState T) → HoldsAt acts old a k id held → slice_get old.pages k ≡ Some page → StepsPages Leaves first acts acts old (with_value old.pages k id value) a
+  placed : length first ≡ 32 → (a k id : ℕ) (held : T) (value : Option T) (page : PageState T) → HoldsAt acts old a k id held
+      → slice_get old.pages k ≡ Some page → StepsPages Leaves first acts acts old (with_value old.pages k id value) a
   placed full a k id held value page holds here =
       let sound = sound-of Leaves first log acts old full agrees in
       let f : PageState T → PageState T = λ p. record { word = p.word; places = slice_set p.places id value } in
@@ -41,68 +46,95 @@ module _ {T : Type 0} (Leaves : T → T → Type 0) (first : List T) (log : Log 
       let count : length pages ≡ length old.pages = length-changed f old.pages k page here in
       record {
         count = omega arith;
-        same = same-moved (pool_of first acts) old (record { pages = pages; agents = old.agents; limit = old.limit }) k id value page holds.in_page here (clear-held full a k id held page holds here) agrees.same refl;
+        same = same-moved (pool_of first acts) old
+            (record { pages = pages; agents = old.agents; limit = old.limit }) k id value page holds.in_page here
+            (clear-held full a k id held page holds here) agrees.same refl;
         words = changed-all (λ p. p.word < 2 ^ 32) f old.pages k page here (agrees.words k page here) agrees.words;
         places = changed-all (λ p. length p.places ≡ 32) f old.pages k page here (length-set page.places id value ∙ agrees.places k page here) agrees.places;
         allowed = allows-fewer old.limit (length pages) (length old.pages) (omega arith) agrees.allowed;
         values = λ b j i other apart linked within theirs.
             let different : (j ≢ k) ⊎ (i ≢ id) =
             elim (cases_eq j k) [
-              | inl same ↦ inr (λ too. apart (sound.holders.one (number k id) a b held other holds.stage (theirs ∙ ap (λ n. Holds n other) (ap (λ m. number m i) same ∙ ap (λ m. number k m) too))))
+              | inl same ↦
+                  inr (λ too. apart (sound.holders.one (number k id) a b held other holds.stage (theirs
+                  ∙ ap (λ n. Holds n other) (ap (λ m. number m i) same ∙ ap (λ m. number k m) too))))
               | inr page ↦ inl page
             ] in
             value-put_other old.pages k id value page here j i different;
       }
 
-  linked-placed : (k id : ℕ) (value : Option T) (page : PageState T) → slice_get old.pages k ≡ Some page → k < length old.pages → k < length (with_value old.pages k id value)
+  linked-placed : (k id : ℕ) (value : Option T) (page : PageState T) → slice_get old.pages k ≡ Some page → k < length old.pages
+      → k < length (with_value old.pages k id value)
   linked-placed k id value page here linked =
-      let count : length (with_value old.pages k id value) ≡ length old.pages = length-changed (λ p. record { word = p.word; places = slice_set p.places id value }) old.pages k page here in
+      let count : length (with_value old.pages k id value) ≡ length old.pages = length-changed (λ p.
+      record { word = p.word; places = slice_set p.places id value }) old.pages k page here in
       omega arith
 
   -- the value goes to the agent
-  moved-out : length first ≡ 32 → (a k id : ℕ) → slice_get old.agents a ≡ Some (Taken k id) → (found : Option T) → value_at old.pages k id ≡ found → (answer : Seen) (new : State T) → IsOutcome (takes old a k id found) answer new → GoesOn Leaves first log (event.MoveOut a) answer new
-  moved-out full a k id at None none answer new gives = disabled Leaves first log acts old agrees (event.MoveOut a) (λ b. refl) answer new gives
-  moved-out full a k id at (Some taken) some answer new gives =
+  moved-out : length first ≡ 32 → (a k id : ℕ) → slice_get old.agents a ≡ Some (Taken k id) → (lookup : Option T)
+      → value_at old.pages k id ≡ lookup → (answer : Seen) (new : State T) → IsOutcome (takes old a k id lookup) answer new
+      → GoesOn Leaves first log (event.MoveOut a) answer new
+  moved-out full a k id at None none answer new row = disabled Leaves first log acts old agrees (event.MoveOut a) (λ b. refl) answer new row
+  moved-out full a k id at (Some taken) some answer new row =
       let (value, holds, lies) = known Leaves first log acts old agrees a (Taken k id) at in
       let same : Some value ≡ Some taken = sym lies ∙ some in
       let is : value ≡ taken = cc in
       let (page, here) = get-some old.pages k holds.linked in
-      from-gives Leaves first log (event.MoveOut a) (takes old a k id (Some taken)) answer new
+      from-outcome Leaves first log (event.MoveOut a) (takes old a k id (Some taken)) answer new
       (record {
         acts = acts;
-        agrees = hidden-step Leaves first log acts old (event.MoveOut a) (seen.MovedOut a) a (Taken k id) (Holding k id taken) (with_value old.pages k id None) agrees at tt (λ b other. refl)
+        agrees = hidden-step Leaves first log acts old (event.MoveOut a) (seen.MovedOut a) a (Taken k id) (Holding k id taken)
+            (with_value old.pages k id None) agrees at tt (λ b other. refl)
             (placed full a k id value None page holds here)
-            (record { linked = linked-placed k id None page here holds.linked; in_page = holds.in_page; stage = holds.stage ∙ ap (λ v. Holds (number k id) v) is });
+            (record {
+              linked = linked-placed k id None page here holds.linked;
+              in_page = holds.in_page;
+              stage = holds.stage
+                  ∙ ap (λ v. Holds (number k id) v) is;
+            });
       })
-      gives
+      row
 
-  pub move_out-goes : length first ≡ 32 → (a : ℕ) (found : Option (Point T)) → slice_get old.agents a ≡ found → (answer : Seen) (new : State T) → IsOutcome (move_out old a found) answer new → GoesOn Leaves first log (event.MoveOut a) answer new
-  move_out-goes full a (Some (Taken k id)) at answer new gives = moved-out full a k id at (value_at old.pages k id) refl answer new gives
-  move_out-goes full a _ at answer new gives = disabled Leaves first log acts old agrees (event.MoveOut a) (λ b. refl) answer new gives
+  pub move_out-goes : length first ≡ 32 → (a : ℕ) (lookup : Option (Point T)) → slice_get old.agents a ≡ lookup
+      → (answer : Seen) (new : State T) → IsOutcome (move_out old a lookup) answer new
+      → GoesOn Leaves first log (event.MoveOut a) answer new
+  move_out-goes full a (Some (Taken k id)) at answer new row = moved-out full a k id at (value_at old.pages k id) refl answer new row
+  move_out-goes full a _ at answer new row = disabled Leaves first log acts old agrees (event.MoveOut a) (λ b. refl) answer new row
 
-  pub write-goes : (a : ℕ) (value : T) (found : Option (Point T)) → slice_get old.agents a ≡ found → (answer : Seen) (new : State T) → IsOutcome (write old a value found) answer new → GoesOn Leaves first log (event.Write a value) answer new
-  write-goes a value (Some (Holding k id before)) at answer new gives =
+  pub write-goes : (a : ℕ) (value : T) (lookup : Option (Point T)) → slice_get old.agents a ≡ lookup
+      → (answer : Seen) (new : State T) → IsOutcome (write old a value lookup) answer new
+      → GoesOn Leaves first log (event.Write a value) answer new
+  write-goes a value (Some (Holding k id before)) at answer new row =
       let holds : HoldsAt acts old a k id before = known Leaves first log acts old agrees a (Holding k id before) at in
       let act : Act T = Writes a value in
-      from-gives Leaves first log (event.Write a value) (write old a value (Some (Holding k id before))) answer new
+      from-outcome Leaves first log (event.Write a value) (write old a value (Some (Holding k id before))) answer new
       (record {
         acts = act ∷ acts;
-        agrees = shown-step Leaves first log acts old (event.Write a value) (seen.Wrote a) a (Holding k id before) (Holding k id value) old.pages act agrees at refl (number k id, before, holds.stage) tt refl (λ b other. refl)
+        agrees = visible-step Leaves first log acts old (event.Write a value) (seen.Wrote a) a (Holding k id before)
+            (Holding k id value) old.pages act agrees at refl (number k id, before, holds.stage) tt refl (λ b other. refl)
             (pages-stay Leaves first log acts (act ∷ acts) old a agrees refl)
-            (record { linked = holds.linked; in_page = holds.in_page; stage = stage_of-own act acts a refl ∙ ap (λ stage. after_write stage value) holds.stage });
+            (record {
+              linked = holds.linked;
+              in_page = holds.in_page;
+              stage = stage_of-own act acts a refl
+                  ∙ ap (λ stage. after_write stage value) holds.stage;
+            });
       })
-      gives
-  write-goes a value _ at answer new gives = disabled Leaves first log acts old agrees (event.Write a value) (λ b. refl) answer new gives
+      row
+  write-goes a value _ at answer new row = disabled Leaves first log acts old agrees (event.Write a value) (λ b. refl) answer new row
 
   -- what reset left of the value goes to its place
-  pub move_home-goes : length first ≡ 32 → (a : ℕ) (found : Option (Point T)) → slice_get old.agents a ≡ found → (answer : Seen) (new : State T) → MovesHome Leaves old a found answer new → GoesOn Leaves first log (event.MoveHome a) answer new
-  move_home-goes full a (Some (Holding k id value)) at answer new (kept, leaves, gives) =
+  pub move_home-goes : length first ≡ 32 → (a : ℕ) (lookup : Option (Point T)) → slice_get old.agents a ≡ lookup
+      → (answer : Seen) (new : State T) → MovesHome Leaves old a lookup answer new
+      → GoesOn Leaves first log (event.MoveHome a) answer new
+  move_home-goes full a (Some (Holding k id value)) at answer new (kept, leaves, row) =
       let holds : HoldsAt acts old a k id value = known Leaves first log acts old agrees a (Holding k id value) at in
       let (page, here) = get-some old.pages k holds.linked in
-      from-gives Leaves first log (event.MoveHome a) (puts old a k id kept) answer new
+      from-outcome Leaves first log (event.MoveHome a) (puts old a k id kept) answer new
       (record {
         acts = acts;
-        agrees = hidden-step Leaves first log acts old (event.MoveHome a) (seen.MovedHome a) a (Holding k id value) (Home k id) (with_value old.pages k id (Some kept)) agrees at tt (λ b other. refl)
+        agrees = hidden-step Leaves first log acts old (event.MoveHome a) (seen.MovedHome a) a (Holding k id value) (Home k id)
+            (with_value old.pages k id (Some kept)) agrees at tt (λ b other. refl)
             (placed full a k id value (Some kept) page holds here) (
               value,
               kept,
@@ -111,13 +143,13 @@ module _ {T : Type 0} (Leaves : T → T → Type 0) (first : List T) (log : Log 
               value-put_same old.pages k id (Some kept) page here (let many = agrees.places k page here in let below = holds.in_page in omega arith),
             );
       })
-      gives
-  move_home-goes full a None at answer new gives = disabled Leaves first log acts old agrees (event.MoveHome a) (λ b. refl) answer new gives
-  move_home-goes full a _ at answer new gives = disabled Leaves first log acts old agrees (event.MoveHome a) (λ b. refl) answer new gives
+      row
+  move_home-goes full a None at answer new row = disabled Leaves first log acts old agrees (event.MoveHome a) (λ b. refl) answer new row
+  move_home-goes full a _ at answer new row = disabled Leaves first log acts old agrees (event.MoveHome a) (λ b. refl) answer new row
 
   -- a new agent begins
   pub begin-goes : (answer : Seen) (new : State T) → IsOutcome (begin old) answer new → GoesOn Leaves first log event.Begin answer new
-  begin-goes answer new gives =
+  begin-goes answer new row =
       let a = length old.agents in
       let act : Act T = Opens a in
       let seen_now = seen.Began a in
@@ -137,13 +169,13 @@ module _ {T : Type 0} (Leaves : T → T → Type 0) (first : List T) (log : Log 
         made = refl;
         values = λ k id value linked within holds. refl;
       } in
-      from-gives Leaves first log event.Begin (begin old) answer new
+      from-outcome Leaves first log event.Begin (begin old) answer new
       (record {
         acts = act ∷ acts;
         agrees = record {
           reads = inr (act, acts, refl, refl, agrees.reads);
           run = (unknown a (omega arith), agrees.run);
-          found = (tt, agrees.found);
+          found_out = (tt, agrees.found_out);
           same = record { pages = agrees.same.pages; places = agrees.same.places };
           words = agrees.words;
           places = agrees.places;
@@ -153,15 +185,17 @@ module _ {T : Type 0} (Leaves : T → T → Type 0) (first : List T) (log : Log 
               elim (cases_lt b a) [
                 | inl below ↦
                     subst Known (sym (get-push_old old.agents (Reading 0) b below))
-                    (known-carried Leaves first log later acts (act ∷ acts) old world b (carries b (λ is. absurd (omega arith))) (slice_get old.agents b) (agrees.agents b))
+                    (known-carried Leaves first log later acts (act ∷ acts) old world b (carries b (λ is. absurd (omega arith)))
+                    (slice_get old.agents b) (agrees.agents b))
                 | inr past ↦ elim (cases_eq a b) [
                   | inl same ↦
-                      let here : slice_get (old.agents ++ Reading 0 ∷ []) b ≡ Some (Reading 0) = ap (λ c. slice_get (old.agents ++ Reading 0 ∷ []) c) (sym same) ∙ get-push_new old.agents (Reading 0) in
+                      let here : slice_get (old.agents ++ Reading 0 ∷ []) b ≡ Some (Reading 0) = ap
+                      (λ c. slice_get (old.agents ++ Reading 0 ∷ []) c) (sym same) ∙ get-push_new old.agents (Reading 0) in
                       subst Known (sym here)
                       (record {
                         looking = stage_of-own act acts b same;
                         linked = omega arith;
-                        found = λ n below. absurd (omega arith);
+                        found_out = λ n below. absurd (omega arith);
                       })
                   | inr other ↦
                       subst Known (sym (slice_get_past (old.agents ++ Reading 0 ∷ []) b (omega (arith, length-append old.agents (Reading 0 ∷ [])))))
@@ -170,4 +204,4 @@ module _ {T : Type 0} (Leaves : T → T → Type 0) (first : List T) (log : Log 
               ];
         };
       })
-      gives
+      row

@@ -19,11 +19,13 @@ use Rattle.object_pool_cores.specs.World.Invariant.{LooksOn, IsPast, Knows, Know
 use Rattle.object_pool_cores.proofs.Runs.{since-now, stage_of-own}
 use Rattle.object_pool_cores.proofs.World.Bits.{has_bit-none, has_bit-without_lowest, lowest-lt, with_bit-lt, without_bit-lt, without_lowest-lt}
 use Rattle.object_pool_cores.proofs.World.Reading.{get-some, length-changed, changed-all, reads-number, value-word, same-cleared, same-set}
-use Rattle.object_pool_cores.proofs.World.Invariant.{GoesOn, StepsPages, moved, pages-stay, hidden-step, shown-step, from-gives, from-if, idle, sound-of, allows-fewer}
+use Rattle.object_pool_cores.proofs.World.Invariant.{GoesOn, StepsPages, moved, pages-stay, hidden-step, visible-step, from-outcome, from-if, idle, sound-of, allows-fewer}
 
 module _ {T : Type 0} (Leaves : T → T → Type 0) (first : List T) where
   -- an agent that has some bits to try, or none
-  pub tries-known : (later : Log T) (acts : List (Act T)) (world : State T) (a k mask : ℕ) → LooksOn first acts world a k → mask < 2 ^ 32 → ((id : ℕ) → id < 32 → has_bit mask id ≡ false → FoundOut first acts a (number k id)) → Knows Leaves first later acts world a (tries k mask)
+  tries-known : (later : Log T) (acts : List (Act T)) (world : State T) (a k mask : ℕ) → LooksOn first acts world a k
+      → mask < 2 ^ 32 → ((id : ℕ) → id < 32 → has_bit mask id ≡ false → FoundOut first acts a (number k id))
+      → Knows Leaves first later acts world a (tries k mask)
   tries-known later acts world a k mask looks fits others =
       let Known : Point T → Type 0 = Knows Leaves first later acts world a in
       elim (cases_eq mask 0) [
@@ -32,8 +34,8 @@ module _ {T : Type 0} (Leaves : T → T → Type 0) (first : List T) where
             let past : IsPast first acts world a k = record {
               looking = looks.looking;
               linked = looks.linked;
-              found = λ n below. elim (cases_lt n (32 * k)) [
-                | inl before ↦ looks.found n before
+              found_out = λ n below. elim (cases_lt n (32 * k)) [
+                | inl before ↦ looks.found_out n before
                 | inr here ↦
                     let same : number k (n - 32 * k) ≡ n = omega arith in
                     let P : ℕ → Type 0 = FoundOut first acts a in
@@ -46,57 +48,72 @@ module _ {T : Type 0} (Leaves : T → T → Type 0) (first : List T) where
             subst Known (sym is) (looks, record { some = omega arith; in_word = fits; others = others })
       ]
 
-module _ {T : Type 0} (Leaves : T → T → Type 0) (first : List T) (log : Log T) (acts : List (Act T)) (old : State T) (agrees : Agrees Leaves first log acts old) where
+module _ {T : Type 0} (Leaves : T → T → Type 0) (first : List T) (log : Log T) (acts : List (Act T)) (old : State T)
+    (agrees : Agrees Leaves first log acts old) where
   -- what the invariant knows of an agent at its point
   pub known : (a : ℕ) (point : Point T) → slice_get old.agents a ≡ Some point → Knows Leaves first log acts old a point
   known a point at = let Known : Option (Point T) → Type 0 = KnowsIf Leaves first log acts old a in subst Known at (agrees.agents a)
 
   -- what lies at a number, by its bit and its place
-  pub lies-at : (k id : ℕ) (page : PageState T) → id < 32 → slice_get old.pages k ≡ Some page → (pool_of first acts).at (number k id) ≡ place_of (has_bit page.word id) (value_at old.pages k id)
+  pub lies-at : (k id : ℕ) (page : PageState T) → id < 32 → slice_get old.pages k ≡ Some page
+      → (pool_of first acts).at (number k id) ≡ place_of (has_bit page.word id) (value_at old.pages k id)
   lies-at k id page within at = agrees.same.places (number k id) ∙ reads-number old k id page within at
 
   -- a number whose bit is clear is out
-  out-at : (k id : ℕ) (page : PageState T) → id < 32 → slice_get old.pages k ≡ Some page → has_bit page.word id ≡ false → IsOut (pool_of first acts) (number k id)
+  out-at : (k id : ℕ) (page : PageState T) → id < 32 → slice_get old.pages k ≡ Some page → has_bit page.word id ≡ false
+      → IsOut (pool_of first acts) (number k id)
   out-at k id page within at clear = lies-at k id page within at ∙ ap (λ bit. place_of bit (value_at old.pages k id)) clear
 
   -- a number whose bit is set is free with the value at its place
-  free-at : length first ≡ 32 → (k id : ℕ) (page : PageState T) → id < 32 → slice_get old.pages k ≡ Some page → k < length old.pages → has_bit page.word id ≡ true → (value : T) × (value_at old.pages k id ≡ Some value) × IsFree (pool_of first acts) (number k id) value
+  free-at : length first ≡ 32 → (k id : ℕ) (page : PageState T) → id < 32 → slice_get old.pages k ≡ Some page
+      → k < length old.pages → has_bit page.word id ≡ true
+      → (value : T) × (value_at old.pages k id ≡ Some value) × IsFree (pool_of first acts) (number k id) value
   free-at full k id page within at linked set =
       let sound = sound-of Leaves first log acts old full agrees in
       let pages = agrees.same.pages in
       let here = lies-at k id page within at ∙ ap (λ bit. place_of bit (value_at old.pages k id)) set in
       let inside = sound.whole.inside (number k id) (omega arith) in
-      let by : (found : Option T) → value_at old.pages k id ≡ found → (value : T) × (value_at old.pages k id ≡ Some value) × IsFree (pool_of first acts) (number k id) value = elim [
+      let by : (lookup : Option T) → value_at old.pages k id ≡ lookup
+      → (value : T) × (value_at old.pages k id ≡ Some value) × IsFree (pool_of first acts) (number k id) value = elim [
         | None ↦ λ is. absurd (inside (here ∙ ap (place_of true) is))
         | Some value ↦ λ is. (value, is, here ∙ ap (place_of true) is)
       ] in
       by (value_at old.pages k id) refl
 
   -- an event that isn't enabled
-  pub disabled : (e : Event T) → ((b : ℕ) → made_by e seen.NotEnabled b ≡ None) → (answer : Seen) (new : State T) → IsOutcome (not_enabled old) answer new → GoesOn Leaves first log e answer new
-  disabled e made answer new gives = from-gives Leaves first log e (not_enabled old) answer new (idle Leaves first log acts old e seen.NotEnabled agrees tt made) gives
+  pub disabled : (e : Event T) → ((b : ℕ) → made_by e seen.NotEnabled b ≡ None) → (answer : Seen) (new : State T)
+      → IsOutcome (not_enabled old) answer new → GoesOn Leaves first log e answer new
+  disabled e made answer new row =
+      from-outcome Leaves first log e (not_enabled old) answer new (idle Leaves first log acts old e seen.NotEnabled agrees tt made) row
 
-  pub read_mask-goes : (a : ℕ) (found : Option (Point T)) → slice_get old.agents a ≡ found → (answer : Seen) (new : State T) → IsOutcome (read_mask old a found) answer new → GoesOn Leaves first log (event.ReadMask a) answer new
-  read_mask-goes a (Some (Reading k)) at answer new gives =
+  pub read_mask-goes : (a : ℕ) (lookup : Option (Point T)) → slice_get old.agents a ≡ lookup → (answer : Seen) (new : State T)
+      → IsOutcome (read_mask old a lookup) answer new → GoesOn Leaves first log (event.ReadMask a) answer new
+  read_mask-goes a (Some (Reading k)) at answer new row =
       let looks : LooksOn first acts old a k = known a (Reading k) at in
       let (page, here) = get-some old.pages k looks.linked in
       let word_is : word_of old.pages k ≡ page.word = ap word_in here in
       let fits = agrees.words k page here in
-      from-gives Leaves first log (event.ReadMask a) (read_mask old a (Some (Reading k))) answer new
+      from-outcome Leaves first log (event.ReadMask a) (read_mask old a (Some (Reading k))) answer new
       (record {
         acts = acts;
-        agrees = hidden-step Leaves first log acts old (event.ReadMask a) (seen.Word a (word_of old.pages k)) a (Reading k) (tries k (word_of old.pages k)) old.pages agrees at tt (λ b other. refl)
+        agrees = hidden-step Leaves first log acts old (event.ReadMask a) (seen.Word a (word_of old.pages k)) a (Reading k)
+            (tries k (word_of old.pages k)) old.pages agrees at tt (λ b other. refl)
             (pages-stay Leaves first log acts acts old a agrees refl)
-            (tries-known Leaves first ((event.ReadMask a, seen.Word a (word_of old.pages k)) ∷ log) acts (moved Leaves first old old.pages a (tries k (word_of old.pages k))) a k (word_of old.pages k)
-            (record { looking = looks.looking; linked = looks.linked; found = looks.found })
+            (tries-known Leaves first ((event.ReadMask a, seen.Word a (word_of old.pages k)) ∷ log) acts
+            (moved Leaves first old old.pages a (tries k (word_of old.pages k))) a k (word_of old.pages k)
+            (record { looking = looks.looking; linked = looks.linked; found_out = looks.found_out })
             (omega arith)
-            (λ id within clear. since-now first acts a (λ pool. IsOut pool (number k id)) looks.looking (out-at k id page within here (ap (λ w. has_bit w id) (sym word_is) ∙ clear))));
+            (λ id within clear. since-now first acts a (λ pool. IsOut pool (number k id)) looks.looking
+            (out-at k id page within here (ap (λ w. has_bit w id) (sym word_is) ∙ clear))));
       })
-      gives
-  read_mask-goes a _ at answer new gives = disabled (event.ReadMask a) (λ b. refl) answer new gives
+      row
+  read_mask-goes a _ at answer new row = disabled (event.ReadMask a) (λ b. refl) answer new row
 
   -- the pages after another word was put on one of them
-  worded : (more : List (Act T)) (a k word : ℕ) (page : PageState T) → slice_get old.pages k ≡ Some page → word < 2 ^ 32 → IsSame (pool_of first more) (reading (record { pages = with_word old.pages k word; agents = old.agents; limit = old.limit })) → StepsPages Leaves first acts more old (with_word old.pages k word) a
+  worded : (more : List (Act T)) (a k word : ℕ) (page : PageState T) → slice_get old.pages k ≡ Some page → word < 2 ^ 32
+      → IsSame (pool_of first more)
+      (reading (record { pages = with_word old.pages k word; agents = old.agents; limit = old.limit }))
+      → StepsPages Leaves first acts more old (with_word old.pages k word) a
   worded more a k word page at fits same =
       let f : PageState T → PageState T = λ p. record { word = word; places = p.places } in
       let count : length (with_word old.pages k word) ≡ length old.pages = length-changed f old.pages k page at in
@@ -111,11 +128,15 @@ module _ {T : Type 0} (Leaves : T → T → Type 0) (first : List T) (log : Log 
 
   linked-worded : (k j word : ℕ) (page : PageState T) → slice_get old.pages k ≡ Some page → j < length old.pages → j < length (with_word old.pages k word)
   linked-worded k j word page at linked =
-      let count : length (with_word old.pages k word) ≡ length old.pages = length-changed (λ p. record { word = word; places = p.places }) old.pages k page at in
+      let count : length (with_word old.pages k word) ≡ length old.pages = length-changed (λ p.
+      record { word = word; places = p.places }) old.pages k page at in
       omega arith
 
   -- the bit is set in the word: the agent pulls its number
-  won : length first ≡ 32 → (a k mask : ℕ) → slice_get old.agents a ≡ Some (Clearing k mask) → has_bit (word_of old.pages k) (lowest mask) ≡ true → GoesOn Leaves first log (event.ClearBit a) (seen.Pulled a (number k (lowest mask))) (moved Leaves first old (with_word old.pages k (without_bit (word_of old.pages k) (lowest mask))) a (Taken k (lowest mask)))
+  won : length first ≡ 32 → (a k mask : ℕ) → slice_get old.agents a ≡ Some (Clearing k mask)
+      → has_bit (word_of old.pages k) (lowest mask) ≡ true
+      → GoesOn Leaves first log (event.ClearBit a) (seen.Pulled a (number k (lowest mask)))
+      (moved Leaves first old (with_word old.pages k (without_bit (word_of old.pages k) (lowest mask))) a (Taken k (lowest mask)))
   won full a k mask at set =
       let (looks, bits) = known a (Clearing k mask) at in
       let id = lowest mask in
@@ -129,9 +150,12 @@ module _ {T : Type 0} (Leaves : T → T → Type 0) (first : List T) (log : Log 
       let act : Act T = Moves a (Pull (number k id) value) in
       record {
         acts = act ∷ acts;
-        agrees = shown-step Leaves first log acts old (event.ClearBit a) (seen.Pulled a (number k id)) a (Clearing k mask) (Taken k id) pages act agrees at (value, refl) (free, looks.looking) tt refl (λ b other. refl)
+        agrees = visible-step Leaves first log acts old (event.ClearBit a) (seen.Pulled a (number k id)) a (Clearing k mask)
+            (Taken k id) pages act agrees at (value, refl) (free, looks.looking) tt refl (λ b other. refl)
             (worded (act ∷ acts) a k word page here (without_bit-lt (word_of old.pages k) id (omega arith))
-            (same-cleared (pool_of first acts) old (record { pages = pages; agents = old.agents; limit = old.limit }) k id page within here agrees.same (ap (λ w. with_word old.pages k (without_bit w id)) word_is))) (
+            (same-cleared (pool_of first acts) old
+            (record { pages = pages; agents = old.agents; limit = old.limit }) k id page within here agrees.same
+            (ap (λ w. with_word old.pages k (without_bit w id)) word_is))) (
               value,
               record { linked = linked-worded k k word page here looks.linked; in_page = within; stage = stage_of-own act acts a refl },
               value-word old.pages k word page here k id ∙ lies,
@@ -139,7 +163,9 @@ module _ {T : Type 0} (Leaves : T → T → Type 0) (first : List T) (log : Log 
       }
 
   -- the bit isn't set in the word: the agent goes on with the rest
-  lost : (a k mask : ℕ) → slice_get old.agents a ≡ Some (Clearing k mask) → has_bit (word_of old.pages k) (lowest mask) ≡ false → GoesOn Leaves first log (event.ClearBit a) (seen.Found a (word_of old.pages k)) (moved Leaves first old old.pages a (tries k (without_lowest mask)))
+  lost : (a k mask : ℕ) → slice_get old.agents a ≡ Some (Clearing k mask) → has_bit (word_of old.pages k) (lowest mask) ≡ false
+      → GoesOn Leaves first log (event.ClearBit a) (seen.Found a (word_of old.pages k))
+      (moved Leaves first old old.pages a (tries k (without_lowest mask)))
   lost a k mask at clear =
       let (looks, bits) = known a (Clearing k mask) at in
       let (page, here) = get-some old.pages k looks.linked in
@@ -147,19 +173,26 @@ module _ {T : Type 0} (Leaves : T → T → Type 0) (first : List T) (log : Log 
       let answer = seen.Found a (word_of old.pages k) in
       record {
         acts = acts;
-        agrees = hidden-step Leaves first log acts old (event.ClearBit a) answer a (Clearing k mask) (tries k (without_lowest mask)) old.pages agrees at tt (λ b other. refl)
+        agrees = hidden-step Leaves first log acts old (event.ClearBit a) answer a (Clearing k mask)
+            (tries k (without_lowest mask)) old.pages agrees at tt (λ b other. refl)
             (pages-stay Leaves first log acts acts old a agrees refl)
-            (tries-known Leaves first ((event.ClearBit a, answer) ∷ log) acts (moved Leaves first old old.pages a (tries k (without_lowest mask))) a k (without_lowest mask)
-            (record { looking = looks.looking; linked = looks.linked; found = looks.found })
+            (tries-known Leaves first ((event.ClearBit a, answer) ∷ log) acts
+            (moved Leaves first old old.pages a (tries k (without_lowest mask))) a k (without_lowest mask)
+            (record { looking = looks.looking; linked = looks.linked; found_out = looks.found_out })
             (without_lowest-lt mask bits.in_word)
             (λ id within gone. elim (cases_eq id (lowest mask)) [
-              | inl tried ↦ since-now first acts a (λ pool. IsOut pool (number k id)) looks.looking (out-at k id page within here (ap (λ i. has_bit page.word i) tried ∙ ap (λ w. has_bit w (lowest mask)) (sym word_is) ∙ clear))
+              | inl tried ↦
+                  since-now first acts a (λ pool. IsOut pool (number k id)) looks.looking
+                  (out-at k id page within here (ap (λ i. has_bit page.word i) tried ∙ ap (λ w. has_bit w (lowest mask))
+                  (sym word_is) ∙ clear))
               | inr other ↦ bits.others id within (sym (has_bit-without_lowest mask id bits.some bits.in_word other) ∙ gone)
             ]));
       }
 
-  pub clear_bit-goes : length first ≡ 32 → (a : ℕ) (found : Option (Point T)) → slice_get old.agents a ≡ found → (answer : Seen) (new : State T) → IsOutcome (clear_bit old a found) answer new → GoesOn Leaves first log (event.ClearBit a) answer new
-  clear_bit-goes full a (Some (Clearing k mask)) at answer new gives =
+  pub clear_bit-goes : length first ≡ 32 → (a : ℕ) (lookup : Option (Point T)) → slice_get old.agents a ≡ lookup
+      → (answer : Seen) (new : State T) → IsOutcome (clear_bit old a lookup) answer new
+      → GoesOn Leaves first log (event.ClearBit a) answer new
+  clear_bit-goes full a (Some (Clearing k mask)) at answer new row =
       let e : Event T = event.ClearBit a in
       let id = lowest mask in
       let word = word_of old.pages k in
@@ -168,14 +201,16 @@ module _ {T : Type 0} (Leaves : T → T → Type 0) (first : List T) (log : Log 
       from-if Leaves first log e (mask == 0) (not_enabled old) (clears old a k mask word) answer new
       (λ none given. disabled e (λ b. refl) answer new given)
       (λ some given. from-if Leaves first log e (has_bit word id) yes not answer new
-      (λ set gave. from-gives Leaves first log e yes answer new (won full a k mask at set) gave)
-      (λ clear gave. from-gives Leaves first log e not answer new (lost a k mask at clear) gave)
+      (λ set gave. from-outcome Leaves first log e yes answer new (won full a k mask at set) gave)
+      (λ clear gave. from-outcome Leaves first log e not answer new (lost a k mask at clear) gave)
       given)
-      gives
-  clear_bit-goes full a _ at answer new gives = disabled (event.ClearBit a) (λ b. refl) answer new gives
+      row
+  clear_bit-goes full a _ at answer new row = disabled (event.ClearBit a) (λ b. refl) answer new row
 
   -- the bit is set again: the agent returns its number
-  returned : length first ≡ 32 → (a k id : ℕ) → slice_get old.agents a ≡ Some (Home k id) → GoesOn Leaves first log (event.OrMask a) (seen.Returned a (number k id)) (moved Leaves first old (with_word old.pages k (with_bit (word_of old.pages k) id)) a Ended)
+  returned : length first ≡ 32 → (a k id : ℕ) → slice_get old.agents a ≡ Some (Home k id)
+      → GoesOn Leaves first log (event.OrMask a) (seen.Returned a (number k id))
+      (moved Leaves first old (with_word old.pages k (with_bit (word_of old.pages k) id)) a Ended)
   returned full a k id at =
       let (value, kept, holds, leaves, lies) = known a (Home k id) at in
       let sound = sound-of Leaves first log acts old full agrees in
@@ -187,19 +222,23 @@ module _ {T : Type 0} (Leaves : T → T → Type 0) (first : List T) (log : Log 
       let act : Act T = Moves a (Return (number k id) kept) in
       record {
         acts = act ∷ acts;
-        agrees = shown-step Leaves first log acts old (event.OrMask a) (seen.Returned a (number k id)) a (Home k id) Ended pages act agrees at (kept, refl)
+        agrees = visible-step Leaves first log acts old (event.OrMask a) (seen.Returned a (number k id)) a (Home k id) Ended pages act agrees at (kept, refl)
             (sound.holders.out (number k id) a value holds.stage, (value, holds.stage, leaves)) tt refl (λ b other. refl)
             (worded (act ∷ acts) a k word page here (with_bit-lt (word_of old.pages k) id holds.in_page (omega arith))
-            (same-set (pool_of first acts) old (record { pages = pages; agents = old.agents; limit = old.limit }) k id page kept holds.in_page here lies agrees.same (ap (λ w. with_word old.pages k (with_bit w id)) word_is)))
+            (same-set (pool_of first acts) old
+            (record { pages = pages; agents = old.agents; limit = old.limit }) k id page kept holds.in_page here lies agrees.same
+            (ap (λ w. with_word old.pages k (with_bit w id)) word_is)))
             tt;
       }
 
-  pub or_mask-goes : length first ≡ 32 → (a : ℕ) (found : Option (Point T)) → slice_get old.agents a ≡ found → (answer : Seen) (new : State T) → IsOutcome (or_mask old a found) answer new → GoesOn Leaves first log (event.OrMask a) answer new
-  or_mask-goes full a (Some (Home k id)) at answer new gives =
+  pub or_mask-goes : length first ≡ 32 → (a : ℕ) (lookup : Option (Point T)) → slice_get old.agents a ≡ lookup
+      → (answer : Seen) (new : State T) → IsOutcome (or_mask old a lookup) answer new
+      → GoesOn Leaves first log (event.OrMask a) answer new
+  or_mask-goes full a (Some (Home k id)) at answer new row =
       let e : Event T = event.OrMask a in
       let yes : Outcome T = (seen.Returned a (number k id), moved Leaves first old (with_word old.pages k (with_bit (word_of old.pages k) id)) a Ended) in
       from-if Leaves first log e (nat_lt id 32) yes (not_enabled old) answer new
-      (λ within gave. from-gives Leaves first log e yes answer new (returned full a k id at) gave)
+      (λ within gave. from-outcome Leaves first log e yes answer new (returned full a k id at) gave)
       (λ past gave. disabled e (λ b. refl) answer new gave)
-      gives
-  or_mask-goes full a _ at answer new gives = disabled (event.OrMask a) (λ b. refl) answer new gives
+      row
+  or_mask-goes full a _ at answer new row = disabled (event.OrMask a) (λ b. refl) answer new row

@@ -37,7 +37,7 @@ module _ {T : Type 0} where
   -- one of the events was answered so
   abbrev pub IsAnswered : Log T → Seen → Type 0
   IsAnswered [] answer = ⊥
-  IsAnswered ((e, given) ∷ log) answer = (given ≡ answer) ⊎ IsAnswered log answer
+  IsAnswered ((e, this) ∷ log) answer = (this ≡ answer) ⊎ IsAnswered log answer
 
   -- each page before this one has no free number, and this one has
   pub record IsFirstFree (pages : List (PageState T)) (k : ℕ) : Type 0 where
@@ -77,8 +77,9 @@ module _ {T : Type 0} where
   abbrev pub events_of : Log T → List (Event T)
   events_of log = map (λ entry. entry.0) log
 
--- an agent that reads page 0 first and then steps alone has an item after two steps for each full page and three
--- more, or after two more where it links a page, and is refused by the second step at the last page of a limit
+-- an agent that reads page 0 first and then steps alone has an item after two
+-- steps for each full page and three more, or after two more where it links a
+-- page, and is refused by the second step at the last page of a limit
 pub record StepsAlone {T : Type 0} (old : State T) (log : Log T) (new : State T) (a : ℕ) : Type 0 where
   pub takes : (k : ℕ) → IsFirstFree old.pages k → MovesOutBy (2 * k + 3) log new a
   pub links :

@@ -5,7 +5,7 @@ use Rattle.object_pool_cores.specs.declared.interleave.event.Seen.{Seen}
 use Rattle.object_pool_cores.specs.declared.interleave.point.Point.TheVariants.{Reading}
 use Rattle.object_pool_cores.specs.declared.run_error.RunError.{RunError}
 use Rattle.object_pool_cores.specs.Pool.{IsSame, AllowsPages}
-use Rattle.object_pool_cores.specs.Run.{Act, Holds, stage_of, pool_of, Run, Found, HasHolders, IsWhole, AtEachPlace}
+use Rattle.object_pool_cores.specs.Run.{Act, Holds, stage_of, pool_of, Run, FoundOutBeforeEach, HasHolders, IsWhole, AtEachPlace}
 use Rattle.object_pool_cores.specs.World.State.{State}
 use Rattle.object_pool_cores.specs.World.Machine.{Steps, item_of, number_out, opening_world}
 use Rattle.object_pool_cores.specs.World.Rows.{IsExact}
@@ -16,7 +16,8 @@ use Rattle.object_pool_cores.specs.World.OwnSteps.{own_steps, IsOnPage, IsLookin
 use Rattle.lockfree_object_pool.specs.declared.page.TheConstants.{PAGE_ITEMS}
 
 -- what the events did, from a world of these first values in which no agent had begun, is a run of one pool
-pub record IsRun {T : Type 0} (Leaves : T → T → Type 0) (first : List T) (log : Log T) (world : State T) : Type 0 where
+pub record IsRun {T : Type 0} (Leaves : T → T → Type 0) (first : List T) (log : Log T)
+    (world : State T) : Type 0 where
   -- the visible answers, one after another, are acts
   pub acts : List (Act T)
   pub visible : Reads log acts
@@ -31,12 +32,14 @@ pub record IsRun {T : Type 0} (Leaves : T → T → Type 0) (first : List T) (lo
   pub holders : AtEachPlace (HasHolders first) acts
   -- an agent with an item in the world holds its number with its value there
   pub held :
-      (a n : ℕ) (value : T) → item_of (slice_get world.agents a) ≡ Some (n, value) → stage_of acts a ≡ Holds n value
+      (a n : ℕ) (value : T) → item_of (slice_get world.agents a) ≡ Some (n, value)
+      → stage_of acts a ≡ Holds n value
   -- so it is of its number from its pull to its return
   pub out :
-      (a n : ℕ) → number_out (slice_get world.agents a) ≡ Some n → (value : T) × (stage_of acts a ≡ Holds n value)
+      (a n : ℕ) → number_out (slice_get world.agents a) ≡ Some n
+      → (value : T) × (stage_of acts a ≡ Holds n value)
   -- at each growth and each refusal the agent had found each earlier number out since it began
-  pub found : Found first acts
+  pub found_out : FoundOutBeforeEach first acts
 
 -- a world of one page of 32 values, in which no agent has begun
 pub record IsNew {T : Type 0} (world : State T) : Type 0 where
@@ -68,7 +71,8 @@ module _ {T : Type 0} (Leaves : T → T → Type 0) where
   abbrev pub Ran : State T → Log T → State T → Type 0
   Ran old [] new = new ≡ old
   Ran old ((e, answer) ∷ log) new =
-      (between : State T) × Ran old log between × Steps Leaves between e answer new × IsExact between e answer new
+      (between : State T) × Ran old log between × Steps Leaves between e answer new
+      × IsExact between e answer new
 
   -- what was done before: steps from a world in which no agent had begun
   pub record Past (world : State T) : Type 0 where
@@ -97,7 +101,8 @@ module _ {T : Type 0} (Leaves : T → T → Type 0) where
     -- it took fewer
     pub bounded :
         (part : Stretch T) → IsPart part whole → (a limit : ℕ)
-        → slice_get part.from.agents a ≡ None → part.to.limit ≡ Some limit → IsLooking (slice_get part.to.agents a)
+        → slice_get part.from.agents a ≡ None → part.to.limit ≡ Some limit
+        → IsLooking (slice_get part.to.agents a)
         → own_steps part.log a < 36 * limit - 2
     -- an agent that has begun, and alone steps, has an item or is refused after so many steps
     pub alone :
@@ -114,7 +119,8 @@ module _ {T : Type 0} (Leaves : T → T → Type 0) where
   pub record SinceNew (first : List T) (whole : Stretch T) : Type 0 where
     -- it is a run of one pool
     pub headline : IsRun Leaves first whole.log whole.to
-    -- under a limit an agent is pulled or refused by its own step 36 * limit - 2: while it looks it took fewer
+    -- under a limit an agent is pulled or refused by its
+    -- own step 36 * limit - 2: while it looks it took fewer
     pub bounded :
         (a limit : ℕ) → whole.to.limit ≡ Some limit → IsLooking (slice_get whole.to.agents a)
         → own_steps whole.log a < 36 * limit - 2

@@ -1,9 +1,10 @@
--- The invariant: how the acts that were seen, the words, the places and the points of the agents belong together.
+-- The invariant: how the acts that were seen, the words,
+-- the places and the points of the agents belong together.
 use Rattle.std.specs.Prelude.{◌≡◌, ℕ, ◌+◌, ◌^◌, ◌<◌, false, Option, Some, None, List, length, slice_get, ⊤}
 use Rattle.object_pool_cores.specs.declared.interleave.point.Point.{Point}
 use Rattle.object_pool_cores.specs.declared.interleave.point.Point.TheVariants.{Reading, Clearing, AtLink, Making, Linking, Taken, Holding, Home, Ended}
 use Rattle.object_pool_cores.specs.Pool.{IsSame, AllowsPages, number}
-use Rattle.object_pool_cores.specs.Run.{Act, NotBegun, Looking, Holds, stage_of, pool_of, FoundOut, FoundPages, HadPages, Run, Found}
+use Rattle.object_pool_cores.specs.Run.{Act, NotBegun, Looking, Holds, stage_of, pool_of, FoundOut, FoundAllOut, HadPages, Run, FoundOutBeforeEach}
 use Rattle.object_pool_cores.specs.World.PageState.{PageState}
 use Rattle.object_pool_cores.specs.World.State.{State}
 use Rattle.object_pool_cores.specs.World.Machine.{has_bit, value_at}
@@ -16,13 +17,13 @@ module _ {T : Type 0} (first : List T) where
   pub record LooksOn (acts : List (Act T)) (world : State T) (a k : ℕ) : Type 0 where
     pub looking : stage_of acts a ≡ Looking
     pub linked : k < length world.pages
-    pub found : FoundPages first acts a k
+    pub found_out : FoundAllOut first acts a k
 
   -- an agent found each number of page k and of the pages before it out
   pub record IsPast (acts : List (Act T)) (world : State T) (a k : ℕ) : Type 0 where
     pub looking : stage_of acts a ≡ Looking
     pub linked : k < length world.pages
-    pub found : FoundPages first acts a (k + 1)
+    pub found_out : FoundAllOut first acts a (k + 1)
 
   -- and page k was the last page at some place, after which one more is allowed
   pub record IsAtEnd (acts : List (Act T)) (world : State T) (a k : ℕ) : Type 0 where
@@ -51,12 +52,15 @@ module _ {T : Type 0} (Leaves : T → T → Type 0) (first : List T) where
   Knows log acts world a (AtLink k) = IsPast first acts world a k
   Knows log acts world a (Making k) = IsAtEnd first acts world a k
   Knows log acts world a (Linking k values) = IsAtEnd first acts world a k × (last_made log a ≡ Some values)
-  Knows log acts world a (Taken k id) = (value : T) × HoldsAt acts world a k id value × (value_at world.pages k id ≡ Some value)
+  Knows log acts world a (Taken k id) =
+      (value : T) × HoldsAt acts world a k id value × (value_at world.pages k id ≡ Some value)
   Knows log acts world a (Holding k id value) = HoldsAt acts world a k id value
   Knows log acts world a (Home k id) =
-      (value : T) × (kept : T) × HoldsAt acts world a k id value × Leaves value kept × (value_at world.pages k id ≡ Some kept)
+      (value : T) × (kept : T) × HoldsAt acts world a k id value × Leaves value kept
+      × (value_at world.pages k id ≡ Some kept)
   Knows log acts world a Ended = ⊤
 
+  -- what is known of an agent that may not have begun
   abbrev pub KnowsIf : Log T → List (Act T) → State T → ℕ → Option (Point T) → Type 0
   KnowsIf log acts world a None = stage_of acts a ≡ NotBegun
   KnowsIf log acts world a (Some point) = Knows log acts world a point
@@ -65,9 +69,10 @@ module _ {T : Type 0} (Leaves : T → T → Type 0) (first : List T) where
   pub record Agrees (log : Log T) (acts : List (Act T)) (world : State T) : Type 0 where
     pub reads : Reads log acts
     pub run : Run Leaves world.limit first acts
-    pub found : Found first acts
+    pub found_out : FoundOutBeforeEach first acts
     pub same : IsSame (pool_of first acts) (reading world)
     pub words : (k : ℕ) (page : PageState T) → slice_get world.pages k ≡ Some page → page.word < 2 ^ 32
-    pub places : (k : ℕ) (page : PageState T) → slice_get world.pages k ≡ Some page → length page.places ≡ PAGE_ITEMS
+    pub places :
+        (k : ℕ) (page : PageState T) → slice_get world.pages k ≡ Some page → length page.places ≡ PAGE_ITEMS
     pub allowed : AllowsPages world.limit (length world.pages)
     pub agents : (a : ℕ) → KnowsIf log acts world a (slice_get world.agents a)

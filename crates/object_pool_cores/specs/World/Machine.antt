@@ -50,6 +50,7 @@ module _ {T : Type 0} where
   word_in None = 0
   word_in (Some page) = page.word
 
+  -- the word of page k
   abbrev pub word_of : List (PageState T) → ℕ → ℕ
   word_of pages k = word_in (slice_get pages k)
 
@@ -58,6 +59,7 @@ module _ {T : Type 0} where
   value_in None id = None
   value_in (Some page) id = option_and_then (λ place. place) (slice_get page.places id)
 
+  -- the value at place `id` of page k, if one lies there
   abbrev pub value_at : List (PageState T) → ℕ → ℕ → Option T
   value_at pages k id = value_in (slice_get pages k) id
 
@@ -68,11 +70,16 @@ module _ {T : Type 0} where
 
   -- the pages with another word on page k
   abbrev pub with_word : List (PageState T) → ℕ → ℕ → List (PageState T)
-  with_word pages k word = with_page pages k (option_map (λ page. record { word = word; places = page.places }) (slice_get pages k))
+  with_word pages k word =
+      with_page pages k
+      (option_map (λ page. record { word = word; places = page.places }) (slice_get pages k))
 
   -- the pages with another value, or none, at a place of page k
   abbrev pub with_value : List (PageState T) → ℕ → ℕ → Option T → List (PageState T)
-  with_value pages k id value = with_page pages k (option_map (λ page. record { word = page.word; places = slice_set page.places id value }) (slice_get pages k))
+  with_value pages k id value =
+      with_page pages k
+      (option_map (λ page. record { word = page.word; places = slice_set page.places id value })
+      (slice_get pages k))
 
   -- a world of one page of these values, in which no agent has begun
   abbrev pub opening_world : List T → Option ℕ → State T
@@ -80,7 +87,8 @@ module _ {T : Type 0} where
 
   -- the world with its agent at another point
   abbrev pub at_point : State T → ℕ → Point T → State T
-  at_point world a point = record { pages = world.pages; agents = slice_set world.agents a point; limit = world.limit }
+  at_point world a point =
+      record { pages = world.pages; agents = slice_set world.agents a point; limit = world.limit }
 
   -- the world with other pages
   abbrev pub with_pages : State T → List (PageState T) → State T
@@ -96,7 +104,7 @@ module _ {T : Type 0} where
   not_enabled world = (seen.NotEnabled, world)
 
   -- the same where page k isn't there, which is so of no agent in a world that can be reached
-  abbrev pub if_linked : State T → ℕ → Outcome T → Outcome T
+  abbrev if_linked : State T → ℕ → Outcome T → Outcome T
   if_linked world k outcome = if nat_lt k (length world.pages) then outcome else not_enabled world
 
   -- the value that an agent has, from its MoveOut until its MoveHome
@@ -125,6 +133,7 @@ module _ {T : Type 0} where
   abbrev pub tries : ℕ → ℕ → Point T
   tries k mask = if mask == 0 then AtLink k else Clearing k mask
 
+  -- an agent reads the word of its page, and tries the bits that it saw
   abbrev pub read_mask : State T → ℕ → Option (Point T) → Outcome T
   read_mask world a (Some (Reading k)) =
       let word = word_of world.pages k in (seen.Word a word, at_point world a (tries k word))
@@ -134,13 +143,21 @@ module _ {T : Type 0} where
   abbrev pub clears : State T → ℕ → ℕ → ℕ → ℕ → Outcome T
   clears world a k mask word =
       if has_bit word (lowest mask)
-      then (seen.Pulled a (number k (lowest mask)), at_point (with_pages world (with_word world.pages k (without_bit word (lowest mask)))) a (Taken k (lowest mask)))
+      then (
+        seen.Pulled a (number k (lowest mask)),
+        at_point
+            (with_pages world (with_word world.pages k (without_bit word (lowest mask)))) a
+            (Taken k (lowest mask)),
+      )
       else (seen.Found a word, at_point world a (tries k (without_lowest mask)))
 
+  -- an agent clears the lowest bit that it has to try, if it is still set
   abbrev pub clear_bit : State T → ℕ → Option (Point T) → Outcome T
-  clear_bit world a (Some (Clearing k mask)) = if mask == 0 then not_enabled world else clears world a k mask (word_of world.pages k)
+  clear_bit world a (Some (Clearing k mask)) =
+      if mask == 0 then not_enabled world else clears world a k mask (word_of world.pages k)
   clear_bit world a _ = not_enabled world
 
+  -- an agent that found its page full goes to the next, is refused at the limit, or makes a page
   abbrev pub read_next : State T → ℕ → Option (Point T) → Outcome T
   read_next world a (Some (AtLink k)) =
       if_linked world k
@@ -149,17 +166,23 @@ module _ {T : Type 0} where
       else (seen.Next a true, at_point world a (Reading (k + 1))))
   read_next world a _ = not_enabled world
 
+  -- an agent has the values of a page of its own, or is refused
   abbrev pub make_page : State T → ℕ → Result (List T) PullError → Option (Point T) → Outcome T
-  make_page world a (Ok values) (Some (Making k)) = if_linked world k (seen.Made a, at_point world a (Linking k values))
+  make_page world a (Ok values) (Some (Making k)) =
+      if_linked world k (seen.Made a, at_point world a (Linking k values))
   make_page world a (Err Memory) (Some (Making k)) = (seen.Refused a Memory, at_point world a Ended)
   make_page world a (Err Init) (Some (Making k)) = (seen.Refused a Init, at_point world a Ended)
   make_page world a prepared _ = not_enabled world
 
+  -- an agent links its page behind the last one, or lost that to another and goes on to its page
   abbrev pub exchange_next : State T → ℕ → Option (Point T) → Outcome T
   exchange_next world a (Some (Linking k values)) =
       if_linked world k
       (if length world.pages == k + 1
-      then (seen.Linked a, at_point (with_pages world (world.pages ++ linked_page values ∷ [])) a (Reading (k + 1)))
+      then (
+        seen.Linked a,
+        at_point (with_pages world (world.pages ++ linked_page values ∷ [])) a (Reading (k + 1)),
+      )
       else (seen.Lost a, at_point world a (Reading (k + 1))))
   exchange_next world a _ = not_enabled world
 
@@ -169,10 +192,12 @@ module _ {T : Type 0} where
   takes world a k id (Some value) =
       (seen.MovedOut a, at_point (with_pages world (with_value world.pages k id None)) a (Holding k id value))
 
+  -- an agent takes the value out of the place whose bit it cleared
   abbrev pub move_out : State T → ℕ → Option (Point T) → Outcome T
   move_out world a (Some (Taken k id)) = takes world a k id (value_at world.pages k id)
   move_out world a _ = not_enabled world
 
+  -- an agent writes the value that it holds
   abbrev pub write : State T → ℕ → T → Option (Point T) → Outcome T
   write world a value (Some (Holding k id old)) = (seen.Wrote a, at_point world a (Holding k id value))
   write world a value _ = not_enabled world
@@ -182,15 +207,24 @@ module _ {T : Type 0} where
   puts world a k id kept =
       (seen.MovedHome a, at_point (with_pages world (with_value world.pages k id (Some kept))) a (Home k id))
 
+  -- an agent sets the bit of the number that it returns, and is at its end
   abbrev pub or_mask : State T → ℕ → Option (Point T) → Outcome T
   or_mask world a (Some (Home k id)) =
       if nat_lt id PAGE_ITEMS
-      then (seen.Returned a (number k id), at_point (with_pages world (with_word world.pages k (with_bit (word_of world.pages k) id))) a Ended)
+      then (
+        seen.Returned a (number k id),
+        at_point
+            (with_pages world (with_word world.pages k (with_bit (word_of world.pages k) id))) a Ended,
+      )
       else not_enabled world
   or_mask world a _ = not_enabled world
 
+  -- one agent more begins, at page 0
   abbrev pub begin : State T → Outcome T
-  begin world = (seen.Began (length world.agents), record { pages = world.pages; agents = world.agents ++ Reading 0 ∷ []; limit = world.limit })
+  begin world = (
+    seen.Began (length world.agents),
+    record { pages = world.pages; agents = world.agents ++ Reading 0 ∷ []; limit = world.limit },
+  )
 
   -- the answer and the world are those of the outcome
   abbrev pub IsOutcome : Outcome T → Seen → State T → Type 0
@@ -227,7 +261,8 @@ module _ {T : Type 0} where
 module _ {T : Type 0} (Leaves : T → T → Type 0) where
   -- reset runs on the agent's value, and may leave any value that it leaves of it
   abbrev pub MovesHome : State T → ℕ → Option (Point T) → Seen → State T → Type 0
-  MovesHome old a (Some (Holding k id value)) answer new = (kept : T) × Leaves value kept × IsOutcome (puts old a k id kept) answer new
+  MovesHome old a (Some (Holding k id value)) answer new =
+      (kept : T) × Leaves value kept × IsOutcome (puts old a k id kept) answer new
   MovesHome old a _ answer new = IsOutcome (not_enabled old) answer new
 
   -- the row of the table for an event
@@ -236,8 +271,11 @@ module _ {T : Type 0} (Leaves : T → T → Type 0) where
   Row old (event.ReadMask a) answer new = IsOutcome (read_mask old a (slice_get old.agents a)) answer new
   Row old (event.ClearBit a) answer new = IsOutcome (clear_bit old a (slice_get old.agents a)) answer new
   Row old (event.ReadNext a) answer new = IsOutcome (read_next old a (slice_get old.agents a)) answer new
-  Row old (event.MakePage a prepared) answer new = IsOutcome (make_page old a prepared (slice_get old.agents a)) answer new
-  Row old (event.ExchangeNext a) answer new = IsOutcome (exchange_next old a (slice_get old.agents a)) answer new × LinksWhole answer (prepared_by (slice_get old.agents a))
+  Row old (event.MakePage a prepared) answer new =
+      IsOutcome (make_page old a prepared (slice_get old.agents a)) answer new
+  Row old (event.ExchangeNext a) answer new =
+      IsOutcome (exchange_next old a (slice_get old.agents a)) answer new
+      × LinksWhole answer (prepared_by (slice_get old.agents a))
   Row old (event.MoveOut a) answer new = IsOutcome (move_out old a (slice_get old.agents a)) answer new
   Row old (event.Write a value) answer new = IsOutcome (write old a value (slice_get old.agents a)) answer new
   Row old (event.MoveHome a) answer new = MovesHome old a (slice_get old.agents a) answer new
@@ -245,4 +283,5 @@ module _ {T : Type 0} (Leaves : T → T → Type 0) where
 
   -- one step: the row of the table; or the tables had to grow and couldn't, and nothing changes
   abbrev pub Steps : State T → Event T → Seen → State T → Type 0
-  Steps old e answer new = Row old e answer new ⊎ (MayGrow e (point_of old e) × (answer ≡ seen.NoMemory) × (new ≡ old))
+  Steps old e answer new =
+      Row old e answer new ⊎ (MayGrow e (point_of old e) × (answer ≡ seen.NoMemory) × (new ≡ old))

@@ -19,4 +19,8 @@ module _ {T : Type 0} where
 
   -- the pool that a world stands for
   abbrev pub reading : State T → Pool T
-  reading world = record { pages = length world.pages; at = λ n. place_on (slice_get world.pages (n / PAGE_ITEMS)) (n % PAGE_ITEMS) }
+  reading world =
+      record {
+        pages = length world.pages;
+        at = λ n. place_on (slice_get world.pages (n / PAGE_ITEMS)) (n % PAGE_ITEMS);
+      }

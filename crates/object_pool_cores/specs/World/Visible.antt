@@ -27,6 +27,7 @@ module _ {T : Type 0} where
   made_by (event.MakePage b (Ok values)) (seen.Made c) a = if b == a then Some values else None
   made_by _ _ a = None
 
+  -- the newer values, or the older where there are none
   abbrev pub or_else : Option (List T) → Option (List T) → Option (List T)
   or_else None older = older
   or_else (Some values) older = Some values
@@ -42,7 +43,8 @@ module _ {T : Type 0} where
   Shows log e (seen.Pulled a n) act = (value : T) × (act ≡ Moves a (Pull n value))
   Shows log (event.Write b value) (seen.Wrote a) act = act ≡ Writes a value
   Shows log e (seen.Returned a n) act = (kept : T) × (act ≡ Moves a (Return n kept))
-  Shows log e (seen.Linked a) act = (values : List T) × (last_made log a ≡ Some values) × (act ≡ Moves a (Growth values))
+  Shows log e (seen.Linked a) act =
+      (values : List T) × (last_made log a ≡ Some values) × (act ≡ Moves a (Growth values))
   Shows log e (seen.Refused a cause) act = act ≡ Moves a (Refusal cause)
   Shows log e _ act = ⊥
 
@@ -51,4 +53,5 @@ module _ {T : Type 0} where
   Reads [] acts = acts ≡ []
   Reads ((e, answer) ∷ log) acts =
       (IsHidden answer × Reads log acts)
-      ⊎ ((act : Act T) × (older : List (Act T)) × (acts ≡ act ∷ older) × Shows log e answer act × Reads log older)
+      ⊎ ((act : Act T) × (older : List (Act T)) × (acts ≡ act ∷ older) × Shows log e answer act
+      × Reads log older)

@@ -62,7 +62,8 @@ impl<T: Drop> Page<T> {
     /// Takes the value out of a place, if one lies there.
     pub fn take(&mut self, id: PageId) -> Option<T>
         ensures value { result ≡ option_and_then (λ place. place) (slice_get self.old.places id) }
-        ensures left { self.new ≡ record { word = self.old.word; places = slice_set self.old.places id None } }
+        ensures left { self.new ≡
+            record { word = self.old.word; places = slice_set self.old.places id None } }
     {
         match self.places.get_mut(usize::from(id)) {
             Some(place) => place.take(),
@@ -72,7 +73,8 @@ impl<T: Drop> Page<T> {
 
     /// Puts a value into a place.
     pub fn put(&mut self, id: PageId, value: T)
-        ensures { self.new ≡ record { word = self.old.word; places = slice_set self.old.places id (Some value) } }
+        ensures { self.new ≡
+            record { word = self.old.word; places = slice_set self.old.places id (Some value) } }
     {
         if let Some(place) = self.places.get_mut(usize::from(id)) {
             *place = Some(value);

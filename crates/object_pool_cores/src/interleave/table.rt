@@ -86,7 +86,7 @@ fn tries<T>(page: usize, mask: u32) -> Point<T>
     }
 }
 
-/// Gives a page another word, if there is such a page.
+/// Sets a page's word, if there is such a page.
 fn set_word<T: Drop>(pages: &mut Vec<Page<T>>, page: usize, word: u32)
     ensures pages { pages.new.items ≡ with_word pages.old.items page word }
     ensures room { vec_capacity pages.new ≡ vec_capacity pages.old }
@@ -148,7 +148,7 @@ fn number(page: usize, id: PageId) -> u128
     PAGE_ITEMS as u128 * page as u128 + u128::from(id)
 }
 
-/// Moves an agent to the next page, and gives the values that it had for a page of its own.
+/// Moves an agent to the next page; what comes back is the values that it had for a page of its own.
 fn pass_link<T: Drop>(agents: &mut Vec<Point<T>>, agent: usize, next: usize) -> Option<Prepared<T>>
     requires { agent < vec_len agents.old }
     ensures values { result ≡ prepared_by (slice_get agents.old.items agent) }
@@ -330,7 +330,9 @@ impl<T: Drop> Table<T> {
     }
 
     fn make_page(&mut self, agent: usize, prepared: Result<Prepared<T>, PullError>) -> Seen
-        ensures { IsOutcome (make_page self.old agent prepared (slice_get self.old.agents agent)) result self.new ⊎ (MayGrow (MakePage agent prepared) (slice_get self.old.agents agent) × (result ≡ NoMemory) × (self.new ≡ self.old)) }
+        ensures { IsOutcome (make_page self.old agent prepared (slice_get self.old.agents agent)) result self.new
+            ⊎ (MayGrow (MakePage agent prepared) (slice_get self.old.agents agent)
+            × (result ≡ NoMemory) × (self.new ≡ self.old)) }
     {
         let page = match self.agents.get(agent) {
             Some(Point::Making(page)) => *page,

@@ -93,7 +93,8 @@ impl<T: Drop, R: Reset<T, AnyValue>> World<T, R> {
 
     /// One atomic step of the agent that the event names.
     pub fn step(&mut self, event: Event<T>) -> Seen
-        ensures step { Steps (R.leaves (world_reset self.old)) (world_state self.old) event result (world_state self.new) }
+        ensures step { Steps (R.leaves (world_reset self.old))
+            (world_state self.old) event result (world_state self.new) }
         ensures exact { IsExact (world_state self.old) event result (world_state self.new) }
         ensures reached { IsReached (world_state self.old) }
         ensures reset { world_reset self.new ≡ world_reset self.old }
@@ -101,9 +102,9 @@ impl<T: Drop, R: Reset<T, AnyValue>> World<T, R> {
         self.reached.step(&self.reset, event)
     }
 
-    /// The events, one after another, each with its answer at the end of `seen`. An error leaves the answers of the
-    /// events that were done, and the world after them; the others are dropped. What was done before, by other runs
-    /// or by steps, and this list together are one run, so it may go on after an error.
+    /// The events, one after another, each with its answer at the end of `seen`. An error leaves the answers
+    /// of the events that were done, and the world after them; the others are dropped. What was done before,
+    /// by other runs or by steps, and this list together are one run, so it may go on after an error.
     pub fn run(&mut self, mut events: Vec<Event<T>>, seen: &mut Vec<Seen>) -> Result<(), RunError>
         ensures run { RunsEvents (R.leaves (world_reset self.old))
             (record { world = world_state self.old; events = events.items; seen = seen.old.items })

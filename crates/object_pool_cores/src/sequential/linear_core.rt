@@ -30,7 +30,7 @@ impl<T: Drop, I: Init<T, K>, R: Reset<T, K>, K: Clean<T>> LinearCore<T, I, R, K>
         ensures refused { result ≡ Err PullError.Init → I.answers init None }
         ensures unlimited { result ≢ Err PullError.Limit }
     {
-        LinearCore::opened(NumberedItems::new(alloc, None), init, reset)
+        LinearCore::with_first_page(NumberedItems::new(alloc, None), init, reset)
     }
 
     /// A pool of one page, which never has more pages than this.
@@ -48,10 +48,10 @@ impl<T: Drop, I: Init<T, K>, R: Reset<T, K>, K: Clean<T>> LinearCore<T, I, R, K>
         ensures refused { result ≡ Err PullError.Init → I.answers init None }
         ensures within { result ≢ Err PullError.Limit }
     {
-        LinearCore::opened(NumberedItems::new(alloc, Some(pages)), init, reset)
+        LinearCore::with_first_page(NumberedItems::new(alloc, Some(pages)), init, reset)
     }
 
-    fn opened(
+    fn with_first_page(
         mut items: NumberedItems<T, K>,
         init: I,
         reset: R,

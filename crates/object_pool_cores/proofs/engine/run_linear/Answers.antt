@@ -20,5 +20,8 @@ returns g c =
     let reset = c.args.reset in
     let player = c.in-Some.player in
     let opens = c.in-Some.ensures.opens in
-    Ends-served pool_of (IsSetLinear leaves limit reset) _ _ _ _ _ _ (linear_pull leaves limit reset) (linear_give leaves limit reset) (linear_attach leaves limit reset) player (linear_set leaves limit reset player.pool opens)
-    _ _ (on_linear leaves limit reset player opens c.in-Some.ensures.held) _ _ _ _ _ c.serve.ensures.ok c.serve.ensures.read c.serve.ensures.write c.serve.ensures.memory
+    Ends-served pool_of (IsSetLinear leaves limit reset) _ _ _ _ _ _ (linear_pull leaves limit reset)
+    (linear_give leaves limit reset)
+    (linear_attach leaves limit reset) player (linear_set leaves limit reset player.pool opens)
+    _ _ (on_linear leaves limit reset player opens c.in-Some.ensures.held) _ _ _ _ _ c.serve.ensures.ok c.serve.ensures.read
+    c.serve.ensures.write c.serve.ensures.memory

@@ -14,7 +14,8 @@ pub returns-in_err-text-clause-err : goal.returns-in_err-text-clause-err
 returns-in_err-text-clause-err g c = OnErr-always c.from_residual.result (λ rest opens.
     let served = c.loop-byte.invariant.1 rest opens in
     ServesFront-kept _ _ _ _ _ _ served.0 _ (drop c.loop-byte.byte-index c.args.bytes.now) _ _ _ served.2 refl
-    (ap (λ all. rest ++ all) (sym (take-append-drop c.loop-byte.byte-index c.args.bytes.now)) ∙ sym (append_assoc rest (take c.loop-byte.byte-index c.args.bytes.now) _)))
+    (ap (λ all. rest ++ all) (sym (take-append-drop c.loop-byte.byte-index c.args.bytes.now))
+    ∙ sym (append_assoc rest (take c.loop-byte.byte-index c.args.bytes.now) _)))
 
 pub loop-byte-preserved : goal.loop-byte-preserved
 loop-byte-preserved g c = elim c.if-byte-eq-LINE_FEED.branch [

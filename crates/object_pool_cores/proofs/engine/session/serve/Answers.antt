@@ -29,8 +29,15 @@ returns-then-count-eq0-clause-ok g c =
 pub returns-then-count-eq0-clause-write : goal.returns-then-count-eq0-clause-write
 returns-then-count-eq0-clause-write g c = λ e.
     let so_far = c.reads.invariant in
-    let consumed = rw (c.if-count-eq0.true, append-nil) at (Consumes-trans _ _ _ _ _ so_far.2 c.in-Ok.ensures.bytes.0) in
-    (so_far.0, consumed, inr (c.in-Ok.ensures.bytes.1 c.if-count-eq0.true (search rules), ServesAllInPart-last _ _ _ _ _ so_far.0 so_far.1 _ _ _ so_far.4 (c.serve_last.ensures.write e so_far.1 so_far.3.0)))
+    let consumed = rw (c.if-count-eq0.true, append-nil) at (Consumes-trans _ _ _ _ _ so_far.2 c.in-Ok.ensures.bytes.0) in (
+      so_far.0,
+      consumed,
+      inr (
+        c.in-Ok.ensures.bytes.1 c.if-count-eq0.true (search rules),
+        ServesAllInPart-last _ _ _ _ _ so_far.0
+            so_far.1 _ _ _ so_far.4 (c.serve_last.ensures.write e so_far.1 so_far.3.0),
+      ),
+    )
 
 pub returns-then-count-eq0-clause-memory : goal.returns-then-count-eq0-clause-memory
 returns-then-count-eq0-clause-memory g c = λ e.

@@ -17,4 +17,5 @@ loop-at-preserved g c =
     }
 
 pub returns-clause-open : goal.returns-clause-open
-returns-clause-open g c = λ page here. let within = slice_get_within c.args.pages.now c.loop-at.at page here in let past = c.loop-at-test.false in absurd (omega arith)
+returns-clause-open g c = λ page here. let within = slice_get_within c.args.pages.now c.loop-at.at page here in
+    let past = c.loop-at-test.false in absurd (omega arith)

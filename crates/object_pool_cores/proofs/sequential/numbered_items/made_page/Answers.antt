@@ -6,4 +6,5 @@ use Rattle.object_pool_cores.proofs.sequential.numbered_items.made_page.Goals as
 
 pub returns-clause-ok : goal.returns-clause-ok
 returns-clause-ok g c =
-    IfOk-weaker c.new.result _ (IsMadePage (g.I.Init.answers c.args.init.now) g.K.Clean.meets) (λ page made. IsMadePage-map _ _ g.K.Clean.meets page (λ v given. search rules) made) c.new.ensures.made
+    IfOk-weaker c.new.result _ (IsMadePage (g.I.Init.answers c.args.init.now) g.K.Clean.meets)
+    (λ page made. IsMadePage-map _ _ g.K.Clean.meets page (λ v given. search rules) made) c.new.ensures.made

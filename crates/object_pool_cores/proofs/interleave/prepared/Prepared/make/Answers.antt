@@ -17,5 +17,6 @@ loop-index-preserved g c =
     (record {
       all = full-push _ _ kept.all;
       count = rw values (omega (arith, kept.count, length-append (values_of c.loop-index.places.items) (c.in-Some.value ∷ [])));
-      given = rw values (All-append (λ value. g.I.Fn.post c.args.init.now tt (Some value)) _ _ kept.given (All-one (λ value. g.I.Fn.post c.args.init.now tt (Some value)) c.in-Some.value c.in-Some.ensures));
+      given = rw values (All-append (λ value. g.I.Fn.post c.args.init.now tt (Some value)) _ _ kept.given
+          (All-one (λ value. g.I.Fn.post c.args.init.now tt (Some value)) c.in-Some.value c.in-Some.ensures));
     })

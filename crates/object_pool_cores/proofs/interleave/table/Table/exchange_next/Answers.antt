@@ -7,7 +7,9 @@ use Rattle.object_pool_cores.proofs.interleave.table.Table.exchange_next.Goals a
 
 pub returns-in-Some-clause-step : goal.returns-in-Some-clause-step
 returns-in-Some-clause-step g c =
-    let at : slice_get c.self.inside.agents.items c.args.agent ≡ Some (Linking c.in-Some-Linking.page c.in-Some-Linking.field-0-1) = grind (arith, common_steps, gets, c.in-Some-Linking.ensures.lookup) in
+    let at : slice_get c.self.inside.agents.items c.args.agent ≡ Some
+    (Linking c.in-Some-Linking.page c.in-Some-Linking.field-0-1) =
+    grind (arith, common_steps, gets, c.in-Some-Linking.ensures.lookup) in
     let values : Some c.in-Some.values ≡ Some c.in-Some-Linking.field-0-1 = rw at at c.in-Some.ensures.values in
     let linked : nat_lt c.in-Some-Linking.page (length c.self.inside.pages.items) ≡ true = grind (arith, nat_tests) in
     let last : (length c.self.inside.pages.items == c.in-Some-Linking.page + 1) ≡ true = grind (arith, nat_tests) in
@@ -17,6 +19,8 @@ returns-in-Some-clause-step g c =
 
 pub returns-in-None : goal.returns-in-None
 returns-in-None g c =
-    let at : slice_get c.self.inside.agents.items c.args.agent ≡ Some (Linking c.in-Some-Linking.page c.in-Some-Linking.field-0-1) = grind (arith, common_steps, gets, c.in-Some-Linking.ensures.lookup) in
+    let at : slice_get c.self.inside.agents.items c.args.agent ≡ Some
+    (Linking c.in-Some-Linking.page c.in-Some-Linking.field-0-1) =
+    grind (arith, common_steps, gets, c.in-Some-Linking.ensures.lookup) in
     let none : None ≡ Some c.in-Some-Linking.field-0-1 = rw at at c.in-None.ensures.values in
     cc

@@ -18,12 +18,14 @@ returns-in_err-reserve-clause-run g c =
 pub loop-event-preserved : goal.loop-event-preserved
 loop-event-preserved g c =
     let kept = c.loop-event.invariant in
-    let P : g.row.R.Denot → Type 0 = λ reset. Steps (g.R.Reset.leaves reset) (world_state c.loop-event.self) c.in-Some.event c.step-answer.result (world_state c.step-answer.new.self) in
+    let P : g.row.R.Denot → Type 0 = λ reset. Steps (g.R.Reset.leaves reset)
+    (world_state c.loop-event.self) c.in-Some.event c.step-answer.result (world_state c.step-answer.new.self) in
     let answered : c.push.new.self.items ≡ c.loop-event.seen.items ++ c.step-answer.result ∷ [] =
     let same : c.reserve.new.self.items ≡ c.loop-event.seen.items = c.in_ok-reserve.ensures.items in
     rw (c.in_ok-push.ensures.items, same) refl in
     record {
-      replayed = replayed-next _ _ _ _ _ _ _ _ _ c.in-Some.event c.step-answer.result _ c.in-Some.ensures.items answered kept.replayed c.step-answer.ensures.reached (subst P kept.reset c.step-answer.ensures.step) c.step-answer.ensures.exact;
+      replayed = replayed-next _ _ _ _ _ _ _ _ _ c.in-Some.event c.step-answer.result _ c.in-Some.ensures.items answered
+          kept.replayed c.step-answer.ensures.reached (subst P kept.reset c.step-answer.ensures.step) c.step-answer.ensures.exact;
       reset = c.step-answer.ensures.reset ∙ kept.reset;
     }
 

@@ -14,4 +14,5 @@ returns-clause-held g c =
     let updates = c.remove.ensures.updates in
     let index = c.args.index in
     rw (← c.self.view_is) (OnSome-always c.remove.result
-    (listed-set (get nat_eq c.self.inside.items) (get nat_eq c.remove.new.self) c.self.inside.next index None updates.1 (λ k differ. updates.2 k (ne_eqb index k (λ e. differ (sym e))))))
+    (listed-set (get nat_eq c.self.inside.items)
+    (get nat_eq c.remove.new.self) c.self.inside.next index None updates.1 (λ k differ. updates.2 k (ne_eqb index k (λ e. differ (sym e))))))

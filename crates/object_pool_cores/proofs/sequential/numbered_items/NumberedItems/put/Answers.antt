@@ -20,7 +20,8 @@ free-requires-clause-out g c =
     let count : vec_len inside.pages ≡ length pages = search rules in
     let within : c.in-Some.page < length pages = omega (arith, c.in-Some.ensures.2, c.len.ensures, count) in
     let here = slice_get_read pages (length pages) c.in-Some.page _ refl within c.index_mut.ensures.value in
-    let same = IsOut-at pages inside.limit inside.start inside.looked c.in-Some.page c.in-Some.id c.args.number _ c.self.invariant.0 here c.in-Some.ensures.1 c.in-Some.ensures.0 in
+    let same = IsOut-at pages inside.limit inside.start inside.looked c.in-Some.page c.in-Some.id c.args.number _
+    c.self.invariant.0 here c.in-Some.ensures.1 c.in-Some.ensures.0 in
     same.1 (rw (← c.self.view_is) at c.requires.out)
 
 pub invariant_of-self : goal.invariant_of-self
@@ -30,7 +31,9 @@ invariant_of-self g c =
     let count : vec_len inside.pages ≡ length pages = search rules in
     let within : c.in-Some.page < length pages = omega (arith, c.in-Some.ensures.2, c.len.ensures, count) in
     let here = slice_get_read pages (length pages) c.in-Some.page _ refl within c.index_mut.ensures.value in
-    let puts = Puts-at g.K.Clean.meets pages inside.limit inside.start inside.looked c.in-Some.page c.in-Some.id c.args.number c.args.value _ _ c.min-self-inside.result c.self.invariant.0 c.self.invariant.1 here c.in-Some.ensures.1 c.in-Some.ensures.0 c.free.ensures c.requires.meets c.min-self-inside.ensures in
+    let puts = Puts-at g.K.Clean.meets pages inside.limit inside.start inside.looked c.in-Some.page c.in-Some.id c.args.number
+    c.args.value _ _ c.min-self-inside.result c.self.invariant.0 c.self.invariant.1 here c.in-Some.ensures.1
+    c.in-Some.ensures.0 c.free.ensures c.requires.meets c.min-self-inside.ensures in
     (puts.whole, puts.sound)
 
 pub returns-clause-returned : goal.returns-clause-returned
@@ -40,7 +43,9 @@ returns-clause-returned g c =
     let count : vec_len inside.pages ≡ length pages = search rules in
     let within : c.in-Some.page < length pages = omega (arith, c.in-Some.ensures.2, c.len.ensures, count) in
     let here = slice_get_read pages (length pages) c.in-Some.page _ refl within c.index_mut.ensures.value in
-    let puts = Puts-at g.K.Clean.meets pages inside.limit inside.start inside.looked c.in-Some.page c.in-Some.id c.args.number c.args.value _ _ c.min-self-inside.result c.self.invariant.0 c.self.invariant.1 here c.in-Some.ensures.1 c.in-Some.ensures.0 c.free.ensures c.requires.meets c.min-self-inside.ensures in
+    let puts = Puts-at g.K.Clean.meets pages inside.limit inside.start inside.looked c.in-Some.page c.in-Some.id c.args.number
+    c.args.value _ _ c.min-self-inside.result c.self.invariant.0 c.self.invariant.1 here c.in-Some.ensures.1
+    c.in-Some.ensures.0 c.free.ensures c.requires.meets c.min-self-inside.ensures in
     rw (← c.self.view_is) puts.returned
 
 pub returns-clause-before : goal.returns-clause-before
@@ -53,5 +58,7 @@ returns-clause-after g c =
     let count : vec_len inside.pages ≡ length pages = search rules in
     let within : c.in-Some.page < length pages = omega (arith, c.in-Some.ensures.2, c.len.ensures, count) in
     let here = slice_get_read pages (length pages) c.in-Some.page _ refl within c.index_mut.ensures.value in
-    let puts = Puts-at g.K.Clean.meets pages inside.limit inside.start inside.looked c.in-Some.page c.in-Some.id c.args.number c.args.value _ _ c.min-self-inside.result c.self.invariant.0 c.self.invariant.1 here c.in-Some.ensures.1 c.in-Some.ensures.0 c.free.ensures c.requires.meets c.min-self-inside.ensures in
+    let puts = Puts-at g.K.Clean.meets pages inside.limit inside.start inside.looked c.in-Some.page c.in-Some.id c.args.number
+    c.args.value _ _ c.min-self-inside.result c.self.invariant.0 c.self.invariant.1 here c.in-Some.ensures.1
+    c.in-Some.ensures.0 c.free.ensures c.requires.meets c.min-self-inside.ensures in
     IsPool-sound g.K.Clean.meets _ puts.sound
