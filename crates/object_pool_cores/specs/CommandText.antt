@@ -24,7 +24,8 @@ AreNumbers text first second = (a b : List ℕ) × (text ≡ a ++ 32 ∷ b) × I
 -- the line is the command's word, with its numbers behind it
 abbrev pub IsCommand : List ℕ → Command ℕ → Type 0
 IsCommand line Pull = line ≡ codes "pull"
-IsCommand line (Write index value) = (rest : List ℕ) × (line ≡ codes "write " ++ rest) × AreNumbers rest index value
+IsCommand line (Write index value) =
+    (rest : List ℕ) × (line ≡ codes "write " ++ rest) × AreNumbers rest index value
 IsCommand line (Return index) = (rest : List ℕ) × (line ≡ codes "return " ++ rest) × IsNumber rest index
 IsCommand line (Forget index) = (rest : List ℕ) × (line ≡ codes "forget " ++ rest) × IsNumber rest index
 IsCommand line (Attach value) = (rest : List ℕ) × (line ≡ codes "attach " ++ rest) × IsNumber rest value

@@ -46,34 +46,45 @@ pub record IsFirst (first : Playing (Pool ℕ) ℕ) : Type 0 where
 
 -- what is told of the steps of a pool and of what is played first
 abbrev pub Telling : Type 1
-Telling = (P : Type 0) → (P → Result (Item ℕ) PullError → P → Type 0) → (P → Item ℕ → P → Type 0) → (P → ℕ → Result (Item ℕ) (AttachError ℕ) → P → Type 0) → Playing P ℕ → Type 0
+Telling = (P : Type 0) → (P → Result (Item ℕ) PullError → P → Type 0) → (P → Item ℕ → P → Type 0)
+    → (P → ℕ → Result (Item ℕ) (AttachError ℕ) → P → Type 0) → Playing P ℕ → Type 0
 
 module _ (leaves : ℕ → ℕ → Type 0) where
   -- told of a linear pool within a limit: its pulls are by least choice
   abbrev pub OnLinear : Option ℕ → Telling → Type 0
-  OnLinear limit tells = (first : Playing (Pool ℕ) ℕ) × IsFirst first × tells (Pool ℕ) (PullsItem limit makes_zero) (ReturnsItem leaves) RefusesAttach first
+  OnLinear limit tells = (first : Playing (Pool ℕ) ℕ) × IsFirst first
+      × tells (Pool ℕ) (PullsItem limit makes_zero) (ReturnsItem leaves) RefusesAttach first
 
   -- told of the pool of a kind: the stack begins with nothing kept, and without a pool each item is fresh
   abbrev pub OnKind : Kind → Telling → Type 0
   OnKind kind.Linear tells = OnLinear None tells
   OnKind (kind.Bounded pages) tells = OnLinear (Some pages) tells
-  OnKind kind.Stack tells = tells (List ℕ) (PullsLast makes_zero) (ReturnsLast leaves) AttachesLast (record { pool = []; held = [] })
-  OnKind kind.None tells = tells (Unit {0}) (λ old answer new. PullsFresh makes_zero answer) (λ old item new. ⊤) RefusesAttach (record { pool = tt; held = [] })
+  OnKind kind.Stack tells = tells (List ℕ) (PullsLast makes_zero) (ReturnsLast leaves) AttachesLast
+      (record { pool = []; held = [] })
+  OnKind kind.None tells = tells (Unit {0}) (λ old answer new. PullsFresh makes_zero answer)
+      (λ old item new. ⊤) RefusesAttach (record { pool = tt; held = [] })
 
 module _ (before : Option (List ℕ)) (bytes : List ℕ) (after : Option (List ℕ)) where
+  -- the replies to all lines were written
   abbrev pub tells_all : Telling
   tells_all P pulls gives attaches first = ServesAll pulls gives attaches first before bytes after
 
+  -- the replies to the lines whose line feed is in the bytes were written
   abbrev pub tells_lines : Telling
-  tells_lines P pulls gives attaches first = (rest : List ℕ) × (last : Playing P ℕ) × Serves pulls gives attaches first before bytes rest last after
+  tells_lines P pulls gives attaches first =
+      (rest : List ℕ) × (last : Playing P ℕ) × Serves pulls gives attaches first before bytes rest last after
 
+  -- the replies to the lines of a beginning were written
   abbrev pub tells_front : Telling
   tells_front P pulls gives attaches first = ServesFront pulls gives attaches first before bytes after
 
+  -- the writing stopped within the replies
   abbrev pub tells_part : Type 0 → Telling
-  tells_part all_read P pulls gives attaches first = StopsWriting pulls gives attaches all_read first before bytes after
+  tells_part all_read P pulls gives attaches first =
+      StopsWriting pulls gives attaches all_read first before bytes after
 
-module _ (kind : Kind) (leaves : ℕ → ℕ → Type 0) (before : Option (List ℕ)) (bytes : List ℕ) (after : Option (List ℕ)) where
+module _ (kind : Kind) (leaves : ℕ → ℕ → Type 0) (before : Option (List ℕ)) (bytes : List ℕ)
+    (after : Option (List ℕ)) where
   -- the replies to all lines of the bytes, a last one without a line feed too
   abbrev pub WroteAll : Type 0
   WroteAll = OnKind leaves kind (tells_all before bytes after)
@@ -86,14 +97,19 @@ module _ (kind : Kind) (leaves : ℕ → ℕ → Type 0) (before : Option (List 
   abbrev pub WroteFront : Type 0
   WroteFront = OnKind leaves kind (tells_front before bytes after)
 
-  -- a beginning of the replies to the lines whose line feed is in a beginning of the bytes, or, only where all was read, to
-  -- all lines
+  -- a beginning of the replies to the lines whose line feed is in a
+  -- beginning of the bytes, or, only where all was read, to all lines
   abbrev pub WrotePart : Type 0 → Type 0
   WrotePart all_read = OnKind leaves kind (tells_part before bytes after all_read)
 
 -- what an engine read and wrote, by how it ended
-pub record Ends (kind : Kind) (leaves : ℕ → ℕ → Type 0) (result : Result (Unit {0}) EngineError) (unread rest before after : Option (List ℕ)) : Type 0 where
-  pub ok : OnOk result ((bytes : List ℕ) × Consumes unread rest bytes × IsAtEnd rest × WroteAll kind leaves before bytes after)
-  pub read : result ≡ Err Read → (bytes : List ℕ) × Consumes unread rest bytes × WroteLines kind leaves before bytes after
-  pub write : result ≡ Err Write → (bytes : List ℕ) × Consumes unread rest bytes × WrotePart kind leaves before bytes after (IsAtEnd rest)
-  pub memory : result ≡ Err Memory → (bytes : List ℕ) × Consumes unread rest bytes × WroteFront kind leaves before bytes after
+pub record Ends (kind : Kind) (leaves : ℕ → ℕ → Type 0) (result : Result (Unit {0}) EngineError)
+    (unread rest before after : Option (List ℕ)) : Type 0 where
+  pub ok : OnOk result ((bytes : List ℕ) × Consumes unread rest bytes × IsAtEnd rest
+      × WroteAll kind leaves before bytes after)
+  pub read : result ≡ Err Read → (bytes : List ℕ) × Consumes unread rest bytes
+      × WroteLines kind leaves before bytes after
+  pub write : result ≡ Err Write → (bytes : List ℕ) × Consumes unread rest bytes
+      × WrotePart kind leaves before bytes after (IsAtEnd rest)
+  pub memory : result ≡ Err Memory → (bytes : List ℕ) × Consumes unread rest bytes
+      × WroteFront kind leaves before bytes after

@@ -14,11 +14,14 @@ module _ {T : Type 0} where
   value_of (Some item) = Some (item_value item)
 
   -- the value of the item that is held at an index is replaced, where there is one
-  abbrev pub IsReplaced : List (Option (Item T)) → ℕ → T → Option (Item T) → Bool → List (Option (Item T)) → Type 0
+  abbrev pub IsReplaced :
+      List (Option (Item T)) → ℕ → T → Option (Item T) → Bool → List (Option (Item T)) → Type 0
   IsReplaced old index value None was_held new = (was_held ≡ false) × (new ≡ old)
-  IsReplaced old index value (Some item) was_held new = (was_held ≡ true) × (new ≡ slice_set old index (Some (with_value item value)))
+  IsReplaced old index value (Some item) was_held new =
+      (was_held ≡ true) × (new ≡ slice_set old index (Some (with_value item value)))
 
--- a pool, and the table of the items that are held of it; an index was given out where the table has a place for it
+-- a pool, and the table of the items that are held of it;
+-- an index was given out where the table has a place for it
 pub record Playing (P T : Type 0) : Type 0 where
   pub pool : P
   pub held : List (Option (Item T))

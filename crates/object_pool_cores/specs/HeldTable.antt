@@ -3,7 +3,8 @@ use Rattle.std.specs.Prelude.{◌≡◌, ℕ, ◌≤◌, ◌-◌, min, zero, suc
 use Rattle.std.specs.HashMap.{HashMap, get, spare}
 use Rattle.object_pool_cores.specs.declared.sequential.item.Item.{Item}
 
--- what is held at each index that was given out, and how many items more may be held without asking for memory
+-- what is held at each index that was given out, and how
+-- many items more may be held without asking for memory
 pub record Holding (T : Type 0) : Type 0 where
   pub items : List (Option (Item T))
   pub room : ℕ
@@ -14,6 +15,7 @@ listed at zero = []
 listed at (suc n) = listed at n ++ at n ∷ []
 
 module _ {T S : Type 0} where
+  -- what the map holds at each index that was given out
   abbrev pub table_of : HashMap ℕ (Item T) S → ℕ → List (Option (Item T))
   table_of items next = listed (get nat_eq items) next
 

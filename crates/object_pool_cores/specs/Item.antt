@@ -5,22 +5,27 @@ use Rattle.object_pool_cores.specs.declared.sequential.item.Home.{Home}
 use Rattle.object_pool_cores.specs.declared.sequential.item.Home.TheVariants.{Number, Room, Nowhere}
 
 module _ {T : Type 0} where
+  -- the value of an item
   abbrev pub item_value : Item T → T
   item_value item = item.value
 
+  -- the number that a home has, if it has one
   abbrev pub number_of : Home T → Option ℕ
   number_of (Number n) = Some n
   number_of (Room room) = None
   number_of Nowhere = None
 
+  -- the number of an item, if it has one
   abbrev pub item_number : Item T → Option ℕ
   item_number item = number_of item.home
 
+  -- the home is a room of its own
   abbrev pub is_room : Home T → Bool
   is_room (Number n) = false
   is_room (Room room) = true
   is_room Nowhere = false
 
+  -- the item brings a room of its own
   abbrev pub has_room : Item T → Bool
   has_room item = is_room item.home
 

@@ -15,7 +15,8 @@ module _ {T : Type 0} where
 
   -- a pull gives an item without a number, or, only where nothing is kept, is refused
   abbrev pub PullsLast : (Option T → Type 0) → List T → Result (Item T) PullError → List T → Type 0
-  PullsLast answers old (Ok item) new = (item_number item ≡ None) × TakesLast answers old (item_value item) new
+  PullsLast answers old (Ok item) new =
+      (item_number item ≡ None) × TakesLast answers old (item_value item) new
   PullsLast answers old (Err cause) new = StaysEmpty old new × RefusesMaking (answers None) cause
 
   -- a return puts what reset left in front

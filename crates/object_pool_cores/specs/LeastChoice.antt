@@ -1,4 +1,5 @@
--- A pull by least choice: the least free number; a page more only where no number is free, or a refusal in its place.
+-- A pull by least choice: the least free number; a page more
+-- only where no number is free, or a refusal in its place.
 use Rattle.std.specs.Prelude.{◌≡◌, ℕ, ◌+◌, ◌≤◌, Option, Some, None, List, All, Result, Ok, Err, ◌⊎◌}
 use Rattle.lockfree_object_pool.specs.declared.pull_error.PullError.{PullError}
 use Rattle.lockfree_object_pool.specs.declared.pull_error.PullError.TheVariants.{Memory, Init, Limit}
@@ -32,7 +33,8 @@ module _ {T : Type 0} (limit : Option ℕ) (answers : Option T → Type 0) where
     pub lawful : IsLawful limit old (Growth values)
     pub takes : TakesLeast (after old (Growth values)) n v new
 
-  -- the limit is the cause where the pool has as many pages as it may; the others come only where it may have more
+  -- the limit is the cause where the pool has as many pages
+  -- as it may; the others come only where it may have more
   abbrev pub IsCause : Pool T → PullError → Type 0
   IsCause pool Limit = limit ≡ Some pool.pages
   IsCause pool Memory = AllowsPages limit (pool.pages + 1)
@@ -51,11 +53,14 @@ module _ {T : Type 0} (limit : Option ℕ) (answers : Option T → Type 0) where
 
   -- a pull answers with an item of the number and the value that least choice gives, or is refused
   abbrev pub PullsItem : Pool T → Result (Item T) PullError → Pool T → Type 0
-  PullsItem old (Ok item) new = (n : ℕ) × (item_number item ≡ Some n) × PullsLeast old (Ok (n, item_value item)) new
+  PullsItem old (Ok item) new =
+      (n : ℕ) × (item_number item ≡ Some n) × PullsLeast old (Ok (n, item_value item)) new
   PullsItem old (Err cause) new = PullsLeast old (Err cause) new
 
--- a return leaves at the item's number, which was out, what reset may make of its value; `leaves` says what that is
-pub record ReturnsItem {T : Type 0} (leaves : T → T → Type 0) (old : Pool T) (item : Item T) (new : Pool T) : Type 0 where
+-- a return leaves at the item's number, which was out, what
+-- reset may make of its value; `leaves` says what that is
+pub record ReturnsItem {T : Type 0} (leaves : T → T → Type 0) (old : Pool T) (item : Item T)
+    (new : Pool T) : Type 0 where
   pub n : ℕ
   pub kept : T
   pub number : item_number item ≡ Some n

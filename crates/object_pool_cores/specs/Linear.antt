@@ -22,9 +22,11 @@ module _ {T I R K : Type 0} where
   abbrev pub looked_of : LinearCore T I R K → ℕ
   looked_of core = core.items.looked
 
+  -- what makes the values of a core
   abbrev pub init_of : LinearCore T I R K → I
   init_of core = core.init
 
+  -- what resets the values that are returned to it
   abbrev pub reset_of : LinearCore T I R K → R
   reset_of core = core.reset
 
@@ -41,22 +43,26 @@ module _ {T I R K : Type 0} where
   IsOutOf core item = (n : ℕ) × (item_number item ≡ Some n) × IsOut (pool_of core) n
 
   -- a pull is by least choice
-  pub record Pulls (answers : Option T → Type 0) (old : LinearCore T I R K) (answer : Result (Item T) PullError) (new : LinearCore T I R K) : Type 0 where
+  pub record Pulls (answers : Option T → Type 0) (old : LinearCore T I R K)
+      (answer : Result (Item T) PullError) (new : LinearCore T I R K) : Type 0 where
     pub step : IsStep old new
     pub pulled : PullsItem (limit_of old) answers (pool_of old) answer (pool_of new)
 
   -- a return leaves at the item's number what reset may make of its value
-  pub record Gives (leaves : T → T → Type 0) (old : LinearCore T I R K) (item : Item T) (new : LinearCore T I R K) : Type 0 where
+  pub record Gives (leaves : T → T → Type 0) (old : LinearCore T I R K) (item : Item T)
+      (new : LinearCore T I R K) : Type 0 where
     pub step : IsStep old new
     pub returned : ReturnsItem leaves (pool_of old) item (pool_of new)
 
   -- items that are held together are all out, and have different numbers
   pub record HeldTogether (core : LinearCore T I R K) (held : List (Option (Item T))) : Type 0 where
     pub out : (index : ℕ) (item : Item T) → slice_get held index ≡ Some (Some item) → IsOutOf core item
-    pub different : (index other : ℕ) (item same : Item T) → slice_get held index ≡ Some (Some item) → slice_get held other ≡ Some (Some same) → item_number item ≡ item_number same → index ≡ other
+    pub different : (index other : ℕ) (item same : Item T) → slice_get held index ≡ Some (Some item)
+        → slice_get held other ≡ Some (Some same) → item_number item ≡ item_number same → index ≡ other
 
   -- a new core is the opening pool of 32 answers of init, and may have so many pages
-  pub record IsOpening (answers : Option T → Type 0) (limit : Option ℕ) (core : LinearCore T I R K) : Type 0 where
+  pub record IsOpening (answers : Option T → Type 0) (limit : Option ℕ)
+      (core : LinearCore T I R K) : Type 0 where
     pub values : List T
     pub count : length values ≡ PAGE_ITEMS
     pub answered : All (λ v. answers (Some v)) values

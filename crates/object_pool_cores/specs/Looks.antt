@@ -4,6 +4,7 @@ use Rattle.object_pool_cores.specs.Pool.{Pool, Place, Absent, Free, Out}
 use Rattle.lockfree_object_pool.specs.declared.page.TheConstants.{PAGE_ITEMS}
 
 module _ {T : Type 0} where
+  -- 1 for a number that is out, and 0 for each other
   abbrev pub one_if_out : Place T → ℕ
   one_if_out Absent = 0
   one_if_out (Free v) = 0

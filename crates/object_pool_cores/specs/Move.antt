@@ -5,7 +5,8 @@ use Rattle.lockfree_object_pool.specs.declared.pull_error.PullError.TheVariants.
 use Rattle.object_pool_cores.specs.Pool.{Pool, Free, Out, IsFree, IsOut, AllowsPages, free_with, with_place}
 use Rattle.lockfree_object_pool.specs.declared.page.TheConstants.{PAGE_ITEMS}
 
--- a pull of a number gives a value, a return leaves one there, a growth brings a page of values, a refusal has a cause
+-- a pull of a number gives a value, a return leaves one there,
+-- a growth brings a page of values, a refusal has a cause
 pub data Move (T : Type 0) : Type 0 where
   Pull : (n : ℕ) (value : T) → Move T
   Return : (n : ℕ) (kept : T) → Move T
@@ -17,11 +18,12 @@ module _ {T : Type 0} where
   abbrev pub grown : Pool T → List T → Pool T
   grown pool values = record {
     pages = pool.pages + 1;
-    at = λ n. if nat_lt n (PAGE_ITEMS * pool.pages) then pool.at n else free_with (slice_get values (n - PAGE_ITEMS * pool.pages));
+    at = λ n. if nat_lt n (PAGE_ITEMS * pool.pages) then pool.at n else free_with
+        (slice_get values (n - PAGE_ITEMS * pool.pages));
   }
 
   -- a refusal for the limit comes only where the pool has as many pages as it may
-  abbrev pub MayRefuse : Option ℕ → Pool T → PullError → Type 0
+  abbrev MayRefuse : Option ℕ → Pool T → PullError → Type 0
   MayRefuse limit pool Limit = limit ≡ Some pool.pages
   MayRefuse limit pool Memory = ⊤
   MayRefuse limit pool Init = ⊤

@@ -6,6 +6,7 @@ use Rattle.object_pool_cores.specs.declared.sequential.none_core.NoneCore.{NoneC
 use Rattle.object_pool_cores.specs.Fresh.{PullsFresh}
 
 module _ {T I : Type 0} where
+  -- what makes the values of a core
   abbrev pub init_of : NoneCore T I → I
   init_of core = core.init
 

@@ -5,8 +5,8 @@ use Rattle.object_pool_cores.specs.Move.{Growth, IsLawful, after}
 use Rattle.object_pool_cores.specs.LeastChoice.{IsExhausted, TakesLeast}
 use Rattle.lockfree_object_pool.specs.declared.page.TheConstants.{PAGE_ITEMS}
 
--- at each number the value of a free item, or none where it is out; how many pages there may be; the page at which the
--- next pull starts, and how many pages were looked at
+-- at each number the value of a free item, or none where it is out; how many pages there
+-- may be; the page at which the next pull starts, and how many pages were looked at
 pub record Numbered (T : Type 0) : Type 0 where
   pub places : List (Option T)
   pub limit : Option ℕ
@@ -22,7 +22,8 @@ module _ {T : Type 0} where
 
   -- the pool that the list stands for
   abbrev pub pool_of : Numbered T → Pool T
-  pool_of items = record { pages = length items.places / PAGE_ITEMS; at = λ n. place_of (slice_get items.places n) }
+  pool_of items =
+      record { pages = length items.places / PAGE_ITEMS; at = λ n. place_of (slice_get items.places n) }
 
   -- the places of the pages, one page behind another
   abbrev pub laid_out : List (List (Option T)) → List (Option T)
@@ -37,8 +38,8 @@ module _ {T : Type 0} where
   abbrev pub HasNoneBelow : List (Option T) → ℕ → Type 0
   HasNoneBelow places below = (n : ℕ) (v : T) → n < below → slice_get places n ≡ Some (Some v) → ⊥
 
-  -- the list has whole pages, as many as there may be, each value meets the condition, and no page in front of the one
-  -- at which a pull starts has a free number
+  -- the list has whole pages, as many as there may be, each value meets the condition,
+  -- and no page in front of the one at which a pull starts has a free number
   pub record IsSound (meets : T → Type 0) (items : Numbered T) : Type 0 where
     pub whole : length items.places % PAGE_ITEMS ≡ 0
     pub allowed : AllowsPages items.limit (length items.places / PAGE_ITEMS)
@@ -58,9 +59,9 @@ module _ {T : Type 0} where
     pub starts : new.start ≡ length old.places / PAGE_ITEMS
 
   -- one look at each page that was passed, and one at a page that wasn't full
-  pub record Looks (old : Numbered T) (found : ℕ) (new : Numbered T) : Type 0 where
+  pub record Looks (old : Numbered T) (last : ℕ) (new : Numbered T) : Type 0 where
     pub more : old.looked ≤ new.looked
-    pub each : new.looked + old.start ≤ old.looked + new.start + found
+    pub each : new.looked + old.start ≤ old.looked + new.start + last
 
   -- the pool grew by a page of answers of init
   pub record Grows (limit : Option ℕ) (answers : Option T → Type 0) (old new : Pool T) : Type 0 where

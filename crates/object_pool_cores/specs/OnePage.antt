@@ -1,4 +1,5 @@
--- A page of one owner: a map from free ids to values. It is written as the list of what lies at each of its 32 ids.
+-- A page of one owner: a map from free ids to values. It is
+-- written as the list of what lies at each of its 32 ids.
 use Rattle.std.specs.Prelude.{◌≡◌, ℕ, ◌<◌, ◌↔◌, Option, Some, None, List, slice_get, slice_set}
 use Rattle.std.specs.Int.{bit_at}
 use Rattle.lockfree_object_pool.specs.declared.page.TheConstants.{PAGE_ITEMS}

@@ -1,4 +1,5 @@
--- The replies of commands: the fold of a pool's steps over a list of commands, with the table of what is held.
+-- The replies of commands: the fold of a pool's steps over
+-- a list of commands, with the table of what is held.
 use Rattle.std.specs.Prelude.{◌≡◌, ℕ, Option, Some, None, List, [], ◌∷◌, ◌++◌, length, slice_set, Result, Ok, Err, OnOk, ⊤}
 use Rattle.lockfree_object_pool.specs.declared.pull_error.PullError.{PullError}
 use Rattle.object_pool_cores.specs.declared.sequential.item.Item.{Item}
@@ -13,12 +14,15 @@ use Rattle.object_pool_cores.specs.Held.{Playing, held_at}
 
 module _ {T : Type 0} where
   -- a pulled item is held at the next index; a refusal leaves the table
-  abbrev pub AfterPull : List (Option (Item T)) → Result (Item T) PullError → Reply T → List (Option (Item T)) → Type 0
-  AfterPull old (Ok item) reply new = (reply ≡ Pulled (length old) (item_number item)) × (new ≡ old ++ Some item ∷ [])
+  abbrev AfterPull :
+      List (Option (Item T)) → Result (Item T) PullError → Reply T → List (Option (Item T)) → Type 0
+  AfterPull old (Ok item) reply new =
+      (reply ≡ Pulled (length old) (item_number item)) × (new ≡ old ++ Some item ∷ [])
   AfterPull old (Err cause) reply new = (reply ≡ Refused cause) × (new ≡ old)
 
   -- an attached item is held at the next index; a refusal leaves the table
-  abbrev pub AfterAttach : List (Option (Item T)) → Result (Item T) (AttachError T) → Reply T → List (Option (Item T)) → Type 0
+  abbrev AfterAttach :
+      List (Option (Item T)) → Result (Item T) (AttachError T) → Reply T → List (Option (Item T)) → Type 0
   AfterAttach old (Ok item) reply new = (reply ≡ Attached (length old)) × (new ≡ old ++ Some item ∷ [])
   AfterAttach old (Err error) reply new = (reply ≡ AttachRefused error) × (new ≡ old)
 
@@ -30,12 +34,14 @@ module _ {T : Type 0} where
   NeedsRoom (Return index) = ⊥
   NeedsRoom (Forget index) = ⊥
 
-module _ {P T : Type 0} (pulls : P → Result (Item T) PullError → P → Type 0) (gives : P → Item T → P → Type 0) (attaches : P → T → Result (Item T) (AttachError T) → P → Type 0) where
+module _ {P T : Type 0} (pulls : P → Result (Item T) PullError → P → Type 0) (gives : P → Item T → P → Type 0)
+    (attaches : P → T → Result (Item T) (AttachError T) → P → Type 0) where
   -- the held value is replaced
   abbrev pub AfterWrite : Playing P T → ℕ → T → Option (Item T) → Reply T → Playing P T → Type 0
   AfterWrite old index value None reply new = (reply ≡ NoSuchHolder) × (new ≡ old)
   AfterWrite old index value (Some item) reply new =
-      (reply ≡ Written) × (new ≡ record old { held = slice_set old.held index (Some (with_value item value)) })
+      (reply ≡ Written)
+      × (new ≡ record old { held = slice_set old.held index (Some (with_value item value)) })
 
   -- the held item goes back to the pool
   abbrev pub AfterReturn : Playing P T → ℕ → Option (Item T) → Reply T → Playing P T → Type 0
@@ -52,12 +58,14 @@ module _ {P T : Type 0} (pulls : P → Result (Item T) PullError → P → Type 
   -- one command, its reply, and what it makes of the pool and of the table
   abbrev pub Plays : Playing P T → Command T → Reply T → Playing P T → Type 0
   Plays old Pull reply new =
-      (outcome : Result (Item T) PullError) × pulls old.pool outcome new.pool × AfterPull old.held outcome reply new.held
+      (outcome : Result (Item T) PullError) × pulls old.pool outcome new.pool
+      × AfterPull old.held outcome reply new.held
   Plays old (Write index value) reply new = AfterWrite old index value (held_at old.held index) reply new
   Plays old (Return index) reply new = AfterReturn old index (held_at old.held index) reply new
   Plays old (Forget index) reply new = AfterForget old index (held_at old.held index) reply new
   Plays old (Attach value) reply new =
-      (outcome : Result (Item T) (AttachError T)) × attaches old.pool value outcome new.pool × AfterAttach old.held outcome reply new.held
+      (outcome : Result (Item T) (AttachError T)) × attaches old.pool value outcome new.pool
+      × AfterAttach old.held outcome reply new.held
 
   -- these commands have these replies, one after another
   abbrev pub Replies : Playing P T → List (Command T) → List (Reply T) → Playing P T → Type 0
@@ -67,8 +75,10 @@ module _ {P T : Type 0} (pulls : P → Result (Item T) PullError → P → Type 
   Replies old [] (reply ∷ replies) new = ⊥
   Replies old (command ∷ commands) [] new = ⊥
 
-  -- the commands that were done are a beginning of all, their replies come after those before, and after Ok all are done
-  pub record Ran (old : Playing P T) (commands : List (Command T)) (before : List (Reply T)) (result : Result (Unit {0}) RunError) (after : List (Reply T)) (new : Playing P T) : Type 0 where
+  -- the commands that were done are a beginning of all, their
+  -- replies come after those before, and after Ok all are done
+  pub record Ran (old : Playing P T) (commands : List (Command T)) (before : List (Reply T))
+      (result : Result (Unit {0}) RunError) (after : List (Reply T)) (new : Playing P T) : Type 0 where
     pub done : List (Command T)
     pub rest : List (Command T)
     pub replies : List (Reply T)

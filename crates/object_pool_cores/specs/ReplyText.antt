@@ -26,7 +26,8 @@ attach_refusal_text (attach.NotOffered value) = codes "not offered"
 
 -- the text of a reply to a command that names this index, where a pulled item has this value
 abbrev pub reply_text : ℕ → ℕ → Reply ℕ → List ℕ
-reply_text index value (Pulled holder number) = codes "pulled " ++ decimal holder ++ number_text number ++ codes " value " ++ decimal value
+reply_text index value (Pulled holder number) =
+    codes "pulled " ++ decimal holder ++ number_text number ++ codes " value " ++ decimal value
 reply_text index value (Refused cause) = refusal_text cause
 reply_text index value Written = codes "written " ++ decimal index
 reply_text index value Returned = codes "returned " ++ decimal index

@@ -1,4 +1,5 @@
--- What an engine wrote for the bytes that it read; the bytes that a writer holds are said where they are known.
+-- What an engine wrote for the bytes that it read; the
+-- bytes that a writer holds are said where they are known.
 use Rattle.std.specs.Prelude.{◌≡◌, ℕ, Option, List, ◌++◌, [], Result, ◌⊎◌}
 use Rattle.std.specs.Io.KnownBytes.{Appends}
 use Rattle.lockfree_object_pool.specs.declared.pull_error.PullError.{PullError}
@@ -15,9 +16,11 @@ pub record AppendsPart (before after : Option (List ℕ)) (bytes : List ℕ) : T
   pub cut : bytes ≡ front ++ back
   pub written : Appends before after front
 
-module _ {P : Type 0} (pulls : P → Result (Item ℕ) PullError → P → Type 0) (gives : P → Item ℕ → P → Type 0) (attaches : P → ℕ → Result (Item ℕ) (AttachError ℕ) → P → Type 0) where
+module _ {P : Type 0} (pulls : P → Result (Item ℕ) PullError → P → Type 0) (gives : P → Item ℕ → P → Type 0)
+    (attaches : P → ℕ → Result (Item ℕ) (AttachError ℕ) → P → Type 0) where
   -- each line whose line feed is in the bytes was answered
-  pub record Serves (old : Playing P ℕ) (before : Option (List ℕ)) (bytes rest : List ℕ) (new : Playing P ℕ) (after : Option (List ℕ)) : Type 0 where
+  pub record Serves (old : Playing P ℕ) (before : Option (List ℕ)) (bytes rest : List ℕ) (new : Playing P ℕ)
+      (after : Option (List ℕ)) : Type 0 where
     pub lines : List (List ℕ)
     pub text : List ℕ
     pub split : IsLines bytes lines rest
@@ -25,7 +28,8 @@ module _ {P : Type 0} (pulls : P → Result (Item ℕ) PullError → P → Type 
     pub written : Appends before after text
 
   -- each line of the bytes was answered, a last one without a line feed too
-  pub record ServesAll (old : Playing P ℕ) (before : Option (List ℕ)) (bytes : List ℕ) (after : Option (List ℕ)) : Type 0 where
+  pub record ServesAll (old : Playing P ℕ) (before : Option (List ℕ)) (bytes : List ℕ)
+      (after : Option (List ℕ)) : Type 0 where
     pub lines : List (List ℕ)
     pub rest : List ℕ
     pub text : List ℕ
@@ -35,7 +39,8 @@ module _ {P : Type 0} (pulls : P → Result (Item ℕ) PullError → P → Type 
     pub written : Appends before after text
 
   -- the lines of a beginning of the bytes were answered
-  pub record ServesFront (old : Playing P ℕ) (before : Option (List ℕ)) (bytes : List ℕ) (after : Option (List ℕ)) : Type 0 where
+  pub record ServesFront (old : Playing P ℕ) (before : Option (List ℕ)) (bytes : List ℕ)
+      (after : Option (List ℕ)) : Type 0 where
     pub front : List ℕ
     pub back : List ℕ
     pub rest : List ℕ
@@ -43,8 +48,10 @@ module _ {P : Type 0} (pulls : P → Result (Item ℕ) PullError → P → Type 
     pub cut : bytes ≡ front ++ back
     pub served : Serves old before front rest last after
 
-  -- a beginning of the answers to the lines of a beginning of the bytes was written; each line's line feed is in the bytes
-  pub record ServesPart (old : Playing P ℕ) (before : Option (List ℕ)) (bytes : List ℕ) (after : Option (List ℕ)) : Type 0 where
+  -- a beginning of the answers to the lines of a beginning of
+  -- the bytes was written; each line's line feed is in the bytes
+  pub record ServesPart (old : Playing P ℕ) (before : Option (List ℕ)) (bytes : List ℕ)
+      (after : Option (List ℕ)) : Type 0 where
     pub front : List ℕ
     pub back : List ℕ
     pub lines : List (List ℕ)
@@ -57,7 +64,8 @@ module _ {P : Type 0} (pulls : P → Result (Item ℕ) PullError → P → Type 
     pub written : AppendsPart before after text
 
   -- a beginning of the answers to all lines of the bytes was written, a last line without a line feed too
-  pub record ServesAllInPart (old : Playing P ℕ) (before : Option (List ℕ)) (bytes : List ℕ) (after : Option (List ℕ)) : Type 0 where
+  pub record ServesAllInPart (old : Playing P ℕ) (before : Option (List ℕ)) (bytes : List ℕ)
+      (after : Option (List ℕ)) : Type 0 where
     pub lines : List (List ℕ)
     pub rest : List ℕ
     pub text : List ℕ
@@ -66,19 +74,23 @@ module _ {P : Type 0} (pulls : P → Result (Item ℕ) PullError → P → Type 
     pub told : Transcript pulls gives attaches old (with_last_line lines rest) text last
     pub written : AppendsPart before after text
 
-  -- the writing stopped: at the lines whose line feed was read, or, only where all was read, at the last line without one
+  -- the writing stopped: at the lines whose line feed was read,
+  -- or, only where all was read, at the last line without one
   abbrev pub StopsWriting : Type 0 → Playing P ℕ → Option (List ℕ) → List ℕ → Option (List ℕ) → Type 0
-  StopsWriting all_read old before bytes after = ServesPart old before bytes after ⊎ (all_read × ServesAllInPart old before bytes after)
+  StopsWriting all_read old before bytes after =
+      ServesPart old before bytes after ⊎ (all_read × ServesAllInPart old before bytes after)
 
   -- what stands behind the last line feed was answered, where there is anything
-  pub record AnswersLast (old : Playing P ℕ) (before : Option (List ℕ)) (rest : List ℕ) (after : Option (List ℕ)) : Type 0 where
+  pub record AnswersLast (old : Playing P ℕ) (before : Option (List ℕ)) (rest : List ℕ)
+      (after : Option (List ℕ)) : Type 0 where
     pub text : List ℕ
     pub last : Playing P ℕ
     pub told : Transcript pulls gives attaches old (with_last_line [] rest) text last
     pub written : Appends before after text
 
   -- a beginning of that answer was written
-  pub record AnswersLastInPart (old : Playing P ℕ) (before : Option (List ℕ)) (rest : List ℕ) (after : Option (List ℕ)) : Type 0 where
+  pub record AnswersLastInPart (old : Playing P ℕ) (before : Option (List ℕ)) (rest : List ℕ)
+      (after : Option (List ℕ)) : Type 0 where
     pub text : List ℕ
     pub last : Playing P ℕ
     pub told : Transcript pulls gives attaches old (with_last_line [] rest) text last

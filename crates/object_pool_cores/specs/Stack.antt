@@ -12,9 +12,11 @@ module _ {T I R K : Type 0} where
   abbrev pub kept_of : StackCore T I R K → List T
   kept_of core = core.kept
 
+  -- what makes the values of a core
   abbrev pub init_of : StackCore T I R K → I
   init_of core = core.init
 
+  -- what resets the values that are returned to it
   abbrev pub reset_of : StackCore T I R K → R
   reset_of core = core.reset
 
@@ -24,18 +26,21 @@ module _ {T I R K : Type 0} where
     pub reset : reset_of new ≡ reset_of old
 
   -- a pull is that of a stack, and its item brings a room
-  pub record Pulls (answers : Option T → Type 0) (old : StackCore T I R K) (answer : Result (Item T) PullError) (new : StackCore T I R K) : Type 0 where
+  pub record Pulls (answers : Option T → Type 0) (old : StackCore T I R K)
+      (answer : Result (Item T) PullError) (new : StackCore T I R K) : Type 0 where
     pub step : IsStep old new
     pub room : IfOk answer (λ item. IsTrue (has_room item))
     pub pulled : PullsLast answers (kept_of old) answer (kept_of new)
 
   -- a return is that of a stack
-  pub record Gives (leaves : T → T → Type 0) (old : StackCore T I R K) (item : Item T) (new : StackCore T I R K) : Type 0 where
+  pub record Gives (leaves : T → T → Type 0) (old : StackCore T I R K) (item : Item T)
+      (new : StackCore T I R K) : Type 0 where
     pub step : IsStep old new
     pub returned : ReturnsLast leaves (kept_of old) item (kept_of new)
 
   -- an attach is that of a stack, and its item brings a room
-  pub record Attaches (old : StackCore T I R K) (value : T) (answer : Result (Item T) (AttachError T)) (new : StackCore T I R K) : Type 0 where
+  pub record Attaches (old : StackCore T I R K) (value : T) (answer : Result (Item T) (AttachError T))
+      (new : StackCore T I R K) : Type 0 where
     pub same : new ≡ old
     pub room : IfOk answer (λ item. IsTrue (has_room item))
     pub attached : AttachesLast (kept_of old) value answer (kept_of new)

@@ -26,7 +26,8 @@ abbrev pub pulled_value : List (Option (Item ℕ)) → Reply ℕ → ℕ
 pulled_value held (Pulled holder number) = unwrap_or (value_of (held_at held holder)) 0
 pulled_value held reply = 0
 
-module _ {P : Type 0} (pulls : P → Result (Item ℕ) PullError → P → Type 0) (gives : P → Item ℕ → P → Type 0) (attaches : P → ℕ → Result (Item ℕ) (AttachError ℕ) → P → Type 0) where
+module _ {P : Type 0} (pulls : P → Result (Item ℕ) PullError → P → Type 0) (gives : P → Item ℕ → P → Type 0)
+    (attaches : P → ℕ → Result (Item ℕ) (AttachError ℕ) → P → Type 0) where
   -- the line is a command, and the text is its reply's
   pub record AnswersCommand (old : Playing P ℕ) (line text : List ℕ) (new : Playing P ℕ) : Type 0 where
     pub command : Command ℕ
@@ -49,4 +50,5 @@ module _ {P : Type 0} (pulls : P → Result (Item ℕ) PullError → P → Type 
   abbrev pub Transcript : Playing P ℕ → List (List ℕ) → List ℕ → Playing P ℕ → Type 0
   Transcript old [] text new = (text ≡ []) × (new ≡ old)
   Transcript old (line ∷ lines) text new =
-      (first rest : List ℕ) × (middle : Playing P ℕ) × (text ≡ first ++ rest) × Answers old line first middle × Transcript middle lines rest new
+      (first rest : List ℕ) × (middle : Playing P ℕ) × (text ≡ first ++ rest) × Answers old line first middle
+      × Transcript middle lines rest new

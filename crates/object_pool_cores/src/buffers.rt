@@ -33,8 +33,8 @@ pub fn clear(bytes: &mut Vec<u8>)
 
 /// A pool of byte buffers. What makes and resets them leaves each one empty.
 ///
-/// `T` and `K` are always as they stand here: a type with a pool in it is checked where what its pool's values
-/// are, and which condition they meet, are parameters of it.
+/// `T` and `K` are always as they stand here: a type with a pool in it is checked where
+/// what its pool's values are, and which condition they meet, are parameters of it.
 #[derive(Drop)]
 pub struct BufferPool<I: Init<T, K>, R: Reset<T, K>, T = Vec<u8>, K: Clean<T> = Empty> {
     pool: LinearObjectPool<T, I, R, K>,
@@ -63,7 +63,8 @@ impl<I: Init<Vec<u8>, Empty>, R: Reset<Vec<u8>, Empty>> BufferPool<I, R> {
     /// An empty buffer.
     pub fn pull(&self) -> Result<Buffer<'_, I, R>, PullError>
         ensures empty { IfOk result (λ buffer. bytes_of buffer ≡ []) }
-        ensures within { IfOk result (λ buffer. IfSome (limit_of_pages self.now) (λ pages. page_of buffer < pages)) }
+        ensures within { IfOk result (λ buffer. IfSome (limit_of_pages self.now)
+            (λ pages. page_of buffer < pages)) }
         ensures refused { IfErr result (RefusesPull (record {
           limited = ⊤;
           init_refuses = I.answers (maker_of self.now) None;

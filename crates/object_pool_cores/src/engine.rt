@@ -23,8 +23,9 @@ use std::alloc::Global;
 use std::io::{Read, Write};
 use std::sync::Wait;
 
-/// Plays the lines of `input` on a new pool whose items are made as 0, and writes a reply for each line to `output`.
-/// The replies to the lines of one read go out before the next read. It reads until there is no more, so it may wait.
+/// Plays the lines of `input` on a new pool whose items are made as 0, and writes
+/// a reply for each line to `output`. The replies to the lines of one read go out
+/// before the next read. It reads until there is no more, so it may wait.
 pub fn run<H: Wait, R: Read, W: Write>(
     rt: &H,
     alloc: Global,
@@ -34,14 +35,19 @@ pub fn run<H: Wait, R: Read, W: Write>(
     output: &mut W,
 ) -> Result<(), EngineError>
     requires { IsPlayable kind }
-    ensures ok { OnOk result ((bytes : List ℕ) × Consumes (R.remaining input.old) (R.remaining input.new) bytes
+    ensures ok { OnOk result ((bytes : List ℕ)
+        × Consumes (R.remaining input.old) (R.remaining input.new) bytes
         × IsAtEnd (R.remaining input.new)
         × WroteAll kind (leaves_of reset) (W.contents output.old) bytes (W.contents output.new)) }
-    ensures read { result ≡ Err EngineError.Read → (bytes : List ℕ) × Consumes (R.remaining input.old) (R.remaining input.new) bytes
+    ensures read { result ≡ Err EngineError.Read
+        → (bytes : List ℕ) × Consumes (R.remaining input.old) (R.remaining input.new) bytes
         × WroteLines kind (leaves_of reset) (W.contents output.old) bytes (W.contents output.new) }
-    ensures write { result ≡ Err EngineError.Write → (bytes : List ℕ) × Consumes (R.remaining input.old) (R.remaining input.new) bytes
-        × WrotePart kind (leaves_of reset) (W.contents output.old) bytes (W.contents output.new) (IsAtEnd (R.remaining input.new)) }
-    ensures memory { result ≡ Err EngineError.Memory → (bytes : List ℕ) × Consumes (R.remaining input.old) (R.remaining input.new) bytes
+    ensures write { result ≡ Err EngineError.Write
+        → (bytes : List ℕ) × Consumes (R.remaining input.old) (R.remaining input.new) bytes
+        × WrotePart kind (leaves_of reset) (W.contents output.old) bytes (W.contents output.new)
+        (IsAtEnd (R.remaining input.new)) }
+    ensures memory { result ≡ Err EngineError.Memory
+        → (bytes : List ℕ) × Consumes (R.remaining input.old) (R.remaining input.new) bytes
         × WroteFront kind (leaves_of reset) (W.contents output.old) bytes (W.contents output.new) }
 {
     match reset {
@@ -60,7 +66,8 @@ fn run_on<H: Wait, S: closures::Reset<u32, AnyValue>, R: Read, W: Write>(
     output: &mut W,
 ) -> Result<(), EngineError>
     requires { IsPlayable kind }
-    ensures { Ends kind (S.leaves reset) result (R.remaining input.old) (R.remaining input.new) (W.contents output.old) (W.contents output.new) }
+    ensures { Ends kind (S.leaves reset) result (R.remaining input.old) (R.remaining input.new)
+        (W.contents output.old) (W.contents output.new) }
 {
     match kind {
         Kind::Linear => run_linear(rt, alloc, None, reset, input, output),
@@ -80,7 +87,8 @@ fn run_linear<H: Wait, S: closures::Reset<u32, AnyValue>, R: Read, W: Write>(
     output: &mut W,
 ) -> Result<(), EngineError>
     requires { IfSome limit (λ pages. 1 ≤ pages) }
-    ensures { Ends (linear_kind limit) (S.leaves reset) result (R.remaining input.old) (R.remaining input.new) (W.contents output.old) (W.contents output.new) }
+    ensures { Ends (linear_kind limit) (S.leaves reset) result (R.remaining input.old) (R.remaining input.new)
+        (W.contents output.old) (W.contents output.new) }
 {
     let Some(mut player) = player_of(alloc, limit, reset) else {
         return Err(EngineError::Memory);
@@ -118,7 +126,8 @@ fn run_stack<H: Wait, S: closures::Reset<u32, AnyValue>, R: Read, W: Write>(
     input: &mut R,
     output: &mut W,
 ) -> Result<(), EngineError>
-    ensures { Ends Kind.Stack (S.leaves reset) result (R.remaining input.old) (R.remaining input.new) (W.contents output.old) (W.contents output.new) }
+    ensures { Ends Kind.Stack (S.leaves reset) result (R.remaining input.old) (R.remaining input.new)
+        (W.contents output.old) (W.contents output.new) }
 {
     let core = StackCore::<u32, _, _, AnyValue>::new(alloc, Copied::new(0), reset);
     serve(rt, &mut Player::new(alloc, core), input, output)
@@ -132,7 +141,8 @@ fn run_none<H: Wait, S: closures::Reset<u32, AnyValue>, R: Read, W: Write>(
     input: &mut R,
     output: &mut W,
 ) -> Result<(), EngineError>
-    ensures { Ends Kind.None (S.leaves reset) result (R.remaining input.old) (R.remaining input.new) (W.contents output.old) (W.contents output.new) }
+    ensures { Ends Kind.None (S.leaves reset) result (R.remaining input.old) (R.remaining input.new)
+        (W.contents output.old) (W.contents output.new) }
 {
     drop(reset);
     let core = NoneCore::new(Copied::new(0));

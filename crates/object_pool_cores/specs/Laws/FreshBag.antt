@@ -8,6 +8,9 @@ use Rattle.object_pool_cores.specs.Bag.{PullsFromBag, pulled_value}
 use Rattle.object_pool_cores.specs.NoPool.{Pulls}
 
 module _ {T I : Type 0} where
-  pub Pulls-from_bag : (answers : Option T → Type 0) (old new : NoneCore T I) (answer : Result (Item T) PullError) → Pulls answers old answer new → PullsFromBag answers [] (pulled_value answer) []
-  Pulls-from_bag answers old new (Ok item) pulls = inr (record { none = refl; answer = pulls.1.1; further = All-nil (λ w. answers (Some w)) })
+  pub Pulls-from_bag : (answers : Option T → Type 0) (old new : NoneCore T I)
+      (answer : Result (Item T) PullError) → Pulls answers old answer new
+      → PullsFromBag answers [] (pulled_value answer) []
+  Pulls-from_bag answers old new (Ok item) pulls =
+      inr (record { none = refl; answer = pulls.1.1; further = All-nil (λ w. answers (Some w)) })
   Pulls-from_bag answers old new (Err cause) pulls = (refl, refl)

@@ -18,32 +18,40 @@ use Rattle.object_pool_cores.specs.Laws.FreeValues.{same_places, free_values-tak
 
 module _ {T : Type 0} where
   -- the list of a pool that has another place at one number
-  pub list_of-with_place : (old new : Numbered T) (n : ℕ) (place : Option T) → n < length old.places → IsSame (pool_of new) (with_place (pool_of old) n (place_of (Some place))) → new.places ≡ slice_set old.places n place
+  list_of-with_place : (old new : Numbered T) (n : ℕ) (place : Option T) → n < length old.places
+      → IsSame (pool_of new) (with_place (pool_of old) n (place_of (Some place)))
+      → new.places ≡ slice_set old.places n place
   list_of-with_place old new n place within same =
       let set = pool_of-set old n place within in
       same_places new.places (slice_set old.places n place) (λ m. same.places m ∙ sym (set.places m))
 
-  within_places : (items : Numbered T) (n : ℕ) (place : Option T) → slice_get items.places n ≡ Some place → n < length items.places
+  within_places : (items : Numbered T) (n : ℕ) (place : Option T) → slice_get items.places n ≡ Some place
+      → n < length items.places
   within_places items n place e = slice_get_within items.places n place e
 
   -- where no number is free, no value is kept
-  pub free_values-exhausted : (items : Numbered T) → IsExhausted (pool_of items) → free_values items.places ≡ []
-  free_values-exhausted items exhausted = free_values-none items.places (λ n v e. exhausted n v (ap place_of e))
+  free_values-exhausted : (items : Numbered T) → IsExhausted (pool_of items) → free_values items.places ≡ []
+  free_values-exhausted items exhausted =
+      free_values-none items.places (λ n v e. exhausted n v (ap place_of e))
 
   -- the least number was pulled
-  pub IsPutIn-taken : (old new : Numbered T) (n : ℕ) (v : T) → TakesLeast (pool_of old) n v (pool_of new) → IsPutIn v (free_values new.places) (free_values old.places)
+  IsPutIn-taken : (old new : Numbered T) (n : ℕ) (v : T) → TakesLeast (pool_of old) n v (pool_of new)
+      → IsPutIn v (free_values new.places) (free_values old.places)
   IsPutIn-taken old new n v takes =
       let here = place_of-free (slice_get old.places n) v takes.least.free in
       let list = list_of-with_place old new n None (within_places old n (Some v) here) takes.taken in
       rw list (free_values-taken old.places n v here)
 
   -- a page more was pulled from
-  pub IsFresh-grown : (limit : Option ℕ) (answers : Option T → Type 0) (old new : Numbered T) (n : ℕ) (v : T) → GrowsFirst limit answers (pool_of old) n v (pool_of new) → IsFresh answers (free_values old.places) v (free_values new.places)
+  IsFresh-grown : (limit : Option ℕ) (answers : Option T → Type 0) (old new : Numbered T) (n : ℕ) (v : T)
+      → GrowsFirst limit answers (pool_of old) n v (pool_of new)
+      → IsFresh answers (free_values old.places) v (free_values new.places)
   IsFresh-grown limit answers old new n v grows = record {
     none = free_values-exhausted old grows.exhausted;
     answer = answered n v grows.takes.least.free;
     further = free_values-All (λ w. answers (Some w)) new.places (λ m w e.
-        elim (at-with_place (grown (pool_of old) grows.values) n m Out (Free w) (sym (grows.takes.taken.places m) ∙ ap place_of e)) [
+        elim (at-with_place (grown (pool_of old) grows.values) n m Out (Free w)
+        (sym (grows.takes.taken.places m) ∙ ap place_of e)) [
           | inl here ↦ let out : Out ≡ Free w = here.1 in absurd cc
           | inr other ↦ answered m w other.1
         ]);
@@ -53,23 +61,42 @@ module _ {T : Type 0} where
       answered m w free =
           let there = free-grown (pool_of old) grows.values m w grows.exhausted free in
           let k = m - 32 * (pool_of old).pages in
-          subst (λ (x : T). answers (Some x)) (get_or_from_slice_get grows.values k w w there.1) (grows.answered k w (slice_get_within grows.values k w there.1))
+          subst (λ (x : T). answers (Some x)) (get_or_from_slice_get grows.values k w w there.1)
+          (grows.answered k w (slice_get_within grows.values k w there.1))
 
-  pulls_from_bag : (limit : Option ℕ) (answers : Option T → Type 0) (old new : Numbered T) (answer : Result (Item T) PullError) → PullsItem limit answers (pool_of old) answer (pool_of new) → PullsFromBag answers (free_values old.places) (pulled_value answer) (free_values new.places)
+  pulls_from_bag : (limit : Option ℕ) (answers : Option T → Type 0) (old new : Numbered T)
+      (answer : Result (Item T) PullError) → PullsItem limit answers (pool_of old) answer (pool_of new)
+      → PullsFromBag answers (free_values old.places) (pulled_value answer) (free_values new.places)
   pulls_from_bag limit answers old new (Ok item) pulled = by_choice pulled.2
     where
-      by_choice : PullsLeast limit answers (pool_of old) (Ok (pulled.0, item_value item)) (pool_of new) → PullsFromBag answers (free_values old.places) (Ok (item_value item)) (free_values new.places)
+      by_choice : PullsLeast limit answers (pool_of old) (Ok (pulled.0, item_value item)) (pool_of new)
+          → PullsFromBag answers (free_values old.places) (Ok (item_value item)) (free_values new.places)
       by_choice (inl takes) = inl (IsPutIn-taken old new pulled.0 (item_value item) takes)
       by_choice (inr grows) = inr (IsFresh-grown limit answers old new pulled.0 (item_value item) grows)
-  pulls_from_bag limit answers old new (Err cause) refused =
-      (free_values-exhausted old refused.exhausted, free_values-exhausted new (λ n v e. refused.exhausted n v (sym (refused.same.places n) ∙ e)))
+  pulls_from_bag limit answers old new (Err cause) refused = (
+    free_values-exhausted old refused.exhausted,
+    free_values-exhausted new
+        (λ n v e. refused.exhausted n v (sym (refused.same.places n) ∙ e)),
+  )
 
 module _ {T I R K : Type 0} where
-  pub Pulls-from_bag : (answers : Option T → Type 0) (old new : LinearCore T I R K) (answer : Result (Item T) PullError) → Pulls answers old answer new → PullsFromBag answers (free_values old.items.places) (pulled_value answer) (free_values new.items.places)
-  Pulls-from_bag answers old new answer pulls = pulls_from_bag old.items.limit answers old.items new.items answer pulls.pulled
+  pub Pulls-from_bag : (answers : Option T → Type 0) (old new : LinearCore T I R K)
+      (answer : Result (Item T) PullError) → Pulls answers old answer new
+      → PullsFromBag answers (free_values old.items.places) (pulled_value answer)
+      (free_values new.items.places)
+  Pulls-from_bag answers old new answer pulls =
+      pulls_from_bag old.items.limit answers old.items new.items answer pulls.pulled
 
-  pub Gives-to_bag : (leaves : T → T → Type 0) (old new : LinearCore T I R K) (item : Item T) → Gives leaves old item new → ReturnsToBag leaves (free_values old.items.places) (item_value item) (free_values new.items.places)
+  pub Gives-to_bag : (leaves : T → T → Type 0) (old new : LinearCore T I R K) (item : Item T)
+      → Gives leaves old item new → ReturnsToBag leaves (free_values old.items.places) (item_value item)
+      (free_values new.items.places)
   Gives-to_bag leaves old new item gives =
       let here = place_of-out (slice_get old.items.places gives.returned.n) gives.returned.was_out in
-      let list = list_of-with_place old.items new.items gives.returned.n (Some gives.returned.kept) (within_places old.items gives.returned.n None here) gives.returned.returned in
-      inl (gives.returned.kept, gives.returned.left, rw list (free_values-put old.items.places gives.returned.n gives.returned.kept here))
+      let list = list_of-with_place old.items new.items gives.returned.n (Some gives.returned.kept)
+      (within_places old.items gives.returned.n None here) gives.returned.returned in
+      inl (
+        gives.returned.kept,
+        gives.returned.left,
+        rw list
+            (free_values-put old.items.places gives.returned.n gives.returned.kept here),
+      )

@@ -21,7 +21,8 @@ module _ {T : Type 0} where
     pub is_out : IsOut new n
     pub others : (m : ℕ) → IsOut old m → IsOut new m
 
-  LeavesOut-taken : (old : Pool T) (n : ℕ) (v : T) (new : Pool T) → IsFree old n v → IsSame new (with_place old n Out) → LeavesOut old n new
+  LeavesOut-taken : (old : Pool T) (n : ℕ) (v : T) (new : Pool T) → IsFree old n v
+      → IsSame new (with_place old n Out) → LeavesOut old n new
   LeavesOut-taken old n v new free taken = record {
     was_in = λ out. let both : Out ≡ Free v = sym out ∙ free in absurd cc;
     is_out = taken.places n ∙ with_place-same old n Out;
@@ -30,11 +31,14 @@ module _ {T : Type 0} where
         taken.places m ∙ with_place-other old n m Out differ ∙ out;
   }
 
-  LeavesOut-pulled : (limit : Option ℕ) (answers : Option T → Type 0) (old : Pool T) (n : ℕ) (v : T) (new : Pool T) → IsPool limit old → PullsLeast limit answers old (Ok (n, v)) new → LeavesOut old n new
-  LeavesOut-pulled limit answers old n v new pool (inl takes) = LeavesOut-taken old n v new takes.least.free takes.taken
+  LeavesOut-pulled : (limit : Option ℕ) (answers : Option T → Type 0) (old : Pool T) (n : ℕ) (v : T)
+      (new : Pool T) → IsPool limit old → PullsLeast limit answers old (Ok (n, v)) new → LeavesOut old n new
+  LeavesOut-pulled limit answers old n v new pool (inl takes) =
+      LeavesOut-taken old n v new takes.least.free takes.taken
   LeavesOut-pulled limit answers old n v new pool (inr grows) =
       let taken = LeavesOut-taken (grown old grows.values) n v new grows.takes.least.free grows.takes.taken in
-      let still : (m : ℕ) → IsOut old m → IsOut (grown old grows.values) m = λ m out. elim (cases_lt m (32 * old.pages)) [
+      let still : (m : ℕ) → IsOut old m
+      → IsOut (grown old grows.values) m = λ m out. elim (cases_lt m (32 * old.pages)) [
         | inl inside ↦ grown-old old grows.values m inside ∙ out
         | inr past ↦ let both : Out ≡ Absent = sym out ∙ pool.past m past in absurd cc
       ] in
@@ -46,33 +50,46 @@ module _ {T : Type 0} where
 
 module _ {T I R K : Type 0} where
   pub HeldTogether-none : (core : LinearCore T I R K) → HeldTogether core []
-  HeldTogether-none core = record { out = λ index item e. absurd cc; different = λ index other item same e f number. absurd cc }
+  HeldTogether-none core =
+      record { out = λ index item e. absurd cc; different = λ index other item same e f number. absurd cc }
 
   -- an item that is out of one core is out of another that leaves its number out
-  IsOutOf-kept : (old new : LinearCore T I R K) (item : Item T) → ((n : ℕ) → item_number item ≡ Some n → IsOut (pool_of old) n → IsOut (pool_of new) n) → IsOutOf old item → IsOutOf new item
+  IsOutOf-kept : (old new : LinearCore T I R K) (item : Item T)
+      → ((n : ℕ) → item_number item ≡ Some n → IsOut (pool_of old) n → IsOut (pool_of new) n)
+      → IsOutOf old item → IsOutOf new item
   IsOutOf-kept old new item keeps out = (out.0, out.1, keeps out.0 out.1 out.2)
 
   -- one item more, whose number wasn't out
-  HeldTogether-push : (old new : LinearCore T I R K) (held : List (Option (Item T))) (item : Item T) (n : ℕ) → HeldTogether old held → item_number item ≡ Some n → LeavesOut (pool_of old) n (pool_of new) → HeldTogether new (held ++ Some item ∷ [])
+  HeldTogether-push : (old new : LinearCore T I R K) (held : List (Option (Item T))) (item : Item T) (n : ℕ)
+      → HeldTogether old held → item_number item ≡ Some n → LeavesOut (pool_of old) n (pool_of new)
+      → HeldTogether new (held ++ Some item ∷ [])
   HeldTogether-push old new held item n together number leaves = record {
     out = λ index other e. elim (slice_get-from_push held index (Some item) (Some other) e) [
-      | inl before ↦ IsOutOf-kept old new other (λ m _ out. leaves.others m out) (together.out index other before)
-      | inr last ↦ let same : item ≡ other = let s = last.1 in cc in (n, sym (ap item_number same) ∙ number, leaves.is_out)
+      | inl before ↦
+          IsOutOf-kept old new other (λ m _ out. leaves.others m out) (together.out index other before)
+      | inr last ↦
+          let same : item ≡ other = let s = last.1 in cc in
+          (n, sym (ap item_number same) ∙ number, leaves.is_out)
     ];
     different = λ index second one two e f numbers.
         elim (slice_get-from_push held index (Some item) (Some one) e) [
           | inl before ↦ elim (slice_get-from_push held second (Some item) (Some two) f) [
             | inl also ↦ together.different index second one two before also numbers
-            | inr last ↦ absurd (apart index one before (numbers ∙ ap item_number (let s = last.1 in let back : two ≡ item = cc in back)))
+            | inr last ↦
+                absurd (apart index one before (numbers ∙ ap item_number (let s = last.1 in
+                let back : two ≡ item = cc in back)))
           ]
           | inr last ↦ elim (slice_get-from_push held second (Some item) (Some two) f) [
-            | inl before ↦ absurd (apart second two before (sym numbers ∙ ap item_number (let s = last.1 in let back : one ≡ item = cc in back)))
+            | inl before ↦
+                absurd (apart second two before (sym numbers
+                ∙ ap item_number (let s = last.1 in let back : one ≡ item = cc in back)))
             | inr also ↦ last.0 ∙ sym also.0
           ]
         ];
   }
     where
-      apart : (index : ℕ) (other : Item T) → slice_get held index ≡ Some (Some other) → item_number other ≡ item_number item → ⊥
+      apart : (index : ℕ) (other : Item T) → slice_get held index ≡ Some (Some other)
+          → item_number other ≡ item_number item → ⊥
       apart index other e same =
           let out = together.out index other e in
           let numbers : Some out.0 ≡ Some n = sym out.1 ∙ same ∙ number in
@@ -80,9 +97,13 @@ module _ {T I R K : Type 0} where
           leaves.was_in (subst (λ (m : ℕ). IsOut (pool_of old) m) one out.2)
 
   -- no more items of the table, or the same numbers
-  HeldTogether-fewer : (old new : LinearCore T I R K) (held kept : List (Option (Item T))) → HeldTogether old held
-      → ((index : ℕ) (item : Item T) → slice_get kept index ≡ Some (Some item) → (before : Item T) × (slice_get held index ≡ Some (Some before)) × (item_number before ≡ item_number item))
-      → ((index : ℕ) (item : Item T) → slice_get kept index ≡ Some (Some item) → IsOutOf old item → IsOutOf new item)
+  HeldTogether-fewer :
+      (old new : LinearCore T I R K) (held kept : List (Option (Item T))) → HeldTogether old held
+      → ((index : ℕ) (item : Item T) → slice_get kept index ≡ Some (Some item)
+      → (before : Item T) × (slice_get held index ≡ Some (Some before))
+      × (item_number before ≡ item_number item))
+      → ((index : ℕ) (item : Item T) → slice_get kept index ≡ Some (Some item) → IsOutOf old item
+      → IsOutOf new item)
       → HeldTogether new kept
   HeldTogether-fewer old new held kept together was keeps = record {
     out = λ index item e.
@@ -95,33 +116,49 @@ module _ {T I R K : Type 0} where
         together.different index other one.0 two.0 one.1 two.1 (one.2 ∙ numbers ∙ sym two.2);
   }
 
-  pub HeldTogether-pulled : (answers : Option T → Type 0) (old new : LinearCore T I R K) (held : List (Option (Item T))) (item : Item T) → HeldTogether old held → Pulls answers old (Ok item) new → HeldTogether new (held ++ Some item ∷ [])
+  pub HeldTogether-pulled : (answers : Option T → Type 0) (old new : LinearCore T I R K)
+      (held : List (Option (Item T))) (item : Item T) → HeldTogether old held
+      → Pulls answers old (Ok item) new → HeldTogether new (held ++ Some item ∷ [])
   HeldTogether-pulled answers old new held item together pulls =
       let pulled = pulls.pulled in
-      HeldTogether-push old new held item pulled.0 together pulled.1 (LeavesOut-pulled (limit_of old) answers (pool_of old) pulled.0 (item_value item) (pool_of new) pulls.step.before pulled.2)
+      HeldTogether-push old new held item pulled.0 together pulled.1
+      (LeavesOut-pulled (limit_of old) answers (pool_of old) pulled.0 (item_value item)
+      (pool_of new) pulls.step.before pulled.2)
 
-  pub HeldTogether-refused : (answers : Option T → Type 0) (old new : LinearCore T I R K) (held : List (Option (Item T))) (cause : PullError) → HeldTogether old held → Pulls answers old (Err cause) new → HeldTogether new held
+  pub HeldTogether-refused : (answers : Option T → Type 0) (old new : LinearCore T I R K)
+      (held : List (Option (Item T))) (cause : PullError) → HeldTogether old held
+      → Pulls answers old (Err cause) new → HeldTogether new held
   HeldTogether-refused answers old new held cause together pulls =
       HeldTogether-fewer old new held held together (λ index item e. (item, e, refl))
       (λ index item e out. IsOutOf-kept old new item (λ n _ was. pulls.pulled.same.places n ∙ was) out)
 
-  pub HeldTogether-attached : (old new : LinearCore T I R K) (held : List (Option (Item T))) (value : T) (item : Item T) → RefusesAttach old value (Ok item) new → HeldTogether new (held ++ Some item ∷ [])
+  pub HeldTogether-attached : (old new : LinearCore T I R K) (held : List (Option (Item T))) (value : T)
+      (item : Item T) → RefusesAttach old value (Ok item) new → HeldTogether new (held ++ Some item ∷ [])
   HeldTogether-attached old new held value item refused = let never = refused.0 in absurd cc
 
-  pub HeldTogether-given : (leaves : T → T → Type 0) (old new : LinearCore T I R K) (held : List (Option (Item T))) (index : ℕ) (item : Item T) → HeldTogether old held → slice_get held index ≡ Some (Some item) → Gives leaves old item new → HeldTogether new (slice_set held index None)
+  pub HeldTogether-given : (leaves : T → T → Type 0) (old new : LinearCore T I R K)
+      (held : List (Option (Item T))) (index : ℕ) (item : Item T) → HeldTogether old held
+      → slice_get held index ≡ Some (Some item) → Gives leaves old item new
+      → HeldTogether new (slice_set held index None)
   HeldTogether-given leaves old new held index item together here gives =
-      HeldTogether-fewer old new held (slice_set held index None) together (λ other one e. (one, (left other one e).1, refl))
+      HeldTogether-fewer old new held (slice_set held index None) together
+      (λ other one e. (one, (left other one e).1, refl))
       (λ other one e out. IsOutOf-kept old new one (λ n number was.
-      let differ : n ≢ gives.returned.n = λ same. (left other one e).0 (together.different other index one item (left other one e).1 here (number ∙ ap Some same ∙ sym gives.returned.number)) in
-      gives.returned.returned.places n ∙ with_place-other (pool_of old) gives.returned.n n (Free gives.returned.kept) differ ∙ was) out)
+      let differ : n ≢ gives.returned.n = λ same. (left other one e).0
+      (together.different other index one item (left other one e).1 here
+      (number ∙ ap Some same ∙ sym gives.returned.number)) in
+      gives.returned.returned.places n
+      ∙ with_place-other (pool_of old) gives.returned.n n (Free gives.returned.kept) differ ∙ was) out)
     where
-      left : (other : ℕ) (one : Item T) → slice_get (slice_set held index None) other ≡ Some (Some one) → (other ≢ index) × (slice_get held other ≡ Some (Some one))
+      left : (other : ℕ) (one : Item T) → slice_get (slice_set held index None) other ≡ Some (Some one)
+          → (other ≢ index) × (slice_get held other ≡ Some (Some one))
       left other one e = elim (slice_get-from_set held index other None (Some one) e) [
         | inl same ↦ let never = same.1 in absurd cc
         | inr apart ↦ apart
       ]
 
-  pub HeldTogether-forgotten : (core : LinearCore T I R K) (held : List (Option (Item T))) (index : ℕ) → HeldTogether core held → HeldTogether core (slice_set held index None)
+  pub HeldTogether-forgotten : (core : LinearCore T I R K) (held : List (Option (Item T))) (index : ℕ)
+      → HeldTogether core held → HeldTogether core (slice_set held index None)
   HeldTogether-forgotten core held index together =
       HeldTogether-fewer core core held (slice_set held index None) together
       (λ other one e. elim (slice_get-from_set held index other None (Some one) e) [
@@ -130,7 +167,9 @@ module _ {T I R K : Type 0} where
       ])
       (λ other one e out. out)
 
-  pub HeldTogether-written : (core : LinearCore T I R K) (held : List (Option (Item T))) (index : ℕ) (item : Item T) (value : T) → HeldTogether core held → slice_get held index ≡ Some (Some item) → HeldTogether core (slice_set held index (Some (with_value item value)))
+  pub HeldTogether-written : (core : LinearCore T I R K) (held : List (Option (Item T))) (index : ℕ)
+      (item : Item T) (value : T) → HeldTogether core held → slice_get held index ≡ Some (Some item)
+      → HeldTogether core (slice_set held index (Some (with_value item value)))
   HeldTogether-written core held index item value together here =
       HeldTogether-fewer core core held (slice_set held index (Some (with_value item value))) together
       (λ other one e. elim (slice_get-from_set held index other (Some (with_value item value)) (Some one) e) [

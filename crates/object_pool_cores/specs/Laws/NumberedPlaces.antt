@@ -19,19 +19,22 @@ module _ {T : Type 0} where
 
 -- what lies at a place of a list that was set at one place, or that another list comes behind
 module _ {X : Type 0} where
-  pub slice_get-set_same : (xs : List X) (n : ℕ) (x : X) → n < length xs → slice_get (slice_set xs n x) n ≡ Some x
+  pub slice_get-set_same :
+      (xs : List X) (n : ℕ) (x : X) → n < length xs → slice_get (slice_set xs n x) n ≡ Some x
   slice_get-set_same [] n x within = absurd (omega arith)
   slice_get-set_same (y ∷ xs) zero x within = refl
   slice_get-set_same (y ∷ xs) (suc n) x within = slice_get-set_same xs n x (omega arith)
 
-  pub slice_get-set_other : (xs : List X) (n m : ℕ) (x : X) → m ≢ n → slice_get (slice_set xs n x) m ≡ slice_get xs m
+  pub slice_get-set_other :
+      (xs : List X) (n m : ℕ) (x : X) → m ≢ n → slice_get (slice_set xs n x) m ≡ slice_get xs m
   slice_get-set_other [] n m x other = refl
   slice_get-set_other (y ∷ xs) zero zero x other = absurd (other refl)
   slice_get-set_other (y ∷ xs) zero (suc m) x other = refl
   slice_get-set_other (y ∷ xs) (suc n) zero x other = refl
   slice_get-set_other (y ∷ xs) (suc n) (suc m) x other = slice_get-set_other xs n m x (λ e. other (ap suc e))
 
-  pub slice_get-append_front : (xs ys : List X) (n : ℕ) → n < length xs → slice_get (xs ++ ys) n ≡ slice_get xs n
+  pub slice_get-append_front :
+      (xs ys : List X) (n : ℕ) → n < length xs → slice_get (xs ++ ys) n ≡ slice_get xs n
   slice_get-append_front [] ys n within = absurd (omega arith)
   slice_get-append_front (x ∷ xs) ys zero within = refl
   slice_get-append_front (x ∷ xs) ys (suc n) within = slice_get-append_front xs ys n (omega arith)
@@ -41,36 +44,46 @@ module _ {X : Type 0} where
   slice_get-append_back (x ∷ xs) ys n = rw add-suc (slice_get-append_back xs ys n)
 
 -- a pool that isn't at its limit may have a page more
-pub AllowsPages-more : (limit : Option ℕ) (pages : ℕ) → AllowsPages limit pages → limit ≢ Some pages → AllowsPages limit (pages + 1)
+AllowsPages-more : (limit : Option ℕ) (pages : ℕ) → AllowsPages limit pages → limit ≢ Some pages
+    → AllowsPages limit (pages + 1)
 AllowsPages-more None pages allowed other = tt
-AllowsPages-more (Some most) pages allowed other = let below : most ≢ pages = λ e. other (ap Some e) in omega arith
+AllowsPages-more (Some most) pages allowed other =
+    let below : most ≢ pages = λ e. other (ap Some e) in omega arith
 
 module _ {T : Type 0} where
   -- a value of a page
-  pub value_of-page : (values : List T) (n : ℕ) (v : T) → slice_get (map Some values) n ≡ Some (Some v) → slice_get values n ≡ Some v
+  pub value_of-page : (values : List T) (n : ℕ) (v : T) → slice_get (map Some values) n ≡ Some (Some v)
+      → slice_get values n ≡ Some v
   value_of-page [] n v e = cc
   value_of-page (w ∷ values) zero v e = cc
   value_of-page (w ∷ values) (suc n) v e = value_of-page values n v e
 
   -- how many items there are with a page more
-  length-grown : (items : Numbered T) (values : List T) → length values ≡ 32 → length (items.places ++ map Some values) ≡ length items.places + 32
-  length-grown items values count = length-append items.places (map Some values) ∙ ap (λ n. length items.places + n) (length-map values Some ∙ count)
+  length-grown : (items : Numbered T) (values : List T) → length values ≡ 32
+      → length (items.places ++ map Some values) ≡ length items.places + 32
+  length-grown items values count = length-append items.places (map Some values)
+      ∙ ap (λ n. length items.places + n) (length-map values Some ∙ count)
 
   -- a page of clean values leaves the items sound
-  pub IsSound-grown : (meets : T → Type 0) (items : Numbered T) (values : List T) → IsSound meets items → items.limit ≢ Some (length items.places / 32) → length values ≡ 32 → All meets values → IsSound meets (record items { places = items.places ++ map Some values })
+  pub IsSound-grown : (meets : T → Type 0) (items : Numbered T) (values : List T) → IsSound meets items
+      → items.limit ≢ Some (length items.places / 32) → length values ≡ 32 → All meets values
+      → IsSound meets (record items { places = items.places ++ map Some values })
   IsSound-grown meets items values sound below count clean = record {
     whole = let more = length-grown items values count in let whole = sound.whole in omega arith;
     allowed =
         let more = length-grown items values count in
-        let pages : length (items.places ++ map Some values) / 32 ≡ length items.places / 32 + 1 = omega arith in
+        let pages : length (items.places ++ map Some values) / 32 ≡ length items.places / 32 + 1 = omega arith
+        in
         rw pages (AllowsPages-more items.limit (length items.places / 32) sound.allowed below);
     clean = λ n v e. elim (cases_lt n (length items.places)) [
       | inl front ↦ sound.clean n v (sym (slice_get-append_front items.places (map Some values) n front) ∙ e)
       | inr back ↦
           let place : n - length items.places + length items.places ≡ n = omega arith in
-          let here = sym (slice_get-append_back items.places (map Some values) (n - length items.places)) ∙ ap (slice_get (items.places ++ map Some values)) place ∙ e in
+          let here = sym (slice_get-append_back items.places (map Some values) (n - length items.places))
+          ∙ ap (slice_get (items.places ++ map Some values)) place ∙ e in
           let value = value_of-page values (n - length items.places) v here in
-          subst meets (get_or_from_slice_get values (n - length items.places) v v value) (clean (n - length items.places) v (slice_get_within values (n - length items.places) v value))
+          subst meets (get_or_from_slice_get values (n - length items.places) v v value)
+          (clean (n - length items.places) v (slice_get_within values (n - length items.places) v value))
     ];
     starts = let more = length-grown items values count in let starts = sound.starts in omega arith;
     passed = λ n v below e.
@@ -92,13 +105,14 @@ module _ {T : Type 0} where
   place_of-out (Some (Some v)) e = cc
 
   -- sound items are a pool
-  pub IsPool-sound : (meets : T → Type 0) (items : Numbered T) → IsSound meets items → IsPool items.limit (pool_of items)
+  pub IsPool-sound :
+      (meets : T → Type 0) (items : Numbered T) → IsSound meets items → IsPool items.limit (pool_of items)
   IsPool-sound meets items sound = record {
     inside = λ n within.
         let whole = sound.whole in
         let there : n < length items.places = omega arith in
         elim (slice_get_cases items.places n).1 [
-          | inl found ↦ λ e. place_of-there found.0 (ap place_of (sym found.2) ∙ e)
+          | inl lookup ↦ λ e. place_of-there lookup.0 (ap place_of (sym lookup.2) ∙ e)
           | inr past ↦ absurd (omega arith)
         ];
     past = λ n behind. let whole = sound.whole in ap place_of (slice_get_past items.places n (omega arith));
@@ -106,32 +120,42 @@ module _ {T : Type 0} where
   }
 
   -- another place in the list is another place in the pool
-  pub pool_of-set : (items : Numbered T) (n : ℕ) (place : Option T) → n < length items.places → IsSame (pool_of (record items { places = slice_set items.places n place })) (with_place (pool_of items) n (place_of (Some place)))
+  pub pool_of-set : (items : Numbered T) (n : ℕ) (place : Option T) → n < length items.places
+      → IsSame (pool_of (record items { places = slice_set items.places n place }))
+      (with_place (pool_of items) n (place_of (Some place)))
   pool_of-set items n place within = record {
     pages = ap (λ count. count / 32) (length-set items.places n place);
     places = λ m. elim (cases_eq m n) [
       | inl same ↦
-          subst (λ (k : ℕ). place_of (slice_get (slice_set items.places n place) k) ≡ (with_place (pool_of items) n (place_of (Some place))).at k) (sym same)
-          (ap place_of (slice_get-set_same items.places n place within) ∙ sym (with_place-same (pool_of items) n (place_of (Some place))))
-      | inr differ ↦ ap place_of (slice_get-set_other items.places n m place differ) ∙ sym (with_place-other (pool_of items) n m (place_of (Some place)) differ)
+          subst (λ (k : ℕ). place_of (slice_get (slice_set items.places n place) k) ≡ (with_place
+          (pool_of items) n (place_of (Some place))).at k) (sym same)
+          (ap place_of (slice_get-set_same items.places n place within)
+          ∙ sym (with_place-same (pool_of items) n (place_of (Some place))))
+      | inr differ ↦ ap place_of (slice_get-set_other items.places n m place differ)
+          ∙ sym (with_place-other (pool_of items) n m (place_of (Some place)) differ)
     ];
   }
 
   -- a page more in the list is a growth of the pool
-  pub pool_of-grown : (meets : T → Type 0) (items : Numbered T) (values : List T) → IsSound meets items → length values ≡ 32 → IsSame (pool_of (record items { places = items.places ++ map Some values })) (grown (pool_of items) values)
+  pool_of-grown : (meets : T → Type 0) (items : Numbered T) (values : List T) → IsSound meets items
+      → length values ≡ 32 → IsSame (pool_of (record items { places = items.places ++ map Some values }))
+      (grown (pool_of items) values)
   pool_of-grown meets items values sound count = record {
     pages = let more = length-grown items values count in omega arith;
     places = λ n. elim (cases_lt n (length items.places)) [
       | inl front ↦
           let whole = sound.whole in
-          ap place_of (slice_get-append_front items.places (map Some values) n front) ∙ sym (grown-old (pool_of items) values n (omega arith))
+          ap place_of (slice_get-append_front items.places (map Some values) n front)
+          ∙ sym (grown-old (pool_of items) values n (omega arith))
       | inr back ↦
           let whole = sound.whole in
           let first : 32 * (length items.places / 32) ≡ length items.places = omega arith in
           let place : n - length items.places + length items.places ≡ n = omega arith in
-          let here = sym (ap (slice_get (items.places ++ map Some values)) place) ∙ slice_get-append_back items.places (map Some values) (n - length items.places) in
+          let here = sym (ap (slice_get (items.places ++ map Some values)) place)
+          ∙ slice_get-append_back items.places (map Some values) (n - length items.places) in
           ap place_of here ∙ free_place values (n - length items.places)
-          ∙ sym (grown-new (pool_of items) values n (omega arith) ∙ ap (λ k. free_with (slice_get values (n - k))) first)
+          ∙ sym (grown-new (pool_of items) values n (omega arith)
+          ∙ ap (λ k. free_with (slice_get values (n - k))) first)
     ];
   }
     where
@@ -141,7 +165,10 @@ module _ {T : Type 0} where
       free_place (w ∷ ws) (suc k) = free_place ws k
 
   -- what a page of answers behind a sound list is to the pool
-  pub Grows-page : (meets : T → Type 0) (answers : Option T → Type 0) (items : Numbered T) (values : List T) → IsSound meets items → items.limit ≢ Some (length items.places / 32) → length values ≡ 32 → All (λ v. answers (Some v)) values → Grows items.limit answers (pool_of items) (pool_of (record items { places = items.places ++ map Some values }))
+  pub Grows-page : (meets : T → Type 0) (answers : Option T → Type 0) (items : Numbered T) (values : List T)
+      → IsSound meets items → items.limit ≢ Some (length items.places / 32) → length values ≡ 32
+      → All (λ v. answers (Some v)) values → Grows items.limit answers (pool_of items)
+      (pool_of (record items { places = items.places ++ map Some values }))
   Grows-page meets answers items values sound below count answered = record {
     values = values;
     answered = answered;

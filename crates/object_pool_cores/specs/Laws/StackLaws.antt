@@ -1,4 +1,5 @@
--- Each step of the stack core is a case of the common relation, and items that are held together each bring a room.
+-- Each step of the stack core is a case of the common relation,
+-- and items that are held together each bring a room.
 use Rattle.std.proofs.Common.{◌≡◌, ℕ, Option, Some, None, List, [], ◌∷◌, ◌++◌, Result, Ok, Err, slice_set, refl, sym, subst, inl, inr}
 use Rattle.std.specs.Prelude.{All, IsTrue}
 use Rattle.std.specs.List.{slice_get}
@@ -13,44 +14,64 @@ use Rattle.object_pool_cores.specs.Stack.{Pulls, Gives, HoldRooms, kept_of}
 use Rattle.object_pool_cores.specs.Laws.HeldItems.{slice_get-from_set, slice_get-from_push}
 
 module _ {T : Type 0} where
-  taken_from_bag : (answers : Option T → Type 0) (old : List T) (v : T) (new : List T) → TakesLast answers old v new → PullsFromBag answers old (Ok v) new
-  taken_from_bag answers old v new (inl first) = inl (record { front = []; back = new; without = refl; within = first })
+  taken_from_bag : (answers : Option T → Type 0) (old : List T) (v : T) (new : List T)
+      → TakesLast answers old v new → PullsFromBag answers old (Ok v) new
+  taken_from_bag answers old v new (inl first) =
+      inl (record { front = []; back = new; without = refl; within = first })
   taken_from_bag answers old v new (inr fresh) = inr (record {
     none = fresh.0.0;
     answer = fresh.1;
-    further = subst (λ (kept : List T). All (λ w. answers (Some w)) kept) (sym fresh.0.1) (All-nil (λ w. answers (Some w)));
+    further = subst (λ (kept : List T). All (λ w. answers (Some w)) kept) (sym fresh.0.1)
+        (All-nil (λ w. answers (Some w)));
   })
 
-  pulled_from_bag : (answers : Option T → Type 0) (old : List T) (answer : Result (Item T) PullError) (new : List T) → PullsLast answers old answer new → PullsFromBag answers old (pulled_value answer) new
+  pulled_from_bag : (answers : Option T → Type 0) (old : List T) (answer : Result (Item T) PullError)
+      (new : List T) → PullsLast answers old answer new → PullsFromBag answers old (pulled_value answer) new
   pulled_from_bag answers old (Ok item) new pulled = taken_from_bag answers old (item_value item) new pulled.1
   pulled_from_bag answers old (Err cause) new pulled = pulled.0
 
   -- one item more, with its room
-  pub HoldRooms-push : (held : List (Option (Item T))) (item : Item T) → HoldRooms held → IsTrue (has_room item) → HoldRooms (held ++ Some item ∷ [])
-  HoldRooms-push held item rooms room index other e = elim (slice_get-from_push held index (Some item) (Some other) e) [
-    | inl before ↦ rooms index other before
-    | inr last ↦ let same : item ≡ other = let s = last.1 in cc in subst (λ (one : Item T). IsTrue (has_room one)) same room
-  ]
+  pub HoldRooms-push : (held : List (Option (Item T))) (item : Item T) → HoldRooms held
+      → IsTrue (has_room item) → HoldRooms (held ++ Some item ∷ [])
+  HoldRooms-push held item rooms room index other e =
+      elim (slice_get-from_push held index (Some item) (Some other) e) [
+        | inl before ↦ rooms index other before
+        | inr last ↦
+            let same : item ≡ other = let s = last.1 in cc in
+            subst (λ (one : Item T). IsTrue (has_room one)) same room
+      ]
 
-  pub HoldRooms-less : (held : List (Option (Item T))) (index : ℕ) → HoldRooms held → HoldRooms (slice_set held index None)
+  pub HoldRooms-less :
+      (held : List (Option (Item T))) (index : ℕ) → HoldRooms held → HoldRooms (slice_set held index None)
   HoldRooms-less held index rooms at item e = elim (slice_get-from_set held index at None (Some item) e) [
     | inl here ↦ let never = here.1 in absurd cc
     | inr apart ↦ rooms at item apart.1
   ]
 
-  pub HoldRooms-written : (held : List (Option (Item T))) (index : ℕ) (item : Item T) (value : T) → HoldRooms held → slice_get held index ≡ Some (Some item) → HoldRooms (slice_set held index (Some (with_value item value)))
-  HoldRooms-written held index item value rooms here at other e = elim (slice_get-from_set held index at (Some (with_value item value)) (Some other) e) [
-    | inl same ↦
-        let written : with_value item value ≡ other = let s = same.1 in cc in
-        subst (λ (one : Item T). IsTrue (has_room one)) written (rooms index item here)
-    | inr apart ↦ rooms at other apart.1
-  ]
+  pub HoldRooms-written : (held : List (Option (Item T))) (index : ℕ) (item : Item T) (value : T)
+      → HoldRooms held → slice_get held index ≡ Some (Some item)
+      → HoldRooms (slice_set held index (Some (with_value item value)))
+  HoldRooms-written held index item value rooms here at other e =
+      elim (slice_get-from_set held index at (Some (with_value item value)) (Some other) e) [
+        | inl same ↦
+            let written : with_value item value ≡ other = let s = same.1 in cc in
+            subst (λ (one : Item T). IsTrue (has_room one)) written (rooms index item here)
+        | inr apart ↦ rooms at other apart.1
+      ]
 
 module _ {T I R K : Type 0} where
-  pub Pulls-from_bag : (answers : Option T → Type 0) (old new : StackCore T I R K) (answer : Result (Item T) PullError) → Pulls answers old answer new → PullsFromBag answers (kept_of old) (pulled_value answer) (kept_of new)
-  Pulls-from_bag answers old new answer pulls = pulled_from_bag answers (kept_of old) answer (kept_of new) pulls.pulled
+  pub Pulls-from_bag : (answers : Option T → Type 0) (old new : StackCore T I R K)
+      (answer : Result (Item T) PullError) → Pulls answers old answer new
+      → PullsFromBag answers (kept_of old) (pulled_value answer) (kept_of new)
+  Pulls-from_bag answers old new answer pulls =
+      pulled_from_bag answers (kept_of old) answer (kept_of new) pulls.pulled
 
-  pub Gives-to_bag : (leaves : T → T → Type 0) (old new : StackCore T I R K) (item : Item T) → Gives leaves old item new → ReturnsToBag leaves (kept_of old) (item_value item) (kept_of new)
+  pub Gives-to_bag : (leaves : T → T → Type 0) (old new : StackCore T I R K) (item : Item T)
+      → Gives leaves old item new → ReturnsToBag leaves (kept_of old) (item_value item) (kept_of new)
   Gives-to_bag leaves old new item gives =
       let returned = gives.returned in
-      inl (returned.0, returned.1, record { front = []; back = kept_of old; without = refl; within = returned.2 })
+      inl (
+        returned.0,
+        returned.1,
+        record { front = []; back = kept_of old; without = refl; within = returned.2 },
+      )

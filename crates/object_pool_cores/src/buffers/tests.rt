@@ -53,7 +53,8 @@ fn pulled_by<I: InitBy<Vec<u8>>, R: ResetBy<Vec<u8>>>(
     reset: R,
 ) -> Result<usize, PullError>
     requires may_make { I.may_make init }
-    requires makes { (answer : Option (Vec ℕ)) → I.makes init answer → IfSome answer (λ bytes. bytes.items ≡ []) }
+    requires makes { (answer : Option (Vec ℕ)) → I.makes init answer
+        → IfSome answer (λ bytes. bytes.items ≡ []) }
     requires may_reset { R.may_reset reset }
     requires leaves { (old new : Vec ℕ) → R.resets reset old new → new.items ≡ [] }
     ensures { IfOk result (λ len. len ≡ 0) }
@@ -106,7 +107,8 @@ fn closures_make_and_clear_buffers(rt: HostRuntime) -> Result<(), Fail> {
     Ok(())
 }
 
-/// Pulls, looks, appends and drops, a hundred times. Whether each buffer was empty and then held what was appended.
+/// Pulls, looks, appends and drops, a hundred times. Whether
+/// each buffer was empty and then held what was appended.
 fn fill_often(pool: &ReadyPool) -> bool {
     let bytes = [7u8; 100];
     for _ in 0..100 {
@@ -171,8 +173,8 @@ fn a_pool_and_its_buffer_are_shown(rt: HostRuntime) -> Result<(), Fail> {
     let pool = one_page(rt.alloc())?;
     let mut buffer = pool.pull()?;
     buffer.append(&[7, 9])?;
-    let shown = format!(in rt.alloc(); "{pool:?} {buffer:?}")?;
+    let text = format!(in rt.alloc(); "{pool:?} {buffer:?}")?;
     let expected = "BufferPool { pool: LinearObjectPool { limit: Some(1), .. } } [7, 9]";
-    assert_eq!(rt; shown.as_str(), expected);
+    assert_eq!(rt; text.as_str(), expected);
     Ok(())
 }

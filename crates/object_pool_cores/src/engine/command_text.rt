@@ -34,14 +34,16 @@ pub(super) fn command_of(line: &[u8]) -> Option<Command<u32>>
 
 /// What stands behind a word that the line begins with.
 fn rest_after<'a>(line: &'a [u8], word: &[u8]) -> Option<&'a [u8]>
-    ensures { MatchOption result ((rest : List ℕ) → line.now ≡ word.now ++ rest → ⊥) (λ rest. line.now ≡ word.now ++ rest.now) }
+    ensures { MatchOption result ((rest : List ℕ) → line.now ≡ word.now ++ rest → ⊥)
+        (λ rest. line.now ≡ word.now ++ rest.now) }
 {
     line.strip_prefix(word)
 }
 
 /// Two numbers with one space between them.
 fn numbers_of(text: &[u8]) -> Option<(u32, u32)>
-    ensures { MatchOption result ((first second : ℕ) → AreNumbers text.now first second → ⊥) (λ both. AreNumbers text.now both.0 both.1) }
+    ensures { MatchOption result ((first second : ℕ) → AreNumbers text.now first second → ⊥)
+        (λ both. AreNumbers text.now both.0 both.1) }
 {
     let (first, second) = around_space(text)?;
     Some((number_of(first)?, number_of(second)?))
@@ -49,7 +51,8 @@ fn numbers_of(text: &[u8]) -> Option<(u32, u32)>
 
 /// What stands before the first space and behind it.
 fn around_space(text: &[u8]) -> Option<(&[u8], &[u8])>
-    ensures { MatchOption result (HasNoSpace text.now) (λ both. HasNoSpace both.0.now × (text.now ≡ both.0.now ++ 32 ∷ both.1.now)) }
+    ensures { MatchOption result (HasNoSpace text.now)
+        (λ both. HasNoSpace both.0.now × (text.now ≡ both.0.now ++ 32 ∷ both.1.now)) }
 {
     for (index, byte) in text.iter().enumerate() {
         if *byte == b' ' {

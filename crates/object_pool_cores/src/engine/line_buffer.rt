@@ -38,7 +38,8 @@ impl LineBuffer {
 
     /// The command that the line writes.
     pub(super) fn command(&self) -> Option<Command<u32>>
-        ensures { (line : List ℕ) → IsBuffered line self.now → MatchOption result (IsBadLine line) (IsCommand line) }
+        ensures { (line : List ℕ) → IsBuffered line self.now
+            → MatchOption result (IsBadLine line) (IsCommand line) }
     {
         match self {
             LineBuffer::Short(bytes) => command_of(bytes),

@@ -68,7 +68,8 @@ fn indexed_line(word: &str, index: usize) -> ReplyText
 
 /// The holder, the item's number and its value.
 fn pulled_line(holder: usize, number: Option<u128>, value: u32) -> ReplyText
-    ensures { result.bytes ≡ codes "pulled " ++ decimal holder ++ number_text number ++ codes " value " ++ decimal value ++ 10 ∷ [] }
+    ensures { result.bytes
+        ≡ codes "pulled " ++ decimal holder ++ number_text number ++ codes " value " ++ decimal value ++ 10 ∷ [] }
 {
     let mut line = ReplyText::new();
     line.push_str("pulled ");

@@ -32,16 +32,23 @@ pub(super) fn serve<H: Wait, P: SequentialPool<u32>, R: Read, W: Write>(
     input: &mut R,
     output: &mut W,
 ) -> Result<(), EngineError>
-    ensures ok { OnOk result ((bytes : List ℕ) × Consumes (R.remaining input.old) (R.remaining input.new) bytes
+    ensures ok { OnOk result ((bytes : List ℕ)
+        × Consumes (R.remaining input.old) (R.remaining input.new) bytes
         × IsAtEnd (R.remaining input.new)
-        × ServesAll P.pulls P.gives P.attaches player.old (W.contents output.old) bytes (W.contents output.new)) }
+        × ServesAll P.pulls P.gives P.attaches player.old (W.contents output.old) bytes
+        (W.contents output.new)) }
     ensures read { result ≡ Err EngineError.Read → (bytes rest : List ℕ) × (last : _)
         × Consumes (R.remaining input.old) (R.remaining input.new) bytes
-        × Serves P.pulls P.gives P.attaches player.old (W.contents output.old) bytes rest last (W.contents output.new) }
-    ensures write { result ≡ Err EngineError.Write → (bytes : List ℕ) × Consumes (R.remaining input.old) (R.remaining input.new) bytes
-        × StopsWriting P.pulls P.gives P.attaches (IsAtEnd (R.remaining input.new)) player.old (W.contents output.old) bytes (W.contents output.new) }
-    ensures memory { result ≡ Err EngineError.Memory → (bytes : List ℕ) × Consumes (R.remaining input.old) (R.remaining input.new) bytes
-        × ServesFront P.pulls P.gives P.attaches player.old (W.contents output.old) bytes (W.contents output.new) }
+        × Serves P.pulls P.gives P.attaches player.old (W.contents output.old) bytes rest last
+        (W.contents output.new) }
+    ensures write { result ≡ Err EngineError.Write
+        → (bytes : List ℕ) × Consumes (R.remaining input.old) (R.remaining input.new) bytes
+        × StopsWriting P.pulls P.gives P.attaches (IsAtEnd (R.remaining input.new)) player.old
+        (W.contents output.old) bytes (W.contents output.new) }
+    ensures memory { result ≡ Err EngineError.Memory
+        → (bytes : List ℕ) × Consumes (R.remaining input.old) (R.remaining input.new) bytes
+        × ServesFront P.pulls P.gives P.attaches player.old (W.contents output.old) bytes
+        (W.contents output.new) }
 {
     let mut line = LineBuffer::new();
     let mut chunk = [0u8; CHUNK];
@@ -68,12 +75,16 @@ fn serve_chunk<P: SequentialPool<u32>, W: Write>(
     output: &mut W,
 ) -> Result<(), EngineError>
     requires { length bytes.now ≤ 1024 }
-    ensures ok { OnOk result ((rest : List ℕ) → IsOpenLine rest line.old → (more : List ℕ) × IsOpenLine more line.new
-        × Serves P.pulls P.gives P.attaches player.old (W.contents output.old) (rest ++ bytes.now) more player.new (W.contents output.new)) }
+    ensures ok { OnOk result ((rest : List ℕ) → IsOpenLine rest line.old
+        → (more : List ℕ) × IsOpenLine more line.new
+        × Serves P.pulls P.gives P.attaches player.old (W.contents output.old)
+        (rest ++ bytes.now) more player.new (W.contents output.new)) }
     ensures write { result ≡ Err EngineError.Write → (rest : List ℕ) → IsOpenLine rest line.old
-        → ServesPart P.pulls P.gives P.attaches player.old (W.contents output.old) (rest ++ bytes.now) (W.contents output.new) }
+        → ServesPart P.pulls P.gives P.attaches player.old (W.contents output.old) (rest ++ bytes.now)
+        (W.contents output.new) }
     ensures memory { result ≡ Err EngineError.Memory → (rest : List ℕ) → IsOpenLine rest line.old
-        → ServesFront P.pulls P.gives P.attaches player.old (W.contents output.old) (rest ++ bytes.now) (W.contents output.new) }
+        → ServesFront P.pulls P.gives P.attaches player.old (W.contents output.old) (rest ++ bytes.now)
+        (W.contents output.new) }
     ensures read { result ≢ Err EngineError.Read }
 {
     replies.clear();
@@ -96,10 +107,13 @@ fn feed<P: SequentialPool<u32>>(
 ) -> Result<(), RunError>
     requires bytes { length bytes.now ≤ 1024 }
     requires replies { replies.old.items ≡ [] }
-    ensures ok { OnOk result ((rest : List ℕ) → IsOpenLine rest line.old → (more : List ℕ) × IsOpenLine more line.new
-        × Serves P.pulls P.gives P.attaches player.old (Some []) (rest ++ bytes.now) more player.new (Some replies.new.items)) }
+    ensures ok { OnOk result ((rest : List ℕ) → IsOpenLine rest line.old
+        → (more : List ℕ) × IsOpenLine more line.new
+        × Serves P.pulls P.gives P.attaches player.old (Some [])
+        (rest ++ bytes.now) more player.new (Some replies.new.items)) }
     ensures err { OnErr result ((rest : List ℕ) → IsOpenLine rest line.old
-        → ServesFront P.pulls P.gives P.attaches player.old (Some []) (rest ++ bytes.now) (Some replies.new.items)) }
+        → ServesFront P.pulls P.gives P.attaches player.old (Some []) (rest ++ bytes.now)
+        (Some replies.new.items)) }
 {
     for byte in bytes {
         if *byte == LINE_FEED {
@@ -121,8 +135,12 @@ fn serve_last<P: SequentialPool<u32>, W: Write>(
     line: &LineBuffer,
     output: &mut W,
 ) -> Result<(), EngineError>
-    ensures ok { OnOk result ((rest : List ℕ) → IsBuffered rest line.now → AnswersLast P.pulls P.gives P.attaches player.old (W.contents output.old) rest (W.contents output.new)) }
-    ensures write { result ≡ Err EngineError.Write → (rest : List ℕ) → IsBuffered rest line.now → AnswersLastInPart P.pulls P.gives P.attaches player.old (W.contents output.old) rest (W.contents output.new) }
+    ensures ok { OnOk result ((rest : List ℕ) → IsBuffered rest line.now
+        → AnswersLast P.pulls P.gives P.attaches player.old (W.contents output.old) rest
+        (W.contents output.new)) }
+    ensures write { result ≡ Err EngineError.Write → (rest : List ℕ) → IsBuffered rest line.now
+        → AnswersLastInPart P.pulls P.gives P.attaches player.old (W.contents output.old) rest
+        (W.contents output.new) }
     ensures memory { result ≡ Err EngineError.Memory → Keeps (W.contents output.old) (W.contents output.new) }
     ensures read { result ≢ Err EngineError.Read }
 {
@@ -138,8 +156,12 @@ fn serve_line<P: SequentialPool<u32>, W: Write>(
     line: &LineBuffer,
     output: &mut W,
 ) -> Result<(), EngineError>
-    ensures ok { OnOk result ((bytes : List ℕ) → IsBuffered bytes line.now → (text : List ℕ) × Answers P.pulls P.gives P.attaches player.old bytes text player.new × Appends (W.contents output.old) (W.contents output.new) text) }
-    ensures write { result ≡ Err EngineError.Write → (bytes : List ℕ) → IsBuffered bytes line.now → (text : List ℕ) × (last : _) × Answers P.pulls P.gives P.attaches player.old bytes text last × AppendsPart (W.contents output.old) (W.contents output.new) text }
+    ensures ok { OnOk result ((bytes : List ℕ) → IsBuffered bytes line.now
+        → (text : List ℕ) × Answers P.pulls P.gives P.attaches player.old bytes text player.new
+        × Appends (W.contents output.old) (W.contents output.new) text) }
+    ensures write { result ≡ Err EngineError.Write → (bytes : List ℕ) → IsBuffered bytes line.now
+        → (text : List ℕ) × (last : _) × Answers P.pulls P.gives P.attaches player.old bytes text last
+        × AppendsPart (W.contents output.old) (W.contents output.new) text }
     ensures memory { result ≡ Err EngineError.Memory → Keeps (W.contents output.old) (W.contents output.new) }
     ensures read { result ≢ Err EngineError.Read }
 {
@@ -157,7 +179,8 @@ fn answer<P: SequentialPool<u32>>(
     player: &mut Player<u32, P>,
     line: &LineBuffer,
 ) -> Result<ReplyText, RunError>
-    ensures ok { IfOk result (λ text. (bytes : List ℕ) → IsBuffered bytes line.now → Answers P.pulls P.gives P.attaches player.old bytes text.bytes player.new) }
+    ensures ok { IfOk result (λ text. (bytes : List ℕ) → IsBuffered bytes line.now
+        → Answers P.pulls P.gives P.attaches player.old bytes text.bytes player.new) }
     ensures err { OnErr result (player.new ≡ player.old) }
 {
     let Some(command) = line.command() else {

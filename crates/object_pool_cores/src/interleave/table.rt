@@ -330,7 +330,8 @@ impl<T: Drop> Table<T> {
     }
 
     fn make_page(&mut self, agent: usize, prepared: Result<Prepared<T>, PullError>) -> Seen
-        ensures { IsOutcome (make_page self.old agent prepared (slice_get self.old.agents agent)) result self.new
+        ensures { IsOutcome (make_page self.old agent prepared (slice_get self.old.agents agent))
+            result self.new
             ⊎ (MayGrow (MakePage agent prepared) (slice_get self.old.agents agent)
             × (result ≡ NoMemory) × (self.new ≡ self.old)) }
     {
@@ -358,7 +359,8 @@ impl<T: Drop> Table<T> {
     }
 
     fn exchange_next(&mut self, agent: usize) -> Seen
-        ensures step { IsOutcome (exchange_next self.old agent (slice_get self.old.agents agent)) result self.new }
+        ensures step { IsOutcome (exchange_next self.old agent (slice_get self.old.agents agent))
+            result self.new }
         ensures whole { LinksWhole result (prepared_by (slice_get self.old.agents agent)) }
     {
         let page = match self.agents.get(agent) {
@@ -413,7 +415,8 @@ impl<T: Drop> Table<T> {
     }
 
     fn move_home<R: Reset<T, AnyValue>>(&mut self, agent: usize, reset: &R) -> Seen
-        ensures { MovesHome (R.leaves reset.now) self.old agent (slice_get self.old.agents agent) result self.new }
+        ensures { MovesHome (R.leaves reset.now) self.old agent
+            (slice_get self.old.agents agent) result self.new }
     {
         let (page, id) = match self.agents.get(agent) {
             Some(Point::Holding(page, id, _)) => (*page, *id),

@@ -1,6 +1,7 @@
 //! Why a value wasn't attached.
 
-/// Why a pool didn't make an item of a value that was handed in. The value comes back, and the pool is as before.
+/// Why a pool didn't make an item of a value that was handed
+/// in. The value comes back, and the pool is as before.
 #[derive(Debug, PartialEq, Eq, Drop)]
 pub enum AttachError<T> {
     /// There is no memory for the item.

@@ -1,6 +1,7 @@
 //! What a player is told to do.
 
-/// A command to a player. A holder is named by its index, which counts the pulls and attaches that succeeded, from 0.
+/// A command to a player. A holder is named by its index,
+/// which counts the pulls and attaches that succeeded, from 0.
 #[derive(Debug, PartialEq, Eq, Drop)]
 pub enum Command<T> {
     Pull,

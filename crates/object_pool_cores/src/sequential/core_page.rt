@@ -49,7 +49,8 @@ impl<T: Drop, K: Clean<T>> CorePage<T, K> {
 
     /// Takes the least free id, with its value.
     pub fn alloc(&mut self) -> Option<(PageId, T)>
-        ensures least { MatchOption result (HasNoFreeId self.old) (λ taken. TakesLeastId self.old taken.0 taken.1 self.new) }
+        ensures least { MatchOption result (HasNoFreeId self.old)
+            (λ taken. TakesLeastId self.old taken.0 taken.1 self.new) }
         ensures kept { result ≡ None → self.new ≡ self.old }
         ensures meets { IfSome result (λ taken. K.meets taken.1) }
     {

@@ -95,7 +95,8 @@ impl<T: Drop> HeldItems<T> {
 /// Replaces the value of the item at an index of a map, and answers whether there is one.
 fn replace_value<T: Drop>(items: &mut HashMap<usize, Item<T>>, index: usize, value: T) -> bool
     ensures there { result ≡ is_some (get nat_eq items.old index) }
-    ensures here { get nat_eq items.new index ≡ option_map (λ item. with_value item value) (get nat_eq items.old index) }
+    ensures here { get nat_eq items.new index ≡ option_map (λ item. with_value item value)
+        (get nat_eq items.old index) }
     ensures others { (other : ℕ) → other ≢ index → get nat_eq items.new other ≡ get nat_eq items.old other }
 {
     match items.get_mut(&index) {

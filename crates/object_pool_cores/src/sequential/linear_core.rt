@@ -84,8 +84,8 @@ impl<T: Drop, I: Init<T, K>, R: Reset<T, K>, K: Clean<T>> LinearCore<T, I, R, K>
         self.items.pages()
     }
 
-    /// How many pages the pulls have looked at. A pull looks once at each page from the one at which it starts, up to
-    /// the one that it takes from. At `u64::MAX` the count stays.
+    /// How many pages the pulls have looked at. A pull looks once at each page from the one
+    /// at which it starts, up to the one that it takes from. At `u64::MAX` the count stays.
     pub fn pages_looked(&self) -> u64
         ensures { result ≡ looked_of self.now }
     {
@@ -158,27 +158,36 @@ impl<T: Drop, I: Init<T, K>, R: Reset<T, K>, K: Clean<T>> SequentialPool<T>
     ghost use Rattle.object_pool_cores.specs.Laws.LinearTogether.{HeldTogether-none, HeldTogether-pulled, HeldTogether-refused, HeldTogether-attached, HeldTogether-given, HeldTogether-forgotten, HeldTogether-written};
     ghost use Rattle.std.proofs.Common.{ap};
 
-    ghost pull_from_bag = { λ old new answer pulls. Pulls-from_bag (I.answers (init_of old)) old new answer pulls };
+    ghost pull_from_bag = { λ old new answer pulls.
+        Pulls-from_bag (I.answers (init_of old)) old new answer pulls };
 
-    ghost return_to_bag = { λ old new item owned gives. Gives-to_bag (R.leaves (reset_of old)) old new item gives };
+    ghost return_to_bag = { λ old new item owned gives.
+        Gives-to_bag (R.leaves (reset_of old)) old new item gives };
 
-    ghost attach_beside_bag = { λ old new value answer refused. ap (λ core. free_values core.items.places) refused.1 };
+    ghost attach_beside_bag = { λ old new value answer refused.
+        ap (λ core. free_values core.items.places) refused.1 };
 
     ghost together_at_first = { λ core. HeldTogether-none core };
 
     ghost together_is_owned = { λ core held index item together here. together.out index item here };
 
-    ghost together_after_pull = { λ old new held item together pulls. HeldTogether-pulled (I.answers (init_of old)) old new held item together pulls };
+    ghost together_after_pull = { λ old new held item together pulls.
+        HeldTogether-pulled (I.answers (init_of old)) old new held item together pulls };
 
-    ghost together_after_refusal = { λ old new held cause together pulls. HeldTogether-refused (I.answers (init_of old)) old new held cause together pulls };
+    ghost together_after_refusal = { λ old new held cause together pulls.
+        HeldTogether-refused (I.answers (init_of old)) old new held cause together pulls };
 
-    ghost together_after_attach = { λ old new held value item together refused. HeldTogether-attached old new held value item refused };
+    ghost together_after_attach = { λ old new held value item together refused.
+        HeldTogether-attached old new held value item refused };
 
-    ghost together_after_give = { λ old new held index item together here gives. HeldTogether-given (R.leaves (reset_of old)) old new held index item together here gives };
+    ghost together_after_give = { λ old new held index item together here gives.
+        HeldTogether-given (R.leaves (reset_of old)) old new held index item together here gives };
 
-    ghost together_after_forget = { λ core held index together. HeldTogether-forgotten core held index together };
+    ghost together_after_forget = { λ core held index together.
+        HeldTogether-forgotten core held index together };
 
-    ghost together_after_write = { λ core held index item value together here. HeldTogether-written core held index item value together here };
+    ghost together_after_write = { λ core held index item value together here.
+        HeldTogether-written core held index item value together here };
 }
 
 #[cfg(test)]

@@ -74,7 +74,8 @@ impl<T: Drop, I: Init<T, AnyValue>> SequentialPool<T> for NoneCore<T, I> {
 
     ghost use Rattle.object_pool_cores.specs.Laws.FreshBag.{Pulls-from_bag};
 
-    ghost pull_from_bag = { λ old new answer pulls. Pulls-from_bag (I.answers (init_of old)) old new answer pulls };
+    ghost pull_from_bag = { λ old new answer pulls.
+        Pulls-from_bag (I.answers (init_of old)) old new answer pulls };
 
     ghost return_to_bag = { λ old new item owned gives. inr refl };
 

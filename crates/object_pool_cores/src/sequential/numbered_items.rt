@@ -33,9 +33,20 @@ impl<T, K: Clean<T>> Model for NumberedItems<T, K> {
 
     ghost Value = { Numbered T };
 
-    ghost view = { λ items. record { places = laid_out items.pages.items; limit = items.limit; start = items.start; looked = items.looked } };
+    ghost view = { λ items. record {
+      places = laid_out items.pages.items;
+      limit = items.limit;
+      start = items.start;
+      looked = items.looked;
+    } };
 
-    ghost invariant = { λ items. AreWhole items.pages.items × IsSound K.meets (record { places = laid_out items.pages.items; limit = items.limit; start = items.start; looked = items.looked }) };
+    ghost invariant = { λ items. AreWhole items.pages.items × IsSound K.meets
+        (record {
+          places = laid_out items.pages.items;
+          limit = items.limit;
+          start = items.start;
+          looked = items.looked;
+        }) };
 }
 
 impl<T: Drop, K: Clean<T>> NumberedItems<T, K> {
@@ -78,7 +89,8 @@ impl<T: Drop, K: Clean<T>> NumberedItems<T, K> {
         ensures before { IsPool self.old.limit (pool_of self.old) }
         ensures after { IsPool self.new.limit (pool_of self.new) }
         ensures limit { self.new.limit ≡ self.old.limit }
-        ensures least { IfSome result (λ item. (n : ℕ) × (item_number item ≡ Some n) × TakesLeastOf self.old n (item_value item) self.new) }
+        ensures least { IfSome result (λ item. (n : ℕ) × (item_number item ≡ Some n)
+            × TakesLeastOf self.old n (item_value item) self.new) }
         ensures meets { IfSome result (λ item. K.meets (item_value item)) }
         ensures none { IfNone result (FindsNone self.old self.new) }
         ensures looks { Looks self.old (if is_some result then 1 else 0) self.new }
@@ -122,7 +134,8 @@ impl<T: Drop, K: Clean<T>> NumberedItems<T, K> {
 
     /// Adds a page of values that `init` makes, or changes nothing. The room comes first.
     pub(crate) fn grow<I: Init<T, K>>(&mut self, init: &I) -> Result<(), PullError>
-        ensures ok { OnOk result (Grows self.old.limit (I.answers init.now) (pool_of self.old) (pool_of self.new)) }
+        ensures ok { OnOk result (Grows self.old.limit (I.answers init.now) (pool_of self.old)
+            (pool_of self.new)) }
         ensures kept { self.new.limit ≡ self.old.limit }
         ensures start { self.new.start ≡ self.old.start }
         ensures looked { self.new.looked ≡ self.old.looked }
@@ -188,7 +201,8 @@ fn number(page: usize, id: PageId) -> u128
 
 /// The page and the id of a number, where it is below the end of so many pages.
 fn page_and_id(number: u128, pages: usize) -> Option<(usize, PageId)>
-    ensures { MatchOption result (PAGE_ITEMS * pages ≤ number) (λ at. (number ≡ PAGE_ITEMS * at.0 + at.1) × (at.1 < PAGE_ITEMS) × (at.0 < pages)) }
+    ensures { MatchOption result (PAGE_ITEMS * pages ≤ number)
+        (λ at. (number ≡ PAGE_ITEMS * at.0 + at.1) × (at.1 < PAGE_ITEMS) × (at.0 < pages)) }
 {
     let page = usize::try_from(number / PAGE_NUMBERS).ok()?;
     if page >= pages {

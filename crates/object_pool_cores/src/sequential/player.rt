@@ -61,14 +61,15 @@ impl<T: Drop, P: SequentialPool<T>> Player<T, P> {
         }
     }
 
-    /// Does the commands in order, and puts each reply behind those that are there. After an error the commands that
-    /// were done stay done, with their replies, and the others are dropped.
+    /// Does the commands in order, and puts each reply behind those that are there. After an error
+    /// the commands that were done stay done, with their replies, and the others are dropped.
     pub fn run(
         &mut self,
         commands: Vec<Command<T>>,
         replies: &mut Vec<Reply<T>>,
     ) -> Result<(), RunError>
-        ensures { Ran P.pulls P.gives P.attaches self.old commands.items replies.old.items result replies.new.items self.new }
+        ensures { Ran P.pulls P.gives P.attaches self.old commands.items replies.old.items result
+            replies.new.items self.new }
     {
         for command in commands {
             replies.reserve(1)?;
@@ -81,7 +82,8 @@ impl<T: Drop, P: SequentialPool<T>> Player<T, P> {
     }
 
     fn pull(&mut self) -> Result<Reply<T>, RunError>
-        ensures ok { IfOk result (λ reply. Plays P.pulls P.gives P.attaches self.old Command.Pull reply self.new) }
+        ensures ok { IfOk result (λ reply. Plays P.pulls P.gives P.attaches self.old Command.Pull reply
+            self.new) }
         ensures err { OnErr result (self.new ≡ self.old) }
     {
         self.held.reserve()?;
@@ -95,7 +97,8 @@ impl<T: Drop, P: SequentialPool<T>> Player<T, P> {
     }
 
     fn attach(&mut self, value: T) -> Result<Reply<T>, RunError>
-        ensures ok { IfOk result (λ reply. Plays P.pulls P.gives P.attaches self.old (Command.Attach value) reply self.new) }
+        ensures ok { IfOk result (λ reply. Plays P.pulls P.gives P.attaches self.old (Command.Attach value)
+            reply self.new) }
         ensures err { OnErr result (self.new ≡ self.old) }
     {
         self.held.reserve()?;

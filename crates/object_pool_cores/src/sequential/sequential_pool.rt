@@ -48,7 +48,8 @@ pub trait SequentialPool<T> {
     /// Makes an item of a value from outside.
     fn attach(&mut self, value: T) -> Result<Item<T>, AttachError<T>>
         ensures step { attaches self.old value result self.new }
-        ensures value { MatchResult result (λ item. item_value item ≡ value) (λ error. refused_value error ≡ value) }
+        ensures value { MatchResult result (λ item. item_value item ≡ value)
+            (λ error. refused_value error ≡ value) }
         ensures err { OnErr result (self.new ≡ self.old) };
 
     /// Whether the item may be given back to this pool.
@@ -56,28 +57,41 @@ pub trait SequentialPool<T> {
         ensures { IsTrue result ↔ owns self.now item.now };
 
     /// A pull takes from the bag of kept values, or finds it empty.
-    ghost pull_from_bag: { (old new : Self) (answer : Result (Item T) PullError) → pulls old answer new → PullsFromBag (answers old) (kept old) (pulled_value answer) (kept new) };
+    ghost pull_from_bag: { (old new : Self) (answer : Result (Item T) PullError) → pulls old answer new
+        → PullsFromBag (answers old) (kept old) (pulled_value answer) (kept new) };
 
     /// A return adds to the bag what `reset` left, or drops the item.
-    ghost return_to_bag: { (old new : Self) (item : Item T) → owns old item → gives old item new → ReturnsToBag (leaves old) (kept old) (item_value item) (kept new) };
+    ghost return_to_bag: { (old new : Self) (item : Item T) → owns old item → gives old item new
+        → ReturnsToBag (leaves old) (kept old) (item_value item) (kept new) };
 
     /// An attach leaves the bag as it was.
-    ghost attach_beside_bag: { (old new : Self) (value : T) (answer : Result (Item T) (AttachError T)) → attaches old value answer new → kept new ≡ kept old };
+    ghost attach_beside_bag: { (old new : Self) (value : T) (answer : Result (Item T) (AttachError T))
+        → attaches old value answer new → kept new ≡ kept old };
 
     ghost together_at_first: { (pool : Self) → together pool [] };
 
     /// Items that are held together are each the pool's own.
-    ghost together_is_owned: { (pool : Self) (held : List (Option (Item T))) (index : ℕ) (item : Item T) → together pool held → slice_get held index ≡ Some (Some item) → owns pool item };
+    ghost together_is_owned: { (pool : Self) (held : List (Option (Item T))) (index : ℕ) (item : Item T)
+        → together pool held → slice_get held index ≡ Some (Some item) → owns pool item };
 
-    ghost together_after_pull: { (old new : Self) (held : List (Option (Item T))) (item : Item T) → together old held → pulls old (Ok item) new → together new (held ++ Some item ∷ []) };
+    ghost together_after_pull: { (old new : Self) (held : List (Option (Item T))) (item : Item T)
+        → together old held → pulls old (Ok item) new → together new (held ++ Some item ∷ []) };
 
-    ghost together_after_refusal: { (old new : Self) (held : List (Option (Item T))) (cause : PullError) → together old held → pulls old (Err cause) new → together new held };
+    ghost together_after_refusal: { (old new : Self) (held : List (Option (Item T))) (cause : PullError)
+        → together old held → pulls old (Err cause) new → together new held };
 
-    ghost together_after_attach: { (old new : Self) (held : List (Option (Item T))) (value : T) (item : Item T) → together old held → attaches old value (Ok item) new → together new (held ++ Some item ∷ []) };
+    ghost together_after_attach: { (old new : Self) (held : List (Option (Item T))) (value : T)
+        (item : Item T) → together old held → attaches old value (Ok item) new
+        → together new (held ++ Some item ∷ []) };
 
-    ghost together_after_give: { (old new : Self) (held : List (Option (Item T))) (index : ℕ) (item : Item T) → together old held → slice_get held index ≡ Some (Some item) → gives old item new → together new (slice_set held index None) };
+    ghost together_after_give: { (old new : Self) (held : List (Option (Item T))) (index : ℕ) (item : Item T)
+        → together old held → slice_get held index ≡ Some (Some item) → gives old item new
+        → together new (slice_set held index None) };
 
-    ghost together_after_forget: { (pool : Self) (held : List (Option (Item T))) (index : ℕ) → together pool held → together pool (slice_set held index None) };
+    ghost together_after_forget: { (pool : Self) (held : List (Option (Item T))) (index : ℕ)
+        → together pool held → together pool (slice_set held index None) };
 
-    ghost together_after_write: { (pool : Self) (held : List (Option (Item T))) (index : ℕ) (item : Item T) (value : T) → together pool held → slice_get held index ≡ Some (Some item) → together pool (slice_set held index (Some (with_value item value))) };
+    ghost together_after_write: { (pool : Self) (held : List (Option (Item T))) (index : ℕ) (item : Item T)
+        (value : T) → together pool held → slice_get held index ≡ Some (Some item)
+        → together pool (slice_set held index (Some (with_value item value))) };
 }

@@ -93,9 +93,11 @@ impl<T: Drop, I: Init<T, K>, R: Reset<T, K>, K: Clean<T>> SequentialPool<T>
     ghost use Rattle.object_pool_cores.specs.Laws.StackLaws.{Pulls-from_bag, Gives-to_bag, HoldRooms-push, HoldRooms-less, HoldRooms-written};
     ghost use Rattle.std.proofs.Common.{ap};
 
-    ghost pull_from_bag = { λ old new answer pulls. Pulls-from_bag (I.answers (init_of old)) old new answer pulls };
+    ghost pull_from_bag = { λ old new answer pulls.
+        Pulls-from_bag (I.answers (init_of old)) old new answer pulls };
 
-    ghost return_to_bag = { λ old new item owned gives. Gives-to_bag (R.leaves (reset_of old)) old new item gives };
+    ghost return_to_bag = { λ old new item owned gives.
+        Gives-to_bag (R.leaves (reset_of old)) old new item gives };
 
     ghost attach_beside_bag = { λ old new value answer attached. ap (λ core. kept_of core) attached.same };
 
@@ -103,15 +105,19 @@ impl<T: Drop, I: Init<T, K>, R: Reset<T, K>, K: Clean<T>> SequentialPool<T>
 
     ghost together_is_owned = { λ core held index item rooms here. rooms index item here };
 
-    ghost together_after_pull = { λ old new held item rooms pulls. HoldRooms-push held item rooms pulls.room };
+    ghost together_after_pull = { λ old new held item rooms pulls.
+        HoldRooms-push held item rooms pulls.room };
 
     ghost together_after_refusal = { λ old new held cause rooms pulls. rooms };
 
-    ghost together_after_attach = { λ old new held value item rooms attached. HoldRooms-push held item rooms attached.room };
+    ghost together_after_attach = { λ old new held value item rooms attached.
+        HoldRooms-push held item rooms attached.room };
 
-    ghost together_after_give = { λ old new held index item rooms here gives. HoldRooms-less held index rooms };
+    ghost together_after_give = { λ old new held index item rooms here gives.
+        HoldRooms-less held index rooms };
 
     ghost together_after_forget = { λ core held index rooms. HoldRooms-less held index rooms };
 
-    ghost together_after_write = { λ core held index item value rooms here. HoldRooms-written held index item value rooms here };
+    ghost together_after_write = { λ core held index item value rooms here.
+        HoldRooms-written held index item value rooms here };
 }

@@ -1,6 +1,4 @@
 //! Worked cases of the linear core and the player.
-ghost use Rattle.std.specs.Prelude.{⊤};
-
 use super::*;
 use lockfree_object_pool::PullError;
 use lockfree_object_pool::clean::AnyValue;
@@ -22,8 +20,6 @@ struct Zeros<'a> {
 }
 
 impl Init<u32, AnyValue> for Zeros<'_> {
-    ghost answers = { λ _ _. ⊤ };
-
     fn make(&self) -> Option<u32> {
         let call = self.calls.get().saturating_add(1);
         self.calls.set(call);
@@ -52,8 +48,6 @@ struct Mortals<'a> {
 }
 
 impl<'a> Init<Mortal<'a>, AnyValue> for Mortals<'a> {
-    ghost answers = { λ _ _. ⊤ };
-
     fn make(&self) -> Option<Mortal<'a>> {
         let call = self.calls.get().saturating_add(1);
         self.calls.set(call);

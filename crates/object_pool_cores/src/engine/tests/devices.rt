@@ -3,7 +3,7 @@ use arrayvec::ArrayVec;
 use std::io;
 use std::io::{ErrorKind, Read, Write};
 
-/// Gives its bytes, at most so many a call, and fails after them.
+/// Reads out its bytes, at most so many a call, and fails after them.
 #[derive(Drop)]
 pub(super) struct Source<'a> {
     bytes: &'a [u8],
@@ -29,7 +29,7 @@ impl Read for Source<'_> {
     }
 }
 
-/// Gives one line over and over, so many times, one a call, and then ends.
+/// Reads out one line over and over, so many times, one a call, and then ends.
 #[derive(Drop)]
 pub(super) struct Lines {
     line: &'static [u8],

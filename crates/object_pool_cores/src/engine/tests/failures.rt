@@ -52,7 +52,8 @@ fn first_lines(text: &'static [u8], count: usize) -> &'static [u8] {
     text
 }
 
-/// A reader that gives at most so many bytes a call, and fails after each count of bytes, also where the input would end.
+/// A reader of at most so many bytes a call, and fails after
+/// each count of bytes, also where the input would end.
 fn reads_that_fail(rt: &(impl Wait + Abort), alloc: Global, session: Session, most: usize) {
     for good in 0..=session.input.len() {
         let read = &session.input[..good];
