@@ -12,11 +12,13 @@ use std::sync::atomic::Ordering::SeqCst;
 
 mod callers;
 mod closures;
+mod hinted_pages;
 mod hints;
 mod limits;
 mod makers;
 mod one_thread;
 mod origins;
+mod owned_pages;
 mod owners;
 mod refusals;
 mod resets;

@@ -5,6 +5,7 @@ use crate::page::{Allocated, PageSlot, PullPass};
 
 mod links;
 mod lost_race;
+mod owned_walks;
 mod refusals;
 mod sends;
 mod walks;

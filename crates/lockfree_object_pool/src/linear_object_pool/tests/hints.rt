@@ -4,10 +4,10 @@ use crate::linear_page::LinearPage;
 use crate::page::Page;
 use std::test::Fail;
 
-type ClearedPool = LinearObjectPool<u32, CountedZeros, ToZero, Zero>;
+pub type ClearedPool = LinearObjectPool<u32, CountedZeros, ToZero, Zero>;
 
 /// The page of a pool behind so many links.
-fn page_at(
+pub fn page_at(
     pool: &ClearedPool,
     number: usize,
 ) -> Option<LinearPage<'_, u32, Zero, AnswerOf<CountedZeros, Zero>>> {
