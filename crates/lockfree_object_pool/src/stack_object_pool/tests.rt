@@ -16,6 +16,7 @@ mod callers;
 mod closures;
 mod kept_items;
 mod locks;
+mod many_items;
 mod names;
 mod one_thread;
 mod owners;
