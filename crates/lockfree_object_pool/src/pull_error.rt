@@ -34,3 +34,6 @@ impl<X: Drop> From<AllocFailed<X>> for PullError {
         PullError::Memory
     }
 }
+
+#[cfg(test)]
+mod tests;

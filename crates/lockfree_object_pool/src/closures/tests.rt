@@ -8,6 +8,7 @@ use std::cell::Cell;
 use std::test::Fail;
 
 mod first_uses;
+mod vectors;
 
 /// The value is 0. Of what makes and resets it, nothing else needs to be said.
 struct Zero;

@@ -8,6 +8,8 @@ use std::cell::Cell;
 use std::mem;
 use std::test::Fail;
 
+mod owned;
+
 fn sent<X: Send>(_value: &X) {}
 
 fn shared<X: Sync>(_value: &X) {}

@@ -5,6 +5,8 @@ use super::*;
 use std::sync::Arc;
 use std::test::Fail;
 
+mod resets;
+
 /// Words and their sum, as a worker gathers them.
 #[derive(Debug, Drop)]
 struct Scratch {
