@@ -9,6 +9,8 @@ use std::sync::Arc;
 use std::test::Fail;
 use std::thread;
 
+mod sizes;
+
 /// A thread that still asks after so many refusals gives up, and its test fails.
 const MOST_TURNS: u32 = 10_000_000;
 

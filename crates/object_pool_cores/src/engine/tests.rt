@@ -4,6 +4,7 @@ use std::test::Fail;
 
 mod devices;
 mod failures;
+mod long_inputs;
 
 use devices::{Device, Interrupted};
 

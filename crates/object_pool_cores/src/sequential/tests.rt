@@ -9,6 +9,7 @@ use std::process::Abort;
 use std::test::Fail;
 
 mod kept_and_fresh;
+mod many;
 mod refusals;
 mod values;
 

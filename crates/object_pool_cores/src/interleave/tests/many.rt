@@ -1,0 +1,62 @@
+//! Worlds that outgrow a byte and two bytes: their pages, their agents, the events of a run, and the greatest limit.
+use super::*;
+
+/// How many pages are linked.
+const PAGES: usize = 300;
+
+/// How many agents begin in one run.
+const AGENTS: usize = 70_000;
+
+/// An agent begins and steps alone until it has cleared a bit, and links a page where each one is full.
+fn pull_alone(
+    alloc: Global,
+    world: &mut World<u32, Keep>,
+    agent: usize,
+) -> Result<Seen, PullError> {
+    let _ = world.step(Event::Begin);
+    for _ in 0..PAGES {
+        if world.step(Event::ReadMask(agent)) != Seen::Word(agent, 0) {
+            break;
+        }
+        if world.step(Event::ReadNext(agent)) == Seen::Next(agent, false) {
+            let _ = world.step(Event::MakePage(agent, Ok(zeros(alloc)?)));
+            let _ = world.step(Event::ExchangeNext(agent));
+        }
+    }
+    Ok(world.step(Event::ClearBit(agent)))
+}
+
+#[test]
+fn agents_alone_pull_each_number_of_three_hundred_pages(rt: HostRuntime) -> Result<(), Fail> {
+    let mut world = unbounded(rt.alloc())?;
+    for agent in 0..PAGES * 32 {
+        let seen = pull_alone(rt.alloc(), &mut world, agent)?;
+        assert_eq!(rt; seen, Seen::Pulled(agent, agent as u128));
+    }
+    assert_eq!(rt; world.pages(), PAGES);
+    Ok(())
+}
+
+#[test]
+fn seventy_thousand_agents_begin_in_one_run(rt: HostRuntime) -> Result<(), Fail> {
+    let mut world = unbounded(rt.alloc())?;
+    let mut events = Vec::new(rt.alloc());
+    for _ in 0..AGENTS {
+        events.push(Event::Begin)?;
+    }
+    let mut seen = Vec::new(rt.alloc());
+    world.run(events, &mut seen)?;
+    assert_eq!(rt; seen.len(), AGENTS);
+    assert_eq!(rt; seen.last(), Some(&Seen::Began(AGENTS - 1)));
+    Ok(())
+}
+
+#[test]
+fn the_greatest_limit_needs_no_memory_beforehand(rt: HostRuntime) -> Result<(), Fail> {
+    let first = zeros(rt.alloc())?;
+    let mut world = World::with_limit(rt.alloc(), first, Keep, usize::MAX)?;
+    assert_eq!(rt; (world.limit(), world.pages()), (Some(usize::MAX), 1));
+    hold(&mut world, 1);
+    assert_eq!(rt; world.held(0), Some(&0));
+    Ok(())
+}
