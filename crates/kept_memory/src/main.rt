@@ -1,0 +1,32 @@
+//! Pools and their parts at work for long, and whether the process has more memory then.
+//!
+//! No clause tells of a box that is forgotten, and no test sees one. Here one that is forgotten in each turn adds up to
+//! megabytes. A line for each kind of turn says that nothing is kept, or how much is; then the status is 1.
+#![tactic(auto)]
+
+mod cores;
+mod linear_pools;
+mod observer;
+mod others;
+mod peak_memory;
+mod stack_pools;
+mod supply;
+mod worlds;
+
+use anyhow::Result;
+use observer::Observer;
+use std::process::ExitCode;
+
+fn main(rt: HostRuntime) -> Result<ExitCode> {
+    let mut observer = Observer::new(rt);
+    linear_pools::observe(rt.alloc(), &mut observer)?;
+    stack_pools::observe(&rt, rt.alloc(), &mut observer)?;
+    others::observe(&rt, rt.alloc(), &mut observer)?;
+    cores::observe(rt.alloc(), &mut observer)?;
+    worlds::observe(rt.alloc(), &mut observer)?;
+    if observer.saw_nothing_kept() {
+        Ok(ExitCode::SUCCESS)
+    } else {
+        Ok(ExitCode::from(1))
+    }
+}

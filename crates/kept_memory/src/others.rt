@@ -1,0 +1,47 @@
+//! Turns on the pool that keeps nothing, and on spin locks.
+use crate::observer::Observer;
+use crate::supply::Supply;
+use anyhow::Result;
+use lockfree_object_pool::spin_lock::SpinLock;
+use lockfree_object_pool::{NoneObjectPool, PullError};
+use std::alloc::Global;
+use std::rt::Files;
+use std::sync::{Arc, Wait};
+
+pub fn observe<R: Files + AllocGlobal + Print, W: Wait>(
+    rt: &W,
+    alloc: Global,
+    observer: &mut Observer<R>,
+) -> Result<()> {
+    observer.observe(
+        "items of the none pool",
+        &|turns| none_pool_pulls(alloc, turns),
+    )?;
+    observer.observe("spin locks", &|turns| locks(rt, alloc, turns))
+}
+
+/// Items are pulled and dropped, and a pull is refused.
+fn none_pool_pulls(alloc: Global, turns: usize) -> Option<()> {
+    let supply = Supply::endless(alloc)?;
+    let pool = NoneObjectPool::new(|| supply.buffer());
+    let pool = Arc::new(alloc, pool).ok()?;
+    for _ in 0..turns {
+        supply.end_after(2);
+        let _borrowed = pool.pull().ok()?;
+        let _owned = pool.pull_owned().ok()?;
+        let Err(PullError::Init) = pool.pull() else {
+            return None;
+        };
+    }
+    Some(())
+}
+
+/// A lock is taken, and ends.
+fn locks<W: Wait>(rt: &W, alloc: Global, turns: usize) -> Option<()> {
+    let supply = Supply::endless(alloc)?;
+    for _ in 0..turns {
+        let lock = SpinLock::new(alloc, supply.buffer()?).ok()?;
+        lock.lock(rt).push(1).ok()?;
+    }
+    Some(())
+}
