@@ -78,3 +78,14 @@ fn letters_reach_the_reader_and_their_sheets_come_home(rt: HostRuntime) -> Resul
     assert_eq!(rt; pool.pull_owned().err(), Some(PullError::Limit));
     Ok(())
 }
+
+#[test]
+fn a_letter_may_be_longer_than_its_sheet_was(rt: HostRuntime) -> Result<(), Fail> {
+    let alloc = rt.alloc();
+    let pool = LinearObjectPool::new(alloc, WithCapacity::new(alloc, 4), Clear)?;
+    let pool = Arc::new(alloc, pool)?;
+    let text = [7u8; 5000];
+    let letter = Letter::new(&pool, &text)?;
+    assert!(rt; letter.text() == text.as_slice() && letter.len() == 5000);
+    Ok(())
+}

@@ -23,3 +23,17 @@ fn threads_answer_as_one_thread_does(rt: HostRuntime) -> Result<(), Fail> {
     }
     Ok(())
 }
+
+#[test]
+fn each_of_forty_long_texts_has_an_answer(rt: HostRuntime) -> Result<(), Fail> {
+    let alloc = rt.alloc();
+    let pool = LinearObjectPool::new(alloc, WithCapacity::new(alloc, 8), Clear)?;
+    let mut texts = Vec::with_capacity(alloc, 40)?;
+    for _ in 0..40 {
+        texts.push(Vec::from_slice(alloc, &[7; 1000])?)?;
+    }
+    let answers = palindromes(&rt, alloc, &pool, &texts)?;
+    assert_eq!(rt; answers.len(), 40);
+    assert!(rt; answers.iter().all(|answer| *answer == Some(true)));
+    Ok(())
+}

@@ -48,3 +48,11 @@ fn a_page_of_replies_is_all_there_is(rt: HostRuntime) -> Result<(), Fail> {
     );
     Ok(())
 }
+
+#[test]
+fn a_long_name_is_greeted(rt: HostRuntime) -> Result<(), Fail> {
+    let replies = new_replies(rt.alloc(), 16)?;
+    let reply = greeting(rt.alloc(), &replies, &[b'a'; 5000])?;
+    assert_eq!(rt; reply.len(), 5008);
+    Ok(())
+}

@@ -59,3 +59,28 @@ fn a_closed_session_leaves_its_place_to_another(rt: HostRuntime) -> Result<(), F
     assert!(rt; holds(&sessions, 32, &[]));
     Ok(())
 }
+
+#[test]
+fn a_session_that_is_opened_anew_gives_its_basket_back(rt: HostRuntime) -> Result<(), Fail> {
+    let mut sessions = Sessions::new(rt.alloc(), new_pool(rt.alloc())?);
+    for _ in 0..100 {
+        sessions.open(7)?;
+        assert!(rt; holds(&sessions, 7, &[]));
+        sessions.add(7, 1)?;
+    }
+    Ok(())
+}
+
+#[test]
+fn a_basket_takes_a_thousand_products(rt: HostRuntime) -> Result<(), Fail> {
+    let mut sessions = Sessions::new(rt.alloc(), new_pool(rt.alloc())?);
+    sessions.open(7)?;
+    for product in 0..1000u32 {
+        sessions.add(7, product)?;
+    }
+    assert_eq!(rt;
+        sessions.products(7).map(|products| products.len()),
+        Some(1000)
+    );
+    Ok(())
+}
