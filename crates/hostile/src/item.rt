@@ -1,6 +1,4 @@
 //! The kinds of item: a number, a list of numbers, and a number that counts its drop.
-ghost use Rattle.std.specs.Prelude.{⊤};
-
 use crate::tally::Tally;
 use lockfree_object_pool::clean::AnyValue;
 use lockfree_object_pool::closures::{Init, Reset};
@@ -139,8 +137,6 @@ pub struct Maker {
 }
 
 impl<T: Item> Init<T, AnyValue> for Maker {
-    ghost answers = { λ _ _. ⊤ };
-
     fn make(&self) -> Option<T> {
         if self.tally.call() % CALLS_TO_A_REFUSAL == CALLS_TO_A_REFUSAL - 1 {
             return None;
@@ -154,8 +150,6 @@ impl<T: Item> Init<T, AnyValue> for Maker {
 pub struct Clears;
 
 impl<T: Item> Reset<T, AnyValue> for Clears {
-    ghost leaves = { λ _ _ _. ⊤ };
-
     fn reset(&self, value: &mut T) {
         value.clear();
     }

@@ -1,6 +1,4 @@
 //! Values that count how often they are made and dropped.
-ghost use Rattle.std.specs.Prelude.{⊤};
-
 use lockfree_object_pool::PullError;
 use lockfree_object_pool::clean::AnyValue;
 use lockfree_object_pool::closures::Init;
@@ -71,8 +69,6 @@ impl TalliedValues {
 }
 
 impl Init<Tallied, AnyValue> for TalliedValues {
-    ghost answers = { λ _ _. ⊤ };
-
     fn make(&self) -> Option<Tallied> {
         make(&self.tally)
     }

@@ -1,6 +1,4 @@
 //! The items of a replay. They tell which call of `init` made them, and count what is done with them.
-ghost use Rattle.std.specs.Prelude.{⊤};
-
 use lockfree_object_pool::clean::AnyValue;
 use lockfree_object_pool::closures::{Init, Reset};
 use std::fmt;
@@ -86,8 +84,6 @@ pub struct Numbered {
 }
 
 impl Init<Item, AnyValue> for Numbered {
-    ghost answers = { λ _ _. ⊤ };
-
     fn make(&self) -> Option<Item> {
         let number = self.tally.made.fetch_add(1, SeqCst);
         Item::new(&self.tally, number)
@@ -102,8 +98,6 @@ pub struct Restore {
 }
 
 impl Reset<Item, AnyValue> for Restore {
-    ghost leaves = { λ _ _ _. ⊤ };
-
     fn reset(&self, item: &mut Item) {
         self.tally.reset.fetch_add(1, SeqCst);
         if self.clears {

@@ -1,6 +1,4 @@
 //! A reset that tells how often it ran.
-ghost use Rattle.std.specs.Prelude.{⊤};
-
 use lockfree_object_pool::clean::AnyValue;
 use lockfree_object_pool::closures::Reset;
 
@@ -18,8 +16,6 @@ impl Adds {
 }
 
 impl Reset<u32, AnyValue> for Adds {
-    ghost leaves = { λ _ _ _. ⊤ };
-
     fn reset(&self, value: &mut u32) {
         *value = self.sum(*value);
     }
