@@ -17,21 +17,25 @@ use Rattle.lockfree_object_pool.specs.declared.page.owned_slot.OwnedSlot.{OwnedS
 use Rattle.lockfree_object_pool.specs.declared.page.slot.PageSlot.{PageSlot}
 
 module _ (T K : RattleType) (clean : Clean.Ghosts K.Denot T.Denot) where
+  -- a loan of a borrowed slot's value ends with the slot as it was, but for the value written last
   abbrev pub LendsSlotValue : MutBor (PageSlot T.Denot K.Denot) → MutBor T.Denot → Fml
   LendsSlotValue slot loan =
       Lends (SlotRow.the_row (record { mir = named 1; lft = [] }) T K clean) T slot loan
       (slot_with slot.now)
 
+  -- so it is of an owned slot's value
   abbrev pub LendsOwnedSlotValue : MutBor (OwnedSlot T.Denot K.Denot) → MutBor T.Denot → Fml
   LendsOwnedSlotValue slot loan =
       Lends (OwnedSlotRow.the_row T K clean) T slot loan (owned_slot_with slot.now)
 
 module _ (T I R K : RattleType) (init : Init.Ghosts I.Denot T.Denot K.Denot) (clean : Clean.Ghosts K.Denot T.Denot) where
+  -- so it is of a linear reusable's value
   abbrev pub LendsValue : MutBor (LinearReusable T.Denot I.Denot R.Denot K.Denot) → MutBor T.Denot → Fml
   LendsValue reusable loan =
       Lends (Borrowed.the_row (record { mir = named 1; lft = [] }) T I R K init clean) T reusable loan
       (reusable_with reusable.now)
 
+  -- so it is of an owned linear reusable's value
   abbrev pub LendsOwnedValue : MutBor (LinearOwnedReusable T.Denot I.Denot R.Denot K.Denot) → MutBor T.Denot → Fml
   LendsOwnedValue reusable loan =
       Lends (Owned.the_row T I R K init clean) T reusable loan (owned_with reusable.now)

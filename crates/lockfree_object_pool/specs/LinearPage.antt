@@ -40,7 +40,7 @@ module _ {T K O : Type 0} {opens : Ghosts O T} where
     pub known : known_next after ≡ Some (shown_page next)
     pub agrees : IfSome (known_next before) (λ known. known ≡ shown_page next)
 
--- an item so many links behind a start; at 0 it is an item of the start
+-- an item that meets the condition; where no link was passed it is one of the start
 pub record IsItemFrom {T : Type 0} (meets : T → Type 0) (start : TableId) (item : Item T) (passed : ℕ) : Type 0 where
   pub in_page : item.id < PAGE_ITEMS
   pub meets_condition : meets item.value

@@ -7,6 +7,7 @@ abbrev pub none_init : {T I : Type 0} → NoneObjectPool T I → I
 none_init pool = pool.init
 
 module _ {T : Type 0} where
+  -- the reusable's value
   abbrev pub none_value : NoneReusable T → T
   none_value reusable = reusable.value
 

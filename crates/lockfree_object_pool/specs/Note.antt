@@ -13,6 +13,7 @@ module _ {T : Type 0} where
   abbrev pub note_page : PageNote T → TableId
   note_page note = note.seat.table_id
 
+  -- what the note knows of the page
   abbrev pub note_view : PageNote T → UserView T
   note_view note = note.seat.me.0
 

@@ -6,6 +6,7 @@ use Rattle.lockfree_object_pool.specs.Item.{Item}
 use Rattle.lockfree_object_pool.specs.Slot.{item_known}
 
 module _ {T K : Type 0} where
+  -- the id that was taken
   abbrev pub owned_taken_id : OwnedTakenId T K → ℕ
   owned_taken_id taken = taken.id
 

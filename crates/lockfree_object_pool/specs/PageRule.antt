@@ -35,6 +35,7 @@ abbrev pub FoundAll : ℕ → Type 0
 FoundAll found = (id : ℕ) → id < PAGE_ITEMS → bit_at found id ≡ 1
 
 module _ {T : Type 0} where
+  -- the page's one word
   abbrev pub word_of : PageState T → ℕ
   word_of page = slice_index page.words 0
 

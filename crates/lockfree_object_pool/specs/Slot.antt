@@ -18,6 +18,7 @@ item_known page known id value = record {
 }
 
 module _ {T K : Type 0} where
+  -- the id that was taken
   abbrev pub taken_id : TakenId T K → ℕ
   taken_id taken = taken.id
 

@@ -18,6 +18,7 @@ module _ {T I R K F W : Type 0} where
   abbrev pub stack_pool : StackReusable T I R K F W → StackObjectPool T I R K F
   stack_pool reusable = reusable.pool.now
 
+  -- the reusable's value
   abbrev pub stack_value : StackReusable T I R K F W → T
   stack_value reusable = reusable.value
 
@@ -29,6 +30,7 @@ module _ {T I R K F W : Type 0} where
   abbrev pub stack_owned_pool : StackOwnedReusable T I R K F W → StackObjectPool T I R K F
   stack_owned_pool reusable = arc_value reusable.pool
 
+  -- the owned reusable's value
   abbrev pub stack_owned_value : StackOwnedReusable T I R K F W → T
   stack_owned_value reusable = reusable.value
 

@@ -9,11 +9,11 @@ use std::sync::{Mutex, Wait};
 /// A list of kept values, each of which meets `K`, in the room that came with it. Its calls may
 /// wait for other threads.
 pub trait FreeList<T, K: Clean<T>>: Drop {
-    /// The value that was put last, with its room, or `None` where nothing is kept.
+    /// A kept value with its room, or `None` where nothing is kept. The two lists of this crate give the value that was put last.
     fn take<W: Wait>(&self, rt: &W) -> Option<(T, Room<T>)>
         ensures { IfSome result (λ taken. K.meets taken.0) };
 
-    /// Keeps a value in an empty room. It takes no memory.
+    /// Keeps a value in an empty room. The two lists of this crate take no memory for it.
     fn put<W: Wait>(&self, rt: &W, room: Room<T>, value: T)
         requires { K.meets value };
 }

@@ -4,7 +4,8 @@
 //! link (`link_note`), what a linked page opened with (`opened_page`), the walk from page to page for an item (`walk`), which
 //! pages may have a free item (`hints`), and a pull by such hints (`hinted`).
 //!
-//! No call waits for another thread. A link is set once, in `get_or_create_next` alone.
+//! No call waits for another thread. A link is set once, in `get_or_create_next_as` alone, for a
+//! caller that has found its page full.
 ghost use Rattle.std.specs.Prelude.{◌≡◌, ◌+◌, ◌^◌, ◌<◌, Option, None, IfSome, IfNone, IfOk, IfErr};
 ghost use Rattle.std.specs.Arc.{arc_value};
 ghost use Rattle.lockfree_object_pool.specs.Answers.{MayOpen};

@@ -24,6 +24,7 @@ const WORD: usize = 0;
 
 const PLACE: usize = 0;
 
+// The word's two values.
 const FREE: u64 = 0;
 
 const TAKEN: u64 = 1;

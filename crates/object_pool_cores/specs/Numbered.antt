@@ -38,7 +38,7 @@ module _ {T : Type 0} where
   abbrev pub HasNoneBelow : List (Option T) → ℕ → Type 0
   HasNoneBelow places below = (n : ℕ) (v : T) → n < below → slice_get places n ≡ Some (Some v) → ⊥
 
-  -- the list has whole pages, as many as there may be, each value meets the condition,
+  -- the list has whole pages, no more than there may be, each value meets the condition,
   -- and no page in front of the one at which a pull starts has a free number
   pub record IsSound (meets : T → Type 0) (items : Numbered T) : Type 0 where
     pub whole : length items.places % PAGE_ITEMS ≡ 0

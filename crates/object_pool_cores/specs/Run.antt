@@ -124,7 +124,7 @@ module _ {T : Type 0} (first : List T) where
     pub out : (n a : ℕ) (value : T) → stage_of acts a ≡ Holds n value → IsOut (pool_of first acts) n
     pub one : (n a b : ℕ) (v w : T) → stage_of acts a ≡ Holds n v → stage_of acts b ≡ Holds n w → a ≡ b
 
-  -- the numbers are those of the pages, of which there are as many as there may be
+  -- the numbers are those of the pages, of which there are no more than there may be
   abbrev pub IsWhole : Option ℕ → List (Act T) → Type 0
   IsWhole limit acts = IsPool limit (pool_of first acts)
 

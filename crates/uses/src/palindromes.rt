@@ -12,7 +12,7 @@ use std::thread::Threads;
 /// A pool of empty vectors of bytes.
 pub type ScratchPool = LinearObjectPool<Vec<u8>, WithCapacity, Clear, Empty>;
 
-/// Whether a text reads the same from its end. One thread alone calls it again and again.
+/// Whether a text reads the same from its end.
 pub fn is_palindrome(text: &[u8], scratch: &mut Vec<u8>) -> Result<bool, AllocError>
     requires { scratch.old.items ≡ [] }
     ensures { IfOk result (λ answer. IsTrue answer ↔ IsPalindrome text.now) }

@@ -240,6 +240,7 @@ impl<'c, T: Drop, K: Clean<T>, O: Clean<T>> LinkPlace<'c, T, K, O> {
     {
         let (alloc, number) = (self.alloc, self.row_number);
         self.row.get_or_try_init(move || Row::new(alloc, number))?;
+        // The row is there now, and long enough. No contract can say so of a set-once cell.
         self.known_row().ok_or(PullError::Memory)
     }
 

@@ -131,7 +131,7 @@ impl<T: Drop, K: Clean<T>, O: Clean<T>> Chain<T, K, O> {
         }
     }
 
-    /// Sets the hint of a page that has a free item now and was full before.
+    /// Sets the hint of a page that has a free item now and may have been full before.
     pub(crate) fn no_longer_full(&self, number: usize) {
         if number > 0 {
             self.directory.set_hint(number);

@@ -26,7 +26,7 @@ pub record IsRun {T : Type 0} (Leaves : T → T → Type 0) (first : List T) (lo
   pub ends : IsSame (pool_of first acts) (reading world)
   -- no more pages are linked than are allowed
   pub allowed : AllowsPages world.limit (length world.pages)
-  -- at each place of the run the pool has the numbers of its pages, as many as are allowed
+  -- at each place of the run the pool has the numbers of its pages, no more than are allowed
   pub whole : AtEachPlace (IsWhole first world.limit) acts
   -- at each place of the run each number that is out has one holder, and each other number none
   pub holders : AtEachPlace (HasHolders first) acts
@@ -38,7 +38,8 @@ pub record IsRun {T : Type 0} (Leaves : T → T → Type 0) (first : List T) (lo
   pub out :
       (a n : ℕ) → number_out (slice_get world.agents a) ≡ Some n
       → (value : T) × (stage_of acts a ≡ Holds n value)
-  -- at each growth and each refusal the agent had found each earlier number out since it began
+  -- since it began, the agent had found out each number at each growth, and at each refusal
+  -- each number of as many pages as there were at some place since then
   pub found_out : FoundOutBeforeEach first acts
 
 -- a world of one page of 32 values, in which no agent has begun

@@ -25,8 +25,9 @@ impl<T> Model for Prepared<T> {
 }
 
 impl<T: Drop> Prepared<T> {
-    /// The values that `init` gives, in order. It is called until the
-    /// page is full or it gives none; then what was made is dropped.
+    /// The values that `init` gives, in order.
+    ///
+    /// It stops at the first `None`. Where it is refused, the values that were made are dropped.
     pub fn make<I: Fn() -> Option<T>>(alloc: Global, init: &I) -> Result<Prepared<T>, PullError>
         requires { I.pre init.now }
         ensures values { IfOk result (All (λ value. I.post init.now (Some value))) }
