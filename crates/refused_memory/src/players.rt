@@ -1,5 +1,6 @@
 //! Players: a command that was refused is answered again as with ample memory, and a run goes on from the commands done.
 use crate::refusals::Refusals;
+use crate::tallied::{Tallied, TalliedValues, Tally, make, new_tally};
 use lockfree_object_pool::PullError;
 use lockfree_object_pool::clean::AnyValue;
 use lockfree_object_pool::closures::{Copied, Keep};
@@ -8,6 +9,7 @@ use object_pool_cores::sequential::{
 };
 use std::alloc::{AllocError, Global};
 use std::process::Abort;
+use std::sync::Arc;
 use std::test::Fail;
 
 type Zeros = Copied<u32, AnyValue>;
@@ -194,5 +196,89 @@ fn a_run_goes_on_from_the_commands_done(rt: HostRuntime) -> Result<(), Fail> {
     runs_on(&rt, &refusals, rt.alloc(), Pool::Stack, stack(rt.alloc()))?;
     let core: NoneCore<u32, Zeros> = NoneCore::new(Copied::new(0));
     runs_on(&rt, &refusals, rt.alloc(), Pool::Fresh, core)?;
+    Ok(refusals.tell(&rt)?)
+}
+
+/// How many returns and pulls in turn there are.
+const TURNS: usize = 300;
+
+/// Pulls, and then returns and pulls in turn. A turn asks for no memory, so each is answered, whatever request is refused;
+/// a table that kept what was returned would have to grow.
+fn takes_turns<P: SequentialPool<u32> + Drop>(
+    rt: &impl Abort,
+    refusals: &Refusals,
+    alloc: Global,
+    pool: Pool,
+    core: P,
+) {
+    let mut player = Player::new(alloc, core);
+    let number = number_in(pool, 0);
+    let first = reply_again(refusals, &mut player, 0);
+    assert_eq!(rt; first, Ok(Reply::Pulled(0, number)), "{pool:?}");
+    for holder in 0..TURNS {
+        let returned = player.play(Command::Return(holder));
+        assert_eq!(rt; returned, Ok(Reply::Returned), "{pool:?}, holder {holder}");
+        let next = holder.saturating_add(1);
+        let pulled = player.play(Command::Pull);
+        assert_eq!(rt; pulled, Ok(Reply::Pulled(next, number)), "{pool:?}");
+    }
+}
+
+#[test]
+fn returns_and_pulls_in_turn_take_no_memory(rt: HostRuntime) -> Result<(), Fail> {
+    let refusals = Refusals::new();
+    let core = refusals.again(&|| linear(rt.alloc()))?;
+    takes_turns(&rt, &refusals, rt.alloc(), Pool::Linear, core);
+    takes_turns(&rt, &refusals, rt.alloc(), Pool::Stack, stack(rt.alloc()));
+    let core: NoneCore<u32, Zeros> = NoneCore::new(Copied::new(0));
+    takes_turns(&rt, &refusals, rt.alloc(), Pool::Fresh, core);
+    Ok(refusals.tell(&rt)?)
+}
+
+type Stack = StackCore<Tallied, TalliedValues, Keep, AnyValue>;
+
+/// Pulls the value of number 0.
+fn holds_first(rt: &impl Abort, refusals: &Refusals, player: &mut Player<Tallied, Stack>) {
+    let pulled = match player.play(Command::Pull) {
+        Err(RunError::Memory) | Ok(Reply::Refused(PullError::Memory)) => {
+            refusals.note();
+            player.play(Command::Pull)
+        }
+        reply => reply,
+    };
+    assert!(rt; matches!(&pulled, Ok(Reply::Pulled(0, None))));
+}
+
+/// How many writes a run has.
+const WRITES: usize = 6;
+
+/// Writes of values, each with the next number.
+fn writes(alloc: Global, tally: &Arc<Tally>) -> Result<Vec<Command<Tallied>>, PullError> {
+    let mut commands = Vec::with_capacity(alloc, WRITES)?;
+    for _ in 0..WRITES {
+        let value = make(tally).ok_or(PullError::Init)?;
+        commands.push(Command::Write(0, value))?;
+    }
+    Ok(commands)
+}
+
+#[test]
+fn a_run_that_was_refused_drops_the_commands_not_done(rt: HostRuntime) -> Result<(), Fail> {
+    let refusals = Refusals::new();
+    let tally = refusals.again(&|| new_tally(rt.alloc()))?;
+    let core: Stack = StackCore::new(rt.alloc(), TalliedValues::new(&tally)?, Keep);
+    let mut player = Player::new(rt.alloc(), core);
+    holds_first(&rt, &refusals, &mut player);
+    let commands = refusals.again(&|| writes(rt.alloc(), &tally))?;
+    assert_eq!(rt; tally.living(), WRITES.saturating_add(1));
+    let mut replies = Vec::new(rt.alloc());
+    let is_refused = player.run(commands, &mut replies).is_err();
+    if is_refused {
+        refusals.note();
+    }
+    assert_eq!(rt; is_refused, replies.len() < WRITES);
+    // What was written last is held, and lives alone.
+    assert_eq!(rt; player.held(0).map(|held| held.number), Some(replies.len()));
+    assert_eq!(rt; tally.living(), 1);
     Ok(refusals.tell(&rt)?)
 }
