@@ -151,7 +151,7 @@ fn five_threads_find_each_buffer_empty(rt: HostRuntime) -> Result<(), Fail> {
     Ok(())
 }
 
-/// With memory or without: a refused append leaves the bytes as they were, and can be asked for again.
+/// Where the second append is refused for memory, the bytes stay as they were, and it can be asked for again.
 #[test]
 fn a_refused_append_leaves_the_bytes(rt: HostRuntime) -> Result<(), Fail> {
     let pool = one_page(rt.alloc())?;
