@@ -1,4 +1,5 @@
 pub mod FilledItems
+pub mod FixedAnswers
 pub mod GuardShared
 pub mod KeptPlaces
 pub mod LockSteps

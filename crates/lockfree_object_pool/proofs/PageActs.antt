@@ -1,24 +1,13 @@
 -- What follows from a page's history.
 use Rattle.std.proofs.Common.{◌≡◌, ◌≢◌, ℕ, ◌<◌, false, ◌⊎◌, List, [], ◌∷◌, ◌++◌, length, Option, Some, None, zero, suc, set, refl, sym, ap, ◌∙◌, subst, arith, append_assoc, inl, inr, eq-eqb, ne_eqb}
 use mathlib.Core.Option.{some, some-ne-none}
-use native.Mathlib.Decide.{ℕ_discrete}
-use mathlib.Core.Logic.{dite}
-use Rattle.lockfree_object_pool.specs.Word.{SetsBit, ClearsBit}
 use lib.ListN.{get_elem?}
-use Rattle.std.specs.Int.{bit_at}
 use Rattle.atomic_table.proofs.Lists.{at_set}
 use Rattle.lockfree_object_pool.specs.declared.page.user_view.UserView.{UserView}
-use Rattle.lockfree_object_pool.specs.PageRule.{IsSound, IsInformed, Knows, GoesOn}
+use Rattle.lockfree_object_pool.specs.PageRule.{IsSound, IsInformed, Knows, GoesOn, KnowsOut}
 use Rattle.lockfree_object_pool.specs.declared.page.history.PageAct.{PageAct}
 use Rattle.lockfree_object_pool.specs.declared.page.history.PageAct.TheVariants.{Took, Gave}
 use Rattle.lockfree_object_pool.specs.PageHistory.{History, user_of, acts_of, held_id, value_at, MayFollow, IsLawful, IsBeginningOf, WasOutBetween}
-
--- each id that isn't left to try is found out, also after one more was
-pub still_found : (untried rest found more id : ℕ) → ClearsBit untried id rest → SetsBit found id more → ((i : ℕ) → i < 32 → bit_at untried i ≡ 0 → bit_at found i ≡ 1)
-    → (i : ℕ) → i < 32 → bit_at rest i ≡ 0 → bit_at more i ≡ 1
-still_found untried rest found more id clears sets before i within none = dite (ℕ_discrete i id)
-    (λ same. ap (bit_at more) same ∙ sets.set)
-    (λ differ. sets.others i differ ∙ before i within (sym (clears.others i differ) ∙ none))
 
 module _ {T : Type 0} where
   pub beginning_same : (acts : History T) → IsBeginningOf acts acts
@@ -65,26 +54,25 @@ module _ {T : Type 0} where
   comparable one two acts first second = meet one two first.0 second.0 (sym first.1 ∙ second.1)
 
   -- what a user knows once it has acted after these acts
-  abbrev pub acted : UserView T → History T → PageAct T → Option ℕ → UserView T
-  acted old acts act held = record { held = held; found = old.found; user = old.user; opening = old.opening; acts = act ∷ acts; since = old.since; told = old.told; gone = old.gone; own = act ∷ old.own }
+  abbrev pub acted : UserView T → History T → PageAct T → Option ℕ → ℕ → UserView T
+  acted old acts act held tries = record { held = held; user = old.user; opening = old.opening; acts = act ∷ acts; since = old.since; told = old.told; gone = old.gone; own = act ∷ old.own; looks = old.looks; tries = tries }
 
-  -- what a user knows once it has seen these acts, and has found out these ids
-  abbrev pub has_seen : UserView T → History T → ℕ → UserView T
-  has_seen old acts found = record { held = old.held; found = found; user = old.user; opening = old.opening; acts = acts; since = old.since; told = old.told; gone = old.gone; own = old.own }
+  -- what a user knows once it has seen these acts, by so many loads and tries
+  abbrev pub has_seen : UserView T → History T → ℕ → ℕ → UserView T
+  has_seen old acts looks tries = record { held = old.held; user = old.user; opening = old.opening; acts = acts; since = old.since; told = old.told; gone = old.gone; own = old.own; looks = looks; tries = tries }
 
   module _ (opening : List (Option T)) (acts : History T) (lawful : IsLawful opening acts) (user : ℕ) (old : UserView T) (here : old.gone ≡ false) (is : IsInformed opening acts user old) where
     pub own_now : acts_of old.user acts ≡ old.own
     own_now = ap (λ u. acts_of u acts) is.number ∙ is.own_so_far
 
-    pub after_act : (act : PageAct T) (held : Option ℕ) → MayFollow opening acts act → user_of act ≡ old.user → held ≡ held_id (act ∷ old.own)
-        → IsInformed opening (act ∷ acts) user (acted old acts act held) × GoesOn (act ∷ []) old (acted old acts act held)
-    after_act act held may own holds =
-        let sound : IsSound (acted old acts act held) = record {
+    pub after_act : (act : PageAct T) (held : Option ℕ) (tries : ℕ) → MayFollow opening acts act → user_of act ≡ old.user → held ≡ held_id (act ∷ old.own)
+        → IsInformed opening (act ∷ acts) user (acted old acts act held tries) × GoesOn (act ∷ []) old (acted old acts act held tries)
+    after_act act held tries may own holds =
+        let sound : IsSound (acted old acts act held tries) = record {
           lawful = subst (λ o. IsLawful o (act ∷ acts)) (sym is.same_opening) (may, lawful);
           since_load = beginning_act old.since acts act (beginning_further old.since old.acts acts is.sound.since_load is.beginning);
           own_acts = acts_of_own old.user act acts own ∙ ap (λ l. act ∷ l) own_now;
           holds = holds;
-          found_out = λ id within one. was_out_later old.opening old.since old.acts (act ∷ acts) id (beginning_act old.acts acts act is.beginning) (is.sound.found_out id within one);
         } in (
           record {
             sound = sound;
@@ -97,23 +85,21 @@ module _ {T : Type 0} where
           record { here = here; same_user = refl; same_opening = refl; same_since = refl; acts = (is.beginning.0, ap (λ l. act ∷ l) is.beginning.1); own_before = is.sound.own_acts; own = refl; sound = sound },
         )
 
-    pub after_look : (found : ℕ) → ((id : ℕ) → id < 32 → bit_at found id ≡ 1 → (bit_at old.found id ≡ 1) ⊎ (value_at opening acts id ≡ None))
-        → IsInformed opening acts user (has_seen old acts found) × GoesOn [] old (has_seen old acts found)
-    after_look found more =
-        let seen : (id : ℕ) → id < 32 → bit_at found id ≡ 1 → WasOutBetween old.opening old.since acts id = λ id within one. elim (more id within one) [
-          | inl before ↦ was_out_later old.opening old.since old.acts acts id is.beginning (is.sound.found_out id within before)
-          | inr now ↦ (acts, beginning_further old.since old.acts acts is.sound.since_load is.beginning, beginning_same acts, ap (λ o. value_at o acts id) is.same_opening ∙ now)
-        ] in
-        let sound : IsSound (has_seen old acts found) = record {
+    pub after_look : (looks tries : ℕ) → IsInformed opening acts user (has_seen old acts looks tries) × GoesOn [] old (has_seen old acts looks tries)
+    after_look looks tries =
+        let sound : IsSound (has_seen old acts looks tries) = record {
           lawful = subst (λ o. IsLawful o acts) (sym is.same_opening) lawful;
           since_load = beginning_further old.since old.acts acts is.sound.since_load is.beginning;
           own_acts = own_now;
           holds = is.sound.holds;
-          found_out = seen;
         } in (
           record { sound = sound; number = is.number; same_opening = is.same_opening; beginning = beginning_same acts; told_before = is.told_before; own_so_far = is.own_so_far },
           record { here = here; same_user = refl; same_opening = refl; same_since = refl; acts = (is.beginning.0, is.beginning.1); own_before = is.sound.own_acts; own = refl; sound = sound },
         )
+
+    -- an item at which nothing lies now was out since the call's first load
+    pub is_out_now : (looks tries id : ℕ) → value_at opening acts id ≡ None → KnowsOut (has_seen old acts looks tries) id
+    is_out_now looks tries id now = (acts, beginning_further old.since old.acts acts is.sound.since_load is.beginning, beginning_same acts, ap (λ o. value_at o acts id) is.same_opening ∙ now)
 
   informed_act : (opening : List (Option T)) (acts : History T) (act : PageAct T) (user : ℕ) (known : UserView T) → user_of act ≢ user → IsInformed opening acts user known → IsInformed opening (act ∷ acts) user known
   informed_act opening acts act user known differ is = record {
@@ -155,9 +141,6 @@ module _ {T : Type 0} where
   pub lawful_of : (opening : List (Option T)) (known : UserView T) → known.opening ≡ opening → IsSound known → IsLawful opening known.acts
   lawful_of opening known same is = subst (λ o. IsLawful o known.acts) same is.lawful
 
-  was_out_of : (opening : List (Option T)) (known : UserView T) (id : ℕ) → known.opening ≡ opening → IsSound known → id < 32 → bit_at known.found id ≡ 1 → WasOutBetween opening known.since known.acts id
-  was_out_of opening known id same is within one = subst (λ o. WasOutBetween o known.since known.acts id) same (is.found_out id within one)
-
   pub goes_on_further : (made : History T) (one two three : UserView T) → GoesOn [] one two → GoesOn made two three → GoesOn made one three
   goes_on_further made one two three first second = record {
     here = second.here;
@@ -173,6 +156,8 @@ module _ {T : Type 0} where
     sound = second.sound;
   }
 
-  -- what was found out since a load, told of the user as it was then
-  pub was_out_from : (start known : UserView T) (id : ℕ) → GoesOn [] start known → id < 32 → bit_at known.found id ≡ 1 → WasOutBetween start.opening start.since known.acts id
-  was_out_from start known id goes within one = subst (λ s. WasOutBetween start.opening s known.acts id) goes.same_since (was_out_of start.opening known id goes.same_opening goes.sound within one)
+  -- what was found out stays so
+  pub still_out : (old new : UserView T) (id : ℕ) → GoesOn [] old new → KnowsOut old id → KnowsOut new id
+  still_out old new id goes was =
+      let later : WasOutBetween old.opening old.since new.acts id = was_out_later old.opening old.since old.acts new.acts id (goes.acts.0, goes.acts.1) was in
+      subst (λ (p : List (Option T) × History T). WasOutBetween p.0 p.1 new.acts id) (λ i. (sym goes.same_opening i, sym goes.same_since i)) later

@@ -1,5 +1,5 @@
 -- What a page answers, told by what the answer shows and no longer by its user's view.
-use Rattle.std.proofs.Common.{◌≡◌, List, [], ◌∷◌, ◌++◌, ℕ, ◌<◌, Option, refl, ap, sym, ◌∙◌, subst}
+use Rattle.std.proofs.Common.{◌≡◌, List, [], ◌∷◌, ◌++◌, ℕ, ◌+◌, ◌*◌, ◌<◌, Option, refl, ap, sym, ◌∙◌, subst, arith}
 use Rattle.atomic_table.specs.Seated.{TableId}
 use Rattle.lockfree_object_pool.specs.declared.page.history.PageAct.TheVariants.{Took, Gave}
 use Rattle.lockfree_object_pool.specs.declared.page.user_view.UserView.{UserView}
@@ -9,14 +9,31 @@ use Rattle.lockfree_object_pool.specs.declared.page.full_seen.Allocated.{Allocat
 use Rattle.lockfree_object_pool.specs.declared.page.full_seen.Allocated.TheVariants.{Slot, Full}
 use Rattle.lockfree_object_pool.specs.Item.{IsPulled}
 use Rattle.lockfree_object_pool.specs.Note.{note_page, note_view, note_opening, note_history, IsReturned, IsPulledAfter}
-use Rattle.lockfree_object_pool.specs.PageHistory.{acts_of, IsBeginningOf, WasOutBetween}
-use Rattle.lockfree_object_pool.specs.PageRule.{GoesOn, StartsFrom}
+use Rattle.lockfree_object_pool.specs.PageHistory.{History, acts_of, IsBeginningOf, WasOutBetween}
+use Rattle.lockfree_object_pool.specs.PageRule.{User, GoesOn, StartsFrom, Misses, KnowsOut, item_of}
+use Rattle.lockfree_object_pool.specs.Word.{ClearsBit}
+use Rattle.std.specs.Int.{bit_at}
+use native.Mathlib.Decide.{ℕ_discrete}
+use mathlib.Core.Logic.{dite}
 use Rattle.lockfree_object_pool.specs.Slot.{item_known}
 use Rattle.lockfree_object_pool.specs.FullSeen.{full_page, full_view, full_history, IsFullOf, IsAnswerFrom, IsAnswerOf, IsAnswerAfter}
-use Rattle.lockfree_object_pool.proofs.PageActs.{lawful_of, beginning_further}
+use Rattle.lockfree_object_pool.proofs.PageActs.{lawful_of, beginning_further, still_out}
 use Rattle.lockfree_object_pool.proofs.PageHolders.{came_from_lawful, spared_return}
 
 module _ {T : Type 0} where
+  -- one more bit of the first word was tried in vain
+  pub out_or_untried : (untried bit left : ℕ) (old new : User T) → ClearsBit untried bit left → Misses bit old new
+      → ((i : ℕ) → i < 32 → bit_at untried i ≡ 0 → KnowsOut old.0 (item_of 0 i)) → (i : ℕ) → i < 32 → bit_at left i ≡ 0 → KnowsOut new.0 (item_of 0 i)
+  out_or_untried untried bit left old new clears missed before i within none = dite (ℕ_discrete i bit)
+      (λ same. let whole : bit ≡ 32 * 0 + i = omega arith in subst (KnowsOut new.0) whole missed.was_out)
+      (λ differ. still_out old.0 new.0 (item_of 0 i) missed.goes_on (before i within (sym (clears.others i differ) ∙ none)))
+
+  -- what was found out since a load, told of the user as it was then
+  pub was_out_from : (start known : UserView T) (id : ℕ) → GoesOn [] start known → KnowsOut known (item_of 0 id) → WasOutBetween start.opening start.since known.acts id
+  was_out_from start known id goes was =
+      let whole : 32 * 0 + id ≡ id = omega arith in
+      subst (λ (p : List (Option T) × History T). WasOutBetween p.0 p.1 known.acts id) (λ i. (goes.same_opening i, goes.same_since i)) (subst (KnowsOut known) whole was)
+
   -- the user of a pull has acted since it began: the pull is the one act more
   module _ (page : TableId) (start known : UserView T) (id : ℕ) (value : T) (goes : GoesOn (Took known.user id value ∷ []) start known) where
     pulled : start.own ≡ [] → IsPulled (item_known page known id value)
@@ -49,7 +66,6 @@ module _ {T : Type 0} where
   full page opening start seen same of_page goes each = record {
     of_page = of_page;
     same_opening = goes.same_opening ∙ same;
-    found_all = seen.found_all;
     lawful = lawful_of opening (full_view seen) (goes.same_opening ∙ same) goes.sound;
     each_was_out = λ id within.
         subst (λ o. WasOutBetween o (full_view seen).since (full_history seen) id) same

@@ -1,154 +1,46 @@
 -- Each kind of step on a page keeps its rule.
-use Rattle.std.proofs.Common.{◌≡◌, ◌≢◌, ℕ, zero, suc, ◌<◌, ◌↔◌, ◌⊎◌, List, [], ◌∷◌, ◌++◌, length, set, get_or, Option, Some, None, bit_and, bit_or, refl, sym, ◌∙◌, ap, subst, arith, length-append, append-nil, false, true≢false, ◌≤◌, ◌*◌, ◌^◌, ◌%◌, length-set, get_or-set_same, inl, inr}
+use Rattle.std.proofs.Common.{◌≡◌, ◌≢◌, ℕ, zero, suc, ◌^◌, false, true≢false, ◌+◌, ◌*◌, ◌/◌, ◌%◌, ◌<◌, ◌≤◌, ◌⊎◌, List, [], ◌∷◌, ◌++◌, length, set, get_or, Option, Some, None, bit_and, bit_or, refl, sym, ◌∙◌, ap, subst, arith, length-append, append-nil, length-set, inl, inr}
 use mathlib.Core.Option.{some, none, some-injective, some-ne-none}
 use mathlib.Core.Option as maybe
 use lib.ListN.{get_elem?}
 use Rattle.std.proofs.lemmas.Bool.{cases_lt}
+use Rattle.std.proofs.lemmas.List.{set-get_or}
 use native.Mathlib.Decide.{ℕ_discrete}
 use mathlib.Core.Logic.{dite}
 use Rattle.std.proofs.lemmas.Nat.{and_le_l, or_lt}
-use Rattle.std.proofs.lemmas.Nat.Bits.{bit_at-lt, bit_at_not, bit_at_ones}
-use Rattle.std.specs.Int.{w32, bit_at, bit_not}
+use Rattle.std.proofs.lemmas.Nat.Bits.{bit_at-lt, bit_at_ones}
+use Rattle.std.specs.Int.{bit_at}
 use Rattle.atomic_table.specs.Table.{keeps, takes, gives, homes_after, rest, Allows, Enters, Joins, Splits}
 use Rattle.atomic_table.proofs.Lists.{at_set, at_snoc, set_here, set_else, set_again}
 use Rattle.lockfree_object_pool.specs.declared.page.user_view.UserView.{UserView}
 use Rattle.lockfree_object_pool.specs.declared.page.history.PageAct.{PageAct}
 use Rattle.lockfree_object_pool.specs.declared.page.history.PageAct.TheVariants.{Took, Gave}
 use Rattle.lockfree_object_pool.specs.PageHistory.{History, user_of, acts_of, held_id, value_at, MayFollow, IsLawful}
-use Rattle.lockfree_object_pool.proofs.PageActs.{beginning_same, acts_of_other, value_at-took_here, value_at-took_elsewhere, value_at-gave_here, value_at-gave_elsewhere, acted, has_seen, after_act, after_look, informed_later, informed_set, knows_of, at_below, own_now}
-use Rattle.lockfree_object_pool.specs.Word.{all_bits, SetsBit, ClearsBit}
-use Rattle.lockfree_object_pool.specs.PageRule.{PageState, User, first_view, IsFree, IsOut, IsHome, word_of, Holds, IsPage, HasHistory, IsKept, IsSound, Knows, GoesOn, Takes, Misses, Looks, LooksAgain, Clears, Gives, told_of, gone_view, witness_of}
-use Rattle.lockfree_object_pool.proofs.WordBits.{and_clears, or_sets, sets_bit}
+use Rattle.lockfree_object_pool.specs.Word.{all_bits, SetsBit, ClearsBit, item_bit}
+use Rattle.lockfree_object_pool.specs.PageRule.{PageState, User, first_view, item_of, IsFree, IsOut, IsHome, Holds, IsPage, HasHistory, IsKept, IsSound, Knows, GoesOn, KnowsOut, Takes, Misses, Looks, LooksAgain, LooksOn, Clears, Gives, told_of, gone_view, witness_of}
+use Rattle.lockfree_object_pool.proofs.PageActs.{beginning_same, acts_of_other, value_at-took_here, value_at-took_elsewhere, value_at-gave_here, value_at-gave_elsewhere, acted, has_seen, after_act, after_look, is_out_now, informed_later, informed_set, knows_of, at_below, own_now}
+use Rattle.lockfree_object_pool.proofs.WordBits.{and_clears, or_sets, item_bit_of, Turns, turns, fits_after}
 
 -- a word that lacks one bit alone tells which
-lacks_one : (operand id other : ℕ) → other < 32 → ClearsBit all_bits id operand → ClearsBit all_bits other operand → id ≡ other
-lacks_one operand id other within one two = dite (ℕ_discrete id other) (λ same. same)
+lacks_one : (operand bit other : ℕ) → other < 32 → ClearsBit all_bits bit operand → ClearsBit all_bits other operand → bit ≡ other
+lacks_one operand bit other within one two = dite (ℕ_discrete bit other) (λ same. same)
     (λ differ. let set = one.others other (λ same. differ (sym same)) in let clear = two.clear in let all = bit_at_ones 32 other within in absurd (omega arith))
 
 some_same : (id other : ℕ) → Some id ≡ Some other → id ≡ other
 some_same id other same = cc
 
 module _ {T : Type 0} where
-  abbrev changed : PageState T → ℕ → List (maybe.Option (Option T)) → List (UserView T) → PageState T
-  changed page word homes views = record { words = set page.words 0 word; homes = homes; views = views }
+  abbrev state : List ℕ → List (maybe.Option (Option T)) → List (UserView T) → PageState T
+  state words homes views = record { words = words; homes = homes; views = views }
 
-  -- who holds an id, once the view of one user has changed
-  holds_after : (page : PageState T) (word : ℕ) (homes : List (maybe.Option (Option T))) (user : ℕ) (known : UserView T) (other id : ℕ) → Holds (changed page word homes (set page.views user known)) other id
+  -- who holds an item, once the view of one user has changed
+  holds_after : (page : PageState T) (words : List ℕ) (homes : List (maybe.Option (Option T))) (user : ℕ) (known : UserView T) (other id : ℕ) → Holds (state words homes (set page.views user known)) other id
       → ((other ≡ user) × (known.held ≡ Some id)) ⊎ ((other ≢ user) × Holds page other id)
-  holds_after page word homes user known other id holds = elim (at_set page.views user other known holds.0 holds.1) [
+  holds_after page words homes user known other id holds = elim (at_set page.views user other known holds.0 holds.1) [
     | inl here ↦ inl (here.0, ap (λ (known : UserView T). known.held) here.1 ∙ holds.2)
     | inr there ↦ inr (there.0, (holds.0, there.1, holds.2))
   ]
 
-  word_after : (page : PageState T) (word : ℕ) → length page.words ≡ 1 → get_or (set page.words 0 word) 0 0 ≡ word
-  word_after page word one = get_or-set_same page.words 0 word 0 (omega arith)
-
-module _ {T : Type 0} (meets : T → Type 0) where
-  -- who joins holds nothing
-  held_before : (page : PageState T) (known : UserView T) → known.held ≡ None → (user id : ℕ) → Holds record { words = page.words; homes = page.homes; views = page.views ++ known ∷ [] } user id → Holds page user id
-  held_before page known holds_none user id holds = elim (at_snoc page.views known holds.0 user holds.1) [
-    | inl before ↦ (holds.0, before, holds.2)
-    | inr new ↦ let none_held : None ≡ Some id = sym holds_none ∙ ap (λ (known : UserView T). known.held) new ∙ holds.2 in absurd (cc)
-  ]
-
-  joins_page : (page : PageState T) (known : UserView T) → IsPage meets page → known.held ≡ None → IsPage meets record { words = page.words; homes = page.homes; views = page.views ++ known ∷ [] }
-  joins_page page known is holds_none = record {
-    one_word = is.one_word;
-    all_places = is.all_places;
-    word_fits = is.word_fits;
-    free_is_home = is.free_is_home;
-    held_is_out = λ user id holds. is.held_is_out user id (held_before page known holds_none user id holds);
-    one_holder = λ user other id one two. is.one_holder user other id (held_before page known holds_none user id one) (held_before page known holds_none other id two);
-  }
-
-  -- a bit is cleared that was set: the item goes out with the user
-  takes_item : (page : PageState T) (user operand id : ℕ) (known : UserView T) → IsPage meets page → id < 32 → ClearsBit all_bits id operand → IsFree (word_of page) id → known.held ≡ Some id
-      → IsPage meets (changed page (bit_and (word_of page) operand) (set page.homes id none) (set page.views user known))
-  takes_item page user operand id known is within lacks free holds_id =
-      let word : ℕ = word_of page in
-      let new : ℕ = bit_and word operand in
-      let now = word_after page new is.one_word in
-      let bits = and_clears word operand id is.word_fits lacks in
-      let after = holds_after page new (set page.homes id none) user known in
-      record {
-        one_word = length-set page.words 0 new ∙ is.one_word;
-        all_places = length-set page.homes id none ∙ is.all_places;
-        word_fits = let below = and_le_l word operand in let fits = is.word_fits in omega arith;
-        free_is_home = λ i inside set_now.
-            let other : i ≢ id = λ same. let clear = bits.clear in let here = ap (bit_at new) same in let there = ap (λ w. bit_at w i) now in absurd (omega arith) in
-            let found = is.free_is_home i inside (sym (bits.others i other) ∙ ap (λ w. bit_at w i) (sym now) ∙ set_now) in
-            (found.0, set_else page.homes id i none other ∙ found.1, found.2);
-        held_is_out = λ other i holds. elim (after other i holds) [
-          | inl mine ↦ let same : id ≡ i = some_same id i (sym holds_id ∙ mine.1) in subst (λ i. (i < 32) × IsOut (get_or (set page.words 0 new) 0 0) i) same (within, ap (λ w. bit_at w id) now ∙ bits.clear)
-          | inr theirs ↦
-              let out = is.held_is_out other i theirs.1 in
-              let differ : i ≢ id = λ same. let here = ap (bit_at word) same in let zero = out.1 in absurd (omega arith) in
-              (out.0, ap (λ w. bit_at w i) now ∙ bits.others i differ ∙ out.1)
-        ];
-        one_holder = λ one two i holds_one holds_two. elim (after one i holds_one) [
-          | inl mine ↦ elim (after two i holds_two) [
-            | inl also ↦ mine.0 ∙ sym also.0
-            | inr theirs ↦ let same : id ≡ i = some_same id i (sym holds_id ∙ mine.1) in let out = (is.held_is_out two i theirs.1).1 in let here = ap (bit_at word) same in absurd (omega arith)
-          ]
-          | inr theirs ↦ elim (after two i holds_two) [
-            | inl mine ↦ let same : id ≡ i = some_same id i (sym holds_id ∙ mine.1) in let out = (is.held_is_out one i theirs.1).1 in let here = ap (bit_at word) same in absurd (omega arith)
-            | inr both ↦ is.one_holder one two i theirs.1 both.1
-          ]
-        ];
-      }
-
-  -- a bit is cleared that was clear: the user has found it out
-  misses_item : (page : PageState T) (user operand id : ℕ) (me : User T) (known : UserView T) → IsPage meets page → ClearsBit all_bits id operand → get_elem? page.views user ≡ some me.0 → IsOut (word_of page) id → known.held ≡ me.0.held
-      → IsPage meets (changed page (bit_and (word_of page) operand) page.homes (set page.views user known))
-  misses_item page user operand id me known is lacks at out holds_same =
-      let word : ℕ = word_of page in
-      let new : ℕ = bit_and word operand in
-      let now = word_after page new is.one_word in
-      let bits = and_clears word operand id is.word_fits lacks in
-      let same_bits : (i : ℕ) → bit_at (get_or (set page.words 0 new) 0 0) i ≡ bit_at word i = λ i. ap (λ w. bit_at w i) now
-      ∙ dite (ℕ_discrete i id) (λ same. ap (bit_at new) same ∙ bits.clear ∙ sym out ∙ ap (bit_at word) (sym same)) (λ differ. bits.others i differ) in
-      let held : (other i : ℕ) → Holds (changed page new page.homes (set page.views user known)) other i → Holds page other i = λ other i holds. elim (holds_after page new page.homes user known other i holds) [
-        | inl mine ↦ subst (λ one. Holds page one i) (sym mine.0) (me.0, at, sym holds_same ∙ mine.1)
-        | inr theirs ↦ theirs.1
-      ] in
-      record {
-        one_word = length-set page.words 0 new ∙ is.one_word;
-        all_places = is.all_places;
-        word_fits = let below = and_le_l word operand in let fits = is.word_fits in omega arith;
-        free_is_home = λ i inside set_now. is.free_is_home i inside (sym (same_bits i) ∙ set_now);
-        held_is_out = λ other i holds. let was = is.held_is_out other i (held other i holds) in (was.0, same_bits i ∙ was.1);
-        one_holder = λ one two i holds_one holds_two. is.one_holder one two i (held one i holds_one) (held two i holds_two);
-      }
-
-  -- a bit is set that its holder's value is home for: the item is free again
-  gives_item : (page : PageState T) (user operand id : ℕ) (me : User T) (value : T) (known : UserView T) → IsPage meets page → id < 32 → operand < 2 ^ 32 → SetsBit 0 id operand → get_elem? page.views user ≡ some me.0 → me.0.held ≡ Some id → meets value → known.held ≡ None
-      → IsPage meets (changed page (bit_or (word_of page) operand) (set page.homes id (some (Some value))) (set page.views user known))
-  gives_item page user operand id me value known is within small has at holds met holds_none =
-      let word : ℕ = word_of page in
-      let new : ℕ = bit_or word operand in
-      let homes = set page.homes id (some (Some value)) in
-      let now = word_after page new is.one_word in
-      let bits = or_sets word operand id has in
-      let after : (other i : ℕ) → Holds (changed page new homes (set page.views user known)) other i → (other ≢ user) × Holds page other i = λ other i holds_i. elim (holds_after page new homes user known other i holds_i) [
-        | inl mine ↦ let none_held : None ≡ Some i = sym holds_none ∙ mine.1 in absurd (cc)
-        | inr theirs ↦ theirs
-      ] in
-      record {
-        one_word = length-set page.words 0 new ∙ is.one_word;
-        all_places = length-set page.homes id (some (Some value)) ∙ is.all_places;
-        word_fits = let below = or_lt 32 word operand is.word_fits small in omega arith;
-        free_is_home = λ i inside set_now. dite (ℕ_discrete i id)
-            (λ same. (value, subst (λ i. get_elem? homes i ≡ some (some (Some value))) (sym same) (set_here page.homes id (some (Some value)) (let all = is.all_places in omega arith)), met))
-            (λ differ. let found = is.free_is_home i inside (sym (bits.others i differ) ∙ ap (λ w. bit_at w i) (sym now) ∙ set_now) in (found.0, set_else page.homes id i (some (Some value)) differ ∙ found.1, found.2));
-        held_is_out = λ other i holds_i.
-            let theirs = after other i holds_i in
-            let out = is.held_is_out other i theirs.1 in
-            let differ : i ≢ id = λ same. theirs.0 (is.one_holder other user id (subst (Holds page other) same theirs.1) (me.0, at, holds)) in
-            (out.0, ap (λ w. bit_at w i) now ∙ bits.others i differ ∙ out.1);
-        one_holder = λ one two i holds_one holds_two. is.one_holder one two i (after one i holds_one).1 (after two i holds_two).1;
-      }
-
-module _ {T : Type 0} where
   at_snoc_last : (views : List (UserView T)) (new known : UserView T) (user : ℕ) → get_elem? (views ++ new ∷ []) user ≡ some known → (get_elem? views user ≡ some known) ⊎ ((length views ≡ user) × (new ≡ known))
   at_snoc_last [] new known zero at = inr (refl, some-injective new known at)
   at_snoc_last [] new known (suc user) at = absurd (some-ne-none known (sym at))
@@ -163,12 +55,103 @@ module _ {T : Type 0} where
   carried_value other ((place, None) ∷ more) = other
   carried_value other ((place, Some value) ∷ more) = value
 
+module _ {T : Type 0} (meets : T → Type 0) where
+  -- who joins holds nothing
+  held_before : (page : PageState T) (known : UserView T) → known.held ≡ None → (user id : ℕ) → Holds (state page.words page.homes (page.views ++ known ∷ [])) user id → Holds page user id
+  held_before page known holds_none user id holds = elim (at_snoc page.views known holds.0 user holds.1) [
+    | inl before ↦ (holds.0, before, holds.2)
+    | inr new ↦ let none_held : None ≡ Some id = sym holds_none ∙ ap (λ (known : UserView T). known.held) new ∙ holds.2 in absurd (cc)
+  ]
+
+  joins_page : (page : PageState T) (known : UserView T) → IsPage meets page → known.held ≡ None → IsPage meets (state page.words page.homes (page.views ++ known ∷ []))
+  joins_page page known is holds_none = record {
+    all_places = is.all_places;
+    words_fit = is.words_fit;
+    free_is_home = is.free_is_home;
+    held_is_out = λ user id holds. is.held_is_out user id (held_before page known holds_none user id holds);
+    one_holder = λ user other id one two. is.one_holder user other id (held_before page known holds_none user id one) (held_before page known holds_none other id two);
+  }
+
+  -- a bit is cleared that was set: the item goes out with the user
+  takes_item : (page : PageState T) (words : List ℕ) (user id : ℕ) (known : UserView T) → IsPage meets page → id < length page.homes → Turns page.words id 0 words → ((p : ℕ) → get_or words p 0 < 2 ^ 32) → IsFree page id → known.held ≡ Some id
+      → IsPage meets (state words (set page.homes id none) (set page.views user known))
+  takes_item page words user id known is within turned fits free holds_id =
+      let after = holds_after page words (set page.homes id none) user known in
+      let places = length-set page.homes id none in
+      record {
+        all_places = let all = is.all_places in let count = turned.same_count in omega arith;
+        words_fit = fits;
+        free_is_home = λ i inside set_now.
+            let other : i ≢ id = λ same. let clear = turned.here in let here = ap (item_bit words) same in absurd (omega arith) in
+            let found = is.free_is_home i (omega arith) (sym (turned.others i other) ∙ set_now) in
+            (found.0, set_else page.homes id i none other ∙ found.1, found.2);
+        held_is_out = λ other i holds. elim (after other i holds) [
+          | inl mine ↦ let same : id ≡ i = some_same id i (sym holds_id ∙ mine.1) in subst (λ i. (i < length (set page.homes id none)) × (item_bit words i ≡ 0)) same (omega arith, turned.here)
+          | inr theirs ↦
+              let out = is.held_is_out other i theirs.1 in
+              let below = out.0 in
+              let differ : i ≢ id = λ same. let here = ap (item_bit page.words) same in let zero = out.1 in absurd (omega arith) in
+              (omega arith, turned.others i differ ∙ out.1)
+        ];
+        one_holder = λ one two i holds_one holds_two. elim (after one i holds_one) [
+          | inl mine ↦ elim (after two i holds_two) [
+            | inl also ↦ mine.0 ∙ sym also.0
+            | inr theirs ↦ let same : id ≡ i = some_same id i (sym holds_id ∙ mine.1) in let out = (is.held_is_out two i theirs.1).1 in let here = ap (item_bit page.words) same in absurd (omega arith)
+          ]
+          | inr theirs ↦ elim (after two i holds_two) [
+            | inl mine ↦ let same : id ≡ i = some_same id i (sym holds_id ∙ mine.1) in let out = (is.held_is_out one i theirs.1).1 in let here = ap (item_bit page.words) same in absurd (omega arith)
+            | inr both ↦ is.one_holder one two i theirs.1 both.1
+          ]
+        ];
+      }
+
+  -- no bit has changed: the page is as it was, and one user knows more
+  keeps_item : (page : PageState T) (words : List ℕ) (user : ℕ) (old known : UserView T) → IsPage meets page → length words ≡ length page.words → ((p : ℕ) → get_or words p 0 < 2 ^ 32) → ((i : ℕ) → item_bit words i ≡ item_bit page.words i) → get_elem? page.views user ≡ some old → known.held ≡ old.held
+      → IsPage meets (state words page.homes (set page.views user known))
+  keeps_item page words user old known is count fits same_bits at holds_same =
+      let held : (other i : ℕ) → Holds (state words page.homes (set page.views user known)) other i → Holds page other i = λ other i holds. elim (holds_after page words page.homes user known other i holds) [
+        | inl mine ↦ subst (λ one. Holds page one i) (sym mine.0) (old, at, sym holds_same ∙ mine.1)
+        | inr theirs ↦ theirs.1
+      ] in
+      record {
+        all_places = let all = is.all_places in omega arith;
+        words_fit = fits;
+        free_is_home = λ i inside set_now. is.free_is_home i inside (sym (same_bits i) ∙ set_now);
+        held_is_out = λ other i holds. let was = is.held_is_out other i (held other i holds) in (was.0, same_bits i ∙ was.1);
+        one_holder = λ one two i holds_one holds_two. is.one_holder one two i (held one i holds_one) (held two i holds_two);
+      }
+
+  -- a bit is set that its holder's value is home for: the item is free again
+  gives_item : (page : PageState T) (words : List ℕ) (user id : ℕ) (me : User T) (value : T) (known : UserView T) → IsPage meets page → id < length page.homes → Turns page.words id 1 words → ((p : ℕ) → get_or words p 0 < 2 ^ 32) → get_elem? page.views user ≡ some me.0 → me.0.held ≡ Some id → meets value → known.held ≡ None
+      → IsPage meets (state words (set page.homes id (some (Some value))) (set page.views user known))
+  gives_item page words user id me value known is within turned fits at holds met holds_none =
+      let homes = set page.homes id (some (Some value)) in
+      let places = length-set page.homes id (some (Some value)) in
+      let after : (other i : ℕ) → Holds (state words homes (set page.views user known)) other i → (other ≢ user) × Holds page other i = λ other i holds_i. elim (holds_after page words homes user known other i holds_i) [
+        | inl mine ↦ let none_held : None ≡ Some i = sym holds_none ∙ mine.1 in absurd (cc)
+        | inr theirs ↦ theirs
+      ] in
+      record {
+        all_places = let all = is.all_places in let count = turned.same_count in omega arith;
+        words_fit = fits;
+        free_is_home = λ i inside set_now. dite (ℕ_discrete i id)
+            (λ same. (value, subst (λ i. get_elem? homes i ≡ some (some (Some value))) (sym same) (set_here page.homes id (some (Some value)) within), met))
+            (λ differ. let found = is.free_is_home i (omega arith) (sym (turned.others i differ) ∙ set_now) in (found.0, set_else page.homes id i (some (Some value)) differ ∙ found.1, found.2));
+        held_is_out = λ other i holds_i.
+            let theirs = after other i holds_i in
+            let out = is.held_is_out other i theirs.1 in
+            let below = out.0 in
+            let differ : i ≢ id = λ same. theirs.0 (is.one_holder other user id (subst (Holds page other) same theirs.1) (me.0, at, holds)) in
+            (omega arith, turned.others i differ ∙ out.1);
+        one_holder = λ one two i holds_one holds_two. is.one_holder one two i (after one i holds_one).1 (after two i holds_two).1;
+      }
+
 module _ {T : Type 0} (meets : T → Type 0) (opening : List (Option T)) where
   -- what a user knows that comes now
-  abbrev newcomer : History T → ℕ → ℕ → UserView T
-  newcomer acts user found = record { held = None; found = found; user = user; opening = opening; acts = acts; since = acts; told = []; gone = false; own = [] }
+  abbrev newcomer : History T → ℕ → UserView T
+  newcomer acts user = record { held = None; user = user; opening = opening; acts = acts; since = acts; told = []; gone = false; own = []; looks = 1; tries = 0 }
 
-  joins_history : (page : PageState T) (known : UserView T) → (has : HasHistory opening page) → Knows opening has.acts (length page.views) known → HasHistory opening record { words = page.words; homes = page.homes; views = page.views ++ known ∷ [] }
+  joins_history : (page : PageState T) (known : UserView T) → (has : HasHistory opening page) → Knows opening has.acts (length page.views) known → HasHistory opening (state page.words page.homes (page.views ++ known ∷ []))
   joins_history page known has is = record {
     acts = has.acts;
     lawful = has.lawful;
@@ -181,27 +164,34 @@ module _ {T : Type 0} (meets : T → Type 0) (opening : List (Option T)) where
     no_stranger = λ user past. has.no_stranger user (let all = length-append page.views (known ∷ []) in omega arith);
   }
 
-  pub looks : (slots : ℕ) → Enters (IsKept meets opening) slots 0 (λ word known. Looks (first_view opening) word (known, []))
-  looks slots page kept places fits =
+  -- nothing lies at an item whose bit is clear in its word
+  clear_lies : (page : PageState T) (has : HasHistory opening page) (place bit : ℕ) → bit < 32 → 32 * place + 32 ≤ length page.homes → bit_at (get_or page.words place 0) bit ≡ 0 → value_at opening has.acts (item_of place bit) ≡ None
+  clear_lies page has place bit within inside clear = has.out_lies (item_of place bit) (omega arith) (item_bit_of page.words place bit within ∙ clear)
+
+  pub looks : (slots place : ℕ) → 32 * place + 32 ≤ slots → Enters (IsKept meets opening) slots place (λ word known. Looks (first_view opening) place word (known, []))
+  looks slots place inside page kept places fits =
       let is = kept.0 in
       let has = kept.1 in
-      let out : ℕ = bit_not w32 (word_of page) in
-      let known : UserView T = newcomer has.acts (length page.views) out in
-      let clear : (id : ℕ) → id < 32 → bit_at out id ≡ 1 ↔ IsOut (word_of page) id = λ id within. let flipped = bit_at_not w32 (word_of page) id is.word_fits within in let low = bit_at-lt (word_of page) id in ((λ one. omega arith), λ zero. omega arith) in
+      let known : UserView T = newcomer has.acts (length page.views) in
       let own : acts_of (length page.views) has.acts ≡ [] = has.no_stranger (length page.views) (omega arith) in
-      let sound : IsSound known = record {
-        lawful = has.lawful;
-        since_load = beginning_same has.acts;
-        own_acts = own;
-        holds = refl;
-        found_out = λ id within one. (has.acts, beginning_same has.acts, beginning_same has.acts, has.out_lies id within ((clear id within).0 one));
-      } in (
+      let sound : IsSound known = record { lawful = has.lawful; since_load = beginning_same has.acts; own_acts = own; holds = refl } in (
         known,
         (
           joins_page meets page known is refl,
           joins_history page known has (knows_of _ _ _ _ record { sound = sound; number = refl; same_opening = refl; beginning = beginning_same has.acts; told_before = (has.acts, sym (append-nil has.acts)); own_so_far = own }),
         ),
-        record { word_fits = is.word_fits; holds_none = refl; found = clear; here = refl; same_opening = refl; from_now = refl; did_nothing = refl; sound = sound },
+        record {
+          word_fits = is.words_fit place;
+          holds_none = refl;
+          here = refl;
+          same_opening = refl;
+          from_now = refl;
+          did_nothing = refl;
+          looks = refl;
+          tries = refl;
+          sound = sound;
+          clear_are_out = λ bit within clear. (has.acts, beginning_same has.acts, beginning_same has.acts, clear_lies page has place bit within (omega arith) clear);
+        },
       )
 
   -- all users, once one has acted
@@ -222,48 +212,37 @@ module _ {T : Type 0} (meets : T → Type 0) (opening : List (Option T)) where
     held_now : held_id (acts_of me.user has.acts) ≡ me.held
     held_now = let is = (has.informed user me at).acting here in ap held_id (own_now opening has.acts has.lawful user me here is) ∙ sym is.sound.holds
 
-  took_history : (page : PageState T) (user operand id : ℕ) (me : UserView T) (value : T) → IsPage meets page → (has : HasHistory opening page) → id < 32 → ClearsBit all_bits id operand → IsFree (word_of page) id
+  took_history : (page : PageState T) (words : List ℕ) (user id : ℕ) (me : UserView T) (value : T) → (has : HasHistory opening page) → id < length page.homes → Turns page.words id 0 words → IsFree page id
       → IsHome page id value → get_elem? page.views user ≡ some me → me.gone ≡ false → me.held ≡ None
-      → HasHistory opening (changed page (bit_and (word_of page) operand) (set page.homes id none) (set page.views user (acted me has.acts (Took me.user id value) (Some id)))) × GoesOn (Took me.user id value ∷ []) me (acted me has.acts (Took me.user id value) (Some id))
-  took_history page user operand id me value is has within lacks free home at here holds_none =
-      let word : ℕ = word_of page in
-      let new : ℕ = bit_and word operand in
+      → HasHistory opening (state words (set page.homes id none) (set page.views user (acted me has.acts (Took me.user id value) (Some id) (me.tries + 1)))) × GoesOn (Took me.user id value ∷ []) me (acted me has.acts (Took me.user id value) (Some id) (me.tries + 1))
+  took_history page words user id me value has within turned free home at here holds_none =
       let act : PageAct T = Took me.user id value in
-      let known : UserView T = acted me has.acts act (Some id) in
-      let now = word_after page new is.one_word in
-      let bits = and_clears word operand id is.word_fits lacks in
-      let may : MayFollow opening has.acts act = record { in_page = within; lies_there = has.free_lies id within free value home; holds_none = held_now page has user me at here ∙ holds_none } in
-      let step = after_act opening has.acts has.lawful user me here ((has.informed user me at).acting here) act (Some id) may refl refl in (
+      let known : UserView T = acted me has.acts act (Some id) (me.tries + 1) in
+      let places = length-set page.homes id none in
+      let may : MayFollow opening has.acts act = record { lies_there = has.free_lies id within free value home; holds_none = held_now page has user me at here ∙ holds_none } in
+      let step = after_act opening has.acts has.lawful user me here ((has.informed user me at).acting here) act (Some id) (me.tries + 1) may refl refl in (
         record {
           acts = act ∷ has.acts;
           lawful = (may, has.lawful);
           free_lies = λ i inside set_now found home_now.
-              let other : i ≢ id = λ same. let clear = bits.clear in let here = ap (bit_at new) same in let there = ap (λ w. bit_at w i) now in absurd (omega arith) in
+              let other : i ≢ id = λ same. let clear = turned.here in let here = ap (item_bit words) same in absurd (omega arith) in
               value_at-took_elsewhere opening has.acts me.user id i value (λ same. other (sym same))
-              ∙ has.free_lies i inside (sym (bits.others i other) ∙ ap (λ w. bit_at w i) (sym now) ∙ set_now) found (sym (set_else page.homes id i none other) ∙ home_now);
+              ∙ has.free_lies i (omega arith) (sym (turned.others i other) ∙ set_now) found (sym (set_else page.homes id i none other) ∙ home_now);
           out_lies = λ i inside out_now. dite (ℕ_discrete id i)
               (λ same. value_at-took_here opening has.acts me.user id i value same)
-              (λ differ. value_at-took_elsewhere opening has.acts me.user id i value differ ∙ has.out_lies i inside (sym (bits.others i (λ same. differ (sym same))) ∙ ap (λ w. bit_at w i) (sym now) ∙ out_now));
+              (λ differ. value_at-took_elsewhere opening has.acts me.user id i value differ ∙ has.out_lies i (omega arith) (sym (turned.others i (λ same. differ (sym same))) ∙ out_now));
           informed = informed_after page has user me at here act known refl (knows_of _ _ _ _ step.0);
           no_stranger = strangers_after page has user me at here act known refl;
         },
         step.1,
       )
 
-  missed_history : (page : PageState T) (user operand id found : ℕ) (me : UserView T) → IsPage meets page → (has : HasHistory opening page) → ClearsBit all_bits id operand → IsOut (word_of page) id → id < 32 → SetsBit me.found id found
-      → get_elem? page.views user ≡ some me → me.gone ≡ false
-      → HasHistory opening (changed page (bit_and (word_of page) operand) page.homes (set page.views user (has_seen me has.acts found))) × GoesOn [] me (has_seen me has.acts found)
-  missed_history page user operand id found me is has lacks out within more at here =
-      let word : ℕ = word_of page in
-      let new : ℕ = bit_and word operand in
-      let known : UserView T = has_seen me has.acts found in
-      let now = word_after page new is.one_word in
-      let bits = and_clears word operand id is.word_fits lacks in
-      let same_bits : (i : ℕ) → bit_at (get_or (set page.words 0 new) 0 0) i ≡ bit_at word i = λ i. ap (λ w. bit_at w i) now
-      ∙ dite (ℕ_discrete i id) (λ same. ap (bit_at new) same ∙ bits.clear ∙ sym out ∙ ap (bit_at word) (sym same)) (λ differ. bits.others i differ) in
-      let step = after_look opening has.acts has.lawful user me here ((has.informed user me at).acting here) found (λ i inside one. dite (ℕ_discrete i id)
-      (λ same. inr (ap (value_at opening has.acts) same ∙ has.out_lies id within out))
-      (λ differ. inl (sym (more.others i differ) ∙ one))) in (
+  -- no bit has changed, and one user knows of all acts
+  saw_history : (page : PageState T) (words : List ℕ) (user looks tries : ℕ) (me : UserView T) → (has : HasHistory opening page) → ((i : ℕ) → item_bit words i ≡ item_bit page.words i) → get_elem? page.views user ≡ some me → me.gone ≡ false
+      → HasHistory opening (state words page.homes (set page.views user (has_seen me has.acts looks tries))) × GoesOn [] me (has_seen me has.acts looks tries)
+  saw_history page words user looks tries me has same_bits at here =
+      let known : UserView T = has_seen me has.acts looks tries in
+      let step = after_look opening has.acts has.lawful user me here ((has.informed user me at).acting here) looks tries in (
         record {
           acts = has.acts;
           lawful = has.lawful;
@@ -275,34 +254,31 @@ module _ {T : Type 0} (meets : T → Type 0) (opening : List (Option T)) where
         step.1,
       )
 
-  gave_history : (page : PageState T) (user operand id : ℕ) (me : UserView T) (value : T) → IsPage meets page → (has : HasHistory opening page) → id < 32 → SetsBit 0 id operand
+  gave_history : (page : PageState T) (words : List ℕ) (user id : ℕ) (me : UserView T) (value : T) → IsPage meets page → (has : HasHistory opening page) → id < length page.homes → Turns page.words id 1 words
       → get_elem? page.views user ≡ some me → me.gone ≡ false → me.held ≡ Some id
-      → HasHistory opening (changed page (bit_or (word_of page) operand) (set page.homes id (some (Some value))) (set page.views user (acted me has.acts (Gave me.user id value) None))) × GoesOn (Gave me.user id value ∷ []) me (acted me has.acts (Gave me.user id value) None)
-  gave_history page user operand id me value is has within sets at here holds =
-      let word : ℕ = word_of page in
-      let new : ℕ = bit_or word operand in
+      → HasHistory opening (state words (set page.homes id (some (Some value))) (set page.views user (acted me has.acts (Gave me.user id value) None me.tries))) × GoesOn (Gave me.user id value ∷ []) me (acted me has.acts (Gave me.user id value) None me.tries)
+  gave_history page words user id me value is has within turned at here holds =
       let act : PageAct T = Gave me.user id value in
-      let known : UserView T = acted me has.acts act None in
+      let known : UserView T = acted me has.acts act None me.tries in
       let homes = set page.homes id (some (Some value)) in
-      let now = word_after page new is.one_word in
-      let bits = or_sets word operand id sets in
+      let places = length-set page.homes id (some (Some value)) in
       let out = is.held_is_out user id (me, at, holds) in
-      let may : MayFollow opening has.acts act = record { in_page = within; is_out = has.out_lies id within out.1; holds = held_now page has user me at here ∙ holds } in
-      let step = after_act opening has.acts has.lawful user me here ((has.informed user me at).acting here) act None may refl refl in (
+      let may : MayFollow opening has.acts act = record { is_out = has.out_lies id within out.1; holds = held_now page has user me at here ∙ holds } in
+      let step = after_act opening has.acts has.lawful user me here ((has.informed user me at).acting here) act None me.tries may refl refl in (
         record {
           acts = act ∷ has.acts;
           lawful = (may, has.lawful);
           free_lies = λ i inside set_now found home_now. dite (ℕ_discrete id i)
               (λ same.
               let here : get_elem? homes id ≡ some (some (Some found)) = ap (get_elem? homes) same ∙ home_now in
-              let value_is : Some value ≡ Some found = some-injective (Some value) (Some found) (some-injective (some (Some value)) (some (Some found)) (sym (set_here page.homes id (some (Some value)) (let all = is.all_places in omega arith)) ∙ here)) in
+              let value_is : Some value ≡ Some found = some-injective (Some value) (Some found) (some-injective (some (Some value)) (some (Some found)) (sym (set_here page.homes id (some (Some value)) within) ∙ here)) in
               value_at-gave_here opening has.acts me.user id i value same ∙ value_is)
               (λ differ. let other : i ≢ id = λ same. differ (sym same) in
               value_at-gave_elsewhere opening has.acts me.user id i value differ
-              ∙ has.free_lies i inside (sym (bits.others i other) ∙ ap (λ w. bit_at w i) (sym now) ∙ set_now) found (sym (set_else page.homes id i (some (Some value)) other) ∙ home_now));
+              ∙ has.free_lies i (omega arith) (sym (turned.others i other) ∙ set_now) found (sym (set_else page.homes id i (some (Some value)) other) ∙ home_now));
           out_lies = λ i inside out_now.
-              let other : i ≢ id = λ same. let set_bit = bits.set in let here = ap (bit_at new) same in let there = ap (λ w. bit_at w i) now in absurd (omega arith) in
-              value_at-gave_elsewhere opening has.acts me.user id i value (λ same. other (sym same)) ∙ has.out_lies i inside (sym (bits.others i other) ∙ ap (λ w. bit_at w i) (sym now) ∙ out_now);
+              let other : i ≢ id = λ same. let set_bit = turned.here in let here = ap (item_bit words) same in absurd (omega arith) in
+              value_at-gave_elsewhere opening has.acts me.user id i value (λ same. other (sym same)) ∙ has.out_lies i (omega arith) (sym (turned.others i other) ∙ out_now);
           informed = informed_after page has user me at here act known refl (knows_of _ _ _ _ step.0);
           no_stranger = strangers_after page has user me at here act known refl;
         },
@@ -310,8 +286,8 @@ module _ {T : Type 0} (meets : T → Type 0) (opening : List (Option T)) where
       )
 
   -- the page as a user sees it that loads the word again
-  abbrev again : UserView T → History T → ℕ → UserView T
-  again old acts found = record { held = old.held; found = found; user = old.user; opening = old.opening; acts = acts; since = acts; told = old.told; gone = old.gone; own = old.own }
+  abbrev again : UserView T → History T → UserView T
+  again old acts = record { held = old.held; user = old.user; opening = old.opening; acts = acts; since = acts; told = old.told; gone = old.gone; own = old.own; looks = old.looks + 1; tries = old.tries }
 
   -- one view has changed, and nothing else
   abbrev told_page : PageState T → ℕ → UserView T → PageState T
@@ -324,9 +300,8 @@ module _ {T : Type 0} (meets : T → Type 0) (opening : List (Option T)) where
         | inr there ↦ (holds.0, there.1, holds.2)
       ] in
       record {
-        one_word = is.one_word;
         all_places = is.all_places;
-        word_fits = is.word_fits;
+        words_fit = is.words_fit;
         free_is_home = is.free_is_home;
         held_is_out = λ other i holds. is.held_is_out other i (held other i holds);
         one_holder = λ one two i holds_one holds_two. is.one_holder one two i (held one i holds_one) (held two i holds_two);
@@ -342,42 +317,33 @@ module _ {T : Type 0} (meets : T → Type 0) (opening : List (Option T)) where
     no_stranger = λ other past. has.no_stranger other (let all = length-set page.views user known in omega arith);
   }
 
-  -- a list of one, written as it was
-  same_words : (words : List ℕ) → length words ≡ 1 → set words 0 (get_or words 0 0) ≡ words
-  same_words [] one = absurd (omega arith)
-  same_words (word ∷ words) one = refl
-
-  pub looks_again : (slots user : ℕ) (me : User T) → me.0.gone ≡ false → Allows (IsKept meets opening) slots user me 0 (λ word. word) (LooksAgain me)
-  looks_again slots user me here page kept places at fits =
+  pub looks_again : (slots place user : ℕ) (me : User T) → 32 * place + 32 ≤ slots → me.0.gone ≡ false → Allows (IsKept meets opening) slots user me place (λ word. word) (LooksAgain place me)
+  looks_again slots place user me inside here page kept places at fits =
       let is = kept.0 in
       let has = kept.1 in
-      let word : ℕ = word_of page in
-      let out : ℕ = bit_not w32 word in
-      let known : UserView T = again me.0 has.acts out in
+      let known : UserView T = again me.0 has.acts in
       let knew = (has.informed user me.0 at).acting here in
-      let clear : (id : ℕ) → id < 32 → bit_at out id ≡ 1 ↔ IsOut word id = λ id within. let flipped = bit_at_not w32 word id is.word_fits within in let low = bit_at-lt word id in ((λ one. omega arith), λ zero. omega arith) in
       let sound : IsSound known = record {
         lawful = subst (λ o. IsLawful o has.acts) (sym knew.same_opening) has.lawful;
         since_load = beginning_same has.acts;
         own_acts = own_now opening has.acts has.lawful user me.0 here knew;
         holds = knew.sound.holds;
-        found_out = λ id within one. (has.acts, beginning_same has.acts, beginning_same has.acts, ap (λ o. value_at o has.acts id) knew.same_opening ∙ has.out_lies id within ((clear id within).0 one));
       } in (
         known,
         keeps,
         tt,
-        subst (λ words. IsKept meets opening record { words = words; homes = page.homes; views = set page.views user known }) (sym (same_words page.words is.one_word)) (
+        subst (λ words. IsKept meets opening record { words = words; homes = page.homes; views = set page.views user known }) (sym (set-get_or page.words place 0)) (
           view_page page user me.0 known is at refl,
           view_history page user known has (knows_of _ _ _ _ record { sound = sound; number = knew.number; same_opening = knew.same_opening; beginning = beginning_same has.acts; told_before = knew.told_before; own_so_far = knew.own_so_far }),
         ),
         record {
-          word_fits = is.word_fits;
+          word_fits = is.words_fit place;
           holds_same = refl;
-          found = clear;
           here = here;
           starts = record { same_user = refl; same_opening = refl; own_before = knew.sound.own_acts; own_same = refl; from_now = refl; after_known = knew.beginning; after_told = knew.told_before };
           carries_same = refl;
           sound = sound;
+          clear_are_out = λ bit within clear. (has.acts, beginning_same has.acts, beginning_same has.acts, ap (λ o. value_at o has.acts (item_of place bit)) knew.same_opening ∙ clear_lies page has place bit within (omega arith) clear);
         },
       )
 
@@ -393,7 +359,7 @@ module _ {T : Type 0} (meets : T → Type 0) (opening : List (Option T)) where
       )
 
   told_sound : (me them : UserView T) → IsSound me → IsSound (told_of me them)
-  told_sound me them is = record { lawful = is.lawful; since_load = is.since_load; own_acts = is.own_acts; holds = is.holds; found_out = is.found_out }
+  told_sound me them is = record { lawful = is.lawful; since_load = is.since_load; own_acts = is.own_acts; holds = is.holds }
 
   -- who has gone holds nothing
   gone_page : (page : PageState T) (user : ℕ) (old : UserView T) → IsPage meets page → get_elem? page.views user ≡ some old → IsPage meets (told_page page user gone_view)
@@ -403,9 +369,8 @@ module _ {T : Type 0} (meets : T → Type 0) (opening : List (Option T)) where
         | inr there ↦ (holds.0, there.1, holds.2)
       ] in
       record {
-        one_word = is.one_word;
         all_places = is.all_places;
-        word_fits = is.word_fits;
+        words_fit = is.words_fit;
         free_is_home = is.free_is_home;
         held_is_out = λ other i holds. is.held_is_out other i (held other i holds);
         one_holder = λ one two i holds_one holds_two. is.one_holder one two i (held one i holds_one) (held two i holds_two);
@@ -426,61 +391,105 @@ module _ {T : Type 0} (meets : T → Type 0) (opening : List (Option T)) where
       let has_told = view_history page user known has (knows_of _ _ _ _ record { sound = told_sound me them knew.sound; number = knew.number; same_opening = knew.same_opening; beginning = knew.beginning; told_before = knew_other.seen; own_so_far = knew.own_so_far }) in
       (gone_page told other them (view_page page user me known is at refl) at_other, view_history told other gone_view has_told record { seen = (has_told.acts, sym (append-nil has_told.acts)); told = (has_told.acts, sym (append-nil has_told.acts)); acting = λ gone. absurd (true≢false gone) })
 
-  pub clears : (slots user operand id : ℕ) (me : User T) → id < 32 → ClearsBit all_bits id operand → me.0.held ≡ None → me.0.gone ≡ false
-      → Allows (IsKept meets opening) slots user me 0 (λ word. bit_and word operand) (Clears meets operand me)
-  clears slots user operand id me within lacks holds_none here page kept places at fits =
+  pub looks_on : (slots place user : ℕ) (me : User T) → 32 * place + 32 ≤ slots → me.0.gone ≡ false → Allows (IsKept meets opening) slots user me place (λ word. word) (LooksOn place me)
+  looks_on slots place user me inside here page kept places at fits =
       let is = kept.0 in
       let has = kept.1 in
-      let word : ℕ = word_of page in
-      elim (cases_lt 0 (bit_at word id)) [
+      let known : UserView T = has_seen me.0 has.acts (me.0.looks + 1) me.0.tries in
+      let knew = (has.informed user me.0 at).acting here in
+      let history = saw_history page page.words user (me.0.looks + 1) me.0.tries me.0 has (λ i. refl) at here in (
+        known,
+        keeps,
+        tt,
+        subst (λ words. IsKept meets opening (state words page.homes (set page.views user known))) (sym (set-get_or page.words place 0)) (
+          keeps_item meets page page.words user me.0 known is refl is.words_fit (λ i. refl) at refl,
+          history.0,
+        ),
+        record {
+          word_fits = is.words_fit place;
+          holds_same = refl;
+          carries_same = refl;
+          looks = refl;
+          tries = refl;
+          goes_on = history.1;
+          clear_are_out = λ bit within clear. is_out_now opening has.acts has.lawful user me.0 here knew (me.0.looks + 1) me.0.tries (item_of place bit) (clear_lies page has place bit within (omega arith) clear);
+        },
+      )
+
+  pub clears : (slots place user operand bit : ℕ) (me : User T) → bit < 32 → 32 * place + 32 ≤ slots → ClearsBit all_bits bit operand → me.0.held ≡ None → me.0.gone ≡ false
+      → Allows (IsKept meets opening) slots user me place (λ word. bit_and word operand) (Clears meets place operand me)
+  clears slots place user operand bit me within inside lacks holds_none here page kept places at fits =
+      let is = kept.0 in
+      let has = kept.1 in
+      let word : ℕ = get_or page.words place 0 in
+      let words : List ℕ = set page.words place (bit_and word operand) in
+      let id : ℕ = item_of place bit in
+      let below : place < length page.words = let all = is.all_places in omega arith in
+      let small = is.words_fit place in
+      let bits = and_clears word operand bit small lacks in
+      let all_fit = fits_after page.words place (bit_and word operand) below is.words_fit (let less = and_le_l word operand in omega arith) in
+      let turned : Turns page.words id 0 words = turns page.words place bit 0 (bit_and word operand) within below bits.clear bits.others in
+      let own_bit : item_bit page.words id ≡ bit_at word bit = item_bit_of page.words place bit within in
+      elim (cases_lt 0 (bit_at word bit)) [
         | inl some_bit ↦
-            let low = bit_at-lt word id in
-            let free : bit_at word id ≡ 1 = omega arith in
-            let item = is.free_is_home id within free in
-            let known : UserView T = acted me.0 has.acts (Took me.0.user id item.0) (Some id) in
-            let history = took_history page user operand id me.0 item.0 is has within lacks free item.1 at here holds_none in (
+            let low = bit_at-lt word bit in
+            let one : bit_at word bit ≡ 1 = omega arith in
+            let free : IsFree page id = own_bit ∙ one in
+            let item = is.free_is_home id (omega arith) free in
+            let known : UserView T = acted me.0 has.acts (Took me.0.user id item.0) (Some id) (me.0.tries + 1) in
+            let history = took_history page words user id me.0 item.0 has (omega arith) turned free item.1 at here holds_none in (
               known,
               takes id (Some item.0),
               item.1,
-              (takes_item meets page user operand id known is within lacks free refl, history.0),
+              (takes_item meets page words user id known is (omega arith) turned all_fit free refl, history.0),
               record {
-                word_fits = is.word_fits;
-                took = λ i inside lacks_i _. subst (λ i. Takes meets i me (known, (id, Some item.0) ∷ me.1)) (lacks_one operand id i inside lacks lacks_i) record { holds = refl; found_same = refl; value = (item.0, item.2, refl, history.1) };
-                missed = λ i inside lacks_i zero. let here = ap (bit_at word) (lacks_one operand id i inside lacks lacks_i) in absurd (omega arith);
+                word_fits = small;
+                took = λ i inside lacks_i _. subst (λ i. Takes meets (item_of place i) me (known, (id, Some item.0) ∷ me.1)) (lacks_one operand bit i inside lacks lacks_i) record { holds = refl; counts = record { looks_same = refl; one_more = refl }; value = (item.0, item.2, refl, history.1) };
+                missed = λ i inside lacks_i zero. let here = ap (bit_at word) (lacks_one operand bit i inside lacks lacks_i) in absurd (omega arith);
               },
             )
         | inr no_bit ↦
-            let out : bit_at word id ≡ 0 = omega arith in
-            let found : ℕ = bit_or me.0.found (1 * 2 ^ id % 2 ^ 32) in
-            let known : UserView T = has_seen me.0 has.acts found in
-            let more = sets_bit me.0.found id within in
-            let history = missed_history page user operand id found me.0 is has lacks out within more at here in (
+            let zero_bit : bit_at word bit ≡ 0 = omega arith in
+            let out : IsOut page id = own_bit ∙ zero_bit in
+            let known : UserView T = has_seen me.0 has.acts me.0.looks (me.0.tries + 1) in
+            let same_bits : (i : ℕ) → item_bit words i ≡ item_bit page.words i = λ i. dite (ℕ_discrete i id) (λ same. ap (item_bit words) same ∙ turned.here ∙ sym out ∙ ap (item_bit page.words) (sym same)) (λ differ. turned.others i differ) in
+            let history = saw_history page words user me.0.looks (me.0.tries + 1) me.0 has same_bits at here in
+            let was_out : KnowsOut known id = is_out_now opening has.acts has.lawful user me.0 here ((has.informed user me.0 at).acting here) me.0.looks (me.0.tries + 1) id (has.out_lies id (omega arith) out) in (
               known,
               keeps,
               tt,
-              (misses_item meets page user operand id me known is lacks at out refl, history.0),
+              (keeps_item meets page words user me.0 known is turned.same_count all_fit same_bits at refl, history.0),
               record {
-                word_fits = is.word_fits;
-                took = λ i inside lacks_i one. let here = ap (bit_at word) (lacks_one operand id i inside lacks lacks_i) in absurd (omega arith);
-                missed = λ i inside lacks_i _. subst (λ i. Misses i me (known, me.1)) (lacks_one operand id i inside lacks lacks_i) record { holds_same = refl; found = more; carries_same = refl; goes_on = history.1 };
+                word_fits = small;
+                took = λ i inside lacks_i one. let here = ap (bit_at word) (lacks_one operand bit i inside lacks lacks_i) in absurd (omega arith);
+                missed = λ i inside lacks_i _. subst (λ i. Misses (item_of place i) me (known, me.1)) (lacks_one operand bit i inside lacks lacks_i) record { holds_same = refl; carries_same = refl; was_out = was_out; counts = record { looks_same = refl; one_more = refl }; goes_on = history.1 };
               },
             )
       ]
 
-  pub gives_back : (slots user operand id : ℕ) (out me : User T) (value : T) → id < 32 → operand < 2 ^ 32 → SetsBit 0 id operand → out.0.held ≡ Some id → out.0.gone ≡ false → out.1 ≡ (id, None) ∷ [] → me ≡ (out.0, (id, Some value) ∷ rest out.1) → meets value
-      → Allows (IsKept meets opening) slots user me 0 (λ word. bit_or word operand) (λ _. Gives me)
+  pub gives_back : (slots user operand id : ℕ) (out me : User T) (value : T) → id < slots → operand < 2 ^ 32 → SetsBit 0 (id % 32) operand → out.0.held ≡ Some id → out.0.gone ≡ false → out.1 ≡ (id, None) ∷ [] → me ≡ (out.0, (id, Some value) ∷ rest out.1) → meets value
+      → Allows (IsKept meets opening) slots user me (id / 32) (λ word. bit_or word operand) (λ _. Gives me)
   gives_back slots user operand id out me value within small sets holds here carries moved met page kept places at fits =
       let is = kept.0 in
       let has = kept.1 in
+      let place : ℕ = id / 32 in
+      let bit : ℕ = id % 32 in
+      let word : ℕ = get_or page.words place 0 in
+      let words : List ℕ = set page.words place (bit_or word operand) in
+      let below : place < length page.words = let all = is.all_places in omega arith in
+      let whole : 32 * place + bit ≡ id = omega arith in
+      let bits = or_sets word operand bit sets in
+      let all_fit = fits_after page.words place (bit_or word operand) below is.words_fit (or_lt 32 word operand (is.words_fit place) small) in
+      let turned : Turns page.words id 1 words = subst (λ i. Turns page.words i 1 words) whole (turns page.words place bit 1 (bit_or word operand) (omega arith) below bits.set bits.others) in
       let holds_now : me.0.held ≡ Some id = ap (λ (user : User T). user.0.held) moved ∙ holds in
       let here_now : me.0.gone ≡ false = ap (λ (user : User T). user.0.gone) moved ∙ here in
       let carries_now : me.1 ≡ (id, Some value) ∷ [] = ap (λ (user : User T). user.1) moved ∙ ap (λ (carried : List (ℕ × Option T)). (id, Some value) ∷ rest carried) carries in
-      let known : UserView T = acted me.0 has.acts (Gave me.0.user id value) None in
-      let history = gave_history page user operand id me.0 value is has within sets at here_now holds_now in (
+      let known : UserView T = acted me.0 has.acts (Gave me.0.user id value) None me.0.tries in
+      let history = gave_history page words user id me.0 value is has (omega arith) turned at here_now holds_now in (
         known,
         gives,
         tt,
-        subst (λ carried. IsKept meets opening (changed page (bit_or (word_of page) operand) (homes_after page.homes carried gives) (set page.views user known))) (sym carries_now) (gives_item meets page user operand id me value known is within small sets at holds_now met refl, history.0),
+        subst (λ carried. IsKept meets opening (state words (homes_after page.homes carried gives) (set page.views user known))) (sym carries_now) (gives_item meets page words user id me value known is (omega arith) turned all_fit at holds_now met refl, history.0),
         record {
           holds_none = refl;
           carries = refl;
@@ -490,3 +499,12 @@ module _ {T : Type 0} (meets : T → Type 0) (opening : List (Option T)) where
               subst (λ (act : PageAct T). GoesOn (act ∷ []) me.0 known) (λ k. Gave me.0.user (same_id k) (same_value k)) history.1;
         },
       )
+
+  -- the same on the first word
+  pub gives_back_first : (slots user operand id : ℕ) (out me : User T) (value : T) → id < 32 → 32 ≤ slots → operand < 2 ^ 32 → SetsBit 0 id operand → out.0.held ≡ Some id → out.0.gone ≡ false → out.1 ≡ (id, None) ∷ [] → me ≡ (out.0, (id, Some value) ∷ rest out.1) → meets value
+      → Allows (IsKept meets opening) slots user me 0 (λ word. bit_or word operand) (λ _. Gives me)
+  gives_back_first slots user operand id out me value first all small sets holds here carries moved met =
+      let place : id / 32 ≡ 0 = omega arith in
+      let bit : id ≡ id % 32 = omega arith in
+      subst (λ place. Allows (IsKept meets opening) slots user me place (λ word. bit_or word operand) (λ _. Gives me)) place
+      (gives_back slots user operand id out me value (omega arith) small (subst (λ bit. SetsBit 0 bit operand) bit sets) holds here carries moved met)

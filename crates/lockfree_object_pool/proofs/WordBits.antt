@@ -1,9 +1,12 @@
 -- The bits of a word after one step.
-use Rattle.std.proofs.Common.{◌≡◌, ℕ, ◌-◌, ◌*◌, ◌/◌, ◌%◌, ◌^◌, ◌<◌, suc, zero, min, bit_and, bit_or, refl, sym, ◌∙◌, ap, arith, inl, inr}
+use Rattle.std.proofs.Common.{◌≡◌, ℕ, ◌-◌, ◌*◌, ◌/◌, ◌%◌, ◌^◌, ◌<◌, suc, zero, min, List, length, set, get_or, get_or-set_same, length-set, ◌≢◌, ◌+◌, bit_and, bit_or, refl, sym, ◌∙◌, ap, arith, inl, inr}
 use Rattle.std.specs.Int.{bit_at, bit_not, w32}
+use native.Mathlib.Decide.{ℕ_discrete}
+use mathlib.Core.Logic.{dite}
+use Rattle.std.proofs.lemmas.List.{get_or-set_other}
 use Rattle.std.proofs.lemmas.Bool.{cases_lt}
 use Rattle.std.proofs.lemmas.Nat.Bits.{bit_at_lowest, bit_at-suc, bit_at_and, bit_at_set_same, bit_at_set_other, bit_at_clear_same, bit_at_clear_other, bit_at_above, bit_at-lt, bit_at_ones, bit_at_or, bit_at-zero}
-use Rattle.lockfree_object_pool.specs.Word.{all_bits, SetsBit, ClearsBit}
+use Rattle.lockfree_object_pool.specs.Word.{all_bits, SetsBit, ClearsBit, item_bit}
 
 -- one less turns the lowest set bit off, the bits below it on, and leaves those above it
 bit_at-less_one : (k word : ℕ) → bit_at word k ≡ 1 → ((i : ℕ) → i < k → bit_at word i ≡ 0) → (i : ℕ) → (i ≡ k → bit_at (word - 1) i ≡ 0) × (k < i → bit_at (word - 1) i ≡ bit_at word i)
@@ -80,3 +83,34 @@ or_sets word operand id has = record {
       let zero = bit_at-zero i in
       omega arith;
 }
+
+-- an item's bit is the bit of its word
+pub item_bit_of : (words : List ℕ) (place bit : ℕ) → bit < 32 → item_bit words (32 * place + bit) ≡ bit_at (get_or words place 0) bit
+item_bit_of words place bit within =
+    let word : (32 * place + bit) / 32 ≡ place = omega arith in
+    let rest : (32 * place + bit) % 32 ≡ bit = omega arith in
+    λ i. bit_at (get_or words (word i) 0) (rest i)
+
+-- the bit of one item alone has changed, and is this now
+pub record Turns (old : List ℕ) (id value : ℕ) (new : List ℕ) : Type 0 where
+  pub here : item_bit new id ≡ value
+  pub others : (i : ℕ) → i ≢ id → item_bit new i ≡ item_bit old i
+  pub same_count : length new ≡ length old
+
+-- words of which one bit of one word has changed
+pub turns : (words : List ℕ) (place bit value new : ℕ) → bit < 32 → place < length words → bit_at new bit ≡ value → ((b : ℕ) → b ≢ bit → bit_at new b ≡ bit_at (get_or words place 0) b) → Turns words (32 * place + bit) value (set words place new)
+turns words place bit value new within inside here others = record {
+  here = item_bit_of (set words place new) place bit within ∙ ap (λ w. bit_at w bit) (get_or-set_same words place new 0 inside) ∙ here;
+  others = λ i differ. dite (ℕ_discrete (i / 32) place)
+      (λ same.
+      let apart : i % 32 ≢ bit = λ e. differ (omega arith) in
+      ap (λ w. bit_at w (i % 32)) (ap (λ p. get_or (set words place new) p 0) same ∙ get_or-set_same words place new 0 inside) ∙ others (i % 32) apart ∙ ap (λ p. bit_at (get_or words p 0) (i % 32)) (sym same))
+      (λ other. ap (λ w. bit_at w (i % 32)) (get_or-set_other words place (i / 32) new 0 other));
+  same_count = length-set words place new;
+}
+
+-- each word still fits, once one has changed
+pub fits_after : (words : List ℕ) (place new : ℕ) → place < length words → ((p : ℕ) → get_or words p 0 < 2 ^ 32) → new < 2 ^ 32 → (p : ℕ) → get_or (set words place new) p 0 < 2 ^ 32
+fits_after words place new inside fit small p = dite (ℕ_discrete p place)
+    (λ same. let here = ap (λ p. get_or (set words place new) p 0) same ∙ get_or-set_same words place new 0 inside in omega arith)
+    (λ other. let was = fit p in let same = get_or-set_other words place p new 0 other in omega arith)

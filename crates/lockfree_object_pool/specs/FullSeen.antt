@@ -10,7 +10,7 @@ use Rattle.lockfree_object_pool.specs.declared.page.full_seen.Allocated.TheVaria
 use Rattle.lockfree_object_pool.specs.Item.{IsItemOf, IsPulledOf}
 use Rattle.lockfree_object_pool.specs.Note.{note_opening, note_history, IsPulledAfter}
 use Rattle.lockfree_object_pool.specs.PageHistory.{History, IsLawful, IsBeginningOf, WasOutBetween}
-use Rattle.lockfree_object_pool.specs.PageRule.{FoundAll, GoesOn}
+use Rattle.lockfree_object_pool.specs.PageRule.{GoesOn}
 use Rattle.lockfree_object_pool.specs.Slot.{slot_item, slot_view}
 use Rattle.lockfree_object_pool.specs.declared.page.TheConstants.{PAGE_ITEMS}
 
@@ -18,10 +18,6 @@ module _ {T : Type 0} where
   -- which page was found full
   abbrev pub full_page : FullSeen T → TableId
   full_page seen = seen.seat.table_id
-
-  -- the ids that were found out, as bits
-  abbrev pub full_found : FullSeen T → ℕ
-  full_found seen = seen.seat.me.0.found
 
   -- what the call knows of the page
   abbrev pub full_view : FullSeen T → UserView T
@@ -43,7 +39,6 @@ module _ {T : Type 0} where
   pub record IsFullOf (page : TableId) (opening : List (Option T)) (seen : FullSeen T) : Type 0 where
     pub of_page : full_page seen ≡ page
     pub same_opening : full_opening seen ≡ opening
-    pub found_all : FoundAll (full_found seen)
     pub lawful : IsLawful opening (full_history seen)
     pub each_was_out : (id : ℕ) → id < PAGE_ITEMS → WasOutBetween opening (full_since seen) (full_history seen) id
 

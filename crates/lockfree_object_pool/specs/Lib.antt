@@ -1,4 +1,9 @@
 pub mod Answers
+pub mod FixedAnswer
+pub mod FixedLends
+pub mod FixedPool
+pub mod FixedRule
+pub mod FixedSlot
 pub mod FullSeen
 pub mod Guard
 pub mod Item

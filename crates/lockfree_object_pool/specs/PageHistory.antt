@@ -1,8 +1,7 @@
 -- The history of a page: what its users do with its items, one act after another. The last act stands first.
-use Rattle.std.specs.Prelude.{◌≡◌, ◌≢◌, ◌⊎◌, ℕ, ◌<◌, ◌==◌, if◌then◌else◌, List, [], ◌∷◌, ◌++◌, get_or, Option, Some, None, ⊤}
+use Rattle.std.specs.Prelude.{◌≡◌, ◌≢◌, ◌⊎◌, ℕ, ◌==◌, if◌then◌else◌, List, [], ◌∷◌, ◌++◌, get_or, Option, Some, None, ⊤}
 use Rattle.lockfree_object_pool.specs.declared.page.history.PageAct.{PageAct}
 use Rattle.lockfree_object_pool.specs.declared.page.history.PageAct.TheVariants.{Took, Gave}
-use Rattle.lockfree_object_pool.specs.declared.page.TheConstants.{PAGE_ITEMS}
 
 -- acts, of which the last stands first
 abbrev pub History : Type 0 → Type 0
@@ -46,13 +45,11 @@ module _ {T : Type 0} where
 
   -- a user that holds nothing takes exactly the value that lies there
   pub record MayTake (opening : List (Option T)) (before : History T) (user id : ℕ) (value : T) : Type 0 where
-    pub in_page : id < PAGE_ITEMS
     pub lies_there : value_at opening before id ≡ Some value
     pub holds_none : held_id (acts_of user before) ≡ None
 
   -- a user gives back the item that it took and hasn't given, where nothing lies
   pub record MayGive (opening : List (Option T)) (before : History T) (user id : ℕ) : Type 0 where
-    pub in_page : id < PAGE_ITEMS
     pub is_out : value_at opening before id ≡ None
     pub holds : held_id (acts_of user before) ≡ Some id
 

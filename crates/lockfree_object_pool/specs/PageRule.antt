@@ -1,5 +1,5 @@
 -- The rule of a page: what holds between any two steps on it, and what each kind of step tells its user.
-use Rattle.std.specs.Prelude.{◌≡◌, ℕ, ◌^◌, ◌<◌, ◌≤◌, ◌↔◌, List, [], ◌∷◌, ◌++◌, true, false, length, slice_index, Option, Some, None}
+use Rattle.std.specs.Prelude.{◌≡◌, ℕ, ◌+◌, ◌*◌, ◌^◌, ◌<◌, ◌≤◌, List, [], ◌∷◌, ◌++◌, true, false, length, slice_index, Option, Some, None}
 use mathlib.Core.Option.{some}
 use lib.ListN.{get_elem?}
 use Rattle.std.specs.Int.{bit_at}
@@ -7,10 +7,9 @@ use Rattle.atomic_table.specs.Table.{State, Me, rest}
 use Rattle.lockfree_object_pool.specs.declared.page.history.PageAct.TheVariants.{Took, Gave}
 use Rattle.lockfree_object_pool.specs.declared.page.user_view.UserView.{UserView}
 use Rattle.lockfree_object_pool.specs.PageHistory.{History, acts_of, held_id, value_at, IsLawful, IsBeginningOf, WasOutBetween}
-use Rattle.lockfree_object_pool.specs.Word.{all_bits, SetsBit, ClearsBit}
-use Rattle.lockfree_object_pool.specs.declared.page.TheConstants.{PAGE_ITEMS}
+use Rattle.lockfree_object_pool.specs.Word.{all_bits, ClearsBit, item_bit}
 
--- a page as plain data: one word, 32 places, and what each user knows
+-- a page as plain data: its words, 32 places a word, and what each user knows
 abbrev pub PageState : Type 0 → Type 0
 PageState T = State (Option T) (UserView T)
 
@@ -20,24 +19,20 @@ User T = Me (Option T) (UserView T)
 
 -- what a page's first user knows
 abbrev pub first_view : {T : Type 0} → List (Option T) → UserView T
-first_view opening = record { held = None; found = 0; user = 0; opening = opening; acts = []; since = []; told = []; gone = false; own = [] }
+first_view opening = record { held = None; user = 0; opening = opening; acts = []; since = []; told = []; gone = false; own = []; looks = 0; tries = 0 }
 
--- the item is free in this word
-abbrev pub IsFree : ℕ → ℕ → Type 0
-IsFree word id = bit_at word id ≡ 1
-
--- the item is out in this word
-abbrev pub IsOut : ℕ → ℕ → Type 0
-IsOut word id = bit_at word id ≡ 0
-
--- each id of a page is found out
-abbrev pub FoundAll : ℕ → Type 0
-FoundAll found = (id : ℕ) → id < PAGE_ITEMS → bit_at found id ≡ 1
+-- the number of the item that a bit of a word stands for
+abbrev pub item_of : ℕ → ℕ → ℕ
+item_of place bit = 32 * place + bit
 
 module _ {T : Type 0} where
-  -- the page's one word
-  abbrev pub word_of : PageState T → ℕ
-  word_of page = slice_index page.words 0
+  -- the item is free
+  abbrev pub IsFree : PageState T → ℕ → Type 0
+  IsFree page id = item_bit page.words id ≡ 1
+
+  -- the item is out
+  abbrev pub IsOut : PageState T → ℕ → Type 0
+  IsOut page id = item_bit page.words id ≡ 0
 
   -- the value lies at its place in the page
   abbrev pub IsHome : PageState T → ℕ → T → Type 0
@@ -53,7 +48,6 @@ module _ {T : Type 0} where
     pub since_load : IsBeginningOf known.since known.acts
     pub own_acts : acts_of known.user known.acts ≡ known.own
     pub holds : known.held ≡ held_id known.own
-    pub found_out : (id : ℕ) → id < PAGE_ITEMS → bit_at known.found id ≡ 1 → WasOutBetween known.opening known.since known.acts id
 
   -- what this user knows is so, of these acts of the page up to now
   pub record IsInformed (opening : List (Option T)) (acts : History T) (user : ℕ) (known : UserView T) : Type 0 where
@@ -72,19 +66,18 @@ module _ {T : Type 0} where
 
   -- what holds between any two steps, of the word, the homes and who holds what
   pub record IsPage (meets : T → Type 0) (page : PageState T) : Type 0 where
-    pub one_word : length page.words ≡ 1
-    pub all_places : length page.homes ≡ PAGE_ITEMS
-    pub word_fits : word_of page < 2 ^ 32
-    pub free_is_home : (id : ℕ) → id < PAGE_ITEMS → IsFree (word_of page) id → (value : T) × IsHome page id value × meets value
-    pub held_is_out : (user id : ℕ) → Holds page user id → (id < PAGE_ITEMS) × IsOut (word_of page) id
+    pub all_places : length page.homes ≡ 32 * length page.words
+    pub words_fit : (place : ℕ) → slice_index page.words place < 2 ^ 32
+    pub free_is_home : (id : ℕ) → id < length page.homes → IsFree page id → (value : T) × IsHome page id value × meets value
+    pub held_is_out : (user id : ℕ) → Holds page user id → (id < length page.homes) × IsOut page id
     pub one_holder : (user other id : ℕ) → Holds page user id → Holds page other id → user ≡ other
 
   -- the page stands where one lawful history of its users' acts has led, of which each user knows a beginning
   pub record HasHistory (opening : List (Option T)) (page : PageState T) : Type 0 where
     pub acts : History T
     pub lawful : IsLawful opening acts
-    pub free_lies : (id : ℕ) → id < PAGE_ITEMS → IsFree (word_of page) id → (value : T) → IsHome page id value → value_at opening acts id ≡ Some value
-    pub out_lies : (id : ℕ) → id < PAGE_ITEMS → IsOut (word_of page) id → value_at opening acts id ≡ None
+    pub free_lies : (id : ℕ) → id < length page.homes → IsFree page id → (value : T) → IsHome page id value → value_at opening acts id ≡ Some value
+    pub out_lies : (id : ℕ) → id < length page.homes → IsOut page id → value_at opening acts id ≡ None
     pub informed : (user : ℕ) (known : UserView T) → get_elem? page.views user ≡ some known → Knows opening acts user known
     pub no_stranger : (user : ℕ) → length page.views ≤ user → acts_of user acts ≡ []
 
@@ -103,30 +96,42 @@ module _ {T : Type 0} where
     pub own : new.own ≡ made ++ old.own
     pub sound : IsSound new
 
+  -- the user knows that the item was out, at some place since its call's first load
+  abbrev pub KnowsOut : UserView T → ℕ → Type 0
+  KnowsOut known id = WasOutBetween known.opening known.since known.acts id
+
+  -- one step more: a bit was tried
+  pub record HasTried (old new : UserView T) : Type 0 where
+    pub looks_same : new.looks ≡ old.looks
+    pub one_more : new.tries ≡ old.tries + 1
+
   module _ (meets : T → Type 0) where
-    -- the id was free: the user holds it now, and the value that lay there, which meets the condition
+    -- the item was free: the user holds it now, and the value that lay there, which meets the condition
     pub record Takes (id : ℕ) (old new : User T) : Type 0 where
       pub holds : new.0.held ≡ Some id
-      pub found_same : new.0.found ≡ old.0.found
+      pub counts : HasTried old.0 new.0
       pub value : (value : T) × meets value × (new.1 ≡ (id, Some value) ∷ old.1) × GoesOn (Took new.0.user id value ∷ []) old.0 new.0
 
-  -- the id was out: the user has found it out now
+  -- the item was out: the user knows it now
   pub record Misses (id : ℕ) (old new : User T) : Type 0 where
     pub holds_same : new.0.held ≡ old.0.held
-    pub found : SetsBit old.0.found id new.0.found
     pub carries_same : new.1 ≡ old.1
+    pub was_out : KnowsOut new.0 id
+    pub counts : HasTried old.0 new.0
     pub goes_on : GoesOn [] old.0 new.0
 
-  -- a load by a new user: it has found out the ids that are clear in the word
-  pub record Looks (first : UserView T) (word : ℕ) (new : User T) : Type 0 where
+  -- a load of one word by a new user: it knows that the items are out whose bits are clear
+  pub record Looks (first : UserView T) (place word : ℕ) (new : User T) : Type 0 where
     pub word_fits : word < 2 ^ 32
     pub holds_none : new.0.held ≡ None
-    pub found : (id : ℕ) → id < PAGE_ITEMS → bit_at new.0.found id ≡ 1 ↔ IsOut word id
     pub here : new.0.gone ≡ false
     pub same_opening : new.0.opening ≡ first.opening
     pub from_now : new.0.since ≡ new.0.acts
     pub did_nothing : new.0.own ≡ []
+    pub looks : new.0.looks ≡ 1
+    pub tries : new.0.tries ≡ 0
     pub sound : IsSound new.0
+    pub clear_are_out : (bit : ℕ) → bit < 32 → bit_at word bit ≡ 0 → KnowsOut new.0 (item_of place bit)
 
   -- where a user stands after a load, that knew this before
   pub record StartsFrom (known start : UserView T) : Type 0 where
@@ -138,26 +143,37 @@ module _ {T : Type 0} where
     pub after_known : IsBeginningOf known.acts start.acts
     pub after_told : IsBeginningOf known.told start.acts
 
-  -- a load by a user that knew something: it knows more now, and has found out the ids that are clear in the word
-  pub record LooksAgain (old : User T) (word : ℕ) (new : User T) : Type 0 where
+  -- a load by a user that knew something: it knows more now, and what it finds out starts anew
+  pub record LooksAgain (place : ℕ) (old : User T) (word : ℕ) (new : User T) : Type 0 where
     pub word_fits : word < 2 ^ 32
     pub holds_same : new.0.held ≡ old.0.held
-    pub found : (id : ℕ) → id < PAGE_ITEMS → bit_at new.0.found id ≡ 1 ↔ IsOut word id
     pub here : new.0.gone ≡ false
     pub starts : StartsFrom old.0 new.0
     pub carries_same : new.1 ≡ old.1
     pub sound : IsSound new.0
+    pub clear_are_out : (bit : ℕ) → bit < 32 → bit_at word bit ≡ 0 → KnowsOut new.0 (item_of place bit)
+
+  -- a load of a further word by the same call: what it knows goes on from its first load
+  pub record LooksOn (place : ℕ) (old : User T) (word : ℕ) (new : User T) : Type 0 where
+    pub word_fits : word < 2 ^ 32
+    pub holds_same : new.0.held ≡ old.0.held
+    pub carries_same : new.1 ≡ old.1
+    pub looks : new.0.looks ≡ old.0.looks + 1
+    pub tries : new.0.tries ≡ old.0.tries
+    pub goes_on : GoesOn [] old.0 new.0
+    pub clear_are_out : (bit : ℕ) → bit < 32 → bit_at word bit ≡ 0 → KnowsOut new.0 (item_of place bit)
 
   -- a clearing of the one bit that the operand leaves out
-  pub record Clears (meets : T → Type 0) (operand : ℕ) (old : User T) (word : ℕ) (new : User T) : Type 0 where
+  pub record Clears (meets : T → Type 0) (place operand : ℕ) (old : User T) (word : ℕ) (new : User T) : Type 0 where
     pub word_fits : word < 2 ^ 32
-    pub took : (id : ℕ) → id < PAGE_ITEMS → ClearsBit all_bits id operand → IsFree word id → Takes meets id old new
-    pub missed : (id : ℕ) → id < PAGE_ITEMS → ClearsBit all_bits id operand → IsOut word id → Misses id old new
+    pub took : (bit : ℕ) → bit < 32 → ClearsBit all_bits bit operand → bit_at word bit ≡ 1 → Takes meets (item_of place bit) old new
+    pub missed : (bit : ℕ) → bit < 32 → ClearsBit all_bits bit operand → bit_at word bit ≡ 0 → Misses (item_of place bit) old new
 
-  -- the user has taken the id, and the value that lay there has moved out
+  -- the user has taken the item, and the value that lay there has moved out
   pub record MovesOut (id : ℕ) (value : T) (old new : User T) : Type 0 where
     pub holds : new.0.held ≡ Some id
     pub carries : new.1 ≡ (id, None) ∷ old.1
+    pub counts : HasTried old.0 new.0
     pub goes_on : GoesOn (Took new.0.user id value ∷ []) old.0 new.0
 
   -- a return: the user holds nothing any more, and the value that it had taken last is home
@@ -168,12 +184,12 @@ module _ {T : Type 0} where
 
 -- a user that was told what another knew
 abbrev pub told_of : {T : Type 0} → UserView T → UserView T → UserView T
-told_of old other = record { held = old.held; found = old.found; user = old.user; opening = old.opening; acts = old.acts; since = old.since; told = other.acts; gone = old.gone; own = old.own }
+told_of old other = record { held = old.held; user = old.user; opening = old.opening; acts = old.acts; since = old.since; told = other.acts; gone = old.gone; own = old.own; looks = old.looks; tries = old.tries }
 
 -- who only remembers what another knew
 abbrev pub witness_of : {T : Type 0} → UserView T → UserView T
-witness_of known = record { held = None; found = 0; user = 0; opening = known.opening; acts = known.acts; since = []; told = []; gone = true; own = [] }
+witness_of known = record { held = None; user = 0; opening = known.opening; acts = known.acts; since = []; told = []; gone = true; own = []; looks = 0; tries = 0 }
 
 -- a user that has gone
 abbrev pub gone_view : {T : Type 0} → UserView T
-gone_view = record { held = None; found = 0; user = 0; opening = []; acts = []; since = []; told = []; gone = true; own = [] }
+gone_view = record { held = None; user = 0; opening = []; acts = []; since = []; told = []; gone = true; own = []; looks = 0; tries = 0 }

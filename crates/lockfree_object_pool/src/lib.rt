@@ -5,6 +5,7 @@
 
 pub mod clean;
 pub mod closures;
+pub mod fixed_pool;
 pub mod free_list;
 mod lender;
 pub mod linear_object_pool;
@@ -30,6 +31,7 @@ pub mod stack_reusable;
 #[cfg(test)]
 mod testing;
 
+pub use fixed_pool::FixedPool;
 pub use linear_object_pool::LinearObjectPool;
 pub use linear_owned_reusable::LinearOwnedReusable;
 pub use linear_reusable::LinearReusable;

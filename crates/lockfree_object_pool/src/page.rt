@@ -23,10 +23,10 @@ mod full_seen;
 pub mod history;
 mod note;
 mod owned_slot;
-mod rule;
+pub(crate) mod rule;
 mod slot;
 mod steps;
-mod user_view;
+pub(crate) mod user_view;
 
 pub use full_seen::{Allocated, FullSeen, PullPass};
 pub(crate) use note::Returned;
@@ -74,7 +74,7 @@ pub fn without_bit(word: u32, id: PageId) -> u32
 }
 
 /// Whether the bit is set.
-fn has_bit(word: u32, id: PageId) -> bool
+pub(crate) fn has_bit(word: u32, id: PageId) -> bool
     requires { id < PAGE_ITEMS }
     ensures { IsTrue result ↔ (bit_at word id ≡ 1) }
 {
@@ -101,7 +101,7 @@ impl<T, K: Clean<T>> Page<T, K> {
     ghost use Rattle.lockfree_object_pool.specs.Item.{IsPulledOf};
     ghost use Rattle.lockfree_object_pool.specs.Note.{note_page, witness_page, IsReturned, IsNoteOf, HasLearned};
     ghost use Rattle.lockfree_object_pool.specs.Page.{page_identity, page_opening, IsFilled};
-    ghost use Rattle.lockfree_object_pool.specs.PageRule.{IsSound, IsOut};
+    ghost use Rattle.lockfree_object_pool.specs.PageRule.{IsSound, KnowsOut, item_of};
     ghost use Rattle.lockfree_object_pool.specs.Refusal.{RefusesMaking};
     ghost use Rattle.lockfree_object_pool.specs.Slot.{slot_item};
 
@@ -225,7 +225,7 @@ impl<T, K: Clean<T>> Page<T, K> {
         requires holds_none { seat.me.0.held ≡ None }
         requires here { seat.me.0.gone ≡ false }
         requires sound { IsSound seat.me.0 }
-        requires found { (id : ℕ) → id < PAGE_ITEMS → IsOut word id → bit_at seat.me.0.found id ≡ 1 }
+        requires found { (id : ℕ) → id < PAGE_ITEMS → bit_at word id ≡ 0 → KnowsOut seat.me.0 (item_of 0 id) }
         ensures { IsAnswerFrom K.meets (page_identity self.now) seat.me.0 result }
     {
         let mut untried = word;

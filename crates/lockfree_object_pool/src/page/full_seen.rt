@@ -1,6 +1,4 @@
 //! What a pull has when each id of a page was found out.
-ghost use Rattle.lockfree_object_pool.specs.PageRule.{FoundAll};
-
 use super::PageSlot;
 use super::user_view::UserSeat;
 use crate::clean::Clean;
@@ -21,10 +19,9 @@ impl PullPass {
 /// It borrows its pass, so it can't be kept past the pull.
 #[derive(Drop)]
 pub struct FullSeen<'p, T> {
-    pub(super) seat: UserSeat<T>,
+    pub(crate) seat: UserSeat<T>,
     /// Kept for its lifetime alone.
-    pub(super) pass: &'p PullPass,
-    ghost found_all: { FoundAll seat.me.0.found },
+    pub(crate) pass: &'p PullPass,
 }
 
 /// What a page answers to a pull.

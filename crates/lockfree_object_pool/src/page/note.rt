@@ -16,7 +16,7 @@ pub struct Witness<T> {
 /// [`Page::try_alloc_from`] pulls after all that it knows.
 #[derive(Drop)]
 pub struct PageNote<T> {
-    pub(super) seat: UserSeat<T>,
+    pub(crate) seat: UserSeat<T>,
     ghost here: { seat.me.0.gone ≡ false },
     ghost holds_none: { seat.me.0.held ≡ None } by { same_holding _ _ },
     ghost carries_none: { seat.me.1 ≡ [] } by { same_carrying T.code _ _ },

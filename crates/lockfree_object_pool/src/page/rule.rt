@@ -26,22 +26,31 @@ impl<T, K: Clean<T>> TableRule<Option<T>, UserView<T>, Snapshot<Vec<Option<T>>>>
     ghost first = { λ key. first_view key.value.items };
 }
 
-/// A load of the word by a new user.
+/// A load of one word by a new user.
 pub struct Look;
 
 impl<T> Play<Option<T>, UserView<T>> for Look {
     ghost use Rattle.lockfree_object_pool.specs.PageRule.{Looks};
 
-    ghost then = { λ _ first word new. Looks first.0 word new };
+    ghost then = { λ step first word new. Looks first.0 step.word word new };
 }
 
-/// A load of the word by a user that knows something already.
+/// A load of one word by a user that knows something already: what it finds out from there on starts anew.
 pub struct LookAgain;
 
 impl<T> Play<Option<T>, UserView<T>> for LookAgain {
     ghost use Rattle.lockfree_object_pool.specs.PageRule.{LooksAgain};
 
-    ghost then = { λ _ old word new. LooksAgain old word new };
+    ghost then = { λ step old word new. LooksAgain step.word old word new };
+}
+
+/// A load of a further word by the same call: what it finds out goes on from its first load.
+pub struct LookOn;
+
+impl<T> Play<Option<T>, UserView<T>> for LookOn {
+    ghost use Rattle.lockfree_object_pool.specs.PageRule.{LooksOn};
+
+    ghost then = { λ step old word new. LooksOn step.word old word new };
 }
 
 /// A user leaves a witness of what it knows.
@@ -74,7 +83,7 @@ pub struct ClearBit<K> {
 impl<T, K: Clean<T>> Play<Option<T>, UserView<T>> for ClearBit<K> {
     ghost use Rattle.lockfree_object_pool.specs.PageRule.{Clears};
 
-    ghost then = { λ step old word new. Clears K.meets step.first old word new };
+    ghost then = { λ step old word new. Clears K.meets step.word step.first old word new };
 }
 
 /// A step that sets one bit of the word, once its value is back home.

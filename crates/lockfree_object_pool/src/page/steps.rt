@@ -12,10 +12,10 @@ impl<T, K: Clean<T>> Page<T, K> {
     ghost use Rattle.lockfree_object_pool.specs.PageRule.{Looks, LooksAgain, Misses, MovesOut, GoesOn, first_view};
     ghost use Rattle.lockfree_object_pool.specs.Page.{page_identity, page_opening};
 
-    /// The word at this moment, and a new user that has found out the ids that are clear in it.
+    /// The word at this moment, and a new user that knows of the ids that are clear in it.
     pub(super) fn look(&self) -> (u32, UserSeat<T>)
         ensures page { result.1.table_id ≡ page_identity self.now }
-        ensures found { Looks (first_view (page_opening self.now)) result.0 result.1.me }
+        ensures found { Looks (first_view (page_opening self.now)) 0 result.0 result.1.me }
         ensures carries_none { result.1.me.1 ≡ [] }
     {
         let (word, seat) = self.table.shared.load_new_seat::<Look>(0);
@@ -27,7 +27,7 @@ impl<T, K: Clean<T>> Page<T, K> {
         requires page { seat.old.table_id ≡ page_identity self.now }
         requires here { seat.old.me.0.gone ≡ false }
         ensures page { seat.new.table_id ≡ seat.old.table_id }
-        ensures found { LooksAgain seat.old.me result seat.new.me }
+        ensures found { LooksAgain 0 seat.old.me result seat.new.me }
     {
         self.table.shared.load::<LookAgain>(seat, 0) as u32
     }

@@ -3,11 +3,12 @@ use Rattle.std.specs.Int.{bit_at}
 use Rattle.std.proofs.lemmas.Nat.Bits.{bit_at-zero}
 use Rattle.lockfree_object_pool.specs.Item.{Item, IsItemOf}
 use Rattle.lockfree_object_pool.specs.Page.{page_identity}
-use Rattle.lockfree_object_pool.specs.PageRule.{GoesOn}
+use Rattle.lockfree_object_pool.specs.PageRule.{GoesOn, KnowsOut, item_of}
 use Rattle.lockfree_object_pool.specs.Slot.{item_known}
 use Rattle.lockfree_object_pool.specs.declared.page.history.PageAct.TheVariants.{Took}
 use Rattle.lockfree_object_pool.specs.declared.page.user_view.UserView.{UserView}
-use Rattle.lockfree_object_pool.proofs.PageActs.{goes_on_further, was_out_from, still_found}
+use Rattle.lockfree_object_pool.proofs.PageActs.{goes_on_further}
+use Rattle.lockfree_object_pool.proofs.PageAnswers.{out_or_untried, was_out_from}
 use Rattle.lockfree_object_pool.proofs.page.Page.take_lowest.Goals as goal
 
 pub returns-in-Some-clear : goal.returns-in-Some-clear
@@ -30,7 +31,7 @@ loop-rest-preserved g c =
     record {
       same_page = c.clear.ensures.page ∙ before.same_page;
       carries_none = missed.carries_same ∙ before.carries_none;
-      found_or_untried = still_found c.loop-rest.untried c.in-Some.rest c.loop-rest.seat.me.0.found c.clear.new.seat.me.0.found c.in-Some.id c.in-Some.ensures.rest missed.found before.found_or_untried;
+      out_or_untried = out_or_untried c.loop-rest.untried c.in-Some.id c.in-Some.rest c.loop-rest.seat.me c.clear.new.seat.me c.in-Some.ensures.rest missed before.out_or_untried;
       holds_none = missed.holds_same ∙ before.holds_none;
       follows = goes_on_further _ c.args.seat.me.0 c.loop-rest.seat.me.0 c.clear.new.seat.me.0 before.follows missed.goes_on;
     }
@@ -39,5 +40,5 @@ pub returns : goal.returns
 returns g c =
     let at_end = c.loop-rest.invariant in
     let none_left : c.loop-rest.untried ≡ 0 = c.in_default.ensures.none.0 (search) in
-    let all : (id : ℕ) → id < 32 → bit_at c.loop-rest.seat.me.0.found id ≡ 1 = λ id within. at_end.found_or_untried id within (ap (λ w. bit_at w id) none_left ∙ bit_at-zero id) in
-    (at_end.same_page, at_end.follows, λ id within. was_out_from c.args.seat.me.0 c.loop-rest.seat.me.0 id at_end.follows within (all id within))
+    let all : (id : ℕ) → id < 32 → KnowsOut c.loop-rest.seat.me.0 (item_of 0 id) = λ id within. at_end.out_or_untried id within (ap (λ w. bit_at w id) none_left ∙ bit_at-zero id) in
+    (at_end.same_page, at_end.follows, λ id within. was_out_from c.args.seat.me.0 c.loop-rest.seat.me.0 id at_end.follows (all id within))

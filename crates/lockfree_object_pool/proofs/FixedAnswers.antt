@@ -1,0 +1,119 @@
+-- What a pool answers, told by what the answer shows and no longer by its user's view.
+use Rattle.std.proofs.Common.{◌≡◌, ◌≢◌, [], ◌∷◌, ◌++◌, ℕ, ◌+◌, ◌-◌, ◌*◌, ◌<◌, ◌≤◌, None, ap, sym, ◌∙◌, subst, arith, inl, inr}
+use Rattle.std.specs.Int.{bit_at}
+use Rattle.std.proofs.lemmas.Bool.{cases_lt}
+use native.Mathlib.Decide.{ℕ_discrete}
+use mathlib.Core.Logic.{dite}
+use Rattle.atomic_table.specs.Seated.{TableId}
+use Rattle.lockfree_object_pool.specs.declared.page.history.PageAct.TheVariants.{Took}
+use Rattle.lockfree_object_pool.specs.declared.page.user_view.UserView.{UserView}
+use Rattle.lockfree_object_pool.specs.declared.page.full_seen.FullSeen.{FullSeen}
+use Rattle.lockfree_object_pool.specs.FixedAnswer.{IsPulledOf, IsBusyOf}
+use Rattle.lockfree_object_pool.specs.Slot.{item_known}
+use Rattle.lockfree_object_pool.specs.PageHistory.{WasOutBetween}
+use Rattle.lockfree_object_pool.specs.Word.{ClearsBit, IsLeastBit}
+use Rattle.lockfree_object_pool.specs.PageRule.{User, item_of, GoesOn, KnowsOut, Looks, LooksOn, Misses}
+use Rattle.lockfree_object_pool.specs.FixedRule.{MissesAll, TakesOne}
+use Rattle.lockfree_object_pool.proofs.PageActs.{lawful_of, goes_on_further, still_out}
+use Rattle.lockfree_object_pool.proofs.PageHolders.{came_from_lawful}
+
+-- the bits are tried from the lowest on, so a bit that is left has as many tries before it as there are bits below it at most
+pub more_tried : (untried bit left start before after : ℕ) → IsLeastBit untried bit → ClearsBit untried bit left → after ≡ before + 1
+    → ((i : ℕ) → i < 32 → bit_at untried i ≡ 1 → before ≤ start + i) → (i : ℕ) → i < 32 → bit_at left i ≡ 1 → after ≤ start + i
+more_tried untried bit left start before after least clears more within i below one =
+    let apart : i ≢ bit = λ same. let clear = clears.clear in let here = ap (bit_at left) same in absurd (omega arith) in
+    let was_set : bit_at untried i ≡ 1 = sym (clears.others i apart) ∙ one in
+    let tried = within bit least.in_page least.set in
+    elim (cases_lt i bit) [
+      | inl lower ↦ let none = least.lowest i lower in absurd (omega arith)
+      | inr past ↦ omega arith
+    ]
+
+module _ {T : Type 0} where
+  -- one more bit was tried in vain
+  pub out_or_untried : (place untried bit left : ℕ) (old new : User T) → ClearsBit untried bit left → Misses (item_of place bit) old new
+      → ((i : ℕ) → i < 32 → bit_at untried i ≡ 0 → KnowsOut old.0 (item_of place i)) → (i : ℕ) → i < 32 → bit_at left i ≡ 0 → KnowsOut new.0 (item_of place i)
+  out_or_untried place untried bit left old new clears missed before i within none = dite (ℕ_discrete i bit)
+      (λ same. subst (λ i. KnowsOut new.0 (item_of place i)) (sym same) missed.was_out)
+      (λ differ. still_out old.0 new.0 (item_of place i) missed.goes_on (before i within (sym (clears.others i differ) ∙ none)))
+
+  -- each bit of a word was tried in vain
+  pub word_missed : (place : ℕ) (old new : User T) → new.0.held ≡ old.0.held → new.1 ≡ old.1 → GoesOn [] old.0 new.0 → ((bit : ℕ) → bit < 32 → KnowsOut new.0 (item_of place bit)) → MissesAll (32 * place) (32 * place + 32) old new
+  word_missed place old new held carries goes each = record {
+    holds_same = held;
+    carries_same = carries;
+    each_was_out = λ id from to. let whole : 32 * place + (id - 32 * place) ≡ id = omega arith in subst (KnowsOut new.0) whole (each (id - 32 * place) (omega arith));
+    goes_on = goes;
+  }
+
+  -- what a user did in vain, and then a further load
+  pub misses_looked : (from to place word : ℕ) (one two three : User T) → MissesAll from to one two → LooksOn place two word three → MissesAll from to one three
+  misses_looked from to place word one two three missed looked = record {
+    holds_same = looked.holds_same ∙ missed.holds_same;
+    carries_same = looked.carries_same ∙ missed.carries_same;
+    each_was_out = λ id above below. still_out two.0 three.0 id looked.goes_on (missed.each_was_out id above below);
+    goes_on = goes_on_further [] one.0 two.0 three.0 missed.goes_on looked.goes_on;
+  }
+
+  -- and then a further word
+  pub misses_more : (from middle to : ℕ) (one two three : User T) → MissesAll from middle one two → MissesAll middle to two three → MissesAll from to one three
+  misses_more from middle to one two three first second = record {
+    holds_same = second.holds_same ∙ first.holds_same;
+    carries_same = second.carries_same ∙ first.carries_same;
+    each_was_out = λ id above below. elim (cases_lt id middle) [
+      | inl before ↦ still_out two.0 three.0 id second.goes_on (first.each_was_out id above before)
+      | inr past ↦ second.each_was_out id (omega arith) below
+    ];
+    goes_on = goes_on_further [] one.0 two.0 three.0 first.goes_on second.goes_on;
+  }
+
+  pub takes_after : (meets : T → Type 0) (items from to id : ℕ) (value : T) (one two three : User T) → MissesAll from to one two → TakesOne meets items id value two three → TakesOne meets items id value one three
+  takes_after meets items from to id value one two three missed taken = record {
+    in_pool = taken.in_pool;
+    meets_condition = taken.meets_condition;
+    holds = taken.holds;
+    carries = taken.carries ∙ ap (λ l. (id, None) ∷ l) missed.carries_same;
+    goes_on = goes_on_further (Took three.0.user id value ∷ []) one.0 two.0 three.0 missed.goes_on taken.goes_on;
+  }
+
+  -- the item that a pull took
+  pub answer_taken : (meets : T → Type 0) (pool : TableId) (first : UserView T) (place word : ℕ) (start known : User T) (seated : TableId) (id : ℕ) (value : T) → Looks first place word start → TakesOne meets pool.slots id value start known → seated ≡ pool
+      → IsPulledOf meets pool first.opening (item_known seated known.0 id value)
+  answer_taken meets pool first place word start known seated id value looked taken same =
+      let goes = taken.goes_on in
+      record {
+        of_pool = same;
+        in_pool = taken.in_pool;
+        meets_condition = taken.meets_condition;
+        same_opening = goes.same_opening ∙ looked.same_opening;
+        pulled = record {
+          lawful = goes.sound.lawful;
+          before = goes.acts.0 ++ start.0.acts;
+          last = goes.acts.1;
+          origin = came_from_lawful known.0.opening known.0.acts (goes.acts.0 ++ start.0.acts) known.0.user id value goes.acts.1 goes.sound.lawful;
+          only = goes.sound.own_acts ∙ goes.own ∙ ap (λ own. Took known.0.user id value ∷ own) looked.did_nothing;
+        };
+      }
+
+  -- a pool of which each item was found out, in three stretches
+  pub answer_busy : (pool : TableId) (first : UserView T) (place word words : ℕ) (start one two : User T) (busy : FullSeen T) → pool.slots ≡ 32 * words → Looks first place word start
+      → MissesAll (32 * place) (32 * place + 32) start one → MissesAll (32 * (place + 1)) (32 * words) one two → MissesAll 0 (32 * place) two busy.seat.me → busy.seat.table_id ≡ pool
+      → IsBusyOf pool first.opening busy
+  answer_busy pool first place word words start one two busy sized looked own behind before same =
+      let last : User T = busy.seat.me in
+      let goes : GoesOn [] start.0 last.0 = goes_on_further [] start.0 one.0 last.0 own.goes_on (goes_on_further [] one.0 two.0 last.0 behind.goes_on before.goes_on) in
+      let opened : last.0.opening ≡ first.opening = goes.same_opening ∙ looked.same_opening in
+      let known : (id : ℕ) → id < pool.slots → KnowsOut last.0 id = λ id within. elim (cases_lt id (32 * place)) [
+        | inl low ↦ before.each_was_out id (omega arith) low
+        | inr high ↦ still_out two.0 last.0 id before.goes_on (elim (cases_lt id (32 * place + 32)) [
+          | inl here ↦ still_out one.0 two.0 id behind.goes_on (own.each_was_out id (omega arith) here)
+          | inr past ↦ behind.each_was_out id (omega arith) (omega arith)
+        ])
+      ] in
+      record {
+        of_pool = same;
+        same_opening = opened;
+        lawful = lawful_of first.opening last.0 opened goes.sound;
+        goes_on = goes.sound.since_load;
+        each_was_out = λ id within. subst (λ o. WasOutBetween o last.0.since last.0.acts id) opened (known id within);
+      }
