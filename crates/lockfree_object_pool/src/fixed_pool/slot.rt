@@ -4,8 +4,8 @@ ghost use Rattle.lockfree_object_pool.specs.OneProof.{same_page, same_holding, s
 ghost use Rattle.lockfree_object_pool.specs.FixedPool.{pool_identity, pool_items};
 
 use crate::clean::Clean;
-use crate::lender::Lender;
 use crate::fixed_pool::FixedPool;
+use crate::lender::Lender;
 use crate::page::user_view::UserSeat;
 use crate::page::{FullSeen, PageNote};
 use std::ops::{Deref, DerefMut};

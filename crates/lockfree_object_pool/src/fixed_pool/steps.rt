@@ -72,7 +72,11 @@ impl<T, K: Clean<T>> FixedPool<T, K> {
             Some(_) => unreachable!(),
         }
         let place = id / PAGE_ITEMS;
-        let word = words.fetch_or::<SetBit>(&mut seat, place, with_bit(0, (id % PAGE_ITEMS) as PageId) as u64);
+        let word = words.fetch_or::<SetBit>(
+            &mut seat,
+            place,
+            with_bit(0, (id % PAGE_ITEMS) as PageId) as u64,
+        );
         if word == 0 {
             self.set_hint(place);
         }
