@@ -36,6 +36,3 @@ pub trait Reset<T, K: Clean<T>>: Drop {
         ensures leaves { leaves self.now value.old value.new }
         ensures meets { K.meets value.new };
 }
-
-#[cfg(test)]
-mod tests;

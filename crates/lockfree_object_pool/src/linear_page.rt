@@ -210,6 +210,3 @@ fn made_page<T: Drop, K: Clean<T>, O: Clean<T>, I: Fn() -> Option<T>>(
     let page = Arc::new(alloc, Page::new(alloc, init)?)?;
     Ok(OpenedPage::new(page))
 }
-
-#[cfg(test)]
-mod tests;

@@ -49,6 +49,3 @@ impl<T, I: Fn() -> Option<T>> Debug for NoneObjectPool<T, I> {
         f.debug_struct("NoneObjectPool").finish_non_exhaustive()
     }
 }
-
-#[cfg(test)]
-mod tests;

@@ -34,6 +34,3 @@ impl<X: Drop> From<AllocFailed<X>> for PullError {
         PullError::Memory
     }
 }
-
-#[cfg(test)]
-mod tests;

@@ -74,6 +74,3 @@ impl<T: Recyclable> Pool<T> {
         LinearObjectPool::new(alloc, recycler, recycler)
     }
 }
-
-#[cfg(test)]
-mod tests;

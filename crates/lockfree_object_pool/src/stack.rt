@@ -117,6 +117,3 @@ impl<T: Drop, K: Clean<T>> Drop for Stack<T, K> {
         let Stack { head: _, marker: _ } = self;
     }
 }
-
-#[cfg(test)]
-mod tests;

@@ -81,6 +81,3 @@ impl<I: Init<Vec<u8>, Empty>, R: Reset<Vec<u8>, Empty>> Debug for BufferPool<I, 
             .finish()
     }
 }
-
-#[cfg(test)]
-mod tests;

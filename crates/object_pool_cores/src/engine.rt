@@ -148,6 +148,3 @@ fn run_none<H: Wait, S: closures::Reset<u32, AnyValue>, R: Read, W: Write>(
     let core = NoneCore::new(Copied::new(0));
     serve(rt, &mut Player::new(alloc, core), input, output)
 }
-
-#[cfg(test)]
-mod tests;

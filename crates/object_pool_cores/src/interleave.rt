@@ -16,6 +16,3 @@ pub use crate::run_error::RunError;
 pub use event::{Event, Seen};
 pub use prepared::Prepared;
 pub use world::World;
-
-#[cfg(test)]
-mod tests;

@@ -24,6 +24,3 @@ pub use player::Player;
 pub use reply::Reply;
 pub use sequential_pool::SequentialPool;
 pub use stack_core::StackCore;
-
-#[cfg(test)]
-mod tests;

@@ -1,35 +1,16 @@
-//! The linear pool in use. Here stands what makes and resets the values of its tests.
+//! Tests of the linear pool that look into it, or that prove by hand. Here stands what makes and resets their values.
 ghost use Rattle.std.specs.Prelude.{◌≡◌, None, IfOk};
 ghost use Rattle.lockfree_object_pool.specs.LinearPool.{pool_limit};
 
 use super::*;
-use crate::clean::AnyValue;
-use crate::closures::Keep;
-use crate::testing::counted::{Counted, CountedValues, Counts, NEVER};
 use crate::testing::zeros::{CountedZeros, ToZero, Zero, new_calls};
 use std::sync::atomic::AtomicUsize;
 use std::sync::atomic::Ordering::SeqCst;
 
-mod callers;
-mod closures;
 mod hinted_pages;
 mod hints;
-mod limits;
-mod makers;
-mod one_thread;
 mod origins;
-mod owned_pages;
-mod owners;
-mod refusals;
-mod resets;
 mod sends;
-mod threads;
-
-/// A pool of values that are counted.
-type Tracked<'c> = LinearObjectPool<Counted<'c>, CountedValues<'c>, Keep, AnyValue>;
-
-/// A pool that keeps what was written, or refuses.
-type Kept = Result<LinearObjectPool<u32, CountedZeros, Keep, AnyValue>, PullError>;
 
 /// A pool that resets to 0, or refuses.
 type Cleared = Result<LinearObjectPool<u32, CountedZeros, ToZero, Zero>, PullError>;
@@ -45,28 +26,6 @@ fn held<'p>(
         items.push(pool.pull()?)?;
     }
     Ok(items)
-}
-
-fn kept(alloc: Global, calls: &Arc<AtomicUsize>) -> Kept {
-    let calls = Arc::try_clone(calls)?;
-    LinearObjectPool::new(alloc, CountedZeros { calls }, Keep)
-}
-
-fn counted<'c>(
-    alloc: Global,
-    counts: &'c Counts,
-    refused: usize,
-) -> Result<Tracked<'c>, PullError> {
-    LinearObjectPool::new(alloc, CountedValues { counts, refused }, Keep)
-}
-
-/// The same in an `Arc`.
-fn shared<'c>(
-    alloc: Global,
-    counts: &'c Counts,
-    refused: usize,
-) -> Result<Arc<Tracked<'c>>, PullError> {
-    Ok(Arc::new(alloc, counted(alloc, counts, refused)?)?)
 }
 
 fn cleared(alloc: Global, calls: &Arc<AtomicUsize>) -> Cleared

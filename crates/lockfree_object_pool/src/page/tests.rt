@@ -17,8 +17,4 @@ fn sets_and_clears_one_bit(rt: HostRuntime) {
 }
 
 mod histories;
-mod ids;
-mod rounds;
 mod sharing;
-mod slots;
-mod values;

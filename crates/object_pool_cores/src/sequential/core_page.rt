@@ -119,6 +119,3 @@ fn made_items<T: Drop, I: Fn() -> Option<T>, K: Clean<T>>(
     }
     Ok(page)
 }
-
-#[cfg(test)]
-mod tests;

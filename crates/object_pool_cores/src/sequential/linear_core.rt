@@ -189,6 +189,3 @@ impl<T: Drop, I: Init<T, K>, R: Reset<T, K>, K: Clean<T>> SequentialPool<T>
     ghost together_after_write = { λ core held index item value together here.
         HeldTogether-written core held index item value together here };
 }
-
-#[cfg(test)]
-mod tests;

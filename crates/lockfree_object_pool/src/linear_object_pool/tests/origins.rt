@@ -5,7 +5,7 @@ ghost use Rattle.lockfree_object_pool.specs.PageHistory.{History, WasReturned};
 ghost use Rattle.lockfree_object_pool.specs.declared.page.history.PageAct.TheVariants.{Took};
 
 use super::*;
-use crate::closures::Copied;
+use crate::closures::{Copied, Keep};
 use std::mem::size_of;
 use std::test::Fail;
 

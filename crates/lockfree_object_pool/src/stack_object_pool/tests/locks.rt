@@ -1,6 +1,5 @@
 //! A lock that another thread holds: a pull and a return wait for it, and neither makes an item
 //! nor throws one away.
-use super::waits::wait_for;
 use super::*;
 use std::test::Fail;
 use std::thread;
@@ -8,6 +7,23 @@ use std::thread::{JoinHandle, Threads};
 
 /// How long a lock is held after the other thread's call began, unless that call returns before.
 const TURNS: u32 = 10_000;
+
+/// A thread that still waits after so many turns gives up, and its test fails.
+const MOST_TURNS: u32 = 10_000_000;
+
+/// A pool that keeps what was written.
+type Kept<F> = StackObjectPool<u32, CountedZeros, Keep, AnyValue, F>;
+
+/// Whether a count came to be at least 1.
+fn wait_for(count: &AtomicUsize) -> bool {
+    for _ in 0..MOST_TURNS {
+        if count.load(SeqCst) > 0 {
+            return true;
+        }
+        thread::yield_now();
+    }
+    false
+}
 
 /// How far two threads are: the one that holds the lock, and the one whose call waits for it.
 #[derive(Drop)]
@@ -50,19 +66,29 @@ impl Steps {
     }
 }
 
-/// A free list whose lock can be held.
-trait Lockable: Kind<u32, AnyValue> {
+/// A free list whose lock can be held, with the public call that makes its kind of pool.
+trait Lockable: FreeList<u32, AnyValue> {
+    fn new_pool(alloc: Global, init: CountedZeros) -> Result<Kept<Self>, PullError>;
+
     fn lock_during<W: Wait>(&self, rt: &W, steps: &Steps);
 }
 
-impl Lockable for UnderMutex<u32, AnyValue> {
+impl Lockable for Mutex<Stack<u32, AnyValue>> {
+    fn new_pool(alloc: Global, init: CountedZeros) -> Result<Kept<Self>, PullError> {
+        Ok(MutexObjectPool::new(alloc, init, Keep))
+    }
+
     fn lock_during<W: Wait>(&self, rt: &W, steps: &Steps) {
         let _guard = self.lock(rt);
         steps.hold();
     }
 }
 
-impl Lockable for UnderSpinLock<u32, AnyValue> {
+impl Lockable for SpinLock<Stack<u32, AnyValue>> {
+    fn new_pool(alloc: Global, init: CountedZeros) -> Result<Kept<Self>, PullError> {
+        SpinLockObjectPool::new(alloc, init, Keep)
+    }
+
     fn lock_during<W: Wait>(&self, rt: &W, steps: &Steps) {
         let _guard = self.lock(rt);
         steps.hold();
@@ -84,7 +110,10 @@ fn waits_for_the_lock<
     W: Abort + Wait + Threads + Copy + Send + 'static,
 >(rt: &W, alloc: Global) -> Result<(), Fail> {
     let calls = new_calls(alloc)?;
-    let pool = kept::<F>(alloc, &calls)?;
+    let init = CountedZeros {
+        calls: Arc::try_clone(&calls)?,
+    };
+    let pool = Arc::new(alloc, F::new_pool(alloc, init)?)?;
     *pool.pull(rt)? = 5;
     let steps = Arc::new(alloc, Steps::new())?;
     let holder = hold_elsewhere(rt, &pool, &steps).ok_or("a thread is made")?;
@@ -106,6 +135,6 @@ fn waits_for_the_lock<
 
 #[test]
 fn a_pull_and_a_return_wait_for_the_lock(rt: HostRuntime) -> Result<(), Fail> {
-    waits_for_the_lock::<UnderMutex<u32, AnyValue>, _>(&rt, rt.alloc())?;
-    waits_for_the_lock::<UnderSpinLock<u32, AnyValue>, _>(&rt, rt.alloc())
+    waits_for_the_lock::<Mutex<Stack<u32, AnyValue>>, _>(&rt, rt.alloc())?;
+    waits_for_the_lock::<SpinLock<Stack<u32, AnyValue>>, _>(&rt, rt.alloc())
 }

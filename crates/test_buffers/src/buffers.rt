@@ -1,0 +1,184 @@
+//! Buffers in use: what one thread sees, what five threads see, and proved callers.
+ghost use Rattle.std.specs.Prelude.{◌≡◌, ◌≤◌, ◌++◌, ℕ, [], Option, IfOk, IfSome};
+ghost use Rattle.std.specs.Global.{Vec};
+ghost use Rattle.object_pool_cores.specs.Buffers.{bytes_of};
+
+use lockfree_object_pool::PullError;
+use lockfree_object_pool::closures::{InitBy, Makes, ResetBy, Resets};
+use object_pool_cores::buffers::*;
+use std::alloc::Global;
+use std::sync::Arc;
+use std::test::Fail;
+use std::thread;
+
+mod sizes;
+
+/// A thread that still asks after so many refusals gives up, and its test fails.
+const MOST_TURNS: u32 = 10_000_000;
+
+/// A pool that needs no closures.
+type ReadyPool = BufferPool<WithCapacity, Clear>;
+
+/// A pool of one page, whose buffers have room for 16 bytes.
+fn one_page(alloc: Global) -> Result<ReadyPool, PullError> {
+    BufferPool::new(alloc, WithCapacity::new(alloc, 16), Clear, 1)
+}
+
+/// What a buffer holds after two appends, and what the same room holds when it is pulled again.
+fn written_and_pulled(alloc: Global, pool: &ReadyPool) -> Result<(Vec<u8>, usize), PullError>
+    ensures again { IfOk result (λ both. both.1 ≡ 0) }
+{
+    let mut buffer = pool.pull()?;
+    buffer.append(b"ab")?;
+    buffer.append(b"c")?;
+    let written = Vec::from_slice(alloc, buffer.as_slice())?;
+    drop(buffer); // it is in the pool again
+    let again = pool.pull()?;
+    Ok((written, again.as_slice().len()))
+}
+
+/// After two appends a pulled buffer holds both texts, one behind the other.
+fn joined(
+    buffer: &mut Buffer<'_, WithCapacity, Clear>,
+    first: &[u8],
+    second: &[u8],
+) -> Result<(), PullError>
+    requires { bytes_of buffer.old ≡ [] }
+    ensures { IfOk result (λ _. bytes_of buffer.new ≡ first.now ++ second.now) }
+{
+    buffer.append(first)?;
+    buffer.append(second)
+}
+
+/// A pool of one page, of any two closures that leave each buffer empty.
+fn pulled_by<I: InitBy<Vec<u8>>, R: ResetBy<Vec<u8>>>(
+    alloc: Global,
+    init: I,
+    reset: R,
+) -> Result<usize, PullError>
+    requires may_make { I.may_make init }
+    requires makes { (answer : Option (Vec ℕ)) → I.makes init answer
+        → IfSome answer (λ bytes. bytes.items ≡ []) }
+    requires may_reset { R.may_reset reset }
+    requires leaves { (old new : Vec ℕ) → R.resets reset old new → new.items ≡ [] }
+    ensures { IfOk result (λ len. len ≡ 0) }
+{
+    let init = Makes::<Vec<u8>, I, Empty>::new(init);
+    let reset = Resets::<Vec<u8>, R, Empty>::new(reset);
+    let pool = BufferPool::new(alloc, init, reset, 1)?;
+    let mut buffer = pool.pull()?;
+    buffer.append(b"left behind")?;
+    drop(buffer); // it is in the pool again
+    let again = pool.pull()?;
+    Ok(again.as_slice().len())
+}
+
+#[test]
+fn a_buffer_holds_what_was_appended_and_comes_again_empty(rt: HostRuntime) -> Result<(), Fail> {
+    let pool = one_page(rt.alloc())?;
+    let (written, again) = written_and_pulled(rt.alloc(), &pool)?;
+    assert_eq!(rt; written.as_slice(), b"abc".as_slice());
+    assert_eq!(rt; again, 0);
+    let mut buffer = pool.pull()?;
+    assert_eq!(rt; (buffer.page_number(), buffer.page_id()), (0, 0));
+    joined(&mut buffer, b"to", b"gether")?;
+    assert_eq!(rt; buffer.as_slice(), b"together".as_slice());
+    Ok(())
+}
+
+#[test]
+fn a_full_pool_refuses(rt: HostRuntime) -> Result<(), Fail> {
+    let pool = one_page(rt.alloc())?;
+    let mut buffers = Vec::with_capacity(rt.alloc(), 32)?;
+    for _ in 0..32 {
+        buffers.push(pool.pull()?)?;
+    }
+    assert_eq!(rt; pool.pull().err(), Some(PullError::Limit));
+    Ok(())
+}
+
+#[test]
+fn closures_make_and_clear_buffers(rt: HostRuntime) -> Result<(), Fail> {
+    let alloc = rt.alloc();
+    let made = pulled_by(
+        alloc,
+        || fresh(alloc, 16),
+        |bytes: &mut Vec<u8>| clear(bytes),
+    );
+    assert_eq!(rt; made, Ok(0));
+    let refused = pulled_by(alloc, || None, |bytes: &mut Vec<u8>| clear(bytes));
+    assert_eq!(rt; refused, Err(PullError::Init));
+    Ok(())
+}
+
+/// Pulls, looks, appends and drops, a hundred times. Whether
+/// each buffer was empty and then held what was appended.
+fn fill_often(pool: &ReadyPool) -> bool {
+    let bytes = [7u8; 100];
+    for _ in 0..100 {
+        let Some(mut buffer) = pulled_at_last(pool) else {
+            return false;
+        };
+        let empty = buffer.as_slice().is_empty();
+        if !empty || buffer.append(&bytes).is_err() || buffer.as_slice() != bytes.as_slice() {
+            return false;
+        }
+    }
+    true
+}
+
+/// A buffer, asked for again where all are out.
+fn pulled_at_last(pool: &ReadyPool) -> Option<Buffer<'_, WithCapacity, Clear>> {
+    for _ in 0..MOST_TURNS {
+        match pool.pull() {
+            Ok(buffer) => return Some(buffer),
+            Err(PullError::Limit) => thread::yield_now(),
+            Err(_) => return None,
+        }
+    }
+    None
+}
+
+#[test]
+fn five_threads_find_each_buffer_empty(rt: HostRuntime) -> Result<(), Fail> {
+    let pool = Arc::new(rt.alloc(), one_page(rt.alloc())?)?;
+    let mut threads = Vec::with_capacity(rt.alloc(), 5)?;
+    for _ in 0..5 {
+        let pool = Arc::try_clone(&pool)?;
+        threads.push(thread::spawn(&rt, move || fill_often(&pool))?)?;
+    }
+    for thread in threads {
+        assert!(rt; thread.join(&rt));
+    }
+    Ok(())
+}
+
+/// Where the second append is refused for memory, the bytes stay as they were, and it can be asked for again.
+#[test]
+fn a_refused_append_leaves_the_bytes(rt: HostRuntime) -> Result<(), Fail> {
+    let pool = one_page(rt.alloc())?;
+    let mut buffer = pool.pull()?;
+    buffer.append(b"kept")?;
+    let more = [1u8; 100];
+    if let Err(refusal) = buffer.append(&more) {
+        assert_eq!(rt; refusal, PullError::Memory);
+        assert_eq!(rt; buffer.as_slice(), b"kept".as_slice());
+        buffer.append(&more)?;
+    }
+    assert_eq!(rt;
+        (buffer.as_slice().len(), buffer.as_slice()[0]),
+        (104, b'k')
+    );
+    Ok(())
+}
+
+#[test]
+fn a_pool_and_its_buffer_are_shown(rt: HostRuntime) -> Result<(), Fail> {
+    let pool = one_page(rt.alloc())?;
+    let mut buffer = pool.pull()?;
+    buffer.append(&[7, 9])?;
+    let text = format!(in rt.alloc(); "{pool:?} {buffer:?}")?;
+    let expected = "BufferPool { pool: LinearObjectPool { limit: Some(1), .. } } [7, 9]";
+    assert_eq!(rt; text.as_str(), expected);
+    Ok(())
+}

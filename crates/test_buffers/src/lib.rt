@@ -1,0 +1,5 @@
+//! Tests of the pool of byte buffers.
+#![tactic(auto)]
+
+#[cfg(test)]
+mod buffers;

@@ -1,0 +1,67 @@
+//! Pools of one line: ready-made function objects, no condition to name, and types that a user's struct can keep and show.
+ghost use Rattle.std.specs.Prelude.{◌≡◌, [], IfOk};
+
+use super::*;
+use lockfree_object_pool::{
+    LinearObjectPool, MutexObjectPool, MutexReusable, PullError, SpinLockObjectPool,
+};
+use std::sync::Wait;
+
+/// A pool of buffers, and what a pulled one holds.
+fn pulled_buffer(alloc: Global) -> Result<Vec<u8>, PullError>
+    ensures { IfOk result (λ bytes. bytes.items ≡ []) }
+{
+    let pool: LinearObjectPool<Vec<u8>, _, _, Empty> = LinearObjectPool::new(
+        alloc,
+        WithCapacity::new(alloc, 4096),
+        Clear,
+    )?;
+    let bytes = pool.pull()?;
+    Ok(Vec::from_slice(alloc, &bytes)?)
+}
+
+/// A server that keeps its pools and shows them.
+#[derive(Debug, Drop)]
+struct Server {
+    sessions: LinearObjectPool<u32, Copied<u32, AnyValue>, Keep>,
+    jobs: MutexObjectPool<u32, Copied<u32, AnyValue>, Keep>,
+    names: SpinLockObjectPool<u32, Copied<u32, AnyValue>, Keep>,
+}
+
+fn new_server(alloc: Global) -> Result<Server, PullError> {
+    Ok(Server {
+        sessions: LinearObjectPool::with_limit(alloc, Copied::new(7), Keep, 2)?,
+        jobs: MutexObjectPool::new(alloc, Copied::new(7), Keep),
+        names: SpinLockObjectPool::new(alloc, Copied::new(7), Keep)?,
+    })
+}
+
+/// A job that keeps its item and shows it.
+#[derive(Debug, Drop)]
+struct Job<'p, W: Wait + Copy> {
+    item: MutexReusable<'p, u32, Copied<u32, AnyValue>, Keep, AnyValue, W>,
+}
+
+#[test]
+fn a_buffer_pool_is_one_line(rt: HostRuntime) -> Result<(), Fail> {
+    assert_eq!(rt; pulled_buffer(rt.alloc())?.len(), 0);
+    Ok(())
+}
+
+#[test]
+fn a_struct_that_keeps_pools_and_items_is_shown(rt: HostRuntime) -> Result<(), Fail> {
+    let server = new_server(rt.alloc())?;
+    let shown = format!(in rt.alloc(); "{server:?}")?;
+    let expected = "Server { sessions: LinearObjectPool { limit: Some(2), .. }, \
+                    jobs: StackObjectPool { .. }, names: StackObjectPool { .. } }";
+    assert_eq!(rt; shown.as_str(), expected);
+    let job = Job {
+        item: server.jobs.pull(&rt)?,
+    };
+    let shown = format!(in rt.alloc(); "{job:?}")?;
+    assert_eq!(rt; shown.as_str(), "Job { item: 7 }");
+    let (session, name) = (server.sessions.pull()?, server.names.pull(&rt)?);
+    let shown = format!(in rt.alloc(); "{session:?} {name:?}")?;
+    assert_eq!(rt; shown.as_str(), "7 7");
+    Ok(())
+}

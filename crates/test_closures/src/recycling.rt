@@ -1,0 +1,92 @@
+//! A pool of a type that says itself how its values are made and reset.
+ghost use Rattle.std.specs.Prelude.{◌≡◌, [], IfSome};
+
+use lockfree_object_pool::recycling::{OwnedReusable, Pool, Recyclable, Recycler, Reusable};
+use lockfree_object_pool::{LinearObjectPool, PullError};
+use std::alloc::Global;
+use std::sync::Arc;
+use std::test::Fail;
+
+mod resets;
+
+/// Words and their sum, as a worker gathers them.
+#[derive(Debug, Drop)]
+struct Scratch {
+    words: Vec<u32>,
+    sum: u64,
+}
+
+impl Recyclable for Scratch {
+    ghost is_clean = { λ scratch. (scratch.words.items ≡ []) × (scratch.sum ≡ 0) };
+
+    fn make(alloc: Global) -> Option<Scratch> {
+        Some(Scratch {
+            words: Vec::with_capacity(alloc, 4).ok()?,
+            sum: 0,
+        })
+    }
+
+    fn reset(&mut self) {
+        self.words.clear();
+        self.sum = 0;
+    }
+}
+
+/// A worker that keeps its pool.
+#[derive(Debug, Drop)]
+struct Worker {
+    pool: Pool<Scratch>,
+}
+
+impl Worker {
+    /// What a pulled value holds, which is then written.
+    fn use_once(&self) -> Option<(usize, u64)>
+        ensures { IfSome result (λ found. (found.0 ≡ 0) × (found.1 ≡ 0)) }
+    {
+        let mut scratch = self.pool.pull().ok()?;
+        let found = (scratch.words.len(), scratch.sum);
+        scratch.words.push(5).ok()?;
+        scratch.sum = 5;
+        Some(found)
+    }
+}
+
+#[test]
+fn each_use_finds_the_scratch_clean(rt: HostRuntime) -> Result<(), Fail> {
+    let worker = Worker {
+        pool: Pool::with_recycler(rt.alloc())?,
+    };
+    for _ in 0..3 {
+        assert_eq!(rt; worker.use_once(), Some((0, 0)));
+    }
+    Ok(())
+}
+
+#[test]
+fn a_bounded_pool_of_recyclable_values(rt: HostRuntime) -> Result<(), Fail> {
+    let recycler = Recycler::new(rt.alloc());
+    let pool: Pool<Scratch> = LinearObjectPool::with_limit(rt.alloc(), recycler, recycler, 1)?;
+    assert_eq!(rt; pool.limit(), Some(1));
+    let scratch: Reusable<'_, Scratch> = pool.pull()?;
+    assert_eq!(rt; scratch.sum, 0);
+    Ok(())
+}
+
+#[test]
+fn an_owned_value_and_its_pool_are_shown(rt: HostRuntime) -> Result<(), Fail> {
+    let worker = Worker {
+        pool: Pool::with_recycler(rt.alloc())?,
+    };
+    let shown = format!(in rt.alloc(); "{worker:?}")?;
+    assert_eq!(rt;
+        shown.as_str(),
+        "Worker { pool: LinearObjectPool { limit: None, .. } }"
+    );
+    let pool = Arc::new(rt.alloc(), worker.pool)?;
+    let mut scratch: OwnedReusable<Scratch> = pool.pull_owned()?;
+    scratch.words.push(7)?;
+    scratch.sum = 7;
+    let shown = format!(in rt.alloc(); "{scratch:?}")?;
+    assert_eq!(rt; shown.as_str(), "Scratch { words: [7], sum: 7 }");
+    Ok(())
+}

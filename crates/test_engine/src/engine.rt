@@ -1,0 +1,210 @@
+//! Whole inputs with their outputs, and devices that fail.
+use object_pool_cores::engine::*;
+use std::alloc::Global;
+use std::io::{Read, Write};
+use std::sync::Wait;
+use std::test::Fail;
+
+mod devices;
+mod failures;
+mod long_inputs;
+
+use devices::{Device, Interrupted};
+
+/// Plays an input on a pool, of at least one page where it has a limit.
+fn play<H: Wait, R: Read, W: Write>(
+    rt: &H,
+    alloc: Global,
+    kind: Kind,
+    reset: Reset,
+    input: &mut R,
+    output: &mut W,
+) -> Result<(), EngineError> {
+    let kind = match kind {
+        Kind::Bounded(pages) => Kind::Bounded(pages.max(1)),
+        Kind::Linear | Kind::Stack | Kind::None => kind,
+    };
+    run(rt, alloc, kind, reset, input, output)
+}
+
+/// What the engine answers to an input.
+fn output_of<H: Wait>(
+    rt: &H,
+    alloc: Global,
+    kind: Kind,
+    reset: Reset,
+    input: &str,
+) -> Result<Vec<u8>, Fail> {
+    let mut output = Vec::new(alloc);
+    let mut bytes = input.as_bytes();
+    play(rt, alloc, kind, reset, &mut bytes, &mut output)?;
+    Ok(output)
+}
+
+#[test]
+fn answers_each_line(rt: HostRuntime) -> Result<(), Fail> {
+    let rows = [
+        (
+            Reset::Keep,
+            "pull\nwrite 0 5\nreturn 0\npull\n",
+            "pulled 0 number 0 value 0\nwritten 0\nreturned 0\npulled 1 number 0 value 5\n",
+        ),
+        (Reset::Keep, "attach 1\n", "not offered\n"),
+        (
+            Reset::Zero,
+            "pull\npul",
+            "pulled 0 number 0 value 0\nbad line\n",
+        ),
+        (
+            Reset::Keep,
+            "pull\nwrite 0000000000 0000000005\nwrite 00000000000 5\n",
+            "pulled 0 number 0 value 0\nwritten 0\nbad line\n",
+        ),
+        (
+            Reset::Keep,
+            "pull \nwrite  0 5\nreturn\n",
+            "bad line\nbad line\nbad line\n",
+        ),
+        (Reset::Keep, "pull\r\n", "bad line\n"),
+        (
+            Reset::Keep,
+            "return 4294967295\nreturn 4294967296\n",
+            "no such holder\nbad line\n",
+        ),
+        (
+            Reset::Keep,
+            "pull\nforget 0\nreturn 0\npull\n",
+            "pulled 0 number 0 value 0\nforgotten 0\nno such holder\npulled 1 number 1 value 0\n",
+        ),
+    ];
+    for (reset, input, expected) in rows {
+        let output = output_of(&rt, rt.alloc(), Kind::Linear, reset, input)?;
+        assert_eq!(rt; output.as_slice(), expected.as_bytes(), "{input:?}");
+    }
+    Ok(())
+}
+
+#[test]
+fn a_reset_to_zero_and_bad_lines(rt: HostRuntime) -> Result<(), Fail> {
+    let input =
+        "return 3\npull\nPULL\nwrite 0 4294967296\nwrite 0 4294967295\nreturn 0\nreturn 0\npull\n\n";
+    let expected =
+        "no such holder\npulled 0 number 0 value 0\nbad line\nbad line\nwritten 0\nreturned 0\nno such holder\npulled 1 number 0 value 0\nbad line\n";
+    let output = output_of(&rt, rt.alloc(), Kind::Linear, Reset::Zero, input)?;
+    assert_eq!(rt; output.as_slice(), expected.as_bytes());
+    Ok(())
+}
+
+#[test]
+fn a_line_of_more_than_64_bytes_is_bad(rt: HostRuntime) -> Result<(), Fail> {
+    let letters = "aaaaaaaaaaaaaaaaaaaaaaaaaaaaaaaaaaaaaaaaaaaaaaaaaaaaaaaaaaaaaaaa";
+    assert_eq!(rt; letters.len(), 64);
+    let input = format!(in rt.alloc(); "{letters}pull\npull\n")?;
+    let output = output_of(&rt, rt.alloc(), Kind::Linear, Reset::Keep, input.as_str())?;
+    assert_eq!(rt;
+        output.as_slice(),
+        b"bad line\npulled 0 number 0 value 0\n".as_slice()
+    );
+    Ok(())
+}
+
+#[test]
+fn a_bounded_pool_refuses_at_its_limit(rt: HostRuntime) -> Result<(), Fail> {
+    let mut input = String::new(rt.alloc());
+    let mut expected = String::new(rt.alloc());
+    for i in 0..33u8 {
+        input.push_str("pull\n")?;
+        if i < 32 {
+            write!(expected, "pulled {i} number {i} value 0\n")?;
+        }
+    }
+    input.push_str("return 7\npull\n")?;
+    expected.push_str("refused limit\nreturned 7\npulled 32 number 7 value 0\n")?;
+    let output = output_of(
+        &rt,
+        rt.alloc(),
+        Kind::Bounded(1),
+        Reset::Keep,
+        input.as_str(),
+    )?;
+    assert_eq!(rt; output.as_slice(), expected.as_bytes());
+    Ok(())
+}
+
+#[test]
+fn plays_a_stack_and_fresh_items(rt: HostRuntime) -> Result<(), Fail> {
+    let rows = [
+        (
+            Kind::Stack,
+            "attach 9\nreturn 0\npull\nforget 1\npull\n",
+            "attached 0\nreturned 0\npulled 1 value 9\nforgotten 1\npulled 2 value 0\n",
+        ),
+        (
+            Kind::None,
+            "pull\nwrite 0 5\nreturn 0\npull\nattach 1\n",
+            "pulled 0 value 0\nwritten 0\nreturned 0\npulled 1 value 0\nnot offered\n",
+        ),
+    ];
+    for (kind, input, expected) in rows {
+        let output = output_of(&rt, rt.alloc(), kind, Reset::Keep, input)?;
+        assert_eq!(rt; output.as_slice(), expected.as_bytes(), "{input:?}");
+    }
+    Ok(())
+}
+
+#[test]
+fn no_line_has_no_reply(rt: HostRuntime) -> Result<(), Fail> {
+    for kind in [Kind::Linear, Kind::Bounded(1), Kind::Stack, Kind::None] {
+        let output = output_of(&rt, rt.alloc(), kind, Reset::Zero, "")?;
+        assert_eq!(rt; output.len(), 0, "{kind:?}");
+    }
+    Ok(())
+}
+
+#[test]
+fn replies_to_one_read_are_one_write(rt: HostRuntime) {
+    let mut input = SESSION;
+    let mut output = Device::new(1024, 1024);
+    let result = run(
+        &rt,
+        rt.alloc(),
+        Kind::Linear,
+        Reset::Keep,
+        &mut input,
+        &mut output,
+    );
+    assert_eq!(rt; result, Ok(()));
+    // One write for the read, and one for the line that has no line feed.
+    assert_eq!(rt; (output.bytes(), output.calls()), (REPLIES, 2));
+}
+
+#[test]
+fn an_interrupted_read_or_write_is_a_failed_one(rt: HostRuntime) {
+    let mut input = Interrupted { is_next: false };
+    let mut output = Device::new(1024, 1024);
+    let result = run(
+        &rt,
+        rt.alloc(),
+        Kind::Stack,
+        Reset::Zero,
+        &mut input,
+        &mut output,
+    );
+    assert_eq!(rt; result, Err(EngineError::Read));
+    let mut input = SESSION;
+    let mut output = Interrupted { is_next: false };
+    let result = run(
+        &rt,
+        rt.alloc(),
+        Kind::Stack,
+        Reset::Zero,
+        &mut input,
+        &mut output,
+    );
+    assert_eq!(rt; result, Err(EngineError::Write));
+}
+
+const SESSION: &[u8] = b"pull\nwrite 0 5\nreturn 0\npull";
+
+const REPLIES: &[u8] =
+    b"pulled 0 number 0 value 0\nwritten 0\nreturned 0\npulled 1 number 0 value 5\n";

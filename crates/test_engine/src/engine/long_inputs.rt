@@ -1,0 +1,118 @@
+//! Inputs of more bytes than one read takes, of many reads, and the end of an input.
+use super::devices::Lines;
+use super::*;
+use std::io;
+
+/// How many pulls are played.
+const PULLS: usize = 1500;
+
+/// The replies to pulls alone on a linear pool.
+fn replies(alloc: Global) -> Result<String, Fail> {
+    let mut text = String::new(alloc);
+    for pulled in 0..PULLS {
+        write!(text, "pulled {pulled} number {pulled} value 0\n")?;
+    }
+    Ok(text)
+}
+
+#[test]
+fn an_input_that_fills_each_read_is_answered_line_by_line(rt: HostRuntime) -> Result<(), Fail> {
+    let mut input = String::new(rt.alloc());
+    for _ in 0..PULLS {
+        input.push_str("pull\n")?;
+    }
+    let output = output_of(&rt, rt.alloc(), Kind::Linear, Reset::Keep, input.as_str())?;
+    let expected = replies(rt.alloc())?;
+    assert!(rt; output.as_slice() == expected.as_bytes());
+    Ok(())
+}
+
+#[test]
+fn a_limit_of_ten_digits_needs_no_memory_beforehand(rt: HostRuntime) -> Result<(), Fail> {
+    let kind = Kind::Bounded(4294967295);
+    let output = output_of(&rt, rt.alloc(), kind, Reset::Keep, "pull\n")?;
+    assert_eq!(rt;
+        output.as_slice(),
+        b"pulled 0 number 0 value 0\n".as_slice()
+    );
+    Ok(())
+}
+
+#[test]
+fn each_of_many_reads_is_answered(rt: HostRuntime) -> Result<(), Fail> {
+    let mut input = Lines::new(b"pull\n", PULLS);
+    let mut output = Vec::new(rt.alloc());
+    let result = play(
+        &rt,
+        rt.alloc(),
+        Kind::Linear,
+        Reset::Keep,
+        &mut input,
+        &mut output,
+    );
+    assert_eq!(rt; result, Ok(()));
+    let expected = replies(rt.alloc())?;
+    assert!(rt; output.as_slice() == expected.as_bytes());
+    Ok(())
+}
+
+/// Gives its bytes, and counts the reads behind them.
+#[derive(Drop)]
+struct Ends {
+    bytes: &'static [u8],
+    reads_at_end: u32,
+}
+
+impl Read for Ends {
+    fn read(&mut self, buf: &mut [u8]) -> io::Result<usize> {
+        if self.bytes.is_empty() {
+            self.reads_at_end = self.reads_at_end.saturating_add(1);
+            return Ok(0);
+        }
+        let count = self.bytes.len().min(buf.len());
+        let (first, rest) = self.bytes.split_at(count);
+        buf[..count].copy_from_slice(first);
+        self.bytes = rest;
+        Ok(count)
+    }
+}
+
+#[test]
+fn the_end_of_an_input_is_read_once(rt: HostRuntime) {
+    for (bytes, replies) in [
+        (b"".as_slice(), b"".as_slice()),
+        (b"pull\n", b"pulled 0 value 0\n"),
+        (b"pull", b"pulled 0 value 0\n"),
+    ] {
+        let mut input = Ends {
+            bytes,
+            reads_at_end: 0,
+        };
+        let mut output = Device::new(64, 64);
+        let result = run(
+            &rt,
+            rt.alloc(),
+            Kind::None,
+            Reset::Keep,
+            &mut input,
+            &mut output,
+        );
+        assert_eq!(rt; (result, output.bytes()), (Ok(()), replies));
+        assert_eq!(rt; input.reads_at_end, 1);
+    }
+}
+
+#[test]
+fn each_error_tells_its_cause(rt: HostRuntime) -> Result<(), Fail> {
+    let rows = [
+        (EngineError::Read, "read failed"),
+        (EngineError::Write, "write failed"),
+        (EngineError::Memory, "out of memory"),
+    ];
+    for (error, text) in rows {
+        assert_eq!(rt; format!(in rt.alloc(); "{error}")?.as_str(), text);
+    }
+    let text = format!(in rt.alloc(); "{}", object_pool_cores::sequential::RunError::Memory)?;
+    assert_eq!(rt; text.as_str(), "out of memory");
+    Ok(())
+}

@@ -1,0 +1,5 @@
+//! Tests of the engine over lines.
+#![tactic(auto)]
+
+#[cfg(test)]
+mod engine;

@@ -1,0 +1,142 @@
+//! Proved callers: what they know of a pulled value, of its place, and of a refusal.
+ghost use Rattle.std.specs.Prelude.{◌≡◌, ◌<◌, ℕ, Option, None, Some, IfOk, IfErr, IfSome};
+ghost use Rattle.lockfree_object_pool.specs.LinearPool.{pool_first_page, pool_limit, reusable_item, reusable_number, reusable_with, owned_with};
+ghost use Rattle.lockfree_object_pool.specs.declared.pull_error.PullError.TheVariants.{Memory};
+
+use super::*;
+use lockfree_object_pool::closures::{Copied, InitBy, Makes, ResetBy, Resets};
+use std::test::Fail;
+
+/// Whatever other threads do, a pulled value meets the condition.
+fn pulled<K: Clean<u32>, I: Init<u32, K>, R: Reset<u32, K>>(
+    pool: &LinearObjectPool<u32, I, R, K>,
+) -> Option<u32>
+    ensures { IfSome result K.meets }
+{
+    Some(*pool.pull().ok()?)
+}
+
+fn pulled_owned<K: Clean<u32>, I: Init<u32, K>, R: Reset<u32, K>>(
+    pool: &Arc<LinearObjectPool<u32, I, R, K>>,
+) -> Option<u32>
+    ensures { IfSome result K.meets }
+{
+    Some(*pool.pull_owned().ok()?)
+}
+
+/// A write changes the value alone.
+fn write<K: Clean<u32>, I: Init<u32, K>, R: Reset<u32, K>>(
+    item: &mut LinearReusable<'_, u32, I, R, K>,
+    value: u32,
+)
+    ensures { item.new ≡ reusable_with item.old value }
+{
+    **item = value;
+}
+
+fn write_owned<K: Clean<u32>, I: Init<u32, K>, R: Reset<u32, K>>(
+    item: &mut LinearOwnedReusable<u32, I, R, K>,
+    value: u32,
+)
+    ensures { item.new ≡ owned_with item.old value }
+{
+    **item = value;
+}
+
+/// What is read is what was written last, and the item keeps its place.
+fn read_back<K: Clean<u32>, I: Init<u32, K>, R: Reset<u32, K>>(
+    mut item: LinearReusable<'_, u32, I, R, K>,
+) -> (usize, u8, u32)
+    ensures number { result.0 ≡ reusable_number item.entry }
+    ensures id { result.1 ≡ (reusable_item item.entry).id }
+    ensures value { result.2 ≡ 9 }
+{
+    *item = 8;
+    *item += 1;
+    (item.page_number(), item.page_id(), *item)
+}
+
+/// With page number 0 the item is of the pool's first page.
+fn of_first<'p>(
+    pool: &'p LinearObjectPool<u32, CountedZeros, ToZero, Zero>,
+) -> Option<LinearReusable<'p, u32, CountedZeros, ToZero, Zero>>
+    ensures { IfSome result (λ item. (reusable_item item).page ≡ pool_first_page pool.now) }
+{
+    let item = pool.pull().ok()?;
+    if item.page_number() == 0 {
+        Some(item)
+    } else {
+        None
+    }
+}
+
+/// Where there is no limit and `init` always has an answer, a pull is refused for memory alone.
+fn refusal(pool: &LinearObjectPool<u32, CountedZeros, ToZero, Zero>) -> Option<PullError>
+    requires { pool_limit pool.now ≡ None }
+    ensures { IfSome result (λ error. error ≡ Memory) }
+{
+    pool.pull().err()
+}
+
+/// Under a limit of one page each item is of page 0.
+fn page_of_one(alloc: Global, calls: Arc<AtomicUsize>) -> Result<usize, PullError>
+    ensures { IfOk result (λ number. number ≡ 0) }
+{
+    let pool: Cleared = LinearObjectPool::with_limit(alloc, CountedZeros { calls }, ToZero, 1);
+    let pool = pool?;
+    let number = pool.pull()?.page_number();
+    Ok(number)
+}
+
+/// Two values of a pool of closures: one as it was made, one as it was returned.
+fn made_and_returned<I: InitBy<u32>, R: ResetBy<u32>>(
+    alloc: Global,
+    init: I,
+    reset: R,
+) -> Result<(u32, u32), PullError>
+    requires may_make { I.may_make init }
+    requires makes { (answer : Option ℕ) → I.makes init answer → IfSome answer (λ value. value ≡ 0) }
+    requires may_reset { R.may_reset reset }
+    requires leaves { (old new : ℕ) → R.resets reset old new → new ≡ 0 }
+    ensures { IfOk result (λ both. (both.0 ≡ 0) × (both.1 ≡ 0)) }
+{
+    let init = Makes::<u32, I, Zero>::new(init);
+    let reset = Resets::<u32, R, Zero>::new(reset);
+    let pool = LinearObjectPool::new(alloc, init, reset)?;
+    let mut item = pool.pull()?;
+    let made = *item;
+    *item = 5;
+    drop(item);
+    let returned = *pool.pull()?;
+    Ok((made, returned))
+}
+
+#[test]
+fn a_value_is_written_and_read(rt: HostRuntime) -> Result<(), Fail> {
+    let pool = Arc::new(rt.alloc(), cleared(rt.alloc(), &new_calls(rt.alloc())?)?)?;
+    let mut item = pool.pull()?;
+    write(&mut item, 7);
+    assert_eq!(rt; *item, 7);
+    assert_eq!(rt; read_back(item), (0, 0, 9));
+    let mut owned = pool.pull_owned()?;
+    write_owned(&mut owned, 7);
+    assert_eq!(rt; *owned, 7);
+    drop(owned);
+    assert_eq!(rt; (pulled(&pool), pulled_owned(&pool)), (Some(0), Some(0)));
+    assert_eq!(rt; of_first(&pool).map(|item| *item), Some(0));
+    Ok(())
+}
+
+#[test]
+fn closures_make_and_reset(rt: HostRuntime) {
+    let both = made_and_returned(rt.alloc(), || Some(0), |value: &mut u32| *value = 0);
+    assert_eq!(rt; both, Ok((0, 0)));
+}
+
+#[test]
+fn a_limit_of_one_page(rt: HostRuntime) -> Result<(), Fail> {
+    assert_eq!(rt; page_of_one(rt.alloc(), new_calls(rt.alloc())?), Ok(0));
+    let pool = cleared(rt.alloc(), &new_calls(rt.alloc())?)?;
+    assert_eq!(rt; refusal(&pool), None);
+    Ok(())
+}

@@ -1,0 +1,54 @@
+//! Bare closures as what makes a pool's values.
+use super::*;
+use lockfree_object_pool::closures::{InitBy, Makes};
+use std::mem;
+use std::test::Fail;
+
+/// The refusals of two pulls from a pool whose only page is full, one of them owned.
+fn refusals_past_a_page<I: InitBy<u32>>(
+    alloc: Global,
+    init: I,
+) -> Result<(Option<PullError>, Option<PullError>), PullError>
+    requires { I.may_make init }
+{
+    let pool = LinearObjectPool::<u32, _, _, AnyValue>::new(alloc, Makes::new(init), Keep)?;
+    let pool = Arc::new(alloc, pool)?;
+    for _ in 0..32 {
+        mem::forget(pool.pull()?);
+    }
+    Ok((pool.pull().err(), pool.pull_owned().err()))
+}
+
+/// A refusal of `init` is the answer at once.
+#[test]
+fn a_closure_that_refuses_is_asked_once(rt: HostRuntime) {
+    let calls = AtomicUsize::new(0);
+    let refuse = || -> Option<u32> {
+        calls.fetch_add(1, SeqCst);
+        None
+    };
+    assert_eq!(rt;
+        refusals_past_a_page(rt.alloc(), refuse),
+        Err(PullError::Init)
+    );
+    assert_eq!(rt; calls.load(SeqCst), 1);
+}
+
+#[test]
+fn a_closure_that_refuses_a_growth_is_asked_once_a_pull(rt: HostRuntime) -> Result<(), Fail> {
+    let calls = AtomicUsize::new(0);
+    let fill_a_page = || -> Option<u32> {
+        if calls.fetch_add(1, SeqCst) < 32 {
+            Some(0)
+        } else {
+            None
+        }
+    };
+    let refused = Some(PullError::Init);
+    assert_eq!(rt;
+        refusals_past_a_page(rt.alloc(), fill_a_page)?,
+        (refused, refused)
+    );
+    assert_eq!(rt; calls.load(SeqCst), 34);
+    Ok(())
+}

@@ -1,0 +1,125 @@
+//! Pools that are refused values or memory: nothing is lost, and what was refused can be asked for again.
+use super::*;
+use std::mem;
+use std::test::Fail;
+use test_values::refused::again;
+
+#[test]
+fn init_that_refuses_stops_a_new_pool(rt: HostRuntime) {
+    for refused in 0..32usize {
+        let counts = Counts::new();
+        let refusal = counted(rt.alloc(), &counts, refused).err();
+        assert_eq!(rt; refusal, Some(PullError::Init));
+        assert_eq!(rt; counts.now(), (refused.saturating_add(1), refused));
+    }
+}
+
+/// A pool whose first page is out, each value as it was made.
+pub fn full<'p, 'c>(
+    alloc: Global,
+    pool: &'p Tracked<'c>,
+) -> Result<Vec<LinearReusable<'p, Counted<'c>, CountedValues<'c>, Keep, AnyValue>>, PullError> {
+    let mut items = Vec::with_capacity(alloc, 32)?;
+    for _ in 0..32 {
+        items.push(pool.pull()?)?;
+    }
+    Ok(items)
+}
+
+#[test]
+fn init_that_refuses_stops_a_growth(rt: HostRuntime) -> Result<(), Fail> {
+    for refused in 32..64usize {
+        let counts = Counts::new();
+        let pool = shared(rt.alloc(), &counts, refused)?;
+        let items = full(rt.alloc(), &pool)?;
+        assert_eq!(rt; pool.pull().err(), Some(PullError::Init));
+        let calls = refused.saturating_add(1);
+        assert_eq!(rt; counts.now(), (calls, refused - 32));
+        for (id, item) in items.iter().enumerate() {
+            assert_eq!(rt; item.call, id);
+        }
+        let item = pool.pull()?;
+        assert_eq!(rt; (item.page_number(), item.page_id()), (1, 0));
+        assert_eq!(rt; counts.now(), (calls.saturating_add(32), refused - 32));
+    }
+    Ok(())
+}
+
+#[test]
+fn init_that_refuses_stops_an_owned_growth(rt: HostRuntime) -> Result<(), Fail> {
+    for refused in 32..64usize {
+        let counts = Counts::new();
+        let pool = shared(rt.alloc(), &counts, refused)?;
+        let _items = full(rt.alloc(), &pool)?;
+        let refusal = pool.pull_owned().err();
+        assert_eq!(rt; refusal, Some(PullError::Init));
+        assert_eq!(rt; counts.now(), (refused.saturating_add(1), refused - 32));
+        let item = pool.pull_owned()?;
+        assert_eq!(rt; (item.page_number(), item.page_id()), (1, 0));
+    }
+    Ok(())
+}
+
+/// How many values are neither dropped nor refused.
+fn living(counts: &Counts) -> usize {
+    let (calls, drops) = counts.now();
+    calls.saturating_sub(drops)
+}
+
+/// Takes all items of a pool's first page out for good, without memory.
+fn forget_first_page(pool: &Tracked<'_>) -> Result<(), PullError> {
+    for _ in 0..32 {
+        mem::forget(pool.pull()?);
+    }
+    Ok(())
+}
+
+/// Holds with each request for memory refused in turn too.
+#[test]
+fn a_pool_goes_on_where_memory_was_refused(rt: HostRuntime) -> Result<(), Fail> {
+    let counts = Counts::new();
+    let pool = again(&|| shared(rt.alloc(), &counts, NEVER))?;
+    assert_eq!(rt; living(&counts), 32);
+    forget_first_page(&pool)?;
+    let refusal = pool.pull().err();
+    assert!(rt; matches!(refusal, None | Some(PullError::Memory)));
+    let kept = if refusal.is_none() { 64 } else { 32 };
+    assert_eq!(rt; living(&counts), kept);
+    let item = pool.pull()?;
+    assert_eq!(rt; (item.page_number(), item.page_id()), (1, 0));
+    assert_eq!(rt; living(&counts), 64);
+    let call = item.call;
+    drop(item);
+    assert_eq!(rt; pool.pull()?.call, call);
+    Ok(())
+}
+
+/// A pool that may have two pages, in an `Arc`.
+fn shared_of_two<'c>(alloc: Global, counts: &'c Counts) -> Result<Arc<Tracked<'c>>, PullError> {
+    let init = CountedValues {
+        counts,
+        refused: NEVER,
+    };
+    let pool = LinearObjectPool::with_limit(alloc, init, Keep, 2)?;
+    Ok(Arc::new(alloc, pool)?)
+}
+
+/// Holds with each request for memory refused in turn too.
+#[test]
+fn owned_pulls_go_on_where_memory_was_refused(rt: HostRuntime) -> Result<(), Fail> {
+    let counts = Counts::new();
+    let pool = again(&|| shared_of_two(rt.alloc(), &counts))?;
+    assert_eq!(rt; living(&counts), 32);
+    forget_first_page(&pool)?;
+    let refusal = pool.pull_owned().err();
+    assert!(rt; matches!(refusal, None | Some(PullError::Memory)));
+    let kept = if refusal.is_none() { 64 } else { 32 };
+    assert_eq!(rt; living(&counts), kept);
+    let item = pool.pull_owned()?;
+    assert_eq!(rt; (item.page_number(), item.page_id()), (1, 0));
+    assert_eq!(rt; living(&counts), 64);
+    let call = item.call;
+    drop(item);
+    assert_eq!(rt; pool.pull_owned()?.call, call);
+    Ok(())
+}

@@ -1,0 +1,7 @@
+//! Tests of a page and of a chain of pages.
+#![tactic(auto)]
+
+#[cfg(test)]
+mod linear_page;
+#[cfg(test)]
+mod page;

@@ -1,0 +1,50 @@
+//! Chains in use. Here stands how the tests hold a page as a whole and come to the page behind it.
+use lockfree_object_pool::PullError;
+use lockfree_object_pool::clean::{AnyValue, Clean};
+use lockfree_object_pool::linear_page::{Chain, LinearPage};
+use lockfree_object_pool::page::{Allocated, FullSeen, Page, PageSlot, PullPass};
+use std::alloc::Global;
+use std::sync::Arc;
+
+mod links;
+mod lost_race;
+mod owned_walks;
+mod refusals;
+mod sends;
+mod walks;
+
+type Zeros = Chain<u32, AnyValue>;
+
+type ZeroPage<'c> = LinearPage<'c, u32, AnyValue>;
+
+/// All items of a page that has none out.
+fn hold_all<'c, T: Drop>(
+    alloc: Global,
+    page: &LinearPage<'c, T, AnyValue>,
+) -> Option<Vec<PageSlot<'c, T, AnyValue>>> {
+    let mut slots = Vec::with_capacity(alloc, 32).ok()?;
+    for _ in 0..32 {
+        slots.push(page.page().alloc().ok()??).ok()?;
+    }
+    Some(slots)
+}
+
+/// The page behind one that is full.
+fn behind_full<'c, T: Drop, I: Fn() -> Option<T>>(
+    page: &LinearPage<'c, T, AnyValue>,
+    init: &I,
+) -> Option<LinearPage<'c, T, AnyValue>>
+    requires { I.pre init.now }
+{
+    let pass = PullPass::new();
+    match page.page().try_alloc(&pass).ok()? {
+        Allocated::Slot(_) => None,
+        Allocated::Full(seen) => page.get_or_create_next(seen, init).ok(),
+    }
+}
+
+/// The id that a page gives first, which stays out.
+fn first_id<T: Drop>(page: &LinearPage<'_, T, AnyValue>) -> Option<u8> {
+    let slot = page.page().alloc().ok()??;
+    Some(slot.id())
+}

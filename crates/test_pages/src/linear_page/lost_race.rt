@@ -1,0 +1,94 @@
+//! A thread whose page comes too late: its page is dropped, and it goes on to the page that is linked.
+use super::*;
+use std::sync::atomic::AtomicUsize;
+use std::sync::atomic::Ordering::SeqCst;
+use std::test::Fail;
+use std::thread;
+use std::thread::Threads;
+use test_values::counted::{Counted, Counts};
+
+/// A thread that still waits after so many turns gives up, and its test fails.
+const MOST_TURNS: u32 = 10_000_000;
+
+type CountedPage<'c, 'r> = LinearPage<'c, Counted<'r>, AnyValue>;
+
+/// How far the two threads of a race are.
+#[derive(Drop)]
+struct Race {
+    counts: Counts,
+    winners: AtomicUsize,
+}
+
+impl Race {
+    /// Whether the winner's page came to be linked.
+    fn wait_for_winner(&self) -> bool {
+        for _ in 0..MOST_TURNS {
+            if self.winners.load(SeqCst) > 0 {
+                return true;
+            }
+            thread::yield_now();
+        }
+        false
+    }
+
+    /// Whether the loser came to make the first item of its page, behind the chain's first 32.
+    fn wait_for_loser(&self) -> bool {
+        for _ in 0..MOST_TURNS {
+            let (calls, _) = self.counts.now();
+            if calls > 32 {
+                return true;
+            }
+            thread::yield_now();
+        }
+        false
+    }
+
+    /// An item of the loser's page, which is made once the winner is done.
+    fn make_late(&self) -> Option<Counted<'_>> {
+        let item = self.counts.make();
+        if self.wait_for_winner() {
+            Some(item)
+        } else {
+            None
+        }
+    }
+}
+
+fn lose<'c, 'r>(page: &CountedPage<'c, 'r>, race: &'r Race) -> Option<CountedPage<'c, 'r>> {
+    behind_full(page, &|| race.make_late())
+}
+
+fn win<'c, 'r>(page: &CountedPage<'c, 'r>, race: &'r Race) -> Option<CountedPage<'c, 'r>> {
+    if !race.wait_for_loser() {
+        return None;
+    }
+    let next = behind_full(page, &|| Some(race.counts.make()));
+    race.winners.fetch_add(1, SeqCst);
+    next
+}
+
+fn run<'c, 'r, R: Threads + Sync>(
+    rt: &R,
+    page: &CountedPage<'c, 'r>,
+    race: &'r Race,
+) -> (Option<CountedPage<'c, 'r>>, Option<CountedPage<'c, 'r>>) {
+    thread::join(rt, || lose(page, race), || win(page, race))
+}
+
+#[test]
+fn a_page_that_comes_too_late_is_dropped(rt: HostRuntime) -> Result<(), Fail> {
+    let race = Race {
+        counts: Counts::new(),
+        winners: AtomicUsize::new(0),
+    };
+    let chain = Chain::new(rt.alloc(), &|| Some(race.counts.make()))?;
+    let first = chain.first();
+    let _slots = hold_all(rt.alloc(), &first).ok_or("32 items are free")?;
+    let (Some(lost), Some(won)) = run(&rt, &first, &race) else {
+        panic!(rt; "both threads have the page that is linked")
+    };
+    assert_eq!(rt; race.counts.now(), (96, 32));
+    assert_eq!(rt; (first_id(&lost), first_id(&won)), (Some(0), Some(1)));
+    assert!(rt; won.next().is_none());
+    Ok(())
+}

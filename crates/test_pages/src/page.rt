@@ -1,0 +1,5 @@
+//! One page in use.
+mod ids;
+mod rounds;
+mod slots;
+mod values;

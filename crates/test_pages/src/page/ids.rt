@@ -1,0 +1,201 @@
+//! Pages in use: words, ids and values, on one thread and on two.
+use lockfree_object_pool::PullError;
+use lockfree_object_pool::clean::AnyValue;
+use lockfree_object_pool::page::{Allocated, Page, PageSlot, PullPass, with_bit};
+use std::alloc::{AllocError, Global};
+use std::sync::atomic::{AtomicUsize, Ordering};
+use std::test::Fail;
+use std::thread;
+use std::thread::Threads;
+
+/// How often a test's thread looks for the other one before the test fails.
+const TURNS: usize = 10_000_000;
+
+type Zeros = Page<u32, AnyValue>;
+
+type ZeroSlot<'s> = PageSlot<'s, u32, AnyValue>;
+
+fn zeros(alloc: Global) -> Result<Zeros, PullError> {
+    Page::new(alloc, &|| Some(0))
+}
+
+/// The id of the item that a page gives, 32 where it gives none.
+fn id_of(found: &Result<Option<ZeroSlot<'_>>, PullError>) -> u8 {
+    match found {
+        Ok(Some(slot)) => slot.id(),
+        _ => 32,
+    }
+}
+
+#[test]
+fn a_new_page_is_free(rt: HostRuntime) -> Result<(), Fail> {
+    let page = zeros(rt.alloc())?;
+    assert!(rt; !page.is_full());
+    assert_eq!(rt; page.get_mask(), 4294967295);
+    Ok(())
+}
+
+#[test]
+fn the_word_follows_three_items(rt: HostRuntime) -> Result<(), Fail> {
+    let page = zeros(rt.alloc())?;
+    let Ok(Some(zero)) = page.alloc() else {
+        panic!(rt; "item 0 is free")
+    };
+    assert_eq!(rt;
+        (zero.id(), page.get_mask()),
+        (0, 0b11111111111111111111111111111110)
+    );
+    let Ok(Some(one)) = page.alloc() else {
+        panic!(rt; "item 1 is free")
+    };
+    assert_eq!(rt;
+        (one.id(), page.get_mask()),
+        (1, 0b11111111111111111111111111111100)
+    );
+    let Ok(Some(two)) = page.alloc() else {
+        panic!(rt; "item 2 is free")
+    };
+    assert_eq!(rt;
+        (two.id(), page.get_mask()),
+        (2, 0b11111111111111111111111111111000)
+    );
+    Page::free(one);
+    assert_eq!(rt; page.get_mask(), 0b11111111111111111111111111111010);
+    Page::free(zero);
+    assert_eq!(rt; page.get_mask(), 0b11111111111111111111111111111011);
+    Page::free(two);
+    assert_eq!(rt; page.get_mask(), 4294967295);
+    Ok(())
+}
+
+/// Takes up to `count` slots of a page.
+fn take_slots<'s>(
+    alloc: Global,
+    page: &'s Zeros,
+    count: usize,
+) -> Result<Vec<ZeroSlot<'s>>, AllocError> {
+    let mut slots = Vec::with_capacity(alloc, count)?;
+    for _ in 0..count {
+        if let Ok(Some(slot)) = page.alloc() {
+            slots.push(slot)?;
+        }
+    }
+    Ok(slots)
+}
+
+#[test]
+fn items_come_in_order_until_the_page_is_full(rt: HostRuntime) -> Result<(), Fail> {
+    let page = zeros(rt.alloc())?;
+    let slots = take_slots(rt.alloc(), &page, 32)?;
+    let mut next = 0u8;
+    for slot in &slots {
+        assert_eq!(rt; slot.id(), next);
+        next = next.wrapping_add(1);
+    }
+    assert_eq!(rt; next, 32);
+    assert!(rt; page.is_full());
+    assert!(rt; matches!(page.alloc(), Ok(None)));
+    Ok(())
+}
+
+#[test]
+fn a_page_is_full_while_each_item_is_out(rt: HostRuntime) -> Result<(), Fail> {
+    let page = zeros(rt.alloc())?;
+    let mut slots = Vec::with_capacity(rt.alloc(), 32)?;
+    for _ in 0..32 {
+        assert!(rt; !page.is_full());
+        let Ok(Some(slot)) = page.alloc() else {
+            panic!(rt; "an item is free")
+        };
+        slots.push(slot)?;
+    }
+    assert!(rt; page.is_full());
+    for slot in slots {
+        Page::free(slot);
+        assert!(rt; !page.is_full());
+        drop(page.alloc()); // the only free item, which stays out
+        assert!(rt; page.is_full());
+    }
+    Ok(())
+}
+
+/// Takes 16 slots, and waits until the other thread has 16 too. `None` where that didn't come, or memory was refused.
+fn take_half<'s>(
+    alloc: Global,
+    page: &'s Zeros,
+    holding: &AtomicUsize,
+) -> Option<Vec<ZeroSlot<'s>>> {
+    let slots = take_slots(alloc, page, 16).ok()?;
+    holding.fetch_add(1, Ordering::SeqCst);
+    for _ in 0..TURNS {
+        if holding.load(Ordering::SeqCst) == 2 {
+            return Some(slots);
+        }
+        thread::yield_now();
+    }
+    None
+}
+
+/// What two threads hold of one page at the same time.
+fn take_halves<'s, R: Threads + Sync>(
+    rt: &R,
+    alloc: Global,
+    page: &'s Zeros,
+) -> Option<(Vec<ZeroSlot<'s>>, Vec<ZeroSlot<'s>>)> {
+    let holding = AtomicUsize::new(0);
+    let (one, two) = thread::join(
+        rt,
+        || take_half(alloc, page, &holding),
+        || take_half(alloc, page, &holding),
+    );
+    Some((one?, two?))
+}
+
+/// The ids of the slots, as bits.
+fn ids_of(slots: &[ZeroSlot<'_>]) -> u32 {
+    let mut ids = 0;
+    for slot in slots {
+        ids = with_bit(ids, slot.id());
+    }
+    ids
+}
+
+/// Whether a page tells a pull that it is full.
+fn is_full_for_pull(page: &Zeros) -> bool {
+    matches!(page.try_alloc(&PullPass::new()), Ok(Allocated::Full(_)))
+}
+
+/// The id that a page gives to a pull, 32 where it gives none.
+fn id_for_pull(page: &Zeros) -> u8 {
+    match page.try_alloc(&PullPass::new()) {
+        Ok(Allocated::Slot(slot)) => slot.id(),
+        _ => 32,
+    }
+}
+
+#[test]
+fn two_threads_share_the_ids_of_a_page(rt: HostRuntime) -> Result<(), Fail> {
+    let page = zeros(rt.alloc())?;
+    let Some((mut one, two)) = take_halves(&rt, rt.alloc(), &page) else {
+        panic!(rt; "two threads hold 16 slots each")
+    };
+    assert_eq!(rt; (one.len(), two.len()), (16, 16));
+    assert_eq!(rt; ids_of(&one) | ids_of(&two), 4294967295);
+    assert!(rt; is_full_for_pull(&page));
+    let Some(slot) = one.pop() else {
+        panic!(rt; "16 slots are held")
+    };
+    let id = slot.id();
+    Page::free(slot);
+    assert_eq!(rt; id_for_pull(&page), id);
+    Ok(())
+}
+
+#[test]
+fn a_dropped_slot_leaves_its_id_out(rt: HostRuntime) -> Result<(), Fail> {
+    let page = zeros(rt.alloc())?;
+    drop(page.alloc());
+    assert_eq!(rt; page.get_mask(), 4294967294);
+    assert_eq!(rt; id_of(&page.alloc()), 1);
+    Ok(())
+}

@@ -1,0 +1,122 @@
+//! What a caller knows of a slot by public contracts alone.
+ghost use Rattle.std.specs.Prelude.{◌≡◌, IfOk, IfSome};
+ghost use Rattle.lockfree_object_pool.specs.FullSeen.{IsFullOf};
+ghost use Rattle.lockfree_object_pool.specs.OwnedSlot.{owned_slot_with};
+ghost use Rattle.lockfree_object_pool.specs.Page.{page_identity, page_opening};
+ghost use Rattle.lockfree_object_pool.specs.Slot.{slot_item, slot_with};
+
+use lockfree_object_pool::clean::{AnyValue, Clean};
+use lockfree_object_pool::page::{Allocated, FullSeen, OwnedSlot, Page, PageSlot, PullPass};
+use std::sync::Arc;
+use std::test::Fail;
+
+/// The value is 0.
+struct Zero;
+
+impl Clean<u32> for Zero {
+    ghost meets = { λ value. value ≡ 0 };
+}
+
+/// A write through a slot changes the value alone.
+fn write<K: Clean<u32>>(slot: &mut PageSlot<'_, u32, K>, value: u32)
+    ensures { slot.new ≡ slot_with slot.old value }
+{
+    **slot = value;
+}
+
+fn write_owned<K: Clean<u32>>(slot: &mut OwnedSlot<u32, K>, value: u32)
+    ensures { slot.new ≡ owned_slot_with slot.old value }
+{
+    **slot = value;
+}
+
+/// What is read is what was written last, and the item is the same one.
+fn read_back(mut slot: PageSlot<'_, u32, AnyValue>) -> (u8, u32)
+    ensures id { result.0 ≡ (slot_item slot.entry).id }
+    ensures value { result.1 ≡ 9 }
+{
+    *slot = 8;
+    *slot += 1;
+    (slot.id(), *slot)
+}
+
+/// A value that a page gives meets its condition.
+fn pulled(page: &Page<u32, Zero>) -> Option<u32>
+    ensures { IfSome result (λ value. value ≡ 0) }
+{
+    match page.alloc() {
+        Ok(Some(slot)) => Some(*slot),
+        _ => None,
+    }
+}
+
+/// An item may return where it meets the condition, after any write.
+fn give_zero(mut slot: PageSlot<'_, u32, Zero>, value: u32) {
+    *slot = value;
+    *slot = 0;
+    Page::free(slot);
+}
+
+fn give_zero_owned(mut slot: OwnedSlot<u32, Zero>, value: u32) {
+    *slot = value;
+    *slot = 0;
+    slot.free();
+}
+
+/// A slot of the page that an `Arc` holds may own it.
+fn own_first(page: Arc<Page<u32, Zero>>) -> Option<u32>
+    ensures { IfSome result (λ value. value ≡ 0) }
+{
+    let owner = Arc::try_clone(&page).ok()?;
+    let slot = page.alloc().ok()??;
+    let owned = slot.into_owned(owner);
+    let value = *owned;
+    owned.free();
+    Some(value)
+}
+
+/// What tells a pull that a page is full is of that page, and has all of its ids.
+fn full_of<'p>(page: &Page<u32, Zero>, pass: &'p PullPass) -> Option<FullSeen<'p, u32>>
+    ensures { IfSome result (IsFullOf (page_identity page.now) (page_opening page.now)) }
+{
+    match page.try_alloc(pass) {
+        Ok(Allocated::Full(seen)) => Some(seen),
+        _ => None,
+    }
+}
+
+#[test]
+fn a_written_value_comes_back(rt: HostRuntime) -> Result<(), Fail> {
+    let page = Page::<u32, AnyValue>::new(rt.alloc(), &|| Some(0))?;
+    let Ok(Some(mut slot)) = page.alloc() else {
+        panic!(rt; "an item is free")
+    };
+    write(&mut slot, 5);
+    Page::free(slot);
+    let Ok(Some(slot)) = page.alloc() else {
+        panic!(rt; "an item is free")
+    };
+    assert_eq!(rt; (slot.id(), *slot), (0, 5));
+    assert_eq!(rt; read_back(slot), (0, 9));
+    Ok(())
+}
+
+#[test]
+fn a_condition_is_kept(rt: HostRuntime) -> Result<(), Fail> {
+    let page = Arc::new(rt.alloc(), Page::<u32, Zero>::new(rt.alloc(), &|| Some(0))?)?;
+    let Ok(Some(slot)) = page.alloc() else {
+        panic!(rt; "an item is free")
+    };
+    give_zero(slot, 7);
+    let Ok(Some(slot)) = page.alloc() else {
+        panic!(rt; "an item is free")
+    };
+    let mut owned = slot.into_owned(Arc::try_clone(&page)?);
+    write_owned(&mut owned, 3);
+    give_zero_owned(owned, 8);
+    assert_eq!(rt; pulled(&page), Some(0));
+    assert_eq!(rt; page.get_mask(), 4294967294);
+    assert!(rt; full_of(&page, &PullPass::new()).is_none());
+    assert_eq!(rt; own_first(page), Some(0));
+    Ok(())
+}

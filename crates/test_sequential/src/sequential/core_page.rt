@@ -1,0 +1,115 @@
+//! Worked cases of a page of one owner.
+use super::Mortal;
+use lockfree_object_pool::PullError;
+use lockfree_object_pool::clean::AnyValue;
+use lockfree_object_pool::page::{PageId, with_bit};
+use object_pool_cores::sequential::CorePage;
+use std::alloc::Global;
+use std::cell::Cell;
+use std::test::Fail;
+
+/// A page of the values 100 to 131.
+fn numbered_page(alloc: Global) -> Result<CorePage<u32, AnyValue>, PullError> {
+    let next = Cell::new(100u32);
+    CorePage::new(
+        alloc,
+        &|| {
+            let value = next.get();
+            next.set(value.saturating_add(1));
+            Some(value)
+        },
+    )
+}
+
+/// Puts the id's first value back, where the id is out.
+fn free_again(page: &mut CorePage<u32, AnyValue>, id: PageId) -> bool {
+    let is_out = page.is_out(id);
+    if is_out {
+        page.free(id, 100 + u32::from(id));
+    }
+    is_out
+}
+
+#[test]
+fn a_new_page_has_each_id_free(rt: HostRuntime) -> Result<(), Fail> {
+    let page = numbered_page(rt.alloc())?;
+    assert_eq!(rt; (page.is_full(), page.get_mask()), (false, 4294967295));
+    assert!(rt; !page.is_out(0) && !page.is_out(31) && !page.is_out(32));
+    Ok(())
+}
+
+#[test]
+fn the_word_follows_what_is_taken_and_freed(rt: HostRuntime) -> Result<(), Fail> {
+    let mut page = numbered_page(rt.alloc())?;
+    for (id, word) in [(0u8, 4294967294), (1, 4294967292), (2, 4294967288)] {
+        assert_eq!(rt; page.alloc(), Some((id, 100 + u32::from(id))));
+        assert_eq!(rt; page.get_mask(), word);
+    }
+    for (id, word) in [(1, 4294967290), (0, 4294967291), (2, 4294967295)] {
+        assert!(rt; free_again(&mut page, id), "{id}");
+        assert_eq!(rt; page.get_mask(), word);
+    }
+    Ok(())
+}
+
+#[test]
+fn each_id_is_taken_in_order_until_the_page_is_full(rt: HostRuntime) -> Result<(), Fail> {
+    let mut page = numbered_page(rt.alloc())?;
+    for id in 0..32u8 {
+        assert!(rt; !page.is_full());
+        assert_eq!(rt; page.alloc(), Some((id, 100 + u32::from(id))));
+    }
+    assert_eq!(rt; (page.is_full(), page.get_mask()), (true, 0));
+    assert_eq!(rt; page.alloc(), None);
+    assert!(rt; free_again(&mut page, 31) && free_again(&mut page, 7));
+    assert_eq!(rt;
+        (page.alloc(), page.alloc()),
+        (Some((7, 107)), Some((31, 131)))
+    );
+    Ok(())
+}
+
+#[test]
+fn a_page_that_init_refuses_isnt_made(rt: HostRuntime) {
+    for last in 0..32u32 {
+        let calls = Cell::new(0u32);
+        let ends = Cell::new(0u32);
+        let page = CorePage::<Mortal<'_>, AnyValue>::new(
+            rt.alloc(),
+            &|| {
+                let call = calls.get();
+                calls.set(call.saturating_add(1));
+                if call == last {
+                    None
+                } else {
+                    Some(Mortal { ends: &ends })
+                }
+            },
+        );
+        assert!(rt; matches!(&page, Err(PullError::Init)), "at call {last}");
+        assert_eq!(rt; (calls.get(), ends.get()), (last.saturating_add(1), last));
+    }
+}
+
+// Holds where each request for memory is refused in turn, and where none is.
+#[test]
+fn a_page_that_memory_refuses_is_made_by_the_next_call(rt: HostRuntime) -> Result<(), Fail> {
+    let calls = Cell::new(0u32);
+    let ends = Cell::new(0u32);
+    let init = || {
+        calls.set(calls.get().saturating_add(1));
+        Some(Mortal { ends: &ends })
+    };
+    let made = CorePage::<Mortal<'_>, AnyValue>::new(rt.alloc(), &init);
+    let page = match made {
+        Err(PullError::Memory) => {
+            assert_eq!(rt; calls.get(), ends.get());
+            CorePage::<Mortal<'_>, AnyValue>::new(rt.alloc(), &init)?
+        }
+        made => made?,
+    };
+    assert_eq!(rt; calls.get(), ends.get().saturating_add(32));
+    drop(page);
+    assert_eq!(rt; calls.get(), ends.get());
+    Ok(())
+}

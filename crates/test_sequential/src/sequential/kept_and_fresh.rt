@@ -1,0 +1,125 @@
+//! Worked cases of the stack core and the none core, by values.
+use super::{Mortals, Zeros};
+use lockfree_object_pool::PullError;
+use lockfree_object_pool::clean::AnyValue;
+use lockfree_object_pool::closures::{Copied, Keep};
+use object_pool_cores::sequential::*;
+use std::cell::Cell;
+use std::process::Abort;
+use std::test::Fail;
+
+#[test]
+fn the_value_that_was_returned_last_comes_first(rt: HostRuntime) -> Result<(), Fail> {
+    let calls = Cell::new(0u32);
+    let init = Zeros {
+        calls: &calls,
+        refused: 0,
+    };
+    let core = StackCore::<u32, _, _, AnyValue>::new(rt.alloc(), init, Keep);
+    let mut player = Player::new(rt.alloc(), core);
+    let mut replies = Vec::new(rt.alloc());
+    let commands = vec![in rt.alloc();
+        Command::Pull,
+        Command::Pull,
+        Command::Write(0, 1),
+        Command::Write(1, 2),
+        Command::Return(0),
+        Command::Return(1),
+        Command::Pull,
+        Command::Pull,
+    ]?;
+    player.run(commands, &mut replies)?;
+    let last = [Reply::Pulled(2, None), Reply::Pulled(3, None)];
+    assert_eq!(rt; replies.as_slice().get(6..), Some(last.as_slice()));
+    assert_eq!(rt; (player.held(2), player.held(3)), (Some(&2), Some(&1)));
+    assert_eq!(rt;
+        (player.held(0), player.held(4), calls.get()),
+        (None, None, 2)
+    );
+    Ok(())
+}
+
+#[test]
+fn an_attached_value_is_kept_when_it_returns(rt: HostRuntime) -> Result<(), Fail> {
+    let zero = Copied::<u32, AnyValue>::new(3);
+    let mut core = StackCore::<u32, _, _, AnyValue>::new(rt.alloc(), zero, Keep);
+    let item = core.attach(9)?;
+    assert_eq!(rt;
+        (*item, item.number(), core.is_mine(&item)),
+        (9, None, true)
+    );
+    if core.is_mine(&item) {
+        core.give(item);
+    }
+    assert_eq!(rt; *core.pull()?, 9);
+    assert_eq!(rt; *core.pull()?, 3);
+    Ok(())
+}
+
+#[test]
+fn an_attached_value_is_reset_when_it_returns(rt: HostRuntime) -> Result<(), Fail> {
+    let seven = Copied::<u32, AnyValue>::new(7);
+    let zero = Copied::<u32, AnyValue>::new(0);
+    let mut core = StackCore::<u32, _, _, AnyValue>::new(rt.alloc(), seven, zero);
+    let item = core.attach(9)?;
+    if core.is_mine(&item) {
+        core.give(item);
+    }
+    assert_eq!(rt; *core.pull()?, 0);
+    Ok(())
+}
+
+#[test]
+fn a_fresh_item_is_dropped_at_its_return(rt: HostRuntime) -> Result<(), Fail> {
+    let calls = Cell::new(0u32);
+    let ends = Cell::new(0u32);
+    let init = Mortals {
+        calls: &calls,
+        ends: &ends,
+        refused: 2,
+    };
+    let mut core = NoneCore::new(init);
+    let item = core.pull()?;
+    assert_eq!(rt; (item.number(), core.is_mine(&item)), (None, true));
+    core.give(item);
+    assert_eq!(rt; (calls.get(), ends.get()), (1, 1));
+    assert!(rt; matches!(core.pull(), Err(PullError::Init)));
+    assert!(rt; core.pull().is_ok());
+    Ok(())
+}
+
+#[test]
+fn a_stack_that_init_refuses_once_gives_an_item_then(rt: HostRuntime) -> Result<(), Fail> {
+    let calls = Cell::new(0u32);
+    let init = Zeros {
+        calls: &calls,
+        refused: 1,
+    };
+    let mut core = StackCore::<u32, _, _, AnyValue>::new(rt.alloc(), init, Keep);
+    assert!(rt; matches!(core.pull(), Err(PullError::Init)));
+    assert_eq!(rt; (*core.pull()?, calls.get()), (0, 2));
+    Ok(())
+}
+
+#[test]
+fn what_is_forgotten_or_replaced_is_dropped_at_once(rt: HostRuntime) -> Result<(), Fail> {
+    let calls = Cell::new(0u32);
+    let ends = Cell::new(0u32);
+    let init = Mortals {
+        calls: &calls,
+        ends: &ends,
+        refused: 0,
+    };
+    let more = Cell::new(0u32);
+    let core = LinearCore::<_, _, _, AnyValue>::new(rt.alloc(), init, Keep)?;
+    let mut player = Player::new(rt.alloc(), core);
+    let _ = player.play(Command::Pull)?;
+    let _ = player.play(Command::Pull)?;
+    let _ = player.play(Command::Forget(0))?;
+    assert_eq!(rt; ends.get(), 1);
+    let _ = player.play(Command::Write(1, super::Mortal { ends: &more }))?;
+    assert_eq!(rt; (ends.get(), more.get()), (2, 0));
+    let _ = player.play(Command::Write(0, super::Mortal { ends: &more }))?;
+    assert_eq!(rt; (ends.get(), more.get()), (2, 1));
+    Ok(())
+}

@@ -1,0 +1,124 @@
+//! Pools that keep nothing: what is pulled, when `init` is called, and when an item is dropped.
+ghost use Rattle.std.specs.Prelude.{◌≡◌, None, IsOk, IfOk};
+ghost use Rattle.lockfree_object_pool.specs.NonePool.{none_init, none_with};
+
+use lockfree_object_pool::{NoneObjectPool, NoneReusable, PullError};
+use std::cell::Cell;
+use std::mem;
+use std::sync::Arc;
+use std::test::Fail;
+use test_values::counted::{Counted, Counts};
+
+mod owned;
+
+fn sent<X: Send>(_value: &X) {}
+
+fn shared<X: Sync>(_value: &X) {}
+
+fn pool_sent<T, I: Fn() -> Option<T> + Send>(pool: &NoneObjectPool<T, I>) {
+    sent(pool);
+}
+
+fn pool_shared<T, I: Fn() -> Option<T> + Sync>(pool: &NoneObjectPool<T, I>) {
+    shared(pool);
+}
+
+fn item_sent<T: Send>(item: &NoneReusable<T>) {
+    sent(item);
+}
+
+fn item_shared<T: Sync>(item: &NoneReusable<T>) {
+    shared(item);
+}
+
+/// What is pulled is an answer of the closure, and what is read is what was written last.
+fn pulled_and_written() -> Result<(u32, u32), PullError>
+    ensures { IfOk result (λ both. (both.0 ≡ 3) × (both.1 ≡ 9)) }
+{
+    let pool = NoneObjectPool::new(|| Some(3u32));
+    let mut item = pool.pull()?;
+    let made = *item;
+    *item = 8;
+    *item += 1;
+    Ok((made, *item))
+}
+
+/// A write changes the value alone.
+fn write(item: &mut NoneReusable<u32>, value: u32)
+    ensures { item.new ≡ none_with item.old value }
+{
+    **item = value;
+}
+
+/// A closure that always has an answer is never refused.
+fn never_refused<I: Fn() -> Option<u32>>(pool: &NoneObjectPool<u32, I>) -> Result<u32, PullError>
+    requires callable { I.pre (none_init pool.now) }
+    requires answers { I.post (none_init pool.now) None → ⊥ }
+    ensures { IsOk result }
+{
+    Ok(*pool.pull()?)
+}
+
+#[test]
+fn a_written_value_is_gone(rt: HostRuntime) -> Result<(), Fail> {
+    let pool = NoneObjectPool::new(|| Some(0u32));
+    let mut item = pool.pull()?;
+    write(&mut item, 5);
+    assert_eq!(rt; *item, 5);
+    drop(item);
+    assert_eq!(rt; *pool.pull()?, 0);
+    assert_eq!(rt;
+        (pulled_and_written(), never_refused(&pool)),
+        (Ok((3, 9)), Ok(0))
+    );
+    Ok(())
+}
+
+#[test]
+fn each_pull_makes_an_item(rt: HostRuntime) -> Result<(), Fail> {
+    let calls = Cell::new(0u32);
+    let pool = NoneObjectPool::new(|| {
+        calls.set(calls.get().saturating_add(1));
+        Some(0u32)
+    });
+    for _ in 0..2 {
+        let mut item = pool.pull()?;
+        assert_eq!(rt; *item, 0);
+        *item += 1;
+    }
+    assert_eq!(rt; calls.get(), 2);
+    Ok(())
+}
+
+#[test]
+fn init_that_refuses_once_is_asked_again(rt: HostRuntime) -> Result<(), Fail> {
+    let counts = Counts::new();
+    let pool = NoneObjectPool::new(|| counts.make_but(0));
+    assert_eq!(rt; pool.pull().err(), Some(PullError::Init));
+    assert_eq!(rt; pool.pull()?.call, 1);
+    Ok(())
+}
+
+#[test]
+fn each_item_is_dropped_once(rt: HostRuntime) -> Result<(), Fail> {
+    let counts = Counts::new();
+    let pool = Arc::new(rt.alloc(), NoneObjectPool::new(|| Some(counts.make())))?;
+    let (item, owned) = (pool.pull()?, pool.pull_owned()?);
+    assert_eq!(rt; (item.call, owned.call, counts.now()), (0, 1, (2, 0)));
+    drop(pool);
+    drop(item);
+    assert_eq!(rt; counts.drops(), 1);
+    mem::forget(owned);
+    let attached: NoneReusable<Counted<'_>> = NoneReusable::new(counts.make());
+    drop(attached);
+    assert_eq!(rt; counts.now(), (3, 2));
+    Ok(())
+}
+
+#[test]
+fn a_pool_and_its_item_are_shown(rt: HostRuntime) -> Result<(), Fail> {
+    let pool = NoneObjectPool::new(|| Some(3u32));
+    let shown = format!(in rt.alloc(); "{pool:?} {:?}", pool.pull()?)?;
+    assert_eq!(rt; shown.as_str(), "NoneObjectPool { .. } 3");
+    Ok(())
+}

@@ -1,0 +1,29 @@
+//! The words and the numbers of the refusals, and what becomes of a value that memory was refused for.
+use lockfree_object_pool::PullError;
+use std::alloc::AllocFailed;
+use std::test::Fail;
+use test_values::counted::Counts;
+
+#[test]
+fn each_refusal_has_its_own_words(rt: HostRuntime) -> Result<(), Fail> {
+    let (memory, init, limit) = (PullError::Memory, PullError::Init, PullError::Limit);
+    let told = format!(in rt.alloc();
+        "{memory}; {init}; {limit}; {memory:?}, {init:?}, {limit:?}"
+    )?;
+    assert_eq!(rt;
+        told.as_str(),
+        "out of memory; init gave no item; the pool is at its limit; Memory, Init, Limit"
+    );
+    assert_eq!(rt; (memory as u8, init as u8, limit as u8), (1, 2, 3));
+    Ok(())
+}
+
+#[test]
+fn a_value_that_memory_was_refused_for_is_dropped(rt: HostRuntime) {
+    let counts = Counts::new();
+    let refused = AllocFailed {
+        value: Some(counts.make()),
+    };
+    assert_eq!(rt; PullError::from(refused), PullError::Memory);
+    assert_eq!(rt; counts.now(), (1, 1));
+}

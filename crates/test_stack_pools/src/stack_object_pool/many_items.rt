@@ -1,0 +1,34 @@
+//! Many items that are kept together: none is thrown away, and they come again in turn, the last first.
+use super::*;
+use std::test::Fail;
+use test_values::counted::NEVER;
+
+fn keeps_many<F: Kind<Tallied, AnyValue>, W: Abort + Wait + Copy>(
+    rt: &W,
+    alloc: Global,
+) -> Result<(), Fail> {
+    let tally = new_tally(alloc)?;
+    let pool = tracked::<F>(alloc, &tally, NEVER)?;
+    let mut made = Vec::with_capacity(alloc, 1_100)?;
+    for _ in 0..1_100 {
+        made.push(pool.pull_owned(rt)?)?;
+    }
+    for item in made {
+        drop(item);
+    }
+    let mut again = Vec::with_capacity(alloc, 1_100)?;
+    for _ in 0..1_100 {
+        again.push(pool.pull_owned(rt)?)?;
+    }
+    for (index, item) in again.iter().enumerate() {
+        assert_eq!(rt; Some(item.call), 1_099usize.checked_sub(index));
+    }
+    assert_eq!(rt; tally.now(), (1_100, 0));
+    Ok(())
+}
+
+#[test]
+fn more_than_a_thousand_items_are_kept(rt: HostRuntime) -> Result<(), Fail> {
+    keeps_many::<UnderMutex<Tallied, AnyValue>, _>(&rt, rt.alloc())?;
+    keeps_many::<UnderSpinLock<Tallied, AnyValue>, _>(&rt, rt.alloc())
+}

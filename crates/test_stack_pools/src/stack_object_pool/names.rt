@@ -1,0 +1,78 @@
+//! Proved callers that name the pools and the reusables as the crate exports them.
+ghost use Rattle.std.specs.Prelude.{◌≡◌, IfOk, IfErr};
+ghost use Rattle.lockfree_object_pool.specs.StackPool.{stack_with, stack_owned_with};
+
+use super::*;
+use lockfree_object_pool::{
+    MutexOwnedReusable, MutexReusable, SpinLockOwnedReusable, SpinLockReusable,
+};
+use std::test::Fail;
+
+/// A mutex pool that resets to 0.
+type ClearedByMutex = MutexObjectPool<u32, CountedZeros, Copied<u32, Zero>, Zero>;
+
+/// A spin lock pool that resets to 0.
+type ClearedBySpinLock = SpinLockObjectPool<u32, CountedZeros, Copied<u32, Zero>, Zero>;
+
+fn by_mutex<W: Wait + Copy>(rt: &W, pool: &ClearedByMutex) -> Result<u32, u32>
+    ensures shown { IfOk result (λ shown. shown ≡ 9) }
+    ensures back { IfErr result (λ back. back ≡ 9) }
+{
+    let item = MutexReusable::new(rt, pool, 9)?;
+    Ok(*item)
+}
+
+fn by_spin_lock<W: Wait + Copy>(rt: &W, pool: &ClearedBySpinLock) -> Result<u32, u32>
+    ensures shown { IfOk result (λ shown. shown ≡ 9) }
+    ensures back { IfErr result (λ back. back ≡ 9) }
+{
+    let item = SpinLockReusable::new(rt, pool, 9)?;
+    Ok(*item)
+}
+
+fn owned_by_mutex<W: Wait + Copy>(rt: &W, pool: Arc<ClearedByMutex>) -> Result<u32, u32>
+    ensures shown { IfOk result (λ shown. shown ≡ 9) }
+    ensures back { IfErr result (λ back. back ≡ 9) }
+{
+    let item = MutexOwnedReusable::new(rt, pool, 9)?;
+    Ok(*item)
+}
+
+fn owned_by_spin_lock<W: Wait + Copy>(rt: &W, pool: Arc<ClearedBySpinLock>) -> Result<u32, u32>
+    ensures shown { IfOk result (λ shown. shown ≡ 9) }
+    ensures back { IfErr result (λ back. back ≡ 9) }
+{
+    let item = SpinLockOwnedReusable::new(rt, pool, 9)?;
+    Ok(*item)
+}
+
+/// A write changes the value alone.
+fn write_two<K: Clean<u32>, I: Init<u32, K>, R: Reset<u32, K>, W: Wait + Copy>(
+    item: &mut MutexReusable<'_, u32, I, R, K, W>,
+    owned: &mut SpinLockOwnedReusable<u32, I, R, K, W>,
+)
+    ensures item { item.new ≡ stack_with item.old 7 }
+    ensures owned { owned.new ≡ stack_owned_with owned.old 8 }
+{
+    **item = 7;
+    **owned = 8;
+}
+
+#[test]
+fn the_exported_names_serve_as_types(rt: HostRuntime) -> Result<(), Fail> {
+    let calls = new_calls(rt.alloc())?;
+    let mutex: Arc<ClearedByMutex> = cleared(rt.alloc(), &calls)?;
+    let spin_lock: Arc<ClearedBySpinLock> = cleared(rt.alloc(), &calls)?;
+    let (mut item, mut owned) = (mutex.pull(&rt)?, spin_lock.pull_owned(&rt)?);
+    write_two(&mut item, &mut owned);
+    assert_eq!(rt; (*item, *owned), (7, 8));
+    drop((item, owned));
+    assert_eq!(rt;
+        (by_mutex(&rt, &mutex), by_spin_lock(&rt, &spin_lock)),
+        (Ok(9), Ok(9))
+    );
+    assert_eq!(rt; (*mutex.pull(&rt)?, *spin_lock.pull(&rt)?), (0, 0));
+    assert_eq!(rt; owned_by_mutex(&rt, mutex), Ok(9));
+    assert_eq!(rt; owned_by_spin_lock(&rt, spin_lock), Ok(9));
+    Ok(())
+}

@@ -1,0 +1,101 @@
+//! What makes or resets values and waits meanwhile for a second thread, which pulls and drops on
+//! the same pool.
+//!
+//! A pool that called it under its lock would keep that thread waiting. Each wait has a limit, so
+//! that the test ends.
+ghost use Rattle.std.specs.Prelude.{⊤};
+
+use lockfree_object_pool::PullError;
+use lockfree_object_pool::clean::AnyValue;
+use lockfree_object_pool::closures::{Init, Reset};
+use std::ops::DerefMut;
+use std::sync::Arc;
+use std::sync::atomic::AtomicUsize;
+use std::sync::atomic::Ordering::SeqCst;
+use std::thread;
+
+/// A thread that still waits after so many turns gives up, and its test fails.
+const MOST_TURNS: u32 = 10_000_000;
+
+/// How far two threads are: calls of what waits, and items that the second one dropped.
+#[derive(Drop)]
+pub struct Steps {
+    calls: AtomicUsize,
+    drops: AtomicUsize,
+}
+
+impl Steps {
+    pub fn new() -> Steps {
+        Steps {
+            calls: AtomicUsize::new(0),
+            drops: AtomicUsize::new(0),
+        }
+    }
+}
+
+/// Whether a count came to be at least 1.
+pub fn wait_for(count: &AtomicUsize) -> bool {
+    for _ in 0..MOST_TURNS {
+        if count.load(SeqCst) > 0 {
+            return true;
+        }
+        thread::yield_now();
+    }
+    false
+}
+
+/// Its first call waits until an item was dropped, and answers 1 where that came in time, else 2.
+/// Later calls answer 7.
+#[derive(Drop)]
+pub struct WaitsForDrop {
+    pub steps: Arc<Steps>,
+}
+
+impl WaitsForDrop {
+    fn answer(&self) -> u32 {
+        if self.steps.calls.fetch_add(1, SeqCst) > 0 {
+            7
+        } else if wait_for(&self.steps.drops) {
+            1
+        } else {
+            2
+        }
+    }
+}
+
+impl Init<u32, AnyValue> for WaitsForDrop {
+    ghost answers = { λ _ _. ⊤ };
+
+    fn make(&self) -> Option<u32> {
+        Some(self.answer())
+    }
+}
+
+impl Reset<u32, AnyValue> for WaitsForDrop {
+    ghost leaves = { λ _ _ _. ⊤ };
+
+    fn reset(&self, value: &mut u32) {
+        *value = self.answer();
+    }
+}
+
+/// What a pulled item shows.
+pub fn shown<A: DerefMut<Target = u32> + Drop>(pulled: Result<A, PullError>) -> Option<u32> {
+    let item = pulled.ok()?;
+    Some(*item)
+}
+
+/// What a thread is shown that pulls and drops while the first call of what waits goes on.
+pub fn shown_meanwhile<A: DerefMut<Target = u32> + Drop, P: Fn() -> Result<A, PullError>>(
+    pull: &P,
+    steps: &Steps,
+) -> Option<u32>
+    requires { P.IsAlwaysCallable pull.now }
+{
+    if !wait_for(&steps.calls) {
+        return None;
+    }
+    let seen = shown(pull());
+    steps.drops.fetch_add(1, SeqCst);
+    seen
+}

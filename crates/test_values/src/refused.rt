@@ -1,0 +1,12 @@
+//! Asking again where memory was refused.
+use lockfree_object_pool::PullError;
+
+/// The answer, where memory was refused that of a second try.
+pub fn again<X: Drop, F: Fn() -> Result<X, PullError>>(ask: &F) -> Result<X, PullError>
+    requires { F.pre ask.now }
+{
+    match ask() {
+        Err(PullError::Memory) => ask(),
+        answer => answer,
+    }
+}

@@ -1,0 +1,404 @@
+//! Worked rows, each a list of events with the answers that they have to give.
+use lockfree_object_pool::PullError;
+use lockfree_object_pool::clean::AnyValue;
+use lockfree_object_pool::closures::{Copied, Keep, Reset, ResetBy, Resets};
+use object_pool_cores::interleave::*;
+use std::alloc::{AllocError, Global};
+use std::cell::Cell;
+use std::process::Abort;
+use std::test::Fail;
+
+mod many;
+mod refusals;
+mod sizes;
+mod values;
+
+/// The word of a page all of whose items are free.
+const FULL: u32 = 4294967295;
+
+fn zeros(alloc: Global) -> Result<Prepared<u32>, PullError> {
+    Prepared::make(alloc, &|| Some(0))
+}
+
+fn unbounded(alloc: Global) -> Result<World<u32, Keep>, PullError> {
+    World::new(alloc, zeros(alloc)?, Keep)
+}
+
+/// Steps the world through the events, each of which has to give its answer.
+fn play<const N: usize, T: Drop, R: Reset<T, AnyValue>>(
+    rt: &impl Abort,
+    alloc: Global,
+    world: &mut World<T, R>,
+    steps: [(Event<T>, Seen); N],
+) -> Result<(), AllocError> {
+    for (event, answer) in Vec::from_array(alloc, steps)? {
+        let seen = world.step(event);
+        assert_eq!(rt; seen, answer);
+    }
+    Ok(())
+}
+
+/// So many agents begin, and hold an item each.
+fn hold<T: Drop, R: Reset<T, AnyValue>>(world: &mut World<T, R>, agents: usize) {
+    for agent in 0..agents {
+        let _ = world.step(Event::Begin);
+        let _ = world.step(Event::ReadMask(agent));
+        let _ = world.step(Event::ClearBit(agent));
+        let _ = world.step(Event::MoveOut(agent));
+    }
+}
+
+/// The agent returns its item.
+fn give_back<T: Drop, R: Reset<T, AnyValue>>(world: &mut World<T, R>, agent: usize) {
+    let _ = world.step(Event::MoveHome(agent));
+    let _ = world.step(Event::OrMask(agent));
+}
+
+/// An item whose end is counted.
+struct Counted<'c> {
+    ends: &'c Cell<u32>,
+}
+
+impl Drop for Counted<'_> {
+    fn drop(self) {
+        let Self { ends } = self;
+        ends.set(ends.get().saturating_add(1));
+    }
+}
+
+/// 32 items whose makings and ends are counted.
+fn make_counted<'c>(
+    alloc: Global,
+    made: &Cell<u32>,
+    ends: &'c Cell<u32>,
+) -> Result<Prepared<Counted<'c>>, PullError> {
+    Prepared::make(
+        alloc,
+        &|| {
+            made.set(made.get().saturating_add(1));
+            Some(Counted { ends })
+        },
+    )
+}
+
+#[test]
+fn a_lost_clearing_tries_the_next_bit(rt: HostRuntime) -> Result<(), Fail> {
+    let mut world = unbounded(rt.alloc())?;
+    play(
+        &rt,
+        rt.alloc(),
+        &mut world,
+        [
+            (Event::Begin, Seen::Began(0)),
+            (Event::Begin, Seen::Began(1)),
+            (Event::ReadMask(0), Seen::Word(0, FULL)),
+            (Event::ReadMask(1), Seen::Word(1, FULL)),
+            (Event::ClearBit(0), Seen::Pulled(0, 0)),
+            (Event::ClearBit(1), Seen::Found(1, 4294967294)),
+            (Event::ClearBit(1), Seen::Pulled(1, 1)),
+        ],
+    )?;
+    assert_eq!(rt; world.word(0), Some(4294967292));
+    Ok(())
+}
+
+#[test]
+fn a_lost_link_takes_from_the_linked_page(rt: HostRuntime) -> Result<(), Fail> {
+    for limit in [None, Some(2)] {
+        let (made, ends) = (Cell::new(0), Cell::new(0));
+        let first = make_counted(rt.alloc(), &made, &ends)?;
+        let mut world = match limit {
+            Some(pages) => World::with_limit(rt.alloc(), first, Keep, pages)?,
+            None => World::new(rt.alloc(), first, Keep)?,
+        };
+        hold(&mut world, 32);
+        let (a, b) = (
+            make_counted(rt.alloc(), &made, &ends)?,
+            make_counted(rt.alloc(), &made, &ends)?,
+        );
+        play(
+            &rt,
+            rt.alloc(),
+            &mut world,
+            [
+                (Event::Begin, Seen::Began(32)),
+                (Event::Begin, Seen::Began(33)),
+                (Event::ReadMask(32), Seen::Word(32, 0)),
+                (Event::ReadMask(33), Seen::Word(33, 0)),
+                (Event::ReadNext(32), Seen::Next(32, false)),
+                (Event::ReadNext(33), Seen::Next(33, false)),
+                (Event::MakePage(32, Ok(a)), Seen::Made(32)),
+                (Event::MakePage(33, Ok(b)), Seen::Made(33)),
+                (Event::ExchangeNext(32), Seen::Linked(32)),
+                (Event::ExchangeNext(33), Seen::Lost(33)),
+                (Event::ReadMask(32), Seen::Word(32, FULL)),
+                (Event::ClearBit(32), Seen::Pulled(32, 32)),
+                (Event::ReadMask(33), Seen::Word(33, 4294967294)),
+                (Event::ClearBit(33), Seen::Pulled(33, 33)),
+            ],
+        )?;
+        assert_eq!(rt; (made.get(), ends.get()), (96, 32));
+        assert_eq!(rt; (world.pages(), world.limit()), (2, limit));
+    }
+    Ok(())
+}
+
+#[test]
+fn a_bit_that_was_taken_is_passed_over(rt: HostRuntime) -> Result<(), Fail> {
+    let mut world = unbounded(rt.alloc())?;
+    hold(&mut world, 32);
+    give_back(&mut world, 0);
+    give_back(&mut world, 2);
+    play(
+        &rt,
+        rt.alloc(),
+        &mut world,
+        [
+            (Event::Begin, Seen::Began(32)),
+            (Event::Begin, Seen::Began(33)),
+            (Event::ReadMask(32), Seen::Word(32, 5)),
+            (Event::ReadMask(33), Seen::Word(33, 5)),
+            (Event::ClearBit(33), Seen::Pulled(33, 0)),
+            (Event::ClearBit(32), Seen::Found(32, 4)),
+            (Event::ClearBit(32), Seen::Pulled(32, 2)),
+        ],
+    )?;
+    assert_eq!(rt; world.word(0), Some(0));
+    Ok(())
+}
+
+#[test]
+fn an_event_that_is_not_enabled_changes_nothing(rt: HostRuntime) -> Result<(), Fail> {
+    let mut world = unbounded(rt.alloc())?;
+    play(
+        &rt,
+        rt.alloc(),
+        &mut world,
+        [
+            (Event::Begin, Seen::Began(0)),
+            (Event::MoveOut(0), Seen::NotEnabled),
+            (Event::ReadMask(1), Seen::NotEnabled),
+        ],
+    )?;
+    assert_eq!(rt; (world.pages(), world.word(0)), (1, Some(FULL)));
+    Ok(())
+}
+
+#[test]
+fn an_agent_alone_holds_after_three_events(rt: HostRuntime) -> Result<(), Fail> {
+    let mut world = unbounded(rt.alloc())?;
+    play(
+        &rt,
+        rt.alloc(),
+        &mut world,
+        [
+            (Event::Begin, Seen::Began(0)),
+            (Event::ReadMask(0), Seen::Word(0, FULL)),
+            (Event::ClearBit(0), Seen::Pulled(0, 0)),
+            (Event::MoveOut(0), Seen::MovedOut(0)),
+            (Event::Write(0, 5), Seen::Wrote(0)),
+        ],
+    )?;
+    assert_eq!(rt; (world.held(0), world.place(0, 0)), (Some(&5), None));
+    give_back(&mut world, 0);
+    assert_eq!(rt; (world.held(0), world.place(0, 0)), (None, Some(&5)));
+    Ok(())
+}
+
+#[test]
+fn an_agent_alone_links_a_page_after_a_full_one(rt: HostRuntime) -> Result<(), Fail> {
+    let mut world = unbounded(rt.alloc())?;
+    hold(&mut world, 32);
+    let made = zeros(rt.alloc())?;
+    play(
+        &rt,
+        rt.alloc(),
+        &mut world,
+        [
+            (Event::Begin, Seen::Began(32)),
+            (Event::ReadMask(32), Seen::Word(32, 0)),
+            (Event::ReadNext(32), Seen::Next(32, false)),
+            (Event::MakePage(32, Ok(made)), Seen::Made(32)),
+            (Event::ExchangeNext(32), Seen::Linked(32)),
+            (Event::ReadMask(32), Seen::Word(32, FULL)),
+            (Event::ClearBit(32), Seen::Pulled(32, 32)),
+            (Event::MoveOut(32), Seen::MovedOut(32)),
+        ],
+    )?;
+    Ok(())
+}
+
+#[test]
+fn a_refusal_leaves_the_pages_alone(rt: HostRuntime) -> Result<(), Fail> {
+    let mut world = unbounded(rt.alloc())?;
+    hold(&mut world, 32);
+    play(
+        &rt,
+        rt.alloc(),
+        &mut world,
+        [
+            (Event::Begin, Seen::Began(32)),
+            (Event::ReadMask(32), Seen::Word(32, 0)),
+            (Event::ReadNext(32), Seen::Next(32, false)),
+            (Event::MoveHome(7), Seen::MovedHome(7)),
+            (Event::OrMask(7), Seen::Returned(7, 7)),
+            (Event::MakePage(32, Err(PullError::Limit)), Seen::NotEnabled),
+            (
+                Event::MakePage(32, Err(PullError::Init)),
+                Seen::Refused(32, PullError::Init),
+            ),
+        ],
+    )?;
+    assert_eq!(rt; (world.pages(), world.word(0)), (1, Some(128)));
+    Ok(())
+}
+
+#[test]
+fn a_page_may_be_linked_although_a_number_came_back(rt: HostRuntime) -> Result<(), Fail> {
+    let mut world = unbounded(rt.alloc())?;
+    hold(&mut world, 32);
+    give_back(&mut world, 0);
+    let made = zeros(rt.alloc())?;
+    play(
+        &rt,
+        rt.alloc(),
+        &mut world,
+        [
+            (Event::Begin, Seen::Began(32)),
+            (Event::ReadMask(32), Seen::Word(32, 1)),
+            (Event::Begin, Seen::Began(33)),
+            (Event::ReadMask(33), Seen::Word(33, 1)),
+            (Event::ClearBit(33), Seen::Pulled(33, 0)),
+            (Event::MoveHome(5), Seen::MovedHome(5)),
+            (Event::OrMask(5), Seen::Returned(5, 5)),
+            (Event::ClearBit(32), Seen::Found(32, 32)),
+            (Event::ReadNext(32), Seen::Next(32, false)),
+            (Event::MakePage(32, Ok(made)), Seen::Made(32)),
+            (Event::ExchangeNext(32), Seen::Linked(32)),
+            (Event::ReadMask(32), Seen::Word(32, FULL)),
+            (Event::ClearBit(32), Seen::Pulled(32, 32)),
+        ],
+    )?;
+    assert_eq!(rt; (world.pages(), world.word(0)), (2, Some(32)));
+    Ok(())
+}
+
+#[test]
+fn a_full_world_at_its_limit_refuses(rt: HostRuntime) -> Result<(), Fail> {
+    for returns_between in [false, true] {
+        let mut world = World::with_limit(rt.alloc(), zeros(rt.alloc())?, Keep, 1)?;
+        hold(&mut world, 32);
+        play(
+            &rt,
+            rt.alloc(),
+            &mut world,
+            [
+                (Event::Begin, Seen::Began(32)),
+                (Event::ReadMask(32), Seen::Word(32, 0)),
+            ],
+        )?;
+        if returns_between {
+            give_back(&mut world, 7);
+        }
+        play(
+            &rt,
+            rt.alloc(),
+            &mut world,
+            [(Event::ReadNext(32), Seen::Refused(32, PullError::Limit))],
+        )?;
+        let word = if returns_between { 128 } else { 0 };
+        assert_eq!(rt; (world.pages(), world.word(0)), (1, Some(word)));
+    }
+    Ok(())
+}
+
+#[test]
+fn an_agent_alone_is_refused_after_two_events_a_page(rt: HostRuntime) -> Result<(), Fail> {
+    let mut world = World::with_limit(rt.alloc(), zeros(rt.alloc())?, Keep, 2)?;
+    hold(&mut world, 32);
+    let made = zeros(rt.alloc())?;
+    play(
+        &rt,
+        rt.alloc(),
+        &mut world,
+        [
+            (Event::Begin, Seen::Began(32)),
+            (Event::ReadMask(32), Seen::Word(32, 0)),
+            (Event::ReadNext(32), Seen::Next(32, false)),
+            (Event::MakePage(32, Ok(made)), Seen::Made(32)),
+            (Event::ExchangeNext(32), Seen::Linked(32)),
+        ],
+    )?;
+    for agent in 33..64 {
+        let _ = world.step(Event::Begin);
+        let _ = world.step(Event::ReadMask(agent));
+        let _ = world.step(Event::ReadNext(agent));
+    }
+    for agent in 32..64 {
+        let _ = world.step(Event::ReadMask(agent));
+        let _ = world.step(Event::ClearBit(agent));
+        let _ = world.step(Event::MoveOut(agent));
+    }
+    play(
+        &rt,
+        rt.alloc(),
+        &mut world,
+        [
+            (Event::Begin, Seen::Began(64)),
+            (Event::ReadMask(64), Seen::Word(64, 0)),
+            (Event::ReadNext(64), Seen::Next(64, true)),
+            (Event::ReadMask(64), Seen::Word(64, 0)),
+            (Event::ReadNext(64), Seen::Refused(64, PullError::Limit)),
+        ],
+    )?;
+    Ok(())
+}
+
+#[test]
+fn a_page_is_made_whole_or_not_at_all(rt: HostRuntime) -> Result<(), Fail> {
+    for last in 1..33u32 {
+        let (calls, ends) = (Cell::new(0u32), Cell::new(0u32));
+        let made = Prepared::make(
+            rt.alloc(),
+            &|| {
+                calls.set(calls.get().saturating_add(1));
+                if calls.get() == last {
+                    None
+                } else {
+                    Some(Counted { ends: &ends })
+                }
+            },
+        );
+        assert!(rt; matches!(made, Err(PullError::Init)));
+        assert_eq!(rt; (calls.get(), ends.get().saturating_add(1)), (last, last));
+    }
+    Ok(())
+}
+
+/// What lies at the first place after an agent wrote 9 there and returned it.
+fn left_of_nine<R: Reset<u32, AnyValue>>(
+    alloc: Global,
+    reset: R,
+) -> Result<Option<u32>, PullError> {
+    let mut world = World::new(alloc, zeros(alloc)?, reset)?;
+    hold(&mut world, 1);
+    let _ = world.step(Event::Write(0, 9));
+    give_back(&mut world, 0);
+    Ok(world.place(0, 0).copied())
+}
+
+/// The same, of a closure that resets.
+fn left_by_closure<F: ResetBy<u32>>(alloc: Global, reset: F) -> Result<Option<u32>, PullError>
+    requires { F.may_reset reset }
+{
+    left_of_nine(alloc, Resets::<u32, F, AnyValue>::new(reset))
+}
+
+#[test]
+fn a_return_stores_what_reset_left(rt: HostRuntime) -> Result<(), Fail> {
+    let kept = left_of_nine(rt.alloc(), Keep)?;
+    let copied = left_of_nine(rt.alloc(), Copied::<u32, AnyValue>::new(3))?;
+    let halved = left_by_closure(rt.alloc(), |value: &mut u32| *value /= 2)?;
+    assert_eq!(rt; (kept, copied, halved), (Some(9), Some(3), Some(4)));
+    Ok(())
+}

@@ -1,0 +1,5 @@
+//! Tests of the world of agents.
+#![tactic(auto)]
+
+#[cfg(test)]
+mod interleave;
