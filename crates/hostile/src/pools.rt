@@ -6,6 +6,7 @@ use crate::worker::{Post, Turn, Worker};
 use crossbeam_channel::unbounded;
 use lockfree_object_pool::clean::AnyValue;
 use lockfree_object_pool::free_list::FreeList;
+use lockfree_object_pool::made_or_reset::MadeOrReset;
 use lockfree_object_pool::stack_object_pool::StackObjectPool;
 use lockfree_object_pool::stack_owned_reusable::StackOwnedReusable;
 use lockfree_object_pool::{
@@ -29,6 +30,9 @@ type LinearOwned<T> = LinearOwnedReusable<T, Maker, Clears, AnyValue>;
 type Mutexed<T> = MutexObjectPool<T, Maker, Clears, AnyValue>;
 
 type SpinLocked<T> = SpinLockObjectPool<T, Maker, Clears, AnyValue>;
+
+/// What a stack pool keeps.
+type StackedItems = MadeOrReset<Maker, Clears, AnyValue>;
 
 type Stack<T, F> = StackObjectPool<T, Maker, Clears, AnyValue, F>;
 
@@ -118,7 +122,7 @@ pub fn linear<T: Item + Send + 'static, R: Threads + Wait + Copy + Send + 'stati
 }
 
 /// One thread on a stack pool.
-fn use_stack<T: Item, F: FreeList<T, AnyValue>, W: Wait + Copy>(
+fn use_stack<T: Item, F: FreeList<T, StackedItems>, W: Wait + Copy>(
     rt: &W,
     pool: &Arc<Stack<T, F>>,
     mut worker: Worker<StackOwned<T, F, W>>,

@@ -5,6 +5,7 @@ use anyhow::Result;
 use lockfree_object_pool::clean::AnyValue;
 use lockfree_object_pool::closures::Keep;
 use lockfree_object_pool::free_list::FreeList;
+use lockfree_object_pool::made_or_reset::MadeOrReset;
 use lockfree_object_pool::spin_lock::SpinLock;
 use lockfree_object_pool::stack::Stack;
 use lockfree_object_pool::stack_object_pool::StackObjectPool;
@@ -15,16 +16,19 @@ use std::alloc::Global;
 use std::rt::Files;
 use std::sync::{Arc, Mutex, Wait};
 
+/// What these pools keep.
+type KeptBuffers = MadeOrReset<Supply, Keep, AnyValue>;
+
 /// The list of a mutex pool.
-type Mutexed = Mutex<Stack<Buffer, AnyValue>>;
+type Mutexed = Mutex<Stack<Buffer, KeptBuffers>>;
 
 /// The list of a spin lock pool.
-type SpinLocked = SpinLock<Stack<Buffer, AnyValue>>;
+type SpinLocked = SpinLock<Stack<Buffer, KeptBuffers>>;
 
 type Pool<F> = StackObjectPool<Buffer, Supply, Keep, AnyValue, F>;
 
 /// A list of which a pool can be made.
-trait List: FreeList<Buffer, AnyValue> {
+trait List: FreeList<Buffer, KeptBuffers> {
     fn new_pool(alloc: Global, supply: &Supply) -> Option<Arc<Pool<Self>>>;
 }
 

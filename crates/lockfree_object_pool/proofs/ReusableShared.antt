@@ -6,21 +6,23 @@ use denote.Struct.Declared.{shape}
 use Rattle.std.proofs.Crossing.{Arc-sync}
 use Rattle.lockfree_object_pool.specs.declared.clean.Clean.{Ghosts}
 use Rattle.lockfree_object_pool.specs.declared.closures.Init as Init
+use Rattle.lockfree_object_pool.specs.declared.closures.Reset as Reset
 use Rattle.lockfree_object_pool.specs.contracts.linear_object_pool.LinearObjectPool as LinearObjectPool
 use Rattle.lockfree_object_pool.specs.contracts.linear_reusable.LinearReusable as LinearReusable
+use Rattle.lockfree_object_pool.specs.contracts.made_or_reset.MadeOrReset as MadeOrReset
 use Rattle.lockfree_object_pool.specs.contracts.linear_owned_reusable.LinearOwnedReusable as LinearOwnedReusable
 use Rattle.lockfree_object_pool.proofs.linear_object_pool.LinearObjectPool.TheSendSync as pool
 use Rattle.lockfree_object_pool.proofs.SlotShared.{taken_sync, owned_slot_parts_sync}
 
-module _ (T I R K : RattleType) (answers : Init.Ghosts I.Denot T.Denot K.Denot) (clean : Ghosts K.Denot T.Denot) where
-  pub reusable_sync : (κ : NamedLft) → IsSend T → IsSync T → IsSync I → IsSync R → IsSync (LinearReusable.the_row κ T I R K answers clean)
+module _ (T I R K : RattleType) (answers : Init.Ghosts I.Denot T.Denot K.Denot) (leaves : Reset.Ghosts R.Denot T.Denot K.Denot) (clean : Ghosts K.Denot T.Denot) where
+  pub reusable_sync : (κ : NamedLft) → IsSend T → IsSync T → IsSync I → IsSync R → IsSync (LinearReusable.the_row κ T I R K answers leaves clean)
   reusable_sync κ sent shared init reset =
-      let type = LinearReusable.the_type κ T I R K answers clean in
-      let pool_shared = shr_sync _ _ _ (pool.the_sync T I R K answers clean sent init reset) in
-      record { shared = λ reusable. (struct_sync (shape type) (pool_shared, (search sendable, (taken_sync T K clean κ sent, (search sendable, (record { shared = shared.shared }, tt)))))).shared (type.to reusable) }
+      let type = LinearReusable.the_type κ T I R K answers leaves clean in
+      let pool_shared = shr_sync _ _ _ (pool.the_sync T I R K answers leaves clean sent init reset) in
+      record { shared = λ reusable. (struct_sync (shape type) (pool_shared, (search sendable, (taken_sync T (MadeOrReset.the_row I R K) _ κ sent, (search sendable, (record { shared = shared.shared }, tt)))))).shared (type.to reusable) }
 
-  pub owned_reusable_sync : IsSend T → IsSync T → IsSend I → IsSync I → IsSend R → IsSync R → IsSync (LinearOwnedReusable.the_row T I R K answers clean)
+  pub owned_reusable_sync : IsSend T → IsSync T → IsSend I → IsSync I → IsSend R → IsSync R → IsSync (LinearOwnedReusable.the_row T I R K answers leaves clean)
   owned_reusable_sync sent shared init_sent init_shared reset_sent reset_shared =
-      let type = LinearOwnedReusable.the_type T I R K answers clean in
-      let owner = Arc-sync (LinearObjectPool.the_row T I R K answers clean) (pool.the_send T I R K answers clean sent init_sent reset_sent) (pool.the_sync T I R K answers clean sent init_shared reset_shared) in
-      record { shared = λ reusable. (struct_sync (shape type) (record { shared = owner.shared }, (owned_slot_parts_sync T K clean sent shared, (search sendable, tt)))).shared (type.to reusable) }
+      let type = LinearOwnedReusable.the_type T I R K answers leaves clean in
+      let owner = Arc-sync (LinearObjectPool.the_row T I R K answers leaves clean) (pool.the_send T I R K answers leaves clean sent init_sent reset_sent) (pool.the_sync T I R K answers leaves clean sent init_shared reset_shared) in
+      record { shared = λ reusable. (struct_sync (shape type) (record { shared = owner.shared }, (owned_slot_parts_sync T (MadeOrReset.the_row I R K) _ sent shared, (search sendable, tt)))).shared (type.to reusable) }

@@ -1,5 +1,5 @@
 -- What the answer of a page to a pull shows.
-use Rattle.std.specs.Prelude.{◌≡◌, ℕ, ◌<◌, ◌∷◌, [], List, Option}
+use Rattle.std.specs.Prelude.{◌≡◌, ℕ, ◌<◌, ◌≤◌, ◌∷◌, [], List, Option}
 use Rattle.atomic_table.specs.Seated.{TableId}
 use Rattle.lockfree_object_pool.specs.declared.page.history.PageAct.TheVariants.{Took}
 use Rattle.lockfree_object_pool.specs.declared.page.user_view.UserView.{UserView}
@@ -42,9 +42,10 @@ module _ {T : Type 0} where
     pub lawful : IsLawful opening (full_history seen)
     pub each_was_out : (id : ℕ) → id < PAGE_ITEMS → WasOutBetween opening (full_since seen) (full_history seen) id
 
-  -- a page that had no item was seen to be full
-  abbrev pub WasSeenFull : TableId → List (Option T) → Type 0
-  WasSeenFull page opening = (seen : FullSeen T) × IsFullOf page opening seen
+  -- what one call did: it read the page's word once, and tried so many bits at most
+  pub record IsBrief (known : UserView T) : Type 0 where
+    pub one_look : known.looks ≡ 1
+    pub tries : known.tries ≤ PAGE_ITEMS
 
   -- the same of a call that goes on from a note: its load stands after all that the note knew
   pub record IsFullAfter (page : TableId) (note : PageNote T) (seen : FullSeen T) : Type 0 where
@@ -52,6 +53,11 @@ module _ {T : Type 0} where
     pub after_note : IsBeginningOf (note_history note) (full_since seen)
 
 module _ {T K : Type 0} where
+  -- what the call knows of the page, whatever it answers
+  abbrev pub answer_view : Allocated T K → UserView T
+  answer_view (Slot slot) = slot_view slot
+  answer_view (Full seen) = full_view seen
+
   -- an item of this page; or each of its ids was found out
   abbrev pub IsAnswerOf : (T → Type 0) → TableId → List (Option T) → Allocated T K → Type 0
   IsAnswerOf meets page opening (Slot slot) = IsPulledOf meets page opening (slot_item slot)

@@ -11,6 +11,7 @@ use Rattle.lockfree_object_pool.specs.contracts.page.owned_slot.OwnedSlot as Own
 use Rattle.lockfree_object_pool.specs.contracts.page.slot.PageSlot as SlotRow
 use Rattle.lockfree_object_pool.specs.declared.clean.Clean as Clean
 use Rattle.lockfree_object_pool.specs.declared.closures.Init as Init
+use Rattle.lockfree_object_pool.specs.declared.closures.Reset as Reset
 use Rattle.lockfree_object_pool.specs.declared.linear_owned_reusable.LinearOwnedReusable.{LinearOwnedReusable}
 use Rattle.lockfree_object_pool.specs.declared.linear_reusable.LinearReusable.{LinearReusable}
 use Rattle.lockfree_object_pool.specs.declared.page.owned_slot.OwnedSlot.{OwnedSlot}
@@ -28,14 +29,14 @@ module _ (T K : RattleType) (clean : Clean.Ghosts K.Denot T.Denot) where
   LendsOwnedSlotValue slot loan =
       Lends (OwnedSlotRow.the_row T K clean) T slot loan (owned_slot_with slot.now)
 
-module _ (T I R K : RattleType) (init : Init.Ghosts I.Denot T.Denot K.Denot) (clean : Clean.Ghosts K.Denot T.Denot) where
+module _ (T I R K : RattleType) (init : Init.Ghosts I.Denot T.Denot K.Denot) (reset : Reset.Ghosts R.Denot T.Denot K.Denot) (clean : Clean.Ghosts K.Denot T.Denot) where
   -- so it is of a linear reusable's value
   abbrev pub LendsValue : MutBor (LinearReusable T.Denot I.Denot R.Denot K.Denot) → MutBor T.Denot → Fml
   LendsValue reusable loan =
-      Lends (Borrowed.the_row (record { mir = named 1; lft = [] }) T I R K init clean) T reusable loan
+      Lends (Borrowed.the_row (record { mir = named 1; lft = [] }) T I R K init reset clean) T reusable loan
       (reusable_with reusable.now)
 
   -- so it is of an owned linear reusable's value
   abbrev pub LendsOwnedValue : MutBor (LinearOwnedReusable T.Denot I.Denot R.Denot K.Denot) → MutBor T.Denot → Fml
   LendsOwnedValue reusable loan =
-      Lends (Owned.the_row T I R K init clean) T reusable loan (owned_with reusable.now)
+      Lends (Owned.the_row T I R K init reset clean) T reusable loan (owned_with reusable.now)

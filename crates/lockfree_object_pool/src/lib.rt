@@ -12,7 +12,7 @@ pub mod linear_object_pool;
 pub mod linear_owned_reusable;
 pub mod linear_page;
 pub mod linear_reusable;
-mod made_or_reset;
+pub mod made_or_reset;
 pub mod mutex_object_pool;
 pub mod mutex_owned_reusable;
 pub mod mutex_reusable;

@@ -11,6 +11,7 @@ use crate::closures::{Init, Reset};
 use crate::linear_owned_reusable::LinearOwnedReusable;
 use crate::linear_page::{Chain, Reached};
 use crate::linear_reusable::LinearReusable;
+use crate::made_or_reset::MadeOrReset;
 use answer_of::AnswerOf;
 use page_limit::PageLimit;
 use std::alloc::Global;
@@ -25,12 +26,12 @@ mod page_limit;
 pub struct LinearObjectPool<T, I: Init<T, K>, R: Reset<T, K>, K: Clean<T> = AnyValue> {
     init: I,
     reset: R,
-    chain: Chain<T, K, AnswerOf<I, K>>,
+    chain: Chain<T, MadeOrReset<I, R, K>, AnswerOf<I, K>>,
     limit: Option<PageLimit>,
 }
 
 impl<T: Drop, I: Init<T, K>, R: Reset<T, K>, K: Clean<T>> LinearObjectPool<T, I, R, K> {
-    ghost use Rattle.lockfree_object_pool.specs.Answers.{IsAnswer};
+    ghost use Rattle.lockfree_object_pool.specs.Answers.{IsAnswer, IsMadeOrReset};
     ghost use Rattle.lockfree_object_pool.specs.Item.{HasOrigin};
     ghost use Rattle.lockfree_object_pool.specs.LinearPool.{pool_init, pool_reset, pool_limit, pages_of, reusable_pool, reusable_item, reusable_number, owned_pool, owned_item, owned_number, IsPulledFrom};
     ghost use Rattle.lockfree_object_pool.specs.Page.{page_identity};
@@ -97,6 +98,8 @@ impl<T: Drop, I: Init<T, K>, R: Reset<T, K>, K: Clean<T>> LinearObjectPool<T, I,
         ensures pool { IfOk result (λ item. reusable_pool item ≡ self.now) }
         ensures pulled { IfOk result (λ item. IsPulledFrom K.meets self.now (reusable_item item) (reusable_number item)) }
         ensures history { IfOk result (λ item. HasOrigin (IsAnswer I.answers) (reusable_item item)) }
+        ensures made_or_reset { IfOk result (λ item.
+            IsMadeOrReset I.answers R.leaves (reusable_item item).value) }
         ensures within { IfOk result (λ item. IfSome (pool_limit self.now) (λ pages. reusable_number item < pages)) }
         ensures refused { IfErr result (RefusesPull (record {
           limited = IsSome (pool_limit self.now);
@@ -115,6 +118,8 @@ impl<T: Drop, I: Init<T, K>, R: Reset<T, K>, K: Clean<T>> LinearObjectPool<T, I,
         ensures pool { IfOk result (λ item. reusable_pool item ≡ self.now) }
         ensures pulled { IfOk result (λ item. IsPulledFrom K.meets self.now (reusable_item item) (reusable_number item)) }
         ensures history { IfOk result (λ item. HasOrigin (IsAnswer I.answers) (reusable_item item)) }
+        ensures made_or_reset { IfOk result (λ item.
+            IsMadeOrReset I.answers R.leaves (reusable_item item).value) }
         ensures within { IfOk result (λ item. IfSome (pool_limit self.now) (λ pages. reusable_number item < pages)) }
         ensures refused { IfErr result (RefusesPull (record {
           limited = IsSome (pool_limit self.now);
@@ -131,6 +136,8 @@ impl<T: Drop, I: Init<T, K>, R: Reset<T, K>, K: Clean<T>> LinearObjectPool<T, I,
         ensures pool { IfOk result (λ item. owned_pool item ≡ arc_value self.now) }
         ensures pulled { IfOk result (λ item. IsPulledFrom K.meets (arc_value self.now) (owned_item item) (owned_number item)) }
         ensures history { IfOk result (λ item. HasOrigin (IsAnswer I.answers) (owned_item item)) }
+        ensures made_or_reset { IfOk result (λ item.
+            IsMadeOrReset I.answers R.leaves (owned_item item).value) }
         ensures within { IfOk result (λ item. IfSome (pool_limit (arc_value self.now)) (λ pages. owned_number item < pages)) }
         ensures refused { IfErr result (RefusesPull (record {
           limited = IsSome (pool_limit (arc_value self.now));
@@ -150,9 +157,11 @@ impl<T: Drop, I: Init<T, K>, R: Reset<T, K>, K: Clean<T>> LinearObjectPool<T, I,
     }
 
     /// The item of a pull, and how many pages lie before its page.
-    fn find(&self) -> Result<Reached<'_, T, K, AnswerOf<I, K>>, PullError>
+    fn find(&self) -> Result<Reached<'_, T, MadeOrReset<I, R, K>, AnswerOf<I, K>>, PullError>
         ensures pulled { IfOk result (λ reached. IsPulledFrom K.meets self.now (slot_item reached.slot) reached.passed) }
         ensures history { IfOk result (λ reached. HasOrigin (IsAnswer I.answers) (slot_item reached.slot)) }
+        ensures made_or_reset { IfOk result (λ reached.
+            IsMadeOrReset I.answers R.leaves (slot_item reached.slot).value) }
         ensures of_page { IfOk result (λ reached. (slot_item reached.slot).page ≡ page_identity (arc_value reached.page.now)) }
         ensures within { IfOk result (λ reached. IfSome (pool_limit self.now) (λ pages. reached.passed < pages)) }
         ensures refused { IfErr result (RefusesPull (record {
@@ -174,6 +183,7 @@ impl<T: Drop, I: Init<T, K>, R: Reset<T, K>, K: Clean<T>> LinearObjectPool<T, I,
     pub(crate) fn reset(&self, value: &mut T)
         ensures leaves { R.leaves (pool_reset self.now) value.old value.new }
         ensures meets { K.meets value.new }
+        ensures made_or_reset { IsMadeOrReset I.answers R.leaves value.new }
     {
         self.reset.reset(value);
     }

@@ -6,6 +6,7 @@ ghost use Rattle.lockfree_object_pool.specs.declared.page.TheConstants.{PAGE_ITE
 use crate::clean::{AnyValue, Clean};
 use crate::closures::{Init, Reset};
 use crate::linear_object_pool::LinearObjectPool;
+use crate::made_or_reset::MadeOrReset;
 use crate::page::{OwnedSlot, PageId};
 use std::fmt::{self, Debug, Formatter, Write};
 use std::ops::{Deref, DerefMut};
@@ -14,7 +15,7 @@ use std::sync::Arc;
 /// A pulled value. Its end resets it and brings it back to its page.
 pub struct LinearOwnedReusable<T: Drop, I: Init<T, K>, R: Reset<T, K>, K: Clean<T> = AnyValue> {
     pool: Arc<LinearObjectPool<T, I, R, K>>,
-    slot: OwnedSlot<T, K>,
+    slot: OwnedSlot<T, MadeOrReset<I, R, K>>,
     number: usize,
 }
 
@@ -24,7 +25,7 @@ impl<T: Drop, I: Init<T, K>, R: Reset<T, K>, K: Clean<T>> LinearOwnedReusable<T,
 
     pub(crate) fn new(
         pool: Arc<LinearObjectPool<T, I, R, K>>,
-        slot: OwnedSlot<T, K>,
+        slot: OwnedSlot<T, MadeOrReset<I, R, K>>,
         number: usize,
     ) -> LinearOwnedReusable<T, I, R, K>
         ensures pool { owned_pool result ≡ arc_value pool }
@@ -72,7 +73,7 @@ impl<T: Drop, I: Init<T, K>, R: Reset<T, K>, K: Clean<T>> DerefMut
     ghost deref_mut_gives = { λ reusable value. value ≡ (owned_item reusable).value };
 
     fn deref_mut(&mut self) -> &mut T
-        ensures* writes_back { sem 𝓛 (LendsOwnedValue T.row I.row R.row K.row I.Init K.Clean self.entry result) }
+        ensures* writes_back { sem 𝓛 (LendsOwnedValue T.row I.row R.row K.row I.Init R.Reset K.Clean self.entry result) }
         ensures shows { result.now ≡ (owned_item self.old).value }
     {
         &mut self.slot

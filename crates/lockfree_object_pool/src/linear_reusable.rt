@@ -6,6 +6,7 @@ use crate::clean::{AnyValue, Clean};
 use crate::closures::{Init, Reset};
 use crate::lender::Lender;
 use crate::linear_object_pool::LinearObjectPool;
+use crate::made_or_reset::MadeOrReset;
 use crate::page::{PageId, PageSlot, TakenId};
 use std::fmt::{self, Debug, Formatter, Write};
 use std::ops::{Deref, DerefMut};
@@ -14,7 +15,7 @@ use std::ops::{Deref, DerefMut};
 pub struct LinearReusable<'p, T: Drop, I: Init<T, K>, R: Reset<T, K>, K: Clean<T> = AnyValue> {
     pool: &'p LinearObjectPool<T, I, R, K>,
     lender: Lender,
-    taken: TakenId<'p, T, K>,
+    taken: TakenId<'p, T, MadeOrReset<I, R, K>>,
     number: usize,
     value: T,
 }
@@ -25,7 +26,7 @@ impl<'p, T: Drop, I: Init<T, K>, R: Reset<T, K>, K: Clean<T>> LinearReusable<'p,
 
     pub(crate) fn new(
         pool: &'p LinearObjectPool<T, I, R, K>,
-        slot: PageSlot<'p, T, K>,
+        slot: PageSlot<'p, T, MadeOrReset<I, R, K>>,
         number: usize,
     ) -> LinearReusable<'p, T, I, R, K>
         ensures pool { reusable_pool result ≡ pool.now }
@@ -79,7 +80,7 @@ impl<T: Drop, I: Init<T, K>, R: Reset<T, K>, K: Clean<T>> DerefMut
     ghost deref_mut_gives = { λ reusable value. value ≡ (reusable_item reusable).value };
 
     fn deref_mut(&mut self) -> &mut T
-        ensures* writes_back { sem 𝓛 (LendsValue T.row I.row R.row K.row I.Init K.Clean self.entry result) }
+        ensures* writes_back { sem 𝓛 (LendsValue T.row I.row R.row K.row I.Init R.Reset K.Clean self.entry result) }
         ensures shows { result.now ≡ (reusable_item self.old).value }
     {
         &mut self.value

@@ -3,13 +3,20 @@ ghost use Rattle.std.specs.Prelude.{◌≡◌};
 
 use crate::clean::{AnyValue, Clean};
 use crate::closures::{Init, Reset};
+use crate::made_or_reset::MadeOrReset;
 use crate::stack::Stack;
 use crate::stack_object_pool::StackObjectPool;
 use std::alloc::Global;
 use std::sync::Mutex;
 
 /// A pool whose kept values lie in a stack under a mutex.
-pub type MutexObjectPool<T, I, R, K = AnyValue> = StackObjectPool<T, I, R, K, Mutex<Stack<T, K>>>;
+pub type MutexObjectPool<T, I, R, K = AnyValue> = StackObjectPool<
+    T,
+    I,
+    R,
+    K,
+    Mutex<Stack<T, MadeOrReset<I, R, K>>>,
+>;
 
 impl<T: Drop, I: Init<T, K>, R: Reset<T, K>, K: Clean<T>> MutexObjectPool<T, I, R, K> {
     ghost use Rattle.lockfree_object_pool.specs.StackPool.{stack_init, stack_reset};

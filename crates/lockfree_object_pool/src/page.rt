@@ -6,7 +6,7 @@
 //! `owned_slot`), the answer of a full page (`full_seen`), and what is known of a page while no item is held (`note`).
 //!
 //! No call waits for another thread or tries again: a page reads its word once, and then clears single bits.
-ghost use Rattle.std.specs.Prelude.{◌≡◌, ◌-◌, ◌^◌, ◌<◌, ◌↔◌, ℕ, [], false, Option, None, Some, IsTrue, IsNone, IfSome, IfNone, IsOk, IfOk, IfErr, bit_and, bit_or};
+ghost use Rattle.std.specs.Prelude.{◌≡◌, ◌+◌, ◌-◌, ◌^◌, ◌<◌, ◌≤◌, ◌↔◌, ℕ, [], false, Option, None, Some, IsTrue, IsNone, IfSome, IsOk, IfOk, IfErr, bit_and, bit_or};
 ghost use Rattle.std.specs.Int.{w32, bit_at, bit_not};
 ghost use Rattle.lockfree_object_pool.specs.Word.{IsLeastBit, SetsBit, ClearsBit};
 ghost use Rattle.lockfree_object_pool.specs.declared.page.TheConstants.{PAGE_ITEMS};
@@ -97,13 +97,13 @@ pub struct Page<T, K: Clean<T>> {
 
 impl<T, K: Clean<T>> Page<T, K> {
     ghost use Rattle.lockfree_object_pool.specs.Answers.{MayMake};
-    ghost use Rattle.lockfree_object_pool.specs.FullSeen.{IsAnswerOf, IsAnswerFrom, IsAnswerAfter, WasSeenFull};
+    ghost use Rattle.lockfree_object_pool.specs.FullSeen.{IsAnswerOf, IsAnswerFrom, IsAnswerAfter, IsBrief, answer_view};
     ghost use Rattle.lockfree_object_pool.specs.Item.{IsPulledOf};
     ghost use Rattle.lockfree_object_pool.specs.Note.{note_page, witness_page, IsReturned, IsNoteOf, HasLearned};
     ghost use Rattle.lockfree_object_pool.specs.Page.{page_identity, page_opening, IsFilled};
     ghost use Rattle.lockfree_object_pool.specs.PageRule.{IsSound, KnowsOut, item_of};
     ghost use Rattle.lockfree_object_pool.specs.Refusal.{RefusesMaking};
-    ghost use Rattle.lockfree_object_pool.specs.Slot.{slot_item};
+    ghost use Rattle.lockfree_object_pool.specs.Slot.{slot_item, slot_view};
 
     /// A page of 32 free items: item `i` is the answer of call `i` of `init`, counted from 0.
     ///
@@ -150,7 +150,7 @@ impl<T, K: Clean<T>> Page<T, K> {
     pub fn alloc(&self) -> Result<Option<PageSlot<'_, T, K>>, PullError>
         ensures succeeds { IsOk result }
         ensures pulled { IfOk result (λ found. IfSome found (λ slot. IsPulledOf K.meets (page_identity self.now) (page_opening self.now) (slot_item slot))) }
-        ensures full { IfOk result (λ found. IfNone found (WasSeenFull (page_identity self.now) (page_opening self.now))) }
+        ensures brief { IfOk result (λ found. IfSome found (λ slot. IsBrief (slot_view slot))) }
     {
         let pass = PullPass::new();
         match self.try_alloc(&pass)? {
@@ -166,13 +166,15 @@ impl<T, K: Clean<T>> Page<T, K> {
     ) -> Result<Allocated<'s, 'p, T, K>, PullError>
         ensures succeeds { IsOk result }
         ensures answer { IfOk result (IsAnswerOf K.meets (page_identity self.now) (page_opening self.now)) }
+        ensures brief { IfOk result (λ answer. IsBrief (answer_view answer)) }
     {
         Ok(self.take(pass))
     }
 
     /// As `try_alloc`, which is never refused.
     pub(crate) fn take<'s, 'p>(&'s self, pass: &'p PullPass) -> Allocated<'s, 'p, T, K>
-        ensures { IsAnswerOf K.meets (page_identity self.now) (page_opening self.now) result }
+        ensures answer { IsAnswerOf K.meets (page_identity self.now) (page_opening self.now) result }
+        ensures brief { IsBrief (answer_view result) }
     {
         let (word, seat) = self.look();
         self.take_lowest(pass, word, seat)
@@ -193,7 +195,9 @@ impl<T, K: Clean<T>> Page<T, K> {
         Ok(self.take_lowest(pass, word, seat))
     }
 
-    /// A note of this page, which knows its history up to now.
+    /// A note of this page, by a user that did nothing. It costs one load.
+    ///
+    /// It knows some prefix of the page's history; which one, no contract can say.
     pub fn note(&self) -> PageNote<T>
         ensures { IsNoteOf (page_identity self.now) (page_opening self.now) result }
     {
@@ -226,7 +230,9 @@ impl<T, K: Clean<T>> Page<T, K> {
         requires here { seat.me.0.gone ≡ false }
         requires sound { IsSound seat.me.0 }
         requires found { (id : ℕ) → id < PAGE_ITEMS → bit_at word id ≡ 0 → KnowsOut seat.me.0 (item_of 0 id) }
-        ensures { IsAnswerFrom K.meets (page_identity self.now) seat.me.0 result }
+        ensures answer { IsAnswerFrom K.meets (page_identity self.now) seat.me.0 result }
+        ensures looks { (answer_view result).looks ≡ seat.me.0.looks }
+        ensures tries { (answer_view result).tries ≤ seat.me.0.tries + PAGE_ITEMS }
     {
         let mut untried = word;
         while let Some((rest, id)) = take_least(untried) {
@@ -243,15 +249,8 @@ impl<T, K: Clean<T>> Page<T, K> {
         Allocated::Full(FullSeen { seat, pass })
     }
 
-    /// The value goes home, and the slot's id is free again.
-    pub fn free(slot: PageSlot<'_, T, K>)
-        requires { K.meets (slot_item slot).value }
-    {
-        Page::free_as(slot);
-    }
-
-    /// As `free`, with a note of the history up to the return.
-    pub fn free_as(slot: PageSlot<'_, T, K>) -> PageNote<T>
+    /// The value goes home, and the slot's id is free again. The note knows the page's history up to the return.
+    pub fn free(slot: PageSlot<'_, T, K>) -> PageNote<T>
         requires { K.meets (slot_item slot).value }
         ensures { IsReturned (slot_item slot.entry) result }
     {

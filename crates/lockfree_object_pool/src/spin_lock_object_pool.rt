@@ -6,6 +6,7 @@ ghost use Rattle.std.specs.Prelude.{◌≡◌, IfOk, IfErr};
 use crate::PullError;
 use crate::clean::{AnyValue, Clean};
 use crate::closures::{Init, Reset};
+use crate::made_or_reset::MadeOrReset;
 use crate::spin_lock::SpinLock;
 use crate::stack::Stack;
 use crate::stack_object_pool::StackObjectPool;
@@ -17,7 +18,7 @@ pub type SpinLockObjectPool<T, I, R, K = AnyValue> = StackObjectPool<
     I,
     R,
     K,
-    SpinLock<Stack<T, K>>,
+    SpinLock<Stack<T, MadeOrReset<I, R, K>>>,
 >;
 
 impl<T: Drop, I: Init<T, K>, R: Reset<T, K>, K: Clean<T>> SpinLockObjectPool<T, I, R, K> {

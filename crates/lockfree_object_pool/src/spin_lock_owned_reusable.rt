@@ -1,4 +1,5 @@
 //! A value that was pulled from a spin lock pool or attached to it, with an owner of the pool.
+use crate::made_or_reset::MadeOrReset;
 use crate::spin_lock::SpinLock;
 use crate::stack::Stack;
 use crate::stack_owned_reusable::StackOwnedReusable;
@@ -10,6 +11,6 @@ pub type SpinLockOwnedReusable<T, I, R, K, W> = StackOwnedReusable<
     I,
     R,
     K,
-    SpinLock<Stack<T, K>>,
+    SpinLock<Stack<T, MadeOrReset<I, R, K>>>,
     W,
 >;

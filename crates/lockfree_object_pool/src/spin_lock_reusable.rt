@@ -1,4 +1,5 @@
 //! A value that was pulled from a spin lock pool or attached to it, under a borrow of the pool.
+use crate::made_or_reset::MadeOrReset;
 use crate::spin_lock::SpinLock;
 use crate::stack::Stack;
 use crate::stack_reusable::StackReusable;
@@ -11,6 +12,6 @@ pub type SpinLockReusable<'p, T, I, R, K, W> = StackReusable<
     I,
     R,
     K,
-    SpinLock<Stack<T, K>>,
+    SpinLock<Stack<T, MadeOrReset<I, R, K>>>,
     W,
 >;

@@ -8,6 +8,7 @@ ghost use Rattle.lockfree_object_pool.specs.LastIn.{PutsInFront, StaysEmpty, Tak
 use crate::clean::Clean;
 use crate::pull_error::PullError;
 use crate::stack::node::Node;
+use atomic_table::Badge;
 use std::alloc::Global;
 use std::marker::{Model, PhantomData};
 use std::sync::Mutex;
@@ -46,10 +47,10 @@ impl<T: Drop> Room<T> {
     }
 }
 
-/// A list of kept values, last returned first, each of which meets `K`.
+/// A list of kept values, last returned first, each of which meets `K`. The marker may be sent and shared whatever `K` is.
 pub struct Stack<T, K: Clean<T>> {
     head: Option<Box<Node<T>>>,
-    marker: PhantomData<Mutex<K>>,
+    marker: PhantomData<Mutex<Badge<K>>>,
 }
 
 impl<T, K: Clean<T>> Model for Stack<T, K> {

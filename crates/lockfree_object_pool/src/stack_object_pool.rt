@@ -9,6 +9,7 @@ use crate::PullError;
 use crate::clean::Clean;
 use crate::closures::{Init, Reset};
 use crate::free_list::FreeList;
+use crate::made_or_reset::MadeOrReset;
 use crate::stack::Room;
 use crate::stack_owned_reusable::StackOwnedReusable;
 use crate::stack_reusable::StackReusable;
@@ -22,7 +23,13 @@ use std::sync::{Arc, Mutex, Wait};
 /// Its two kinds are [`MutexObjectPool`](crate::MutexObjectPool) and
 /// [`SpinLockObjectPool`](crate::SpinLockObjectPool).
 #[derive(Drop)]
-pub struct StackObjectPool<T, I: Init<T, K>, R: Reset<T, K>, K: Clean<T>, F: FreeList<T, K>> {
+pub struct StackObjectPool<
+    T,
+    I: Init<T, K>,
+    R: Reset<T, K>,
+    K: Clean<T>,
+    F: FreeList<T, MadeOrReset<I, R, K>>,
+> {
     alloc: Global,
     init: I,
     reset: R,
@@ -30,13 +37,14 @@ pub struct StackObjectPool<T, I: Init<T, K>, R: Reset<T, K>, K: Clean<T>, F: Fre
     marker: PhantomData<(Mutex<T>, Mutex<K>)>,
 }
 
-impl<T: Drop, I: Init<T, K>, R: Reset<T, K>, K: Clean<T>, F: FreeList<T, K>> StackObjectPool<
-    T,
-    I,
-    R,
-    K,
-    F,
-> {
+impl<
+    T: Drop,
+    I: Init<T, K>,
+    R: Reset<T, K>,
+    K: Clean<T>,
+    F: FreeList<T, MadeOrReset<I, R, K>>,
+> StackObjectPool<T, I, R, K, F> {
+    ghost use Rattle.lockfree_object_pool.specs.Answers.{IsMadeOrReset};
     ghost use Rattle.lockfree_object_pool.specs.StackPool.{stack_init, stack_reset, stack_pool, stack_value, stack_owned_pool, stack_owned_value};
     ghost use Rattle.lockfree_object_pool.specs.Refusal.{RefusesMaking};
 
@@ -60,6 +68,8 @@ impl<T: Drop, I: Init<T, K>, R: Reset<T, K>, K: Clean<T>, F: FreeList<T, K>> Sta
     ) -> Result<StackReusable<'_, T, I, R, K, F, W>, PullError>
         ensures pool { IfOk result (λ item. stack_pool item ≡ self.now) }
         ensures meets { IfOk result (λ item. K.meets (stack_value item)) }
+        ensures made_or_reset { IfOk result (λ item.
+            IsMadeOrReset I.answers R.leaves (stack_value item)) }
         ensures refused { IfErr result (RefusesMaking (I.answers (stack_init self.now) None)) }
     {
         let (value, room) = self.item(rt)?;
@@ -74,6 +84,8 @@ impl<T: Drop, I: Init<T, K>, R: Reset<T, K>, K: Clean<T>, F: FreeList<T, K>> Sta
     ) -> Result<StackOwnedReusable<T, I, R, K, F, W>, PullError>
         ensures pool { IfOk result (λ item. stack_owned_pool item ≡ arc_value self.now) }
         ensures meets { IfOk result (λ item. K.meets (stack_owned_value item)) }
+        ensures made_or_reset { IfOk result (λ item.
+            IsMadeOrReset I.answers R.leaves (stack_owned_value item)) }
         ensures refused { IfErr result (RefusesMaking (I.answers (stack_init (arc_value self.now)) None)) }
     {
         let owner = Arc::try_clone(self)?;
@@ -84,6 +96,7 @@ impl<T: Drop, I: Init<T, K>, R: Reset<T, K>, K: Clean<T>, F: FreeList<T, K>> Sta
     /// A kept value with its room, or a new one of each. The list is asked for the kept one alone.
     fn item<W: Wait>(&self, rt: &W) -> Result<(T, Room<T>), PullError>
         ensures meets { IfOk result (λ item. K.meets item.0) }
+        ensures made_or_reset { IfOk result (λ item. IsMadeOrReset I.answers R.leaves item.0) }
         ensures refused { IfErr result (RefusesMaking (I.answers (stack_init self.now) None)) }
     {
         if let Some(item) = self.kept.take(rt) {
@@ -110,7 +123,7 @@ impl<T: Drop, I: Init<T, K>, R: Reset<T, K>, K: Clean<T>, F: FreeList<T, K>> Sta
     }
 }
 
-impl<T, I: Init<T, K>, R: Reset<T, K>, K: Clean<T>, F: FreeList<T, K>> Debug
+impl<T, I: Init<T, K>, R: Reset<T, K>, K: Clean<T>, F: FreeList<T, MadeOrReset<I, R, K>>> Debug
     for StackObjectPool<T, I, R, K, F> {
     fn fmt<W: Write>(&self, f: &mut Formatter<W>) -> fmt::Result {
         f.debug_struct("StackObjectPool").finish_non_exhaustive()

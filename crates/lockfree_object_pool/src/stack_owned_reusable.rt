@@ -5,6 +5,7 @@ ghost use Rattle.std.specs.Arc.{arc_value};
 use crate::clean::Clean;
 use crate::closures::{Init, Reset};
 use crate::free_list::FreeList;
+use crate::made_or_reset::MadeOrReset;
 use crate::stack::Room;
 use crate::stack_object_pool::StackObjectPool;
 use std::fmt::{self, Debug, Formatter, Write};
@@ -18,7 +19,7 @@ pub struct StackOwnedReusable<
     I: Init<T, K>,
     R: Reset<T, K>,
     K: Clean<T>,
-    F: FreeList<T, K>,
+    F: FreeList<T, MadeOrReset<I, R, K>>,
     W: Wait + Copy,
 > {
     pool: Arc<StackObjectPool<T, I, R, K, F>>,
@@ -32,7 +33,7 @@ impl<
     I: Init<T, K>,
     R: Reset<T, K>,
     K: Clean<T>,
-    F: FreeList<T, K>,
+    F: FreeList<T, MadeOrReset<I, R, K>>,
     W: Wait + Copy,
 > StackOwnedReusable<T, I, R, K, F, W> {
     ghost use Rattle.std.specs.Prelude.{MatchResult};
@@ -71,8 +72,14 @@ impl<
     }
 }
 
-impl<T: Drop, I: Init<T, K>, R: Reset<T, K>, K: Clean<T>, F: FreeList<T, K>, W: Wait + Copy> Deref
-    for StackOwnedReusable<T, I, R, K, F, W> {
+impl<
+    T: Drop,
+    I: Init<T, K>,
+    R: Reset<T, K>,
+    K: Clean<T>,
+    F: FreeList<T, MadeOrReset<I, R, K>>,
+    W: Wait + Copy,
+> Deref for StackOwnedReusable<T, I, R, K, F, W> {
     type Target = T;
 
     ghost use Rattle.lockfree_object_pool.specs.StackPool.{stack_owned_value};
@@ -89,7 +96,7 @@ impl<
     I: Init<T, K>,
     R: Reset<T, K>,
     K: Clean<T>,
-    F: FreeList<T, K>,
+    F: FreeList<T, MadeOrReset<I, R, K>>,
     W: Wait + Copy,
 > DerefMut for StackOwnedReusable<T, I, R, K, F, W> {
     ghost use Rattle.std.specs.Borrow.{sem};
@@ -106,8 +113,14 @@ impl<
     }
 }
 
-impl<T: Drop, I: Init<T, K>, R: Reset<T, K>, K: Clean<T>, F: FreeList<T, K>, W: Wait + Copy> Drop
-    for StackOwnedReusable<T, I, R, K, F, W> {
+impl<
+    T: Drop,
+    I: Init<T, K>,
+    R: Reset<T, K>,
+    K: Clean<T>,
+    F: FreeList<T, MadeOrReset<I, R, K>>,
+    W: Wait + Copy,
+> Drop for StackOwnedReusable<T, I, R, K, F, W> {
     fn drop(self) {
         let StackOwnedReusable {
             pool,
@@ -124,7 +137,7 @@ impl<
     I: Init<T, K>,
     R: Reset<T, K>,
     K: Clean<T>,
-    F: FreeList<T, K>,
+    F: FreeList<T, MadeOrReset<I, R, K>>,
     W: Wait + Copy,
 > Debug for StackOwnedReusable<T, I, R, K, F, W> {
     ghost use Rattle.lockfree_object_pool.specs.StackPool.{stack_owned_value};

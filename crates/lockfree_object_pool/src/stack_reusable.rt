@@ -5,6 +5,7 @@ use crate::clean::Clean;
 use crate::closures::{Init, Reset};
 use crate::free_list::FreeList;
 use crate::lender::Lender;
+use crate::made_or_reset::MadeOrReset;
 use crate::stack::Room;
 use crate::stack_object_pool::StackObjectPool;
 use std::fmt::{self, Debug, Formatter, Write};
@@ -19,7 +20,7 @@ pub struct StackReusable<
     I: Init<T, K>,
     R: Reset<T, K>,
     K: Clean<T>,
-    F: FreeList<T, K>,
+    F: FreeList<T, MadeOrReset<I, R, K>>,
     W: Wait + Copy,
 > {
     pool: &'p StackObjectPool<T, I, R, K, F>,
@@ -35,7 +36,7 @@ impl<
     I: Init<T, K>,
     R: Reset<T, K>,
     K: Clean<T>,
-    F: FreeList<T, K>,
+    F: FreeList<T, MadeOrReset<I, R, K>>,
     W: Wait + Copy,
 > StackReusable<'p, T, I, R, K, F, W> {
     ghost use Rattle.std.specs.Prelude.{MatchResult};
@@ -75,8 +76,14 @@ impl<
     }
 }
 
-impl<T: Drop, I: Init<T, K>, R: Reset<T, K>, K: Clean<T>, F: FreeList<T, K>, W: Wait + Copy> Deref
-    for StackReusable<'_, T, I, R, K, F, W> {
+impl<
+    T: Drop,
+    I: Init<T, K>,
+    R: Reset<T, K>,
+    K: Clean<T>,
+    F: FreeList<T, MadeOrReset<I, R, K>>,
+    W: Wait + Copy,
+> Deref for StackReusable<'_, T, I, R, K, F, W> {
     type Target = T;
 
     ghost use Rattle.lockfree_object_pool.specs.StackPool.{stack_value};
@@ -93,7 +100,7 @@ impl<
     I: Init<T, K>,
     R: Reset<T, K>,
     K: Clean<T>,
-    F: FreeList<T, K>,
+    F: FreeList<T, MadeOrReset<I, R, K>>,
     W: Wait + Copy,
 > DerefMut for StackReusable<'_, T, I, R, K, F, W> {
     ghost use Rattle.std.specs.Borrow.{sem};
@@ -110,8 +117,14 @@ impl<
     }
 }
 
-impl<T: Drop, I: Init<T, K>, R: Reset<T, K>, K: Clean<T>, F: FreeList<T, K>, W: Wait + Copy> Drop
-    for StackReusable<'_, T, I, R, K, F, W> {
+impl<
+    T: Drop,
+    I: Init<T, K>,
+    R: Reset<T, K>,
+    K: Clean<T>,
+    F: FreeList<T, MadeOrReset<I, R, K>>,
+    W: Wait + Copy,
+> Drop for StackReusable<'_, T, I, R, K, F, W> {
     fn drop(self) {
         let StackReusable {
             pool,
@@ -129,7 +142,7 @@ impl<
     I: Init<T, K>,
     R: Reset<T, K>,
     K: Clean<T>,
-    F: FreeList<T, K>,
+    F: FreeList<T, MadeOrReset<I, R, K>>,
     W: Wait + Copy,
 > Debug for StackReusable<'_, T, I, R, K, F, W> {
     ghost use Rattle.lockfree_object_pool.specs.StackPool.{stack_value};

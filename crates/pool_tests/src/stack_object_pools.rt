@@ -5,6 +5,7 @@ use crossbeam_channel::{Sender, unbounded};
 use lockfree_object_pool::clean::AnyValue;
 use lockfree_object_pool::closures::Copied;
 use lockfree_object_pool::free_list::FreeList;
+use lockfree_object_pool::made_or_reset::MadeOrReset;
 use lockfree_object_pool::stack_object_pool::StackObjectPool;
 use lockfree_object_pool::{MutexObjectPool, PullError, SpinLockObjectPool};
 use std::alloc::Global;
@@ -17,6 +18,9 @@ use std::thread::Threads;
 use std::{mem, thread};
 
 /// A pool of zeros that resets to 0.
+/// What these pools keep.
+type ZeroValues = MadeOrReset<CountedZeros, Copied<u32, AnyValue>, AnyValue>;
+
 type Zeros<F> = StackObjectPool<u32, CountedZeros, Copied<u32, AnyValue>, AnyValue, F>;
 
 type MutexZeros = MutexObjectPool<u32, CountedZeros, Copied<u32, AnyValue>, AnyValue>;
@@ -40,7 +44,7 @@ fn spin_lock_zeros(
 
 /// Five items are sent to another thread, which drops them.
 fn come_home<
-    F: FreeList<u32, AnyValue> + Send + Sync + 'static,
+    F: FreeList<u32, ZeroValues> + Send + Sync + 'static,
     W: Abort + Threads + Wait + Copy + Send + Sync + 'static,
 >(rt: &W, alloc: Global, pool: &Arc<Zeros<F>>, calls: &AtomicUsize) -> Result<(), Fail> {
     let (sender, receiver) = unbounded(alloc)?;
@@ -74,7 +78,7 @@ fn owned_items_are_sent_and_come_home(rt: HostRuntime) -> Result<(), Fail> {
 }
 
 /// Writes a number to an item of the pool, and sends the number that it reads.
-fn pull_and_send<F: FreeList<u32, AnyValue>, W: Wait + Copy>(
+fn pull_and_send<F: FreeList<u32, ZeroValues>, W: Wait + Copy>(
     rt: &W,
     pool: &Zeros<F>,
     number: u32,
@@ -88,7 +92,7 @@ fn pull_and_send<F: FreeList<u32, AnyValue>, W: Wait + Copy>(
 
 /// Five threads share the pool, and each sends its number.
 fn five_send<
-    F: FreeList<u32, AnyValue> + Send + Sync + 'static,
+    F: FreeList<u32, ZeroValues> + Send + Sync + 'static,
     W: Abort + Threads + Wait + Copy + Send + Sync + 'static,
 >(rt: &W, alloc: Global, pool: &Arc<Zeros<F>>) -> Result<(), Fail> {
     let (sender, receiver) = unbounded(alloc)?;

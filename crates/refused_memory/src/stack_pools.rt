@@ -4,6 +4,7 @@ use crate::tallied::{Tallied, TalliedValues, Tally, new_tally};
 use lockfree_object_pool::clean::AnyValue;
 use lockfree_object_pool::closures::{Copied, Keep};
 use lockfree_object_pool::free_list::FreeList;
+use lockfree_object_pool::made_or_reset::MadeOrReset;
 use lockfree_object_pool::spin_lock::SpinLock;
 use lockfree_object_pool::stack::Room;
 use lockfree_object_pool::stack_object_pool::StackObjectPool;
@@ -15,12 +16,18 @@ use std::process::Abort;
 use std::sync::{Arc, Wait};
 use std::test::Fail;
 
+/// What a pool of tallied values keeps.
+type TrackedValues = MadeOrReset<TalliedValues, Keep, AnyValue>;
+
 /// A pool of values that are tallied.
 type Tracked<F> = StackObjectPool<Tallied, TalliedValues, Keep, AnyValue, F>;
 
 type TrackedByMutex = MutexObjectPool<Tallied, TalliedValues, Keep, AnyValue>;
 
 type TrackedBySpinLock = SpinLockObjectPool<Tallied, TalliedValues, Keep, AnyValue>;
+
+/// What a pool that resets nothing keeps.
+type KeptValues = MadeOrReset<Copied<u32, AnyValue>, Keep, AnyValue>;
 
 /// A pool that keeps what was written.
 type Kept<F> = StackObjectPool<u32, Copied<u32, AnyValue>, Keep, AnyValue, F>;
@@ -51,7 +58,7 @@ fn kept_by_spin_lock(alloc: Global) -> Result<Arc<KeptBySpinLock>, PullError> {
 }
 
 /// A pull and its drop, and a pull of what is kept.
-fn pulls<F: FreeList<Tallied, AnyValue>, W: Abort + Wait + Copy>(
+fn pulls<F: FreeList<Tallied, TrackedValues>, W: Abort + Wait + Copy>(
     rt: &W,
     refusals: &Refusals,
     pool: &Tracked<F>,
@@ -89,7 +96,7 @@ fn a_pull_that_was_refused_is_asked_again(rt: HostRuntime) -> Result<(), Fail> {
 }
 
 /// An owned pull and its drop, and an owned pull of what is kept.
-fn owned_pulls<F: FreeList<Tallied, AnyValue>, W: Abort + Wait + Copy>(
+fn owned_pulls<F: FreeList<Tallied, TrackedValues>, W: Abort + Wait + Copy>(
     rt: &W,
     refusals: &Refusals,
     pool: &Arc<Tracked<F>>,
@@ -123,7 +130,7 @@ fn an_owned_pull_that_was_refused_is_asked_again(rt: HostRuntime) -> Result<(), 
 }
 
 /// Attaches 8 and 9, borrowed and owned. Each comes back where it is refused, and is kept after its drop.
-fn attaches<F: FreeList<u32, AnyValue>, W: Abort + Wait + Copy>(
+fn attaches<F: FreeList<u32, KeptValues>, W: Abort + Wait + Copy>(
     rt: &W,
     refusals: &Refusals,
     pool: &Arc<Kept<F>>,

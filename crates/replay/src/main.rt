@@ -13,13 +13,14 @@ use anyhow::{Context, Result};
 use arguments::{Arguments, Kind, arguments_of};
 use held::{Given, Source};
 use item::{Item, Numbered, Restore, Tally};
-use lockfree_object_pool::clean::AnyValue;
 use lockfree_object_pool::closures::Init;
 use lockfree_object_pool::free_list::FreeList;
 use lockfree_object_pool::{
     LinearObjectPool, MutexObjectPool, NoneObjectPool, NoneReusable, SpinLockObjectPool,
 };
-use pools::{Linear, Stacked, linear_item, linear_owned_item, stack_item, stack_owned_item};
+use pools::{
+    Linear, Stacked, StackedItems, linear_item, linear_owned_item, stack_item, stack_owned_item,
+};
 use replay::replay;
 use std::env;
 use std::sync::{Arc, Wait};
@@ -80,7 +81,7 @@ fn replay_on_linear<R: Input + Print + AllocGlobal>(
     replay(rt, tally, &borrowed, &owned)
 }
 
-fn replay_on_stack<R: Input + Print + AllocGlobal + Wait + Copy, F: FreeList<Item, AnyValue>>(
+fn replay_on_stack<R: Input + Print + AllocGlobal + Wait + Copy, F: FreeList<Item, StackedItems>>(
     rt: &R,
     tally: &Arc<Tally>,
     pool: Stacked<F>,

@@ -3,6 +3,7 @@ use crate::held::{Given, Place, Source};
 use crate::item::{Item, Numbered, Restore};
 use lockfree_object_pool::clean::AnyValue;
 use lockfree_object_pool::free_list::FreeList;
+use lockfree_object_pool::made_or_reset::MadeOrReset;
 use lockfree_object_pool::stack_object_pool::StackObjectPool;
 use lockfree_object_pool::stack_owned_reusable::StackOwnedReusable;
 use lockfree_object_pool::stack_reusable::StackReusable;
@@ -14,6 +15,9 @@ pub type Linear = LinearObjectPool<Item, Numbered, Restore, AnyValue>;
 type LinearItem<'p> = LinearReusable<'p, Item, Numbered, Restore, AnyValue>;
 
 type LinearOwnedItem = LinearOwnedReusable<Item, Numbered, Restore, AnyValue>;
+
+/// What a stack pool keeps.
+pub type StackedItems = MadeOrReset<Numbered, Restore, AnyValue>;
 
 pub type Stacked<F> = StackObjectPool<Item, Numbered, Restore, AnyValue, F>;
 
@@ -44,7 +48,7 @@ pub fn linear_owned_item(pool: &Arc<Linear>, source: Source) -> Option<Given<Lin
 }
 
 /// An item of a mutex pool or of a spin lock pool.
-pub fn stack_item<'p, F: FreeList<Item, AnyValue>, W: Wait + Copy>(
+pub fn stack_item<'p, F: FreeList<Item, StackedItems>, W: Wait + Copy>(
     rt: &W,
     pool: &'p Stacked<F>,
     source: Source,
@@ -57,7 +61,7 @@ pub fn stack_item<'p, F: FreeList<Item, AnyValue>, W: Wait + Copy>(
 }
 
 /// The same with an owner of the pool.
-pub fn stack_owned_item<F: FreeList<Item, AnyValue>, W: Wait + Copy>(
+pub fn stack_owned_item<F: FreeList<Item, StackedItems>, W: Wait + Copy>(
     rt: &W,
     pool: &Arc<Stacked<F>>,
     source: Source,

@@ -87,17 +87,8 @@ impl<T, K: Clean<T>> OwnedSlot<T, K> {
         (taken, value)
     }
 
-    /// The value goes home, and the id is free again.
-    pub fn free(self)
-    where
-        T: Drop,
-        requires { K.meets (owned_slot_item self).value }
-    {
-        self.free_as();
-    }
-
-    /// As `free`, with a note of the page's history up to the return.
-    pub fn free_as(self) -> PageNote<T>
+    /// The value goes home, and the id is free again. The note knows the page's history up to the return.
+    pub fn free(self) -> PageNote<T>
     where
         T: Drop,
         requires { K.meets (owned_slot_item self).value }

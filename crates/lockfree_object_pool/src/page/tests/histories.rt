@@ -47,7 +47,7 @@ fn returned_five(page: &NumberPage) -> Option<PageNote<u32>>
 {
     let mut slot = page.alloc().ok()??;
     *slot = 5;
-    Some(Page::free_as(slot))
+    Some(Page::free(slot))
 }
 
 /// Two threads return an item each, and hand their notes on. A pull by the first note stands after the first return;
@@ -103,7 +103,7 @@ fn owned_returned<K: Clean<u32>>(slot: OwnedSlot<u32, K>) -> PageNote<u32>
     requires { K.meets (owned_slot_item slot).value }
     ensures { IsBeginningOf (owned_slot_item slot).history (note_history result) }
 {
-    slot.free_as()
+    slot.free()
 }
 
 #[test]
