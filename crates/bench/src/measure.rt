@@ -5,6 +5,7 @@ use anyhow::Result;
 use lockfree_object_pool::clean::AnyValue;
 use lockfree_object_pool::closures::Copied;
 use lockfree_object_pool::free_list::FreeList;
+use lockfree_object_pool::made_or_reset::MadeOrReset;
 use lockfree_object_pool::stack_object_pool::StackObjectPool;
 use lockfree_object_pool::{LinearObjectPool, MutexObjectPool, PullError, SpinLockObjectPool};
 use std::alloc::AllocError;
@@ -62,7 +63,7 @@ fn measure_linear<R: Clock + Threads + AllocGlobal + Sync>(
 
 fn measure_stack<
     R: Clock + Threads + Wait + AllocGlobal + Copy + Sync,
-    F: FreeList<u64, AnyValue> + Send + Sync,
+    F: FreeList<u64, MadeOrReset<Zero, Zero, AnyValue>> + Send + Sync,
 >(rt: &R, pool: StackObjectPool<u64, Zero, Zero, AnyValue, F>, task: Task) -> Result<Measured> {
     let pool = Arc::new(rt.alloc(), pool)?;
     let one_thread = |_: usize| pull_and_drop(&|| pool.pull(rt), task.turns);

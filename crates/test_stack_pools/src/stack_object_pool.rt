@@ -3,6 +3,7 @@
 use lockfree_object_pool::clean::{AnyValue, Clean};
 use lockfree_object_pool::closures::{Copied, Init, Keep, Reset};
 use lockfree_object_pool::free_list::FreeList;
+use lockfree_object_pool::made_or_reset::MadeOrReset;
 use lockfree_object_pool::spin_lock::SpinLock;
 use lockfree_object_pool::stack::Stack;
 use lockfree_object_pool::stack_object_pool::StackObjectPool;
@@ -31,22 +32,23 @@ mod threads;
 mod waits;
 
 /// The free list of a mutex pool.
-type UnderMutex<T, K> = Mutex<Stack<T, K>>;
+type UnderMutex<T, I, R, K> = Mutex<Stack<T, MadeOrReset<I, R, K>>>;
 
 /// The free list of a spin lock pool.
-type UnderSpinLock<T, K> = SpinLock<Stack<T, K>>;
+type UnderSpinLock<T, I, R, K> = SpinLock<Stack<T, MadeOrReset<I, R, K>>>;
 
 /// A kind of stack pool, by its free list, with the public call that makes such a pool.
-trait Kind<T, K: Clean<T>>: FreeList<T, K> {
-    fn new_pool<I: Init<T, K>, R: Reset<T, K>>(
+trait Kind<T, I: Init<T, K>, R: Reset<T, K>, K: Clean<T>>: FreeList<T, MadeOrReset<I, R, K>> {
+    fn new_pool(
         alloc: Global,
         init: I,
         reset: R,
     ) -> Result<StackObjectPool<T, I, R, K, Self>, PullError>;
 }
 
-impl<T: Drop, K: Clean<T>> Kind<T, K> for UnderMutex<T, K> {
-    fn new_pool<I: Init<T, K>, R: Reset<T, K>>(
+impl<T: Drop, I: Init<T, K>, R: Reset<T, K>, K: Clean<T>> Kind<T, I, R, K>
+    for UnderMutex<T, I, R, K> {
+    fn new_pool(
         alloc: Global,
         init: I,
         reset: R,
@@ -55,8 +57,9 @@ impl<T: Drop, K: Clean<T>> Kind<T, K> for UnderMutex<T, K> {
     }
 }
 
-impl<T: Drop, K: Clean<T>> Kind<T, K> for UnderSpinLock<T, K> {
-    fn new_pool<I: Init<T, K>, R: Reset<T, K>>(
+impl<T: Drop, I: Init<T, K>, R: Reset<T, K>, K: Clean<T>> Kind<T, I, R, K>
+    for UnderSpinLock<T, I, R, K> {
+    fn new_pool(
         alloc: Global,
         init: I,
         reset: R,
@@ -74,7 +77,7 @@ type Cleared<F> = StackObjectPool<u32, CountedZeros, Copied<u32, Zero>, Zero, F>
 /// A pool of values that know which call made them, and count their drops.
 type Tracked<F> = StackObjectPool<Tallied, TalliedValues, Keep, AnyValue, F>;
 
-fn kept<F: Kind<u32, AnyValue>>(
+fn kept<F: Kind<u32, CountedZeros, Keep, AnyValue>>(
     alloc: Global,
     calls: &Arc<AtomicUsize>,
 ) -> Result<Arc<Kept<F>>, PullError> {
@@ -82,7 +85,7 @@ fn kept<F: Kind<u32, AnyValue>>(
     Ok(Arc::new(alloc, F::new_pool(alloc, CountedZeros { calls }, Keep)?)?)
 }
 
-fn cleared<F: Kind<u32, Zero>>(
+fn cleared<F: Kind<u32, CountedZeros, Copied<u32, Zero>, Zero>>(
     alloc: Global,
     calls: &Arc<AtomicUsize>,
 ) -> Result<Arc<Cleared<F>>, PullError> {
@@ -94,7 +97,7 @@ fn cleared<F: Kind<u32, Zero>>(
 }
 
 /// `init` refuses at one call, counted from 0.
-fn tracked<F: Kind<Tallied, AnyValue>>(
+fn tracked<F: Kind<Tallied, TalliedValues, Keep, AnyValue>>(
     alloc: Global,
     tally: &Arc<Tally>,
     refused: usize,

@@ -3,13 +3,12 @@ use super::*;
 use lockfree_object_pool::closures::{InitBy, Makes};
 use std::test::Fail;
 
-/// A refusal of `init` is the pull's answer at once.
-fn refuses_at_the_first_call<F: Kind<u32, AnyValue>, I: InitBy<u32>, W: Abort + Wait + Copy>(
-    rt: &W,
-    alloc: Global,
-    init: I,
-    calls: &AtomicUsize,
-) -> Result<(), Fail>
+/// A refusal of `init` is the answer of a pull at once.
+fn refuses_at_the_first_call<
+    I: InitBy<u32>,
+    F: Kind<u32, Makes<u32, I, AnyValue>, Keep, AnyValue>,
+    W: Abort + Wait + Copy,
+>(rt: &W, alloc: Global, init: I, calls: &AtomicUsize) -> Result<(), Fail>
     requires { I.may_make init }
 {
     let pool = Arc::new(alloc, F::new_pool(alloc, Makes::new(init), Keep)?)?;
@@ -20,18 +19,37 @@ fn refuses_at_the_first_call<F: Kind<u32, AnyValue>, I: InitBy<u32>, W: Abort + 
     Ok(())
 }
 
+fn is_asked_once<I: InitBy<u32>, W: Abort + Wait + Copy>(
+    rt: &W,
+    alloc: Global,
+    init: I,
+    calls: &AtomicUsize,
+    under_mutex: bool,
+) -> Result<(), Fail>
+    requires { I.may_make init }
+{
+    if under_mutex {
+        refuses_at_the_first_call::<_, UnderMutex<u32, Makes<u32, I, AnyValue>, Keep, AnyValue>, _>(
+            rt, alloc, init, calls,
+        )
+    } else {
+        refuses_at_the_first_call::<
+            _,
+            UnderSpinLock<u32, Makes<u32, I, AnyValue>, Keep, AnyValue>,
+            _,
+        >(rt, alloc, init, calls)
+    }
+}
+
 #[test]
 fn a_closure_that_refuses_is_asked_once_a_pull(rt: HostRuntime) -> Result<(), Fail> {
-    let calls = AtomicUsize::new(0);
-    let refuse = || -> Option<u32> {
-        calls.fetch_add(1, SeqCst);
-        None
-    };
-    refuses_at_the_first_call::<UnderMutex<u32, AnyValue>, _, _>(&rt, rt.alloc(), refuse, &calls)?;
-    let calls = AtomicUsize::new(0);
-    let refuse = || -> Option<u32> {
-        calls.fetch_add(1, SeqCst);
-        None
-    };
-    refuses_at_the_first_call::<UnderSpinLock<u32, AnyValue>, _, _>(&rt, rt.alloc(), refuse, &calls)
+    for under_mutex in [true, false] {
+        let calls = AtomicUsize::new(0);
+        let refuse = || -> Option<u32> {
+            calls.fetch_add(1, SeqCst);
+            None
+        };
+        is_asked_once(&rt, rt.alloc(), refuse, &calls, under_mutex)?;
+    }
+    Ok(())
 }

@@ -6,11 +6,16 @@ use std::test::Fail;
 
 pub type ClearedPool = LinearObjectPool<u32, CountedZeros, ToZero, Zero>;
 
+/// A page of such a pool.
+type ClearedPage<'p> = LinearPage<
+    'p,
+    u32,
+    MadeOrReset<CountedZeros, ToZero, Zero>,
+    AnswerOf<CountedZeros, Zero>,
+>;
+
 /// The page of a pool behind so many links.
-pub fn page_at(
-    pool: &ClearedPool,
-    number: usize,
-) -> Option<LinearPage<'_, u32, Zero, AnswerOf<CountedZeros, Zero>>> {
+pub fn page_at(pool: &ClearedPool, number: usize) -> Option<ClearedPage<'_>> {
     let mut page = pool.chain.first();
     for _ in 0..number {
         page = page.next()?;

@@ -11,6 +11,9 @@ const TURNS: u32 = 10_000;
 /// A thread that still waits after so many turns gives up, and its test fails.
 const MOST_TURNS: u32 = 10_000_000;
 
+/// What such a pool keeps of its values.
+type Condition = MadeOrReset<CountedZeros, Keep, AnyValue>;
+
 /// A pool that keeps what was written.
 type Kept<F> = StackObjectPool<u32, CountedZeros, Keep, AnyValue, F>;
 
@@ -67,13 +70,13 @@ impl Steps {
 }
 
 /// A free list whose lock can be held, with the public call that makes its kind of pool.
-trait Lockable: FreeList<u32, AnyValue> {
+trait Lockable: FreeList<u32, Condition> {
     fn new_pool(alloc: Global, init: CountedZeros) -> Result<Kept<Self>, PullError>;
 
     fn lock_during<W: Wait>(&self, rt: &W, steps: &Steps);
 }
 
-impl Lockable for Mutex<Stack<u32, AnyValue>> {
+impl Lockable for Mutex<Stack<u32, Condition>> {
     fn new_pool(alloc: Global, init: CountedZeros) -> Result<Kept<Self>, PullError> {
         Ok(MutexObjectPool::new(alloc, init, Keep))
     }
@@ -84,7 +87,7 @@ impl Lockable for Mutex<Stack<u32, AnyValue>> {
     }
 }
 
-impl Lockable for SpinLock<Stack<u32, AnyValue>> {
+impl Lockable for SpinLock<Stack<u32, Condition>> {
     fn new_pool(alloc: Global, init: CountedZeros) -> Result<Kept<Self>, PullError> {
         SpinLockObjectPool::new(alloc, init, Keep)
     }
@@ -135,6 +138,6 @@ fn waits_for_the_lock<
 
 #[test]
 fn a_pull_and_a_return_wait_for_the_lock(rt: HostRuntime) -> Result<(), Fail> {
-    waits_for_the_lock::<Mutex<Stack<u32, AnyValue>>, _>(&rt, rt.alloc())?;
-    waits_for_the_lock::<SpinLock<Stack<u32, AnyValue>>, _>(&rt, rt.alloc())
+    waits_for_the_lock::<Mutex<Stack<u32, Condition>>, _>(&rt, rt.alloc())?;
+    waits_for_the_lock::<SpinLock<Stack<u32, Condition>>, _>(&rt, rt.alloc())
 }
