@@ -1,5 +1,4 @@
 -- What an item that is out of a fixed pool shows.
-use Rattle.std.specs.Prelude.{ℕ}
 use Rattle.std.specs.Arc.{arc_value}
 use Rattle.lockfree_object_pool.specs.declared.page.user_view.UserView.{UserView}
 use Rattle.lockfree_object_pool.specs.declared.fixed_object_pool.FixedObjectPool.{FixedObjectPool}

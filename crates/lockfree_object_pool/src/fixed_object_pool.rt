@@ -12,7 +12,7 @@ use crate::closures::{Init, Reset};
 use crate::fixed_owned_reusable::FixedOwnedReusable;
 use crate::fixed_reusable::FixedReusable;
 use crate::made_or_reset::MadeOrReset;
-use crate::page::{PageNote, PullPass};
+use crate::page::{PageNote, PullPass, Witness};
 use items::FixedItems;
 use std::alloc::Global;
 use std::fmt::{self, Debug, Formatter, Write};
@@ -41,10 +41,11 @@ pub struct FixedObjectPool<T, I: Init<T, K>, R: Reset<T, K>, K: Clean<T> = AnyVa
 
 impl<T: Drop, I: Init<T, K>, R: Reset<T, K>, K: Clean<T>> FixedObjectPool<T, I, R, K> {
     ghost use Rattle.lockfree_object_pool.specs.Answers.{IsMadeOrReset};
-    ghost use Rattle.lockfree_object_pool.specs.FixedAnswer.{IsPulledOf, IsBusyOf, busy_steps};
+    ghost use Rattle.lockfree_object_pool.specs.FixedAnswer.{IsPulledOf, IsPulledWith, IsBusyOf, IsBusyAfter, busy_steps, note_steps};
     ghost use Rattle.lockfree_object_pool.specs.FixedPool.{pool_identity, pool_items, pool_pages, pool_opening, pool_reset, IsFilled};
     ghost use Rattle.lockfree_object_pool.specs.FixedReusable.{reusable_pool, reusable_item, reusable_steps, owned_pool, owned_item, owned_steps};
     ghost use Rattle.lockfree_object_pool.specs.FixedRule.{IsWithin, no_steps};
+    ghost use Rattle.lockfree_object_pool.specs.Note.{note_page, witness_page, IsNoteOf, HasLearned};
     ghost use Rattle.lockfree_object_pool.specs.Refusal.{RefusesMaking};
 
     /// A pool of so many free items: item `i` is the answer of call `i` of `init`, counted from 0.
@@ -133,6 +134,45 @@ impl<T: Drop, I: Init<T, K>, R: Reset<T, K>, K: Clean<T>> FixedObjectPool<T, I, 
         ensures busy_brief { IfErr result (λ busy. IsWithin (pool_pages self.now) no_steps (busy_steps busy)) }
     {
         Ok(FixedReusable::new(self, self.items.pull_hinted(pass)?))
+    }
+
+    /// As `try_pull`, by a user that knows something of the pool: its pull stands after all that the note knew.
+    ///
+    /// # Errors
+    ///
+    /// The evidence that each item was out during this call.
+    pub fn try_pull_from<'s, 'p>(
+        &'s self,
+        pass: &'p PullPass,
+        note: PoolNote<T>,
+    ) -> FixedPulled<'s, 'p, T, I, R, K>
+        requires { note_page note ≡ pool_identity self.now }
+        ensures pool { IfOk result (λ item. reusable_pool item ≡ self.now) }
+        ensures pulled { IfOk result (λ item. IsPulledWith (pool_identity self.now) note (reusable_item item)) }
+        ensures meets { IfOk result (λ item. K.meets (reusable_item item).value) }
+        ensures made_or_reset { IfOk result (λ item. IsMadeOrReset I.answers R.leaves (reusable_item item).value) }
+        ensures brief { IfOk result (λ item. IsWithin (pool_pages self.now) (note_steps note) (reusable_steps item)) }
+        ensures busy { IfErr result (IsBusyAfter (pool_identity self.now) note) }
+        ensures busy_brief { IfErr result (λ busy. IsWithin (pool_pages self.now) (note_steps note) (busy_steps busy)) }
+    {
+        let pulled = self.items.pull_from(pass, note)?;
+        Ok(FixedReusable::new(self, pulled))
+    }
+
+    /// A note of this pool, which knows its history up to now.
+    pub fn note(&self) -> PoolNote<T>
+        ensures { IsNoteOf (pool_identity self.now) (pool_opening self.now) result }
+    {
+        self.items.note()
+    }
+
+    /// Tells a note what a witness knows. The histories of both are prefixes of one.
+    pub fn tell(&self, note: &mut PoolNote<T>, other: Witness<T>)
+        requires note { note_page note.old ≡ pool_identity self.now }
+        requires other { witness_page other ≡ pool_identity self.now }
+        ensures { HasLearned note.old other note.new }
+    {
+        self.items.tell(note, other);
     }
 
     /// As `pull`, with a reusable that owns the pool with others. The pool's owners grow by one before an item is taken.

@@ -9,7 +9,7 @@ use crate::fixed_object_pool::items::pulled_item::PulledItem;
 use crate::fixed_object_pool::{FixedObjectPool, PoolNote};
 use crate::lender::Lender;
 use crate::page::user_view::UserSeat;
-use crate::page::{PAGE_ITEMS, PageId, PageNote};
+use crate::page::{PAGE_ITEMS, PageId, PageNote, Witness};
 use std::fmt::{self, Debug, Formatter, Write};
 use std::ops::{Deref, DerefMut};
 
@@ -38,6 +38,7 @@ impl<'p, T: Drop, I: Init<T, K>, R: Reset<T, K>, K: Clean<T>> FixedReusable<'p, 
     ghost use Rattle.lockfree_object_pool.specs.FixedPool.{pool_reset};
     ghost use Rattle.lockfree_object_pool.specs.FixedReusable.{reusable_pool, reusable_item, reusable_steps, pulled_item, pulled_view};
     ghost use Rattle.lockfree_object_pool.specs.FixedRule.{steps_of};
+    ghost use Rattle.lockfree_object_pool.specs.Note.{witness_page, witness_history};
     ghost use Rattle.lockfree_object_pool.specs.declared.page.TheConstants.{PAGE_ITEMS};
 
     pub(crate) fn new(
@@ -83,6 +84,17 @@ impl<'p, T: Drop, I: Init<T, K>, R: Reset<T, K>, K: Clean<T>> FixedReusable<'p, 
         ensures in_page { result < PAGE_ITEMS }
     {
         (self.taken.number % PAGE_ITEMS) as PageId
+    }
+
+    /// What the holder knows of the pool, for another to be told. It costs one load.
+    pub fn witness(&mut self) -> Witness<T>
+        ensures pool { witness_page result ≡ (reusable_item self.old).page }
+        ensures history { witness_history result ≡ (reusable_item self.old).history }
+        ensures same_item { reusable_item self.new ≡ reusable_item self.old }
+        ensures same_pool { reusable_pool self.new ≡ reusable_pool self.old }
+    {
+        let taken = &mut self.taken;
+        taken.pool.items.witness(&mut taken.seat)
     }
 
     /// Resets the value and brings it back, as the end does. The note knows the pool's history up to this return.

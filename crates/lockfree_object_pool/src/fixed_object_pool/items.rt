@@ -5,10 +5,10 @@ ghost use Rattle.lockfree_object_pool.specs.Word.{IsAllFree};
 
 use crate::PullError;
 use crate::clean::Clean;
-use crate::fixed_object_pool::BusySeen;
-use crate::page::rule::PageRule;
+use crate::fixed_object_pool::{BusySeen, PoolNote};
+use crate::page::rule::{PageRule, Tells, Witnesses};
 use crate::page::user_view::{UserSeat, UserView};
-use crate::page::{PAGE_ITEMS, PullPass, take_least};
+use crate::page::{PAGE_ITEMS, PageNote, PullPass, Witness, take_least};
 use atomic_table::Table;
 use pulled_item::PulledItem;
 use std::alloc::{AllocError, Global};
@@ -56,10 +56,11 @@ pub(crate) struct FixedItems<T, K: Clean<T>> {
 
 impl<T, K: Clean<T>> FixedItems<T, K> {
     ghost use Rattle.lockfree_object_pool.specs.Answers.{MayMake};
-    ghost use Rattle.lockfree_object_pool.specs.FixedAnswer.{IsPulledOf, IsBusyOf, busy_steps};
+    ghost use Rattle.lockfree_object_pool.specs.FixedAnswer.{IsPulledOf, IsPulledWith, IsBusyOf, IsBusyAfter, busy_steps, note_steps};
     ghost use Rattle.lockfree_object_pool.specs.FixedPool.{items_identity, items_opening, IsFilled};
     ghost use Rattle.lockfree_object_pool.specs.FixedReusable.{pulled_item, pulled_view};
     ghost use Rattle.lockfree_object_pool.specs.FixedRule.{MissesAll, TakesOne, IsWithin, no_steps, steps_of};
+    ghost use Rattle.lockfree_object_pool.specs.Note.{note_page, witness_page, witness_history, IsNoteOf, HasLearned};
     ghost use Rattle.lockfree_object_pool.specs.PageRule.{KnowsOut, IsSound, item_of};
     ghost use Rattle.lockfree_object_pool.specs.Refusal.{RefusesMaking};
 
@@ -190,6 +191,66 @@ impl<T, K: Clean<T>> FixedItems<T, K> {
         let pulled = self.pull(self.hinted(), pass)?;
         self.set_hint(pulled.number / PAGE_ITEMS);
         Ok(pulled)
+    }
+
+    /// As `pull_hinted`, by a user that knows something of the pool: its pull stands after all that it knew.
+    pub(super) fn pull_from<'p>(
+        &self,
+        pass: &'p PullPass,
+        note: PoolNote<T>,
+    ) -> Result<PulledItem<T>, BusySeen<'p, T>>
+        requires { note_page note ≡ items_identity self.now }
+        ensures pulled { IfOk result (λ pulled. IsPulledWith (items_identity self.now) note (pulled_item pulled)) }
+        ensures meets { IfOk result (λ pulled. K.meets pulled.value) }
+        ensures brief { IfOk result (λ pulled. IsWithin (items_identity self.now).words (note_steps note) (steps_of (pulled_view pulled))) }
+        ensures busy { IfErr result (IsBusyAfter (items_identity self.now) note) }
+        ensures busy_brief { IfErr result (λ busy. IsWithin (items_identity self.now).words (note_steps note) (busy_steps busy)) }
+    {
+        let PageNote { mut seat } = note;
+        let start = self.hinted();
+        let word = self.look_again(&mut seat, start);
+        let Some((number, value)) = self.take(&mut seat, start, word) else {
+            return Err(BusySeen { seat, pass });
+        };
+        self.set_hint(number / PAGE_ITEMS);
+        Ok(PulledItem {
+            seat,
+            number,
+            value,
+        })
+    }
+
+    /// A note, which knows the history up to now.
+    pub(super) fn note(&self) -> PoolNote<T>
+        ensures { IsNoteOf (items_identity self.now) (items_opening self.now) result }
+    {
+        PageNote {
+            seat: self.look(0).1,
+        }
+    }
+
+    /// Tells a note what a witness knows. The histories of both are prefixes of one.
+    pub(super) fn tell(&self, note: &mut PoolNote<T>, other: Witness<T>)
+        requires note { note_page note.old ≡ items_identity self.now }
+        requires other { witness_page other ≡ items_identity self.now }
+        ensures { HasLearned note.old other note.new }
+    {
+        let Witness { seat: other } = other;
+        self.table.shared.join_seat::<Tells>(&mut note.seat, other);
+        self.look_again(&mut note.seat, 0);
+    }
+
+    /// A witness of what a user knows.
+    pub(crate) fn witness(&self, seat: &mut UserSeat<T>) -> Witness<T>
+        requires { seat.old.table_id ≡ items_identity self.now }
+        ensures pool { witness_page result ≡ items_identity self.now }
+        ensures history { witness_history result ≡ seat.old.me.0.acts }
+        ensures same_pool { seat.new.table_id ≡ seat.old.table_id }
+        ensures same_user { seat.new.me ≡ seat.old.me }
+    {
+        Witness {
+            seat: self.table.shared.split_seat::<Witnesses>(seat),
+        }
     }
 
     /// Takes an item that is free, by a user that has read the first word.

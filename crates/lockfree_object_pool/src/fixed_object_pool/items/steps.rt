@@ -4,12 +4,12 @@ ghost use Rattle.lockfree_object_pool.specs.declared.page.history.PageAct.TheVar
 
 use super::FixedItems;
 use crate::clean::Clean;
-use crate::page::rule::{ClearBit, Look, LookOn, SetBit};
+use crate::page::rule::{ClearBit, Look, LookAgain, LookOn, SetBit};
 use crate::page::user_view::UserSeat;
 use crate::page::{PAGE_ITEMS, PageId, has_bit, with_bit, without_bit};
 
 impl<T, K: Clean<T>> FixedItems<T, K> {
-    ghost use Rattle.lockfree_object_pool.specs.PageRule.{Looks, LooksOn, Misses, MovesOut, GoesOn, first_view, item_of};
+    ghost use Rattle.lockfree_object_pool.specs.PageRule.{Looks, LooksAgain, LooksOn, Misses, MovesOut, GoesOn, first_view, item_of};
     ghost use Rattle.lockfree_object_pool.specs.FixedPool.{items_identity, items_opening};
 
     /// A word at this moment, and a new user that knows of the items that are out in it.
@@ -32,6 +32,17 @@ impl<T, K: Clean<T>> FixedItems<T, K> {
         ensures found { LooksOn page seat.old.me result seat.new.me }
     {
         self.table.shared.load::<LookOn>(seat, page) as u32
+    }
+
+    /// A word at this moment, for a user that knows something of the pool already.
+    pub(super) fn look_again(&self, seat: &mut UserSeat<T>, page: usize) -> u32
+        requires pool { seat.old.table_id ≡ items_identity self.now }
+        requires in_pool { page < (items_identity self.now).words }
+        requires here { seat.old.me.0.gone ≡ false }
+        ensures pool { seat.new.table_id ≡ seat.old.table_id }
+        ensures found { LooksAgain page seat.old.me result seat.new.me }
+    {
+        self.table.shared.load::<LookAgain>(seat, page) as u32
     }
 
     /// Clears one bit. The value of that item, where it was free.
