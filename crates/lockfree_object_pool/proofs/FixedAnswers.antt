@@ -1,5 +1,5 @@
 -- What a pool answers, told by what the answer shows and no longer by its user's view.
-use Rattle.std.proofs.Common.{◌≡◌, ◌≢◌, [], ◌∷◌, ◌++◌, ℕ, ◌+◌, ◌-◌, ◌*◌, ◌<◌, ◌≤◌, None, ap, sym, ◌∙◌, subst, arith, inl, inr}
+use Rattle.std.proofs.Common.{◌≡◌, ◌≢◌, List, Option, [], ◌∷◌, ℕ, ◌+◌, ◌-◌, ◌*◌, ◌<◌, ◌≤◌, None, ap, sym, ◌∙◌, subst, arith, inl, inr}
 use Rattle.std.specs.Int.{bit_at}
 use Rattle.std.proofs.lemmas.Bool.{cases_lt}
 use native.Mathlib.Decide.{ℕ_discrete}
@@ -7,15 +7,17 @@ use mathlib.Core.Logic.{dite}
 use Rattle.atomic_table.specs.Seated.{TableId}
 use Rattle.lockfree_object_pool.specs.declared.page.history.PageAct.TheVariants.{Took}
 use Rattle.lockfree_object_pool.specs.declared.page.user_view.UserView.{UserView}
-use Rattle.lockfree_object_pool.specs.declared.page.full_seen.FullSeen.{FullSeen}
-use Rattle.lockfree_object_pool.specs.FixedAnswer.{IsPulledOf, IsBusyOf}
+use Rattle.lockfree_object_pool.specs.declared.page.note.PageNote.{PageNote}
+use Rattle.lockfree_object_pool.specs.declared.fixed_object_pool.busy_seen.BusySeen.{BusySeen}
+use Rattle.lockfree_object_pool.specs.FixedAnswer.{IsPulledOf, IsPulledWith, IsBusyOf, IsBusyAfter}
+use Rattle.lockfree_object_pool.specs.Note.{note_view, note_opening, note_history}
 use Rattle.lockfree_object_pool.specs.Slot.{item_known}
-use Rattle.lockfree_object_pool.specs.PageHistory.{WasOutBetween}
+use Rattle.lockfree_object_pool.specs.PageHistory.{IsBeginningOf, WasOutBetween}
 use Rattle.lockfree_object_pool.specs.Word.{ClearsBit, IsLeastBit}
-use Rattle.lockfree_object_pool.specs.PageRule.{User, item_of, GoesOn, KnowsOut, Looks, LooksOn, Misses}
+use Rattle.lockfree_object_pool.specs.PageRule.{User, item_of, GoesOn, KnowsOut, StartsFrom, LooksOn, Misses}
 use Rattle.lockfree_object_pool.specs.FixedRule.{MissesAll, TakesOne}
 use Rattle.lockfree_object_pool.proofs.PageActs.{lawful_of, goes_on_further, still_out}
-use Rattle.lockfree_object_pool.proofs.PageHolders.{came_from_lawful}
+use Rattle.lockfree_object_pool.proofs.PageAnswers.{pulled, pulled_after}
 
 -- the bits are tried from the lowest on, so a bit that is left has as many tries before it as there are bits below it at most
 pub more_tried : (untried bit left start before after : ℕ) → IsLeastBit untried bit → ClearsBit untried bit left → after ≡ before + 1
@@ -76,44 +78,57 @@ module _ {T : Type 0} where
     goes_on = goes_on_further (Took three.0.user id value ∷ []) one.0 two.0 three.0 missed.goes_on taken.goes_on;
   }
 
-  -- the item that a pull took
-  pub answer_taken : (meets : T → Type 0) (pool : TableId) (first : UserView T) (place word : ℕ) (start known : User T) (seated : TableId) (id : ℕ) (value : T) → Looks first place word start → TakesOne meets pool.slots id value start known → seated ≡ pool
-      → IsPulledOf meets pool first.opening (item_known seated known.0 id value)
-  answer_taken meets pool first place word start known seated id value looked taken same =
-      let goes = taken.goes_on in
+  -- what a user has seen out round the whole pool, in three segments
+  pub missed_round : (page words slots : ℕ) (start one two last : User T) → slots ≤ 32 * words → MissesAll (32 * page) (32 * page + 32) start one
+      → MissesAll (32 * (page + 1)) (32 * words) one two → MissesAll 0 (32 * page) two last → MissesAll 0 slots start last
+  missed_round page words slots start one two last covered own behind before = record {
+    holds_same = before.holds_same ∙ behind.holds_same ∙ own.holds_same;
+    carries_same = before.carries_same ∙ behind.carries_same ∙ own.carries_same;
+    each_was_out = λ id _ within. elim (cases_lt id (32 * page)) [
+      | inl low ↦ before.each_was_out id (omega arith) low
+      | inr high ↦ still_out two.0 last.0 id before.goes_on (elim (cases_lt id (32 * page + 32)) [
+        | inl here ↦ still_out one.0 two.0 id behind.goes_on (own.each_was_out id (omega arith) here)
+        | inr past ↦ behind.each_was_out id (omega arith) (omega arith)
+      ])
+    ];
+    goes_on = goes_on_further [] start.0 one.0 last.0 own.goes_on (goes_on_further [] one.0 two.0 last.0 behind.goes_on before.goes_on);
+  }
+
+  -- the item that a pull took whose user had done nothing
+  pub item_pulled : (meets : T → Type 0) (pool : TableId) (opening : List (Option T)) (start known : User T) (seated : TableId) (id : ℕ) (value : T)
+      → start.0.opening ≡ opening → start.0.own ≡ [] → TakesOne meets pool.slots id value start known → seated ≡ pool → IsPulledOf pool opening (item_known seated known.0 id value)
+  item_pulled meets pool opening start known seated id value opened none taken same = record {
+    is_item = record { of_pool = same; in_pool = taken.in_pool };
+    same_opening = taken.goes_on.same_opening ∙ opened;
+    pulled = pulled seated start.0 known.0 id value taken.goes_on none;
+  }
+
+  -- the item that a pull by a note took
+  pub item_pulled_with : (meets : T → Type 0) (pool : TableId) (note : PageNote T) (start known : User T) (seated : TableId) (id : ℕ) (value : T)
+      → StartsFrom (note_view note) start.0 → TakesOne meets pool.slots id value start known → seated ≡ pool → IsPulledWith pool note (item_known seated known.0 id value)
+  item_pulled_with meets pool note start known seated id value starts taken same = record {
+    is_item = record { of_pool = same; in_pool = taken.in_pool };
+    pulled = pulled_after seated start.0 known.0 id value taken.goes_on note starts;
+  }
+
+  -- a pool of which each item was found out
+  pub all_busy : (pool : TableId) (opening : List (Option T)) (start : User T) (busy : BusySeen T) → start.0.opening ≡ opening
+      → MissesAll 0 pool.slots start busy.seat.me → busy.seat.table_id ≡ pool → IsBusyOf pool opening busy
+  all_busy pool opening start busy opened missed same =
+      let known : UserView T = busy.seat.me.0 in
+      let opened_now : known.opening ≡ opening = missed.goes_on.same_opening ∙ opened in
       record {
         of_pool = same;
-        in_pool = taken.in_pool;
-        meets_condition = taken.meets_condition;
-        same_opening = goes.same_opening ∙ looked.same_opening;
-        pulled = record {
-          lawful = goes.sound.lawful;
-          before = goes.acts.0 ++ start.0.acts;
-          last = goes.acts.1;
-          origin = came_from_lawful known.0.opening known.0.acts (goes.acts.0 ++ start.0.acts) known.0.user id value goes.acts.1 goes.sound.lawful;
-          only = goes.sound.own_acts ∙ goes.own ∙ ap (λ own. Took known.0.user id value ∷ own) looked.did_nothing;
-        };
+        same_opening = opened_now;
+        lawful = lawful_of opening known opened_now missed.goes_on.sound;
+        goes_on = missed.goes_on.sound.since_load;
+        each_was_out = λ id within. subst (λ o. WasOutBetween o known.since known.acts id) opened_now (missed.each_was_out id (omega arith) within);
       }
 
-  -- a pool of which each item was found out, in three stretches
-  pub answer_busy : (pool : TableId) (first : UserView T) (place word words : ℕ) (start one two : User T) (busy : FullSeen T) → pool.slots ≡ 32 * words → Looks first place word start
-      → MissesAll (32 * place) (32 * place + 32) start one → MissesAll (32 * (place + 1)) (32 * words) one two → MissesAll 0 (32 * place) two busy.seat.me → busy.seat.table_id ≡ pool
-      → IsBusyOf pool first.opening busy
-  answer_busy pool first place word words start one two busy sized looked own behind before same =
-      let last : User T = busy.seat.me in
-      let goes : GoesOn [] start.0 last.0 = goes_on_further [] start.0 one.0 last.0 own.goes_on (goes_on_further [] one.0 two.0 last.0 behind.goes_on before.goes_on) in
-      let opened : last.0.opening ≡ first.opening = goes.same_opening ∙ looked.same_opening in
-      let known : (id : ℕ) → id < pool.slots → KnowsOut last.0 id = λ id within. elim (cases_lt id (32 * place)) [
-        | inl low ↦ before.each_was_out id (omega arith) low
-        | inr high ↦ still_out two.0 last.0 id before.goes_on (elim (cases_lt id (32 * place + 32)) [
-          | inl here ↦ still_out one.0 two.0 id behind.goes_on (own.each_was_out id (omega arith) here)
-          | inr past ↦ behind.each_was_out id (omega arith) (omega arith)
-        ])
-      ] in
-      record {
-        of_pool = same;
-        same_opening = opened;
-        lawful = lawful_of first.opening last.0 opened goes.sound;
-        goes_on = goes.sound.since_load;
-        each_was_out = λ id within. subst (λ o. WasOutBetween o last.0.since last.0.acts id) opened (known id within);
-      }
+  -- so it is of a pull by a note
+  pub all_busy_after : (pool : TableId) (note : PageNote T) (start : User T) (busy : BusySeen T) → StartsFrom (note_view note) start.0
+      → MissesAll 0 pool.slots start busy.seat.me → busy.seat.table_id ≡ pool → IsBusyAfter pool note busy
+  all_busy_after pool note start busy starts missed same = record {
+    is_busy = all_busy pool (note_opening note) start busy starts.same_opening missed same;
+    after_note = subst (IsBeginningOf (note_history note)) (sym (missed.goes_on.same_since ∙ starts.from_now)) starts.after_known;
+  }

@@ -9,6 +9,12 @@ use Rattle.lockfree_object_pool.specs.declared.page.history.PageAct.{PageAct}
 use Rattle.lockfree_object_pool.specs.declared.page.history.PageAct.TheVariants.{Took, Gave}
 use Rattle.lockfree_object_pool.specs.PageHistory.{History, user_of, acts_of, held_id, value_at, MayFollow, IsLawful, IsBeginningOf, WasOutBetween}
 
+-- where something stands in a list, it stands below its length
+pub at_below : {A : Type 0} (list : List A) (place : ℕ) (there : A) → get_elem? list place ≡ some there → place < length list
+at_below [] place there at = absurd (some-ne-none there (sym at))
+at_below (one ∷ more) zero there at = omega arith
+at_below (one ∷ more) (suc place) there at = let below = at_below more place there at in omega arith
+
 module _ {T : Type 0} where
   pub beginning_same : (acts : History T) → IsBeginningOf acts acts
   beginning_same acts = ([], refl)
@@ -131,11 +137,6 @@ module _ {T : Type 0} where
     | inl here ↦ subst (λ (pair : ℕ × UserView T). Knows opening acts pair.0 pair.1) (λ i. (sym here.0 i, here.1 i)) mine
     | inr there ↦ others other known there.0 there.1
   ]
-
-  pub at_below : (views : List (UserView T)) (user : ℕ) (known : UserView T) → get_elem? views user ≡ some known → user < length views
-  at_below [] user known at = absurd (some-ne-none known (sym at))
-  at_below (view ∷ views) zero known at = omega arith
-  at_below (view ∷ views) (suc user) known at = let below = at_below views user known at in omega arith
 
   -- what a user knows, of the values that the page opened with
   pub lawful_of : (opening : List (Option T)) (known : UserView T) → known.opening ≡ opening → IsSound known → IsLawful opening known.acts

@@ -36,7 +36,7 @@ module _ {T : Type 0} where
 
   -- the user of a pull has acted since it began: the pull is the one act more
   module _ (page : TableId) (start known : UserView T) (id : ℕ) (value : T) (goes : GoesOn (Took known.user id value ∷ []) start known) where
-    pulled : start.own ≡ [] → IsPulled (item_known page known id value)
+    pub pulled : start.own ≡ [] → IsPulled (item_known page known id value)
     pulled none = record {
       lawful = goes.sound.lawful;
       before = goes.acts.0 ++ start.acts;
@@ -45,7 +45,7 @@ module _ {T : Type 0} where
       only = goes.sound.own_acts ∙ goes.own ∙ ap (λ own. Took known.user id value ∷ own) none;
     }
 
-    pulled_after : (note : PageNote T) → StartsFrom (note_view note) start → IsPulledAfter note (item_known page known id value)
+    pub pulled_after : (note : PageNote T) → StartsFrom (note_view note) start → IsPulledAfter note (item_known page known id value)
     pulled_after note starts =
         let further = beginning_further (note_history note) start.acts (goes.acts.0 ++ start.acts) starts.after_known (goes.acts.0, refl) in
         let last : known.acts ≡ Took known.user id value ∷ (further.0 ++ note_history note) = goes.acts.1 ∙ ap (λ acts. Took known.user id value ∷ acts) further.1 in

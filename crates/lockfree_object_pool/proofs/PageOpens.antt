@@ -1,29 +1,16 @@
 -- A new page keeps the rule.
-use Rattle.std.proofs.Common.{◌≡◌, ℕ, zero, suc, ◌*◌, ◌/◌, ◌%◌, ◌^◌, ◌<◌, inl, inr, List, [], ◌∷◌, length, get_or, Option, Some, None, refl, sym, ◌∙◌, ap, subst, arith, map, replicate}
-use Rattle.std.proofs.lemmas.List.{length-map, length-replicate, get_or-replicate, get_or_past}
+use Rattle.std.proofs.Common.{◌≡◌, ℕ, zero, suc, ◌<◌, inl, inr, List, [], ◌∷◌, length, get_or, Option, Some, None, refl, sym, ◌∙◌, ap, subst, arith, map}
+use Rattle.std.proofs.lemmas.List.{length-map, get_or_past}
 use Rattle.std.proofs.lemmas.Bool.{cases_lt}
 use mathlib.Core.Option.{some, some-injective, some-ne-none}
 use Rattle.std.specs.Prelude.{All, IsSomeAnd}
 use lib.ListN.{get_elem?}
-use Rattle.std.specs.Int.{bit_at}
-use Rattle.std.proofs.lemmas.Nat.Bits.{bit_at_ones}
 use Rattle.atomic_table.specs.Table.{opening}
 use Rattle.atomic_table.proofs.Lists.{at_map}
 use Rattle.lockfree_object_pool.specs.declared.page.user_view.UserView.{UserView}
 use Rattle.lockfree_object_pool.proofs.PageActs.{beginning_same, knows_of}
-use Rattle.lockfree_object_pool.specs.Word.{all_bits, item_bit}
+use Rattle.lockfree_object_pool.specs.Word.{item_bit, IsAllFree}
 use Rattle.lockfree_object_pool.specs.PageRule.{first_view, IsPage, IsKept, IsSound, Knows}
-
--- each bit of words that are all set
-set_at : (n id : ℕ) → id < 32 * n → item_bit (replicate n all_bits) id ≡ 1
-set_at n id inside = ap (λ w. bit_at w (id % 32)) (get_or-replicate n (id / 32) all_bits 0 (omega arith)) ∙ bit_at_ones 32 (id % 32) (omega arith)
-
--- words that are all set fit
-fits_at : (n place : ℕ) → get_or (replicate n all_bits) place 0 < 2 ^ 32
-fits_at n place = elim (cases_lt place n) [
-  | inl inside ↦ let all = get_or-replicate n place all_bits 0 inside in omega arith
-  | inr past ↦ let none = get_or_past (replicate n all_bits) place 0 (let count = length-replicate n all_bits in omega arith) in omega arith
-]
 
 -- a page's first user holds nothing
 first_holds_none : {T : Type 0} (opening : List (Option T)) (known : UserView T) (user id : ℕ) → get_elem? (first_view opening ∷ []) user ≡ some known → known.held ≡ Some id → ⊥
@@ -45,16 +32,20 @@ module _ {T : Type 0} (meets : T → Type 0) where
   filled_at (Some value ∷ items) zero within each = (value, refl, each 0 None (omega arith))
   filled_at (Some value ∷ items) (suc id) within each = filled_at items id (omega arith) (λ k default below. each (suc k) default (omega arith))
 
-  module _ (n : ℕ) (items : List (Option T)) (count : length items ≡ 32 * n) (each : All (λ item. IsSomeAnd item meets) items) where
-    same_count : length (map some items) ≡ 32 * n
-    same_count = length-map items some ∙ count
+  module _ (words : List ℕ) (items : List (Option T)) (free : IsAllFree (length items) words) (each : All (λ item. IsSomeAnd item meets) items) where
+    same_count : length (map some items) ≡ length items
+    same_count = length-map items some
+
+    -- each item whose bit is set is at home
+    set_inside : (id : ℕ) → item_bit words id ≡ 1 → id < length items
+    set_inside id one = elim (cases_lt id (length items)) [ inl inside ↦ inside | inr past ↦ let none = free.clear id past in absurd (omega arith) ]
 
     -- a page at its start: each item is free and at home, and nothing was done
-    opens_page : IsPage meets (opening (replicate n all_bits) items (first_view items))
+    opens_page : IsPage meets (opening words items (first_view items))
     opens_page = record {
-      all_places = let places = same_count in let words = length-replicate n all_bits in omega arith;
-      words_fit = fits_at n;
-      free_is_home = λ id inside _. let places = length-map items some in let found = filled_at items id (omega arith) each in (found.0, at_map some items id (Some found.0) found.1, found.2);
+      all_places = let places = same_count in let all = free.all_items in omega arith;
+      words_fit = free.words_fit;
+      free_is_home = λ id one. let found = filled_at items id (set_inside id one) each in (found.0, at_map some items id (Some found.0) found.1, found.2);
       held_is_out = λ user id holds. absurd (first_holds_none items holds.0 user id holds.1 holds.2);
       one_holder = λ user other id holds _. absurd (first_holds_none items holds.0 user id holds.1 holds.2);
     }
@@ -66,14 +57,18 @@ module _ {T : Type 0} (meets : T → Type 0) where
     first_informed zero known at = subst (Knows items [] 0) (some-injective (first_view items) known at) (knows_of _ _ _ _ record { sound = first_sound; number = refl; same_opening = refl; beginning = beginning_same []; told_before = beginning_same []; own_so_far = refl })
     first_informed (suc user) known at = absurd (some-ne-none known (sym at))
 
-    pub opens : IsKept meets items (opening (replicate n all_bits) items (first_view items))
+    -- nothing lies at an item whose bit is clear, since there is none
+    nothing_past : (id : ℕ) → item_bit words id ≡ 0 → get_or items id None ≡ None
+    nothing_past id out = elim (cases_lt id (length items)) [ inl inside ↦ let one = free.set id inside in absurd (omega arith) | inr past ↦ get_or_past items id None past ]
+
+    pub opens : IsKept meets items (opening words items (first_view items))
     opens = (
       opens_page,
       record {
         acts = [];
         lawful = tt;
-        free_lies = λ id inside free value home. opening_at items id (Some value) home;
-        out_lies = λ id inside out. let places = same_count in let one = set_at n id (omega arith) in absurd (omega arith);
+        free_lies = λ id free value home. opening_at items id (Some value) home;
+        out_lies = nothing_past;
         informed = first_informed;
         no_stranger = λ user past. refl;
       },

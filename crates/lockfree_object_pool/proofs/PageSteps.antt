@@ -81,9 +81,9 @@ module _ {T : Type 0} (meets : T → Type 0) where
       record {
         all_places = let all = is.all_places in let count = turned.same_count in omega arith;
         words_fit = fits;
-        free_is_home = λ i inside set_now.
+        free_is_home = λ i set_now.
             let other : i ≢ id = λ same. let clear = turned.here in let here = ap (item_bit words) same in absurd (omega arith) in
-            let found = is.free_is_home i (omega arith) (sym (turned.others i other) ∙ set_now) in
+            let found = is.free_is_home i (sym (turned.others i other) ∙ set_now) in
             (found.0, set_else page.homes id i none other ∙ found.1, found.2);
         held_is_out = λ other i holds. elim (after other i holds) [
           | inl mine ↦ let same : id ≡ i = some_same id i (sym holds_id ∙ mine.1) in subst (λ i. (i < length (set page.homes id none)) × (item_bit words i ≡ 0)) same (omega arith, turned.here)
@@ -116,7 +116,7 @@ module _ {T : Type 0} (meets : T → Type 0) where
       record {
         all_places = let all = is.all_places in omega arith;
         words_fit = fits;
-        free_is_home = λ i inside set_now. is.free_is_home i inside (sym (same_bits i) ∙ set_now);
+        free_is_home = λ i set_now. is.free_is_home i (sym (same_bits i) ∙ set_now);
         held_is_out = λ other i holds. let was = is.held_is_out other i (held other i holds) in (was.0, same_bits i ∙ was.1);
         one_holder = λ one two i holds_one holds_two. is.one_holder one two i (held one i holds_one) (held two i holds_two);
       }
@@ -134,9 +134,9 @@ module _ {T : Type 0} (meets : T → Type 0) where
       record {
         all_places = let all = is.all_places in let count = turned.same_count in omega arith;
         words_fit = fits;
-        free_is_home = λ i inside set_now. dite (ℕ_discrete i id)
+        free_is_home = λ i set_now. dite (ℕ_discrete i id)
             (λ same. (value, subst (λ i. get_elem? homes i ≡ some (some (Some value))) (sym same) (set_here page.homes id (some (Some value)) within), met))
-            (λ differ. let found = is.free_is_home i (omega arith) (sym (turned.others i differ) ∙ set_now) in (found.0, set_else page.homes id i (some (Some value)) differ ∙ found.1, found.2));
+            (λ differ. let found = is.free_is_home i (sym (turned.others i differ) ∙ set_now) in (found.0, set_else page.homes id i (some (Some value)) differ ∙ found.1, found.2));
         held_is_out = λ other i holds_i.
             let theirs = after other i holds_i in
             let out = is.held_is_out other i theirs.1 in
@@ -165,11 +165,11 @@ module _ {T : Type 0} (meets : T → Type 0) (opening : List (Option T)) where
   }
 
   -- nothing lies at an item whose bit is clear in its word
-  clear_lies : (page : PageState T) (has : HasHistory opening page) (place bit : ℕ) → bit < 32 → 32 * place + 32 ≤ length page.homes → bit_at (get_or page.words place 0) bit ≡ 0 → value_at opening has.acts (item_of place bit) ≡ None
-  clear_lies page has place bit within inside clear = has.out_lies (item_of place bit) (omega arith) (item_bit_of page.words place bit within ∙ clear)
+  clear_lies : (page : PageState T) (has : HasHistory opening page) (place bit : ℕ) → bit < 32 → bit_at (get_or page.words place 0) bit ≡ 0 → value_at opening has.acts (item_of place bit) ≡ None
+  clear_lies page has place bit within clear = has.out_lies (item_of place bit) (item_bit_of page.words place bit within ∙ clear)
 
-  pub looks : (slots place : ℕ) → 32 * place + 32 ≤ slots → Enters (IsKept meets opening) slots place (λ word known. Looks (first_view opening) place word (known, []))
-  looks slots place inside page kept places fits =
+  pub looks : (slots place : ℕ) → Enters (IsKept meets opening) slots place (λ word known. Looks (first_view opening) place word (known, []))
+  looks slots place page kept places fits =
       let is = kept.0 in
       let has = kept.1 in
       let known : UserView T = newcomer has.acts (length page.views) in
@@ -190,7 +190,7 @@ module _ {T : Type 0} (meets : T → Type 0) (opening : List (Option T)) where
           looks = refl;
           tries = refl;
           sound = sound;
-          clear_are_out = λ bit within clear. (has.acts, beginning_same has.acts, beginning_same has.acts, clear_lies page has place bit within (omega arith) clear);
+          clear_are_out = λ bit within clear. (has.acts, beginning_same has.acts, beginning_same has.acts, clear_lies page has place bit within clear);
         },
       )
 
@@ -212,25 +212,24 @@ module _ {T : Type 0} (meets : T → Type 0) (opening : List (Option T)) where
     held_now : held_id (acts_of me.user has.acts) ≡ me.held
     held_now = let is = (has.informed user me at).acting here in ap held_id (own_now opening has.acts has.lawful user me here is) ∙ sym is.sound.holds
 
-  took_history : (page : PageState T) (words : List ℕ) (user id : ℕ) (me : UserView T) (value : T) → (has : HasHistory opening page) → id < length page.homes → Turns page.words id 0 words → IsFree page id
+  took_history : (page : PageState T) (words : List ℕ) (user id : ℕ) (me : UserView T) (value : T) → (has : HasHistory opening page) → Turns page.words id 0 words → IsFree page id
       → IsHome page id value → get_elem? page.views user ≡ some me → me.gone ≡ false → me.held ≡ None
       → HasHistory opening (state words (set page.homes id none) (set page.views user (acted me has.acts (Took me.user id value) (Some id) (me.tries + 1)))) × GoesOn (Took me.user id value ∷ []) me (acted me has.acts (Took me.user id value) (Some id) (me.tries + 1))
-  took_history page words user id me value has within turned free home at here holds_none =
+  took_history page words user id me value has turned free home at here holds_none =
       let act : PageAct T = Took me.user id value in
       let known : UserView T = acted me has.acts act (Some id) (me.tries + 1) in
-      let places = length-set page.homes id none in
-      let may : MayFollow opening has.acts act = record { lies_there = has.free_lies id within free value home; holds_none = held_now page has user me at here ∙ holds_none } in
+      let may : MayFollow opening has.acts act = record { lies_there = has.free_lies id free value home; holds_none = held_now page has user me at here ∙ holds_none } in
       let step = after_act opening has.acts has.lawful user me here ((has.informed user me at).acting here) act (Some id) (me.tries + 1) may refl refl in (
         record {
           acts = act ∷ has.acts;
           lawful = (may, has.lawful);
-          free_lies = λ i inside set_now found home_now.
+          free_lies = λ i set_now found home_now.
               let other : i ≢ id = λ same. let clear = turned.here in let here = ap (item_bit words) same in absurd (omega arith) in
               value_at-took_elsewhere opening has.acts me.user id i value (λ same. other (sym same))
-              ∙ has.free_lies i (omega arith) (sym (turned.others i other) ∙ set_now) found (sym (set_else page.homes id i none other) ∙ home_now);
-          out_lies = λ i inside out_now. dite (ℕ_discrete id i)
+              ∙ has.free_lies i (sym (turned.others i other) ∙ set_now) found (sym (set_else page.homes id i none other) ∙ home_now);
+          out_lies = λ i out_now. dite (ℕ_discrete id i)
               (λ same. value_at-took_here opening has.acts me.user id i value same)
-              (λ differ. value_at-took_elsewhere opening has.acts me.user id i value differ ∙ has.out_lies i (omega arith) (sym (turned.others i (λ same. differ (sym same))) ∙ out_now));
+              (λ differ. value_at-took_elsewhere opening has.acts me.user id i value differ ∙ has.out_lies i (sym (turned.others i (λ same. differ (sym same))) ∙ out_now));
           informed = informed_after page has user me at here act known refl (knows_of _ _ _ _ step.0);
           no_stranger = strangers_after page has user me at here act known refl;
         },
@@ -246,8 +245,8 @@ module _ {T : Type 0} (meets : T → Type 0) (opening : List (Option T)) where
         record {
           acts = has.acts;
           lawful = has.lawful;
-          free_lies = λ i inside set_now. has.free_lies i inside (sym (same_bits i) ∙ set_now);
-          out_lies = λ i inside out_now. has.out_lies i inside (sym (same_bits i) ∙ out_now);
+          free_lies = λ i set_now. has.free_lies i (sym (same_bits i) ∙ set_now);
+          out_lies = λ i out_now. has.out_lies i (sym (same_bits i) ∙ out_now);
           informed = informed_set opening has.acts page.views user known (λ other view _ there. has.informed other view there) (knows_of _ _ _ _ step.0);
           no_stranger = λ other past. has.no_stranger other (let all = length-set page.views user known in omega arith);
         },
@@ -263,22 +262,22 @@ module _ {T : Type 0} (meets : T → Type 0) (opening : List (Option T)) where
       let homes = set page.homes id (some (Some value)) in
       let places = length-set page.homes id (some (Some value)) in
       let out = is.held_is_out user id (me, at, holds) in
-      let may : MayFollow opening has.acts act = record { is_out = has.out_lies id within out.1; holds = held_now page has user me at here ∙ holds } in
+      let may : MayFollow opening has.acts act = record { is_out = has.out_lies id out.1; holds = held_now page has user me at here ∙ holds } in
       let step = after_act opening has.acts has.lawful user me here ((has.informed user me at).acting here) act None me.tries may refl refl in (
         record {
           acts = act ∷ has.acts;
           lawful = (may, has.lawful);
-          free_lies = λ i inside set_now found home_now. dite (ℕ_discrete id i)
+          free_lies = λ i set_now found home_now. dite (ℕ_discrete id i)
               (λ same.
               let here : get_elem? homes id ≡ some (some (Some found)) = ap (get_elem? homes) same ∙ home_now in
               let value_is : Some value ≡ Some found = some-injective (Some value) (Some found) (some-injective (some (Some value)) (some (Some found)) (sym (set_here page.homes id (some (Some value)) within) ∙ here)) in
               value_at-gave_here opening has.acts me.user id i value same ∙ value_is)
               (λ differ. let other : i ≢ id = λ same. differ (sym same) in
               value_at-gave_elsewhere opening has.acts me.user id i value differ
-              ∙ has.free_lies i (omega arith) (sym (turned.others i other) ∙ set_now) found (sym (set_else page.homes id i (some (Some value)) other) ∙ home_now));
-          out_lies = λ i inside out_now.
+              ∙ has.free_lies i (sym (turned.others i other) ∙ set_now) found (sym (set_else page.homes id i (some (Some value)) other) ∙ home_now));
+          out_lies = λ i out_now.
               let other : i ≢ id = λ same. let set_bit = turned.here in let here = ap (item_bit words) same in absurd (omega arith) in
-              value_at-gave_elsewhere opening has.acts me.user id i value (λ same. other (sym same)) ∙ has.out_lies i (omega arith) (sym (turned.others i other) ∙ out_now);
+              value_at-gave_elsewhere opening has.acts me.user id i value (λ same. other (sym same)) ∙ has.out_lies i (sym (turned.others i other) ∙ out_now);
           informed = informed_after page has user me at here act known refl (knows_of _ _ _ _ step.0);
           no_stranger = strangers_after page has user me at here act known refl;
         },
@@ -317,8 +316,8 @@ module _ {T : Type 0} (meets : T → Type 0) (opening : List (Option T)) where
     no_stranger = λ other past. has.no_stranger other (let all = length-set page.views user known in omega arith);
   }
 
-  pub looks_again : (slots place user : ℕ) (me : User T) → 32 * place + 32 ≤ slots → me.0.gone ≡ false → Allows (IsKept meets opening) slots user me place (λ word. word) (LooksAgain place me)
-  looks_again slots place user me inside here page kept places at fits =
+  pub looks_again : (slots place user : ℕ) (me : User T) → me.0.gone ≡ false → Allows (IsKept meets opening) slots user me place (λ word. word) (LooksAgain place me)
+  looks_again slots place user me here page kept places at fits =
       let is = kept.0 in
       let has = kept.1 in
       let known : UserView T = again me.0 has.acts in
@@ -342,8 +341,10 @@ module _ {T : Type 0} (meets : T → Type 0) (opening : List (Option T)) where
           here = here;
           starts = record { same_user = refl; same_opening = refl; own_before = knew.sound.own_acts; own_same = refl; from_now = refl; after_known = knew.beginning; after_told = knew.told_before };
           carries_same = refl;
+          looks = refl;
+          tries = refl;
           sound = sound;
-          clear_are_out = λ bit within clear. (has.acts, beginning_same has.acts, beginning_same has.acts, ap (λ o. value_at o has.acts (item_of place bit)) knew.same_opening ∙ clear_lies page has place bit within (omega arith) clear);
+          clear_are_out = λ bit within clear. (has.acts, beginning_same has.acts, beginning_same has.acts, ap (λ o. value_at o has.acts (item_of place bit)) knew.same_opening ∙ clear_lies page has place bit within clear);
         },
       )
 
@@ -391,8 +392,8 @@ module _ {T : Type 0} (meets : T → Type 0) (opening : List (Option T)) where
       let has_told = view_history page user known has (knows_of _ _ _ _ record { sound = told_sound me them knew.sound; number = knew.number; same_opening = knew.same_opening; beginning = knew.beginning; told_before = knew_other.seen; own_so_far = knew.own_so_far }) in
       (gone_page told other them (view_page page user me known is at refl) at_other, view_history told other gone_view has_told record { seen = (has_told.acts, sym (append-nil has_told.acts)); told = (has_told.acts, sym (append-nil has_told.acts)); acting = λ gone. absurd (true≢false gone) })
 
-  pub looks_on : (slots place user : ℕ) (me : User T) → 32 * place + 32 ≤ slots → me.0.gone ≡ false → Allows (IsKept meets opening) slots user me place (λ word. word) (LooksOn place me)
-  looks_on slots place user me inside here page kept places at fits =
+  pub looks_on : (slots place user : ℕ) (me : User T) → me.0.gone ≡ false → Allows (IsKept meets opening) slots user me place (λ word. word) (LooksOn place me)
+  looks_on slots place user me here page kept places at fits =
       let is = kept.0 in
       let has = kept.1 in
       let known : UserView T = has_seen me.0 has.acts (me.0.looks + 1) me.0.tries in
@@ -412,12 +413,12 @@ module _ {T : Type 0} (meets : T → Type 0) (opening : List (Option T)) where
           looks = refl;
           tries = refl;
           goes_on = history.1;
-          clear_are_out = λ bit within clear. is_out_now opening has.acts has.lawful user me.0 here knew (me.0.looks + 1) me.0.tries (item_of place bit) (clear_lies page has place bit within (omega arith) clear);
+          clear_are_out = λ bit within clear. is_out_now opening has.acts has.lawful user me.0 here knew (me.0.looks + 1) me.0.tries (item_of place bit) (clear_lies page has place bit within clear);
         },
       )
 
-  pub clears : (slots place user operand bit : ℕ) (me : User T) → bit < 32 → 32 * place + 32 ≤ slots → ClearsBit all_bits bit operand → me.0.held ≡ None → me.0.gone ≡ false
-      → Allows (IsKept meets opening) slots user me place (λ word. bit_and word operand) (Clears meets place operand me)
+  pub clears : (slots place user operand bit : ℕ) (me : User T) → bit < 32 → 32 * place < slots → ClearsBit all_bits bit operand → me.0.held ≡ None → me.0.gone ≡ false
+      → Allows (IsKept meets opening) slots user me place (λ word. bit_and word operand) (Clears meets slots place operand me)
   clears slots place user operand bit me within inside lacks holds_none here page kept places at fits =
       let is = kept.0 in
       let has = kept.1 in
@@ -435,16 +436,17 @@ module _ {T : Type 0} (meets : T → Type 0) (opening : List (Option T)) where
             let low = bit_at-lt word bit in
             let one : bit_at word bit ≡ 1 = omega arith in
             let free : IsFree page id = own_bit ∙ one in
-            let item = is.free_is_home id (omega arith) free in
+            let item = is.free_is_home id free in
+            let inside_places : id < length page.homes = at_below page.homes id (some (Some item.0)) item.1 in
             let known : UserView T = acted me.0 has.acts (Took me.0.user id item.0) (Some id) (me.0.tries + 1) in
-            let history = took_history page words user id me.0 item.0 has (omega arith) turned free item.1 at here holds_none in (
+            let history = took_history page words user id me.0 item.0 has turned free item.1 at here holds_none in (
               known,
               takes id (Some item.0),
               item.1,
-              (takes_item meets page words user id known is (omega arith) turned all_fit free refl, history.0),
+              (takes_item meets page words user id known is inside_places turned all_fit free refl, history.0),
               record {
                 word_fits = small;
-                took = λ i inside lacks_i _. subst (λ i. Takes meets (item_of place i) me (known, (id, Some item.0) ∷ me.1)) (lacks_one operand bit i inside lacks lacks_i) record { holds = refl; counts = record { looks_same = refl; one_more = refl }; value = (item.0, item.2, refl, history.1) };
+                took = λ i inside lacks_i _. subst (λ i. Takes meets slots (item_of place i) me (known, (id, Some item.0) ∷ me.1)) (lacks_one operand bit i inside lacks lacks_i) record { in_places = omega arith; holds = refl; counts = record { looks_same = refl; one_more = refl }; value = (item.0, item.2, refl, history.1) };
                 missed = λ i inside lacks_i zero. let here = ap (bit_at word) (lacks_one operand bit i inside lacks lacks_i) in absurd (omega arith);
               },
             )
@@ -454,7 +456,7 @@ module _ {T : Type 0} (meets : T → Type 0) (opening : List (Option T)) where
             let known : UserView T = has_seen me.0 has.acts me.0.looks (me.0.tries + 1) in
             let same_bits : (i : ℕ) → item_bit words i ≡ item_bit page.words i = λ i. dite (ℕ_discrete i id) (λ same. ap (item_bit words) same ∙ turned.here ∙ sym out ∙ ap (item_bit page.words) (sym same)) (λ differ. turned.others i differ) in
             let history = saw_history page words user me.0.looks (me.0.tries + 1) me.0 has same_bits at here in
-            let was_out : KnowsOut known id = is_out_now opening has.acts has.lawful user me.0 here ((has.informed user me.0 at).acting here) me.0.looks (me.0.tries + 1) id (has.out_lies id (omega arith) out) in (
+            let was_out : KnowsOut known id = is_out_now opening has.acts has.lawful user me.0 here ((has.informed user me.0 at).acting here) me.0.looks (me.0.tries + 1) id (has.out_lies id out) in (
               known,
               keeps,
               tt,

@@ -1,12 +1,13 @@
 -- The bits of a word after one step.
-use Rattle.std.proofs.Common.{◌≡◌, ℕ, ◌-◌, ◌*◌, ◌/◌, ◌%◌, ◌^◌, ◌<◌, suc, zero, min, List, length, set, get_or, get_or-set_same, length-set, ◌≢◌, ◌+◌, bit_and, bit_or, refl, sym, ◌∙◌, ap, arith, inl, inr}
+use Rattle.std.proofs.Common.{◌≡◌, ℕ, ◌-◌, ◌*◌, ◌/◌, ◌%◌, ◌^◌, ◌<◌, suc, zero, min, List, length, set, get_or, get_or-set_same, length-set, ◌≢◌, ◌+◌, ◌≤◌, bit_and, bit_or, refl, sym, ◌∙◌, ap, arith, inl, inr, replicate}
 use Rattle.std.specs.Int.{bit_at, bit_not, w32}
 use native.Mathlib.Decide.{ℕ_discrete}
 use mathlib.Core.Logic.{dite}
-use Rattle.std.proofs.lemmas.List.{get_or-set_other}
+use Rattle.std.proofs.lemmas.List.{get_or-set_other, get_or-replicate, get_or_past, length-replicate}
 use Rattle.std.proofs.lemmas.Bool.{cases_lt}
-use Rattle.std.proofs.lemmas.Nat.Bits.{bit_at_lowest, bit_at-suc, bit_at_and, bit_at_set_same, bit_at_set_other, bit_at_clear_same, bit_at_clear_other, bit_at_above, bit_at-lt, bit_at_ones, bit_at_or, bit_at-zero}
-use Rattle.lockfree_object_pool.specs.Word.{all_bits, SetsBit, ClearsBit, item_bit}
+use Rattle.std.proofs.lemmas.Nat.Bits.{bit_at_lowest, bit_at-suc, bit_at_and, bit_at_set_same, bit_at_set_other, bit_at_clear_same, bit_at_clear_other, bit_at_above, bit_at-lt, bit_at_ones, bit_at_ones_above, bit_at_or, bit_at-zero}
+use lib.Pow.{pow_mono, ones_lt}
+use Rattle.lockfree_object_pool.specs.Word.{all_bits, SetsBit, ClearsBit, item_bit, IsAllFree}
 
 -- one less turns the lowest set bit off, the bits below it on, and leaves those above it
 bit_at-less_one : (k word : ℕ) → bit_at word k ≡ 1 → ((i : ℕ) → i < k → bit_at word i ≡ 0) → (i : ℕ) → (i ≡ k → bit_at (word - 1) i ≡ 0) × (k < i → bit_at (word - 1) i ≡ bit_at word i)
@@ -114,3 +115,49 @@ pub fits_after : (words : List ℕ) (place new : ℕ) → place < length words �
 fits_after words place new inside fit small p = dite (ℕ_discrete p place)
     (λ same. let here = ap (λ p. get_or (set words place new) p 0) same ∙ get_or-set_same words place new 0 inside in omega arith)
     (λ other. let was = fit p in let same = get_or-set_other words place p new 0 other in omega arith)
+
+-- words that are all set but the last, of which only the lowest bits are
+module _ (full low : ℕ) (within : low ≤ 32) where
+  abbrev pub free_words : List ℕ
+  free_words = set (replicate (full + 1) all_bits) full (2 ^ low - 1)
+
+  words_long : length (replicate (full + 1) all_bits) ≡ full + 1
+  words_long = length-replicate (full + 1) all_bits
+
+  last_word : get_or free_words full 0 ≡ 2 ^ low - 1
+  last_word = let long = words_long in get_or-set_same (replicate (full + 1) all_bits) full (2 ^ low - 1) 0 (omega arith)
+
+  full_word : (place : ℕ) → place < full → get_or free_words place 0 ≡ all_bits
+  full_word place before = get_or-set_other (replicate (full + 1) all_bits) full place (2 ^ low - 1) 0 (λ same. let here : place ≡ full = same in absurd (omega arith)) ∙ get_or-replicate (full + 1) place all_bits 0 (omega arith)
+
+  past_word : (place : ℕ) → full < place → get_or free_words place 0 ≡ 0
+  past_word place past = let long = words_long in let same = length-set (replicate (full + 1) all_bits) full (2 ^ low - 1) in get_or_past free_words place 0 (omega arith)
+
+  word_fits : (place : ℕ) → get_or free_words place 0 < 2 ^ 32
+  word_fits place = elim (cases_lt place full) [
+    | inl before ↦ let all = full_word place before in omega arith
+    | inr from ↦ elim (cases_lt full place) [
+      | inl past ↦ let none = past_word place past in omega arith
+      | inr last ↦
+          let here : place ≡ full = omega arith in
+          let is : get_or free_words place 0 ≡ 2 ^ low - 1 = ap (λ p. get_or free_words p 0) here ∙ last_word in
+          let below = ones_lt low in let most : 2 ^ low ≤ 2 ^ 32 = pow_mono within in omega arith
+    ]
+  ]
+
+  bit_of_last : (id : ℕ) → id / 32 ≡ full → item_bit free_words id ≡ bit_at (2 ^ low - 1) (id % 32)
+  bit_of_last id here = ap (λ p. bit_at (get_or free_words p 0) (id % 32)) here ∙ ap (λ w. bit_at w (id % 32)) last_word
+
+  pub all_free : IsAllFree (32 * full + low) free_words
+  all_free = record {
+    all_items = let long = words_long in let same = length-set (replicate (full + 1) all_bits) full (2 ^ low - 1) in omega arith;
+    words_fit = word_fits;
+    set = λ id inside. elim (cases_lt (id / 32) full) [
+      | inl before ↦ ap (λ w. bit_at w (id % 32)) (full_word (id / 32) before) ∙ bit_at_ones 32 (id % 32) (omega arith)
+      | inr from ↦ let here : id / 32 ≡ full = omega arith in bit_of_last id here ∙ bit_at_ones low (id % 32) (omega arith)
+    ];
+    clear = λ id past. elim (cases_lt full (id / 32)) [
+      | inl behind ↦ ap (λ w. bit_at w (id % 32)) (past_word (id / 32) behind) ∙ bit_at-zero (id % 32)
+      | inr to ↦ let here : id / 32 ≡ full = omega arith in bit_of_last id here ∙ bit_at_ones_above low (id % 32) (omega arith)
+    ];
+  }

@@ -1,48 +1,67 @@
--- What the answer of a fixed pool to a pull shows.
-use Rattle.std.specs.Prelude.{◌≡◌, ℕ, ◌*◌, ◌<◌, ◌≤◌, List, Option}
+-- What the answers of a fixed pool show: of a pull, of a refusal, of a return.
+use Rattle.std.specs.Prelude.{◌≡◌, ℕ, ◌<◌, List, Option}
 use Rattle.atomic_table.specs.Seated.{TableId}
+use Rattle.lockfree_object_pool.specs.declared.page.note.PageNote.{PageNote}
 use Rattle.lockfree_object_pool.specs.declared.page.user_view.UserView.{UserView}
-use Rattle.lockfree_object_pool.specs.declared.page.full_seen.FullSeen.{FullSeen}
-use Rattle.lockfree_object_pool.specs.declared.fixed_pool.slot.Pulled.{Pulled}
-use Rattle.lockfree_object_pool.specs.declared.fixed_pool.slot.Pulled.TheVariants.{Slot, NoneFree}
-use Rattle.lockfree_object_pool.specs.PageHistory.{IsLawful, IsBeginningOf, WasOutBetween}
+use Rattle.lockfree_object_pool.specs.declared.fixed_object_pool.busy_seen.BusySeen.{BusySeen}
+use Rattle.lockfree_object_pool.specs.FixedReusable.{item_with}
+use Rattle.lockfree_object_pool.specs.FixedRule.{StepCount, steps_of}
 use Rattle.lockfree_object_pool.specs.Item.{Item, IsPulled}
-use Rattle.lockfree_object_pool.specs.FullSeen.{full_view, full_since, full_history}
-use Rattle.lockfree_object_pool.specs.FixedSlot.{slot_item, slot_view}
+use Rattle.lockfree_object_pool.specs.Note.{note_view, note_opening, note_history, IsReturned, IsPulledAfter}
+use Rattle.lockfree_object_pool.specs.PageHistory.{History, IsLawful, IsBeginningOf, WasOutBetween}
 
 module _ {T : Type 0} where
-  -- an item of this pool, pulled from it as the pool's one history tells
-  pub record IsPulledOf (meets : T → Type 0) (pool : TableId) (opening : List (Option T)) (item : Item T) : Type 0 where
+  -- an item of this pool
+  pub record IsItemOf (pool : TableId) (item : Item T) : Type 0 where
     pub of_pool : item.page ≡ pool
     pub in_pool : item.id < pool.slots
-    pub meets_condition : meets item.value
+
+  -- an item of this pool, pulled as the pool's one history tells, which begins with these values
+  pub record IsPulledOf (pool : TableId) (opening : List (Option T)) (item : Item T) : Type 0 where
+    pub is_item : IsItemOf pool item
     pub same_opening : item.opening ≡ opening
     pub pulled : IsPulled item
 
+  -- the same of a pull by a note: it stands after all that the note knew
+  pub record IsPulledWith (pool : TableId) (note : PageNote T) (item : Item T) : Type 0 where
+    pub is_item : IsItemOf pool item
+    pub pulled : IsPulledAfter note item
+
+  -- what the refused pull knows of the pool
+  abbrev pub busy_view : BusySeen T → UserView T
+  busy_view busy = busy.seat.me.0
+
+  -- the pool's history up to the refused pull's first load
+  abbrev pub busy_since : BusySeen T → History T
+  busy_since busy = (busy_view busy).since
+
+  -- the pool's history up to the refused pull's last step
+  abbrev pub busy_history : BusySeen T → History T
+  busy_history busy = (busy_view busy).acts
+
+  -- what the refused pull has read and tried
+  abbrev pub busy_steps : BusySeen T → StepCount
+  busy_steps busy = steps_of (busy_view busy)
+
   -- each item of this pool was out: at some place of a lawful history of the pool, since the call's own first load
-  pub record IsBusyOf (pool : TableId) (opening : List (Option T)) (busy : FullSeen T) : Type 0 where
+  pub record IsBusyOf (pool : TableId) (opening : List (Option T)) (busy : BusySeen T) : Type 0 where
     pub of_pool : busy.seat.table_id ≡ pool
-    pub same_opening : (full_view busy).opening ≡ opening
-    pub lawful : IsLawful opening (full_history busy)
-    pub goes_on : IsBeginningOf (full_since busy) (full_history busy)
-    pub each_was_out : (id : ℕ) → id < pool.slots → WasOutBetween opening (full_since busy) (full_history busy) id
+    pub same_opening : (busy_view busy).opening ≡ opening
+    pub lawful : IsLawful opening (busy_history busy)
+    pub goes_on : IsBeginningOf (busy_since busy) (busy_history busy)
+    pub each_was_out : (id : ℕ) → id < pool.slots → WasOutBetween opening (busy_since busy) (busy_history busy) id
 
-  -- what one call did: it read so many words at most, and tried so many bits at most
-  pub record IsBrief (pool : TableId) (known : UserView T) : Type 0 where
-    pub looks : known.looks ≤ pool.words
-    pub tries : known.tries ≤ 32 * pool.words
+  -- the same of a pull by a note: its first load stands after all that the note knew
+  pub record IsBusyAfter (pool : TableId) (note : PageNote T) (busy : BusySeen T) : Type 0 where
+    pub is_busy : IsBusyOf pool (note_opening note) busy
+    pub after_note : IsBeginningOf (note_history note) (busy_since busy)
 
-  -- a pool that gave no item was seen to be busy
-  abbrev pub WasSeenBusy : TableId → List (Option T) → Type 0
-  WasSeenBusy pool opening = (busy : FullSeen T) × IsBusyOf pool opening busy
+  -- what the operations of a note have read and tried
+  abbrev pub note_steps : PageNote T → StepCount
+  note_steps note = steps_of (note_view note)
 
-module _ {T K : Type 0} where
-  -- an item of this pool; or each of its items was out
-  abbrev pub IsAnswerOf : (T → Type 0) → TableId → List (Option T) → Pulled T K → Type 0
-  IsAnswerOf meets pool opening (Slot slot) = IsPulledOf meets pool opening (slot_item slot)
-  IsAnswerOf meets pool opening (NoneFree busy) = IsBusyOf pool opening busy
-
-  -- in so many steps at most
-  abbrev pub IsBriefAnswer : TableId → Pulled T K → Type 0
-  IsBriefAnswer pool (Slot slot) = IsBrief pool (slot_view slot)
-  IsBriefAnswer pool (NoneFree busy) = IsBrief pool (full_view busy)
+  -- an item was returned with exactly what its pool's reset left of its value
+  pub record IsGivenBack (leaves : T → T → Type 0) (item : Item T) (note : PageNote T) : Type 0 where
+    pub left : T
+    pub by_reset : leaves item.value left
+    pub returned : IsReturned (item_with item left) note

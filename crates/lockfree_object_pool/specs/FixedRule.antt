@@ -4,7 +4,25 @@ use Rattle.lockfree_object_pool.specs.declared.page.history.PageAct.TheVariants.
 use Rattle.lockfree_object_pool.specs.declared.page.user_view.UserView.{UserView}
 use Rattle.lockfree_object_pool.specs.PageRule.{User, GoesOn, KnowsOut}
 
+-- how many words an operation has read, and how many bits it has tried
+pub record StepCount : Type 0 where
+  pub loads : ℕ
+  pub tries : ℕ
+
+-- nothing was read or tried
+abbrev pub no_steps : StepCount
+no_steps = record { loads = 0; tries = 0 }
+
+-- an operation has read each of so many words once at most, and tried each of their bits once at most
+pub record IsWithin (words : ℕ) (before after : StepCount) : Type 0 where
+  pub loads : after.loads ≤ before.loads + words
+  pub tries : after.tries ≤ before.tries + 32 * words
+
 module _ {T : Type 0} where
+  -- what a user has read and tried
+  abbrev pub steps_of : UserView T → StepCount
+  steps_of known = record { loads = known.looks; tries = known.tries }
+
   -- the user has found each item out, from the one number up to below the other
   pub record MissesAll (from to : ℕ) (old new : User T) : Type 0 where
     pub holds_same : new.0.held ≡ old.0.held
@@ -19,8 +37,3 @@ module _ {T : Type 0} where
     pub holds : new.0.held ≡ Some id
     pub carries : new.1 ≡ (id, None) ∷ old.1
     pub goes_on : GoesOn (Took new.0.user id value ∷ []) old.0 new.0
-
-  -- the user has read so many words at most, and has tried each of their bits once at most
-  pub record IsWithin (words : ℕ) (old new : UserView T) : Type 0 where
-    pub looks : new.looks ≤ old.looks + words
-    pub tries : new.tries ≤ old.tries + 32 * words

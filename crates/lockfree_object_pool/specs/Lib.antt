@@ -2,8 +2,8 @@ pub mod Answers
 pub mod FixedAnswer
 pub mod FixedLends
 pub mod FixedPool
+pub mod FixedReusable
 pub mod FixedRule
-pub mod FixedSlot
 pub mod FullSeen
 pub mod Guard
 pub mod Item

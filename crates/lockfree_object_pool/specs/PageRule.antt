@@ -66,9 +66,11 @@ module _ {T : Type 0} where
 
   -- what holds between any two steps, of the word, the homes and who holds what
   pub record IsPage (meets : T → Type 0) (page : PageState T) : Type 0 where
-    pub all_places : length page.homes ≡ 32 * length page.words
+    -- each place has a bit in some word
+    pub all_places : length page.homes ≤ 32 * length page.words
     pub words_fit : (place : ℕ) → slice_index page.words place < 2 ^ 32
-    pub free_is_home : (id : ℕ) → id < length page.homes → IsFree page id → (value : T) × IsHome page id value × meets value
+    -- so no bit is set that has no place
+    pub free_is_home : (id : ℕ) → IsFree page id → (value : T) × IsHome page id value × meets value
     pub held_is_out : (user id : ℕ) → Holds page user id → (id < length page.homes) × IsOut page id
     pub one_holder : (user other id : ℕ) → Holds page user id → Holds page other id → user ≡ other
 
@@ -76,8 +78,8 @@ module _ {T : Type 0} where
   pub record HasHistory (opening : List (Option T)) (page : PageState T) : Type 0 where
     pub acts : History T
     pub lawful : IsLawful opening acts
-    pub free_lies : (id : ℕ) → id < length page.homes → IsFree page id → (value : T) → IsHome page id value → value_at opening acts id ≡ Some value
-    pub out_lies : (id : ℕ) → id < length page.homes → IsOut page id → value_at opening acts id ≡ None
+    pub free_lies : (id : ℕ) → IsFree page id → (value : T) → IsHome page id value → value_at opening acts id ≡ Some value
+    pub out_lies : (id : ℕ) → IsOut page id → value_at opening acts id ≡ None
     pub informed : (user : ℕ) (known : UserView T) → get_elem? page.views user ≡ some known → Knows opening acts user known
     pub no_stranger : (user : ℕ) → length page.views ≤ user → acts_of user acts ≡ []
 
@@ -107,7 +109,8 @@ module _ {T : Type 0} where
 
   module _ (meets : T → Type 0) where
     -- the item was free: the user holds it now, and the value that lay there, which meets the condition
-    pub record Takes (id : ℕ) (old new : User T) : Type 0 where
+    pub record Takes (places id : ℕ) (old new : User T) : Type 0 where
+      pub in_places : id < places
       pub holds : new.0.held ≡ Some id
       pub counts : HasTried old.0 new.0
       pub value : (value : T) × meets value × (new.1 ≡ (id, Some value) ∷ old.1) × GoesOn (Took new.0.user id value ∷ []) old.0 new.0
@@ -150,6 +153,8 @@ module _ {T : Type 0} where
     pub here : new.0.gone ≡ false
     pub starts : StartsFrom old.0 new.0
     pub carries_same : new.1 ≡ old.1
+    pub looks : new.0.looks ≡ old.0.looks + 1
+    pub tries : new.0.tries ≡ old.0.tries
     pub sound : IsSound new.0
     pub clear_are_out : (bit : ℕ) → bit < 32 → bit_at word bit ≡ 0 → KnowsOut new.0 (item_of place bit)
 
@@ -164,9 +169,9 @@ module _ {T : Type 0} where
     pub clear_are_out : (bit : ℕ) → bit < 32 → bit_at word bit ≡ 0 → KnowsOut new.0 (item_of place bit)
 
   -- a clearing of the one bit that the operand leaves out
-  pub record Clears (meets : T → Type 0) (place operand : ℕ) (old : User T) (word : ℕ) (new : User T) : Type 0 where
+  pub record Clears (meets : T → Type 0) (places place operand : ℕ) (old : User T) (word : ℕ) (new : User T) : Type 0 where
     pub word_fits : word < 2 ^ 32
-    pub took : (bit : ℕ) → bit < 32 → ClearsBit all_bits bit operand → bit_at word bit ≡ 1 → Takes meets (item_of place bit) old new
+    pub took : (bit : ℕ) → bit < 32 → ClearsBit all_bits bit operand → bit_at word bit ≡ 1 → Takes meets places (item_of place bit) old new
     pub missed : (bit : ℕ) → bit < 32 → ClearsBit all_bits bit operand → bit_at word bit ≡ 0 → Misses (item_of place bit) old new
 
   -- the user has taken the item, and the value that lay there has moved out

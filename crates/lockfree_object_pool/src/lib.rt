@@ -5,7 +5,9 @@
 
 pub mod clean;
 pub mod closures;
-pub mod fixed_pool;
+pub mod fixed_object_pool;
+pub mod fixed_owned_reusable;
+pub mod fixed_reusable;
 pub mod free_list;
 mod lender;
 pub mod linear_object_pool;
@@ -32,7 +34,9 @@ pub mod stack_reusable;
 #[cfg(test)]
 mod testing;
 
-pub use fixed_pool::FixedPool;
+pub use fixed_object_pool::FixedObjectPool;
+pub use fixed_owned_reusable::FixedOwnedReusable;
+pub use fixed_reusable::FixedReusable;
 pub use linear_object_pool::LinearObjectPool;
 pub use linear_owned_reusable::LinearOwnedReusable;
 pub use linear_reusable::LinearReusable;

@@ -7,7 +7,7 @@ use super::user_view::UserSeat;
 /// What some user knew of a page's history, for another to be told by [`Page::tell`]. It has no bytes.
 #[derive(Drop)]
 pub struct Witness<T> {
-    pub(super) seat: UserSeat<T>,
+    pub(crate) seat: UserSeat<T>,
     ghost carries_none: { seat.me.1 ≡ [] } by { same_carrying T.code _ _ },
 }
 

@@ -83,7 +83,7 @@ pub struct ClearBit<K> {
 impl<T, K: Clean<T>> Play<Option<T>, UserView<T>> for ClearBit<K> {
     ghost use Rattle.lockfree_object_pool.specs.PageRule.{Clears};
 
-    ghost then = { λ step old word new. Clears K.meets step.word step.first old word new };
+    ghost then = { λ step old word new. Clears K.meets step.slots step.word step.first old word new };
 }
 
 /// A step that sets one bit of the word, once its value is back home.

@@ -13,6 +13,6 @@ fetch_and-word-requires g c =
 pub exchange-requires : goal.exchange-requires
 exchange-requires g c =
     let whole : 32 * 0 + c.args.id ≡ c.args.id = omega arith in
-    let took = subst (λ id. Takes g.K.Clean.meets id c.args.seat.now.me c.fetch_and-word.new.seat.me) whole (c.fetch_and-word.ensures.2.took c.args.id c.requires.in_page c.without_bit.ensures.bits (c.has_bit.ensures.0 (search rules))) in
+    let took = subst (λ id. Takes g.K.Clean.meets c.args.self.now.table.shared.table_id.slots id c.args.seat.now.me c.fetch_and-word.new.seat.me) whole (c.fetch_and-word.ensures.2.took c.args.id c.requires.in_page c.without_bit.ensures.bits (c.has_bit.ensures.0 (search rules))) in
     let value = took.value in
     (search rules, (Some value.0, value.2 ∙ ap (λ carried. (c.args.id, Some value.0) ∷ rest carried) (sym value.2)))

@@ -3,7 +3,4 @@ use Rattle.lockfree_object_pool.proofs.PageSteps.{looks}
 use Rattle.lockfree_object_pool.proofs.page.Page.look.Goals as goal
 
 pub load_new_seat-word-requires : goal.load_new_seat-word-requires
-load_new_seat-word-requires g c =
-    let words = c.args.self.now.sized.0 in
-    let slots = c.args.self.now.sized.1 in
-    (omega arith, looks _ _ c.args.self.now.table.shared.table_id.slots 0 (omega arith))
+load_new_seat-word-requires g c = let words = c.args.self.now.sized.0 in (omega arith, looks _ _ _ 0)

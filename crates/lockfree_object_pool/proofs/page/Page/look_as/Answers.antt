@@ -3,7 +3,4 @@ use Rattle.lockfree_object_pool.proofs.PageSteps.{looks_again}
 use Rattle.lockfree_object_pool.proofs.page.Page.look_as.Goals as goal
 
 pub load-requires : goal.load-requires
-load-requires g c =
-    let words = c.args.self.now.sized.0 in
-    let slots = c.args.self.now.sized.1 in
-    (c.requires.page, omega arith, looks_again _ _ c.args.self.now.table.shared.table_id.slots 0 _ _ (omega arith) c.requires.here)
+load-requires g c = let words = c.args.self.now.sized.0 in (c.requires.page, omega arith, looks_again _ _ _ 0 _ _ c.requires.here)

@@ -1,0 +1,214 @@
+//! A pool of a fixed number of items, all made at first: threads pull and return without a lock, and nothing takes memory.
+//!
+//! The items lie 32 to a page, and a page is one word. All words lie in one table, so one sequential history tells what was
+//! pulled and returned of the whole pool. No pull and no return waits for another thread or tries anything twice.
+ghost use Rattle.std.specs.Prelude.{◌≡◌, ◌+◌, ◌/◌, ◌<◌, ◌≤◌, None, Some, IfOk, IfErr, ◌⊎◌};
+ghost use Rattle.std.specs.Arc.{arc_value};
+ghost use Rattle.lockfree_object_pool.specs.declared.pull_error.PullError.TheVariants.{Memory, Limit};
+
+use crate::PullError;
+use crate::clean::{AnyValue, Clean};
+use crate::closures::{Init, Reset};
+use crate::fixed_owned_reusable::FixedOwnedReusable;
+use crate::fixed_reusable::FixedReusable;
+use crate::made_or_reset::MadeOrReset;
+use crate::page::{PageNote, PullPass, Witness};
+use items::FixedItems;
+use std::alloc::Global;
+use std::fmt::{self, Debug, Formatter, Write};
+use std::sync::Arc;
+
+mod busy_seen;
+pub(crate) mod items;
+
+pub use busy_seen::BusySeen;
+
+/// What is known of a fixed pool's history while no item is held. It has no bytes.
+pub type PoolNote<T> = PageNote<T>;
+
+/// What [`FixedObjectPool::try_pull`] answers: an item, or that each one was found out.
+pub type FixedPulled<'s, 'p, T, I, R, K = AnyValue> = Result<
+    FixedReusable<'s, T, I, R, K>,
+    BusySeen<'p, T>,
+>;
+
+/// A pool of a fixed number of items.
+#[derive(Drop)]
+pub struct FixedObjectPool<T, I: Init<T, K>, R: Reset<T, K>, K: Clean<T> = AnyValue> {
+    reset: R,
+    pub(crate) items: FixedItems<T, MadeOrReset<I, R, K>>,
+}
+
+impl<T: Drop, I: Init<T, K>, R: Reset<T, K>, K: Clean<T>> FixedObjectPool<T, I, R, K> {
+    ghost use Rattle.lockfree_object_pool.specs.Answers.{IsMadeOrReset};
+    ghost use Rattle.lockfree_object_pool.specs.FixedAnswer.{IsPulledOf, IsPulledWith, IsBusyOf, IsBusyAfter, busy_steps, note_steps};
+    ghost use Rattle.lockfree_object_pool.specs.FixedPool.{pool_identity, pool_items, pool_pages, pool_opening, pool_reset, IsFilled};
+    ghost use Rattle.lockfree_object_pool.specs.FixedReusable.{reusable_pool, reusable_item, reusable_steps, owned_pool, owned_item, owned_steps};
+    ghost use Rattle.lockfree_object_pool.specs.FixedRule.{IsWithin, no_steps};
+    ghost use Rattle.lockfree_object_pool.specs.Note.{note_page, witness_page, IsNoteOf, HasLearned};
+    ghost use Rattle.lockfree_object_pool.specs.Refusal.{RefusesMaking};
+
+    /// A pool of so many free items: item `i` is the answer of call `i` of `init`, counted from 0.
+    ///
+    /// # Errors
+    ///
+    /// `Memory`, or `Init` at the first `None`. The items that were made are dropped.
+    pub fn new(
+        alloc: Global,
+        init: I,
+        reset: R,
+        items: usize,
+    ) -> Result<FixedObjectPool<T, I, R, K>, PullError>
+        requires some_item { 1 ≤ items }
+        ensures reset { IfOk result (λ pool. pool_reset pool ≡ reset) }
+        ensures items { IfOk result (λ pool. pool_items pool ≡ items) }
+        ensures pages { IfOk result (λ pool. pool_pages pool ≡ (items + 31) / 32) }
+        ensures opened { IfOk result (λ pool. IsFilled items (λ made. I.answers init (Some made)) (pool_opening pool)) }
+        ensures refused { IfErr result (RefusesMaking (I.answers init None)) }
+    {
+        let maker = &init;
+        let items = FixedItems::new(alloc, items, &|| maker.make())?;
+        Ok(FixedObjectPool { reset, items })
+    }
+
+    /// How many items the pool has.
+    pub fn items(&self) -> usize
+        ensures { result ≡ pool_items self.now }
+    {
+        self.items.count()
+    }
+
+    /// An item that is free. It begins at the page that a hint names.
+    ///
+    /// # Errors
+    ///
+    /// `Limit`, where each item was found out.
+    pub fn pull(&self) -> Result<FixedReusable<'_, T, I, R, K>, PullError>
+        ensures pool { IfOk result (λ item. reusable_pool item ≡ self.now) }
+        ensures pulled { IfOk result (λ item. IsPulledOf (pool_identity self.now) (pool_opening self.now) (reusable_item item)) }
+        ensures meets { IfOk result (λ item. K.meets (reusable_item item).value) }
+        ensures made_or_reset { IfOk result (λ item. IsMadeOrReset I.answers R.leaves (reusable_item item).value) }
+        ensures brief { IfOk result (λ item. IsWithin (pool_pages self.now) no_steps (reusable_steps item)) }
+        ensures refused { IfErr result (λ error. error ≡ Limit) }
+    {
+        let pass = PullPass::new();
+        match self.try_pull(&pass) {
+            Ok(item) => Ok(item),
+            Err(_) => Err(PullError::Limit),
+        }
+    }
+
+    /// As `pull`, which begins at this page, counted round and round. It reads and sets no hint, so that threads which keep to
+    /// pages of their own don't meet.
+    ///
+    /// # Errors
+    ///
+    /// `Limit`, where each item was found out.
+    pub fn pull_near(&self, page: usize) -> Result<FixedReusable<'_, T, I, R, K>, PullError>
+        ensures pool { IfOk result (λ item. reusable_pool item ≡ self.now) }
+        ensures pulled { IfOk result (λ item. IsPulledOf (pool_identity self.now) (pool_opening self.now) (reusable_item item)) }
+        ensures meets { IfOk result (λ item. K.meets (reusable_item item).value) }
+        ensures made_or_reset { IfOk result (λ item. IsMadeOrReset I.answers R.leaves (reusable_item item).value) }
+        ensures brief { IfOk result (λ item. IsWithin (pool_pages self.now) no_steps (reusable_steps item)) }
+        ensures refused { IfErr result (λ error. error ≡ Limit) }
+    {
+        let pass = PullPass::new();
+        match self.items.pull(self.items.page_round(page), &pass) {
+            Ok(pulled) => Ok(FixedReusable::new(self, pulled)),
+            Err(_) => Err(PullError::Limit),
+        }
+    }
+
+    /// As `pull`, which shows what it found where no item was free.
+    ///
+    /// # Errors
+    ///
+    /// The evidence that each item was out during this call.
+    pub fn try_pull<'s, 'p>(&'s self, pass: &'p PullPass) -> FixedPulled<'s, 'p, T, I, R, K>
+        ensures pool { IfOk result (λ item. reusable_pool item ≡ self.now) }
+        ensures pulled { IfOk result (λ item. IsPulledOf (pool_identity self.now) (pool_opening self.now) (reusable_item item)) }
+        ensures meets { IfOk result (λ item. K.meets (reusable_item item).value) }
+        ensures made_or_reset { IfOk result (λ item. IsMadeOrReset I.answers R.leaves (reusable_item item).value) }
+        ensures brief { IfOk result (λ item. IsWithin (pool_pages self.now) no_steps (reusable_steps item)) }
+        ensures busy { IfErr result (IsBusyOf (pool_identity self.now) (pool_opening self.now)) }
+        ensures busy_brief { IfErr result (λ busy. IsWithin (pool_pages self.now) no_steps (busy_steps busy)) }
+    {
+        Ok(FixedReusable::new(self, self.items.pull_hinted(pass)?))
+    }
+
+    /// As `try_pull`, by a user that knows something of the pool: its pull stands after all that the note knew.
+    ///
+    /// # Errors
+    ///
+    /// The evidence that each item was out during this call.
+    pub fn try_pull_from<'s, 'p>(
+        &'s self,
+        pass: &'p PullPass,
+        note: PoolNote<T>,
+    ) -> FixedPulled<'s, 'p, T, I, R, K>
+        requires { note_page note ≡ pool_identity self.now }
+        ensures pool { IfOk result (λ item. reusable_pool item ≡ self.now) }
+        ensures pulled { IfOk result (λ item. IsPulledWith (pool_identity self.now) note (reusable_item item)) }
+        ensures meets { IfOk result (λ item. K.meets (reusable_item item).value) }
+        ensures made_or_reset { IfOk result (λ item. IsMadeOrReset I.answers R.leaves (reusable_item item).value) }
+        ensures brief { IfOk result (λ item. IsWithin (pool_pages self.now) (note_steps note) (reusable_steps item)) }
+        ensures busy { IfErr result (IsBusyAfter (pool_identity self.now) note) }
+        ensures busy_brief { IfErr result (λ busy. IsWithin (pool_pages self.now) (note_steps note) (busy_steps busy)) }
+    {
+        let pulled = self.items.pull_from(pass, note)?;
+        Ok(FixedReusable::new(self, pulled))
+    }
+
+    /// A note of this pool, which knows its history up to now.
+    pub fn note(&self) -> PoolNote<T>
+        ensures { IsNoteOf (pool_identity self.now) (pool_opening self.now) result }
+    {
+        self.items.note()
+    }
+
+    /// Tells a note what a witness knows. The histories of both are prefixes of one.
+    pub fn tell(&self, note: &mut PoolNote<T>, other: Witness<T>)
+        requires note { note_page note.old ≡ pool_identity self.now }
+        requires other { witness_page other ≡ pool_identity self.now }
+        ensures { HasLearned note.old other note.new }
+    {
+        self.items.tell(note, other);
+    }
+
+    /// As `pull`, with a reusable that owns the pool with others. The pool's owners grow by one before an item is taken.
+    ///
+    /// # Errors
+    ///
+    /// `Memory`, where the pool can have no more owners; `Limit`, where each item was found out.
+    pub fn pull_owned(self: &Arc<Self>) -> Result<FixedOwnedReusable<T, I, R, K>, PullError>
+        ensures pool { IfOk result (λ item. owned_pool item ≡ arc_value self.now) }
+        ensures pulled { IfOk result (λ item. IsPulledOf (pool_identity (arc_value self.now)) (pool_opening (arc_value self.now)) (owned_item item)) }
+        ensures meets { IfOk result (λ item. K.meets (owned_item item).value) }
+        ensures made_or_reset { IfOk result (λ item. IsMadeOrReset I.answers R.leaves (owned_item item).value) }
+        ensures brief { IfOk result (λ item. IsWithin (pool_pages (arc_value self.now)) no_steps (owned_steps item)) }
+        ensures refused { IfErr result (λ error. (error ≡ Memory) ⊎ (error ≡ Limit)) }
+    {
+        let owner = Arc::try_clone(self)?;
+        let pass = PullPass::new();
+        match self.items.pull_hinted(&pass) {
+            Ok(pulled) => Ok(FixedOwnedReusable::new(owner, pulled)),
+            Err(_) => Err(PullError::Limit),
+        }
+    }
+
+    /// Leaves a value as it is kept.
+    pub(crate) fn reset(&self, value: &mut T)
+        ensures leaves { R.leaves (pool_reset self.now) value.old value.new }
+        ensures meets { K.meets value.new }
+    {
+        self.reset.reset(value);
+    }
+}
+
+impl<T: Drop, I: Init<T, K>, R: Reset<T, K>, K: Clean<T>> Debug for FixedObjectPool<T, I, R, K> {
+    fn fmt<W: Write>(&self, f: &mut Formatter<W>) -> fmt::Result {
+        f.debug_struct("FixedObjectPool")
+            .field("items", &self.items())
+            .finish_non_exhaustive()
+    }
+}
