@@ -18,7 +18,8 @@ HERE = Path(__file__).resolve().parent
 OURS = HERE.parent / "crates" / "bench"
 LINE = re.compile(r"(.*): (\d+) in (\d+) ns, (\d+) kB\n")
 
-KINDS = ["linear", "spin_lock", "mutex"]
+# The original has no fixed pool: its linear pool does the same work beside both.
+KINDS = ["linear", "spin_lock", "mutex", "fixed", "fixed_near"]
 
 
 class Work(NamedTuple):
@@ -31,7 +32,7 @@ class Work(NamedTuple):
     threads: int = 1
 
     def turns(self, kind: str) -> int:
-        return self.linear_turns if kind == "linear" else self.other_turns
+        return self.other_turns if kind in ("spin_lock", "mutex") else self.linear_turns
 
     def task(self, kind: str) -> str:
         return f"{kind} {self.words} {self.turns(kind)}"
@@ -51,6 +52,8 @@ WORKS = [
 ]
 HOLD = Work("262,144 pulled and held", "hold", 262_144, 262_144)
 HOLD_NOTHING = Work("nothing held", "hold", 0, 0)
+# What the original can't do: a pull that is refused, of a fixed pool whose 65,536 items are all held.
+REFUSE = Work("refused pull of 65,536 items", "refuse", 10_000, 10_000)
 
 
 class Run(NamedTuple):
@@ -138,6 +141,13 @@ def times(bests: dict[str, list[Best]]) -> None:
             row([work.name, kind, f"{here:,.1f}", f"{there:,.1f}", f"{here / there:.2f}"])
 
 
+def refusals(program: Path, rounds: int) -> None:
+    """Prints nanoseconds a refused pull of the fixed pool."""
+    task = REFUSE.task("fixed")
+    best = min(run(program, task, REFUSE.threads).nanoseconds for _ in range(rounds))
+    print(f"\n{REFUSE.name}: {best / REFUSE.turns('fixed'):,.1f} ns")
+
+
 def memory(bests: dict[str, list[Best]]) -> None:
     """Prints bytes an item that is held, its reusable with it, and their ratio."""
     print()
@@ -158,9 +168,11 @@ def main() -> None:
         raise SystemExit(__doc__)
     works = [*WORKS, HOLD, HOLD_NOTHING]
     tasks = {work.task(kind): work.threads for work in works for kind in KINDS}
-    bests = measure(build(Path(sys.argv[1])), tasks, rounds)
+    programs = build(Path(sys.argv[1]))
+    bests = measure(programs, tasks, rounds)
     times(bests)
     memory(bests)
+    refusals(programs[0], rounds)
 
 
 if __name__ == "__main__":

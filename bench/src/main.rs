@@ -44,7 +44,7 @@ fn measure(words: &[&str]) -> Option<Measured> {
     let (work, turns) = (work_of(work)?, turns.parse().ok()?);
     let (init, reset) = (|| 0u64, |value: &mut u64| *value = 0);
     match *kind {
-        "linear" => {
+        "linear" | "fixed" | "fixed_near" => {
             let pool = Arc::new(LinearObjectPool::new(init, reset));
             Some(measure_pulls(work, turns, &|| pool.pull(), &|| {
                 pool.pull_owned()

@@ -19,7 +19,13 @@ use task::{Kind, Task, Work, task_of};
 /// How often each work is done where no task is asked for.
 const FEW_TURNS: u64 = 100;
 
-const KINDS: [Kind; 3] = [Kind::Linear, Kind::SpinLock, Kind::Mutex];
+const KINDS: [Kind; 5] = [
+    Kind::Linear,
+    Kind::SpinLock,
+    Kind::Mutex,
+    Kind::Fixed,
+    Kind::FixedNear,
+];
 
 /// A little of each work. 70 items held fill two pages of a linear pool and a part of a third.
 const WORKS: [Work; 7] = [
@@ -50,7 +56,7 @@ fn main(rt: HostRuntime) -> Result<()> {
     show_time(&rt, task)
 }
 
-/// Does a little of each work on each pool, and prints what it gave.
+/// Does a little of each work on each pool, then lets a fixed pool refuse, and prints what each gave.
 fn show_each<R: Clock + Threads + Wait + AllocGlobal + Print + Copy + Sync>(rt: &R) -> Result<()> {
     for kind in KINDS {
         for work in WORKS {
@@ -59,10 +65,26 @@ fn show_each<R: Clock + Threads + Wait + AllocGlobal + Print + Copy + Sync>(rt: 
                 work,
                 turns: FEW_TURNS,
             };
-            let sum = measure(rt, task)?.sum;
-            println!(rt; "{task}: {sum}")?;
+            show_sum(rt, task)?;
         }
     }
+    show_sum(
+        rt,
+        Task {
+            kind: Kind::Fixed,
+            work: Work::Refuse,
+            turns: FEW_TURNS,
+        },
+    )
+}
+
+/// Does a task, and prints what it gave.
+fn show_sum<R: Clock + Threads + Wait + AllocGlobal + Print + Copy + Sync>(
+    rt: &R,
+    task: Task,
+) -> Result<()> {
+    let sum = measure(rt, task)?.sum;
+    println!(rt; "{task}: {sum}")?;
     Ok(())
 }
 

@@ -1,13 +1,17 @@
 //! A task is done on a new pool, and its turns are timed.
+ghost use Rattle.std.specs.Prelude.{◌≤◌};
+
 use crate::task::{Kind, Task, Work};
-use crate::turns::{Sum, hold, pull_and_drop, total};
+use crate::turns::{Sum, be_refused, hold, pull_and_drop, total};
 use anyhow::Result;
 use lockfree_object_pool::clean::AnyValue;
 use lockfree_object_pool::closures::Copied;
 use lockfree_object_pool::free_list::FreeList;
 use lockfree_object_pool::made_or_reset::MadeOrReset;
 use lockfree_object_pool::stack_object_pool::StackObjectPool;
-use lockfree_object_pool::{LinearObjectPool, MutexObjectPool, PullError, SpinLockObjectPool};
+use lockfree_object_pool::{
+    FixedObjectPool, LinearObjectPool, MutexObjectPool, PullError, SpinLockObjectPool,
+};
 use std::alloc::AllocError;
 use std::ops::DerefMut;
 use std::rt::Clock;
@@ -18,6 +22,13 @@ use std::time::{Duration, Instant};
 
 /// What makes the items, and what a return leaves: 0.
 type Zero = Copied<u64, AnyValue>;
+
+/// How many items a fixed pool has, but for one whose items are all held.
+const FIXED_ITEMS: usize = 65_536;
+
+/// How many pages lie between two threads that keep to pages of their own: eight words share a cache line, and a processor
+/// may fetch two lines at once.
+const PAGES_APART: usize = 16;
 
 /// What a task gave.
 #[derive(Clone, Copy, Debug)]
@@ -47,7 +58,74 @@ pub fn measure<R: Clock + Threads + Wait + AllocGlobal + Copy + Sync>(
             let pool = MutexObjectPool::new(rt.alloc(), init, reset);
             measure_stack(rt, pool, task)
         }
+        Kind::Fixed => {
+            let pool = FixedObjectPool::new(rt.alloc(), init, reset, items_of(task))?;
+            measure_fixed(rt, pool, task)
+        }
+        Kind::FixedNear => {
+            let pool = FixedObjectPool::new(rt.alloc(), init, reset, items_of(task))?;
+            measure_fixed_near(rt, pool, task)
+        }
     }
+}
+
+/// How many items a fixed pool has for a task: at least so many as are held, and more than a few pages.
+fn items_of(task: Task) -> usize
+    ensures { 1 ≤ result }
+{
+    match task.work {
+        Work::Hold => (task.turns as usize).max(FIXED_ITEMS),
+        _ => FIXED_ITEMS,
+    }
+}
+
+fn measure_fixed<R: Clock + Threads + AllocGlobal + Sync>(
+    rt: &R,
+    pool: FixedObjectPool<u64, Zero, Zero, AnyValue>,
+    task: Task,
+) -> Result<Measured> {
+    let pool = Arc::new(rt.alloc(), pool)?;
+    let one_thread = |_: usize| pull_and_drop(&|| pool.pull(), task.turns);
+    let share = |threads| thread::map_indices(rt, rt.alloc(), threads, &one_thread);
+    measure_pulls(rt, task, &|| pool.pull(), &|| pool.pull_owned(), &share)
+}
+
+/// Each thread begins at a page of its own, whose word shares no cache line with another thread's.
+fn measure_fixed_near<R: Clock + Threads + AllocGlobal + Sync>(
+    rt: &R,
+    pool: FixedObjectPool<u64, Zero, Zero, AnyValue>,
+    task: Task,
+) -> Result<Measured> {
+    let pool = Arc::new(rt.alloc(), pool)?;
+    let one_thread = |thread: usize| {
+        let page = thread.wrapping_mul(PAGES_APART);
+        pull_and_drop(&|| pool.pull_near(page), task.turns)
+    };
+    let share = |threads| thread::map_indices(rt, rt.alloc(), threads, &one_thread);
+    measure_pulls(
+        rt,
+        task,
+        &|| pool.pull_near(0),
+        &|| pool.pull_owned(),
+        &share,
+    )
+}
+
+/// Pulls that are refused, while each item of the pool is held.
+fn measure_refusals<
+    R: Clock + AllocGlobal,
+    A: DerefMut<Target = u64> + Drop,
+    P: Fn() -> Result<A, PullError>,
+>(rt: &R, pull: &P, turns: u64) -> Result<Measured>
+    requires { P.IsAlwaysCallable pull.now }
+{
+    let _held = hold(rt.alloc(), pull, FIXED_ITEMS)?;
+    let start = Instant::now(rt)?;
+    let sum = be_refused(pull, turns);
+    Ok(Measured {
+        sum,
+        time: start.elapsed(rt)?,
+    })
 }
 
 fn measure_linear<R: Clock + Threads + AllocGlobal + Sync>(
@@ -97,6 +175,7 @@ fn measure_pulls<
                 time,
             })
         }
+        Work::Refuse => measure_refusals(rt, pull, task.turns),
         Work::Hold => {
             let start = Instant::now(rt)?;
             let items = hold(rt.alloc(), pull, task.turns as usize)?;

@@ -7,6 +7,9 @@ pub enum Kind {
     Linear,
     SpinLock,
     Mutex,
+    Fixed,
+    /// The fixed pool, of whose threads each begins at a page of its own.
+    FixedNear,
 }
 
 /// What is done to the pool, turn by turn.
@@ -20,6 +23,8 @@ pub enum Work {
     Share { threads: usize, held: usize },
     /// An item is pulled and held.
     Hold,
+    /// A pull is refused, since each item of a fixed pool is held.
+    Refuse,
 }
 
 /// A measurement.
@@ -36,6 +41,8 @@ impl fmt::Display for Kind {
             Kind::Linear => write!(f, "linear"),
             Kind::SpinLock => write!(f, "spin_lock"),
             Kind::Mutex => write!(f, "mutex"),
+            Kind::Fixed => write!(f, "fixed"),
+            Kind::FixedNear => write!(f, "fixed_near"),
         }
     }
 }
@@ -47,6 +54,7 @@ impl fmt::Display for Work {
             Work::PullOwned { held } => write!(f, "pull_owned {held}"),
             Work::Share { threads, held } => write!(f, "share {threads} {held}"),
             Work::Hold => write!(f, "hold"),
+            Work::Refuse => write!(f, "refuse"),
         }
     }
 }
@@ -59,14 +67,18 @@ impl fmt::Display for Task {
     }
 }
 
-/// The task that words ask for.
+/// The task that words ask for. A refused pull is asked of the fixed pool alone.
 pub fn task_of(words: &[&str]) -> Option<Task> {
     let [kind, work @ .., turns] = words else {
         return None;
     };
+    let (kind, work) = (kind_of(kind)?, work_of(work)?);
+    if work == Work::Refuse && kind != Kind::Fixed {
+        return None;
+    }
     Some(Task {
-        kind: kind_of(kind)?,
-        work: work_of(work)?,
+        kind,
+        work,
         turns: turns.parse().ok()?,
     })
 }
@@ -76,6 +88,8 @@ fn kind_of(word: &str) -> Option<Kind> {
         "linear" => Some(Kind::Linear),
         "spin_lock" => Some(Kind::SpinLock),
         "mutex" => Some(Kind::Mutex),
+        "fixed" => Some(Kind::Fixed),
+        "fixed_near" => Some(Kind::FixedNear),
         _ => None,
     }
 }
@@ -93,6 +107,7 @@ fn work_of(words: &[&str]) -> Option<Work> {
             held: held.parse().ok()?,
         }),
         ["hold"] => Some(Work::Hold),
+        ["refuse"] => Some(Work::Refuse),
         _ => None,
     }
 }
@@ -120,6 +135,8 @@ mod tests {
                 "mutex share 4 9 7",
             ),
             (Kind::Linear, Work::Hold, "linear hold 7"),
+            (Kind::Fixed, Work::Refuse, "fixed refuse 7"),
+            (Kind::FixedNear, Work::Hold, "fixed_near hold 7"),
         ];
         for (kind, work, line) in rows {
             let task = Task {
@@ -144,6 +161,7 @@ mod tests {
             "linear drop 0 7",
             "mutex pull 7",
             "mutex pull 0 -1",
+            "linear refuse 7",
         ];
         for line in rows {
             let words: Vec<&str> = line.split_whitespace().collect(rt.alloc())?;

@@ -40,6 +40,19 @@ pub fn hold<A: DerefMut<Target = u64> + Drop, P: Fn() -> Result<A, PullError>>(
     Ok(items)
 }
 
+/// How many of so many pulls were refused. An item that one of them gives is dropped.
+pub fn be_refused<A: Drop, P: Fn() -> Result<A, PullError>>(pull: &P, turns: u64) -> u64
+    requires { P.IsAlwaysCallable pull.now }
+{
+    let mut refused = 0u64;
+    for _ in 0..turns {
+        if pull().is_err() {
+            refused = refused.wrapping_add(1);
+        }
+    }
+    refused
+}
+
 /// The sum of sums, or the first refusal.
 pub fn total(sums: Vec<Sum>) -> Sum {
     let mut total = 0u64;
