@@ -5,6 +5,7 @@
 //! in order of their [`Event::Begin`]. Each [`Event`] is one step, and [`Seen`] is what it answers.
 
 mod event;
+mod moves;
 mod page;
 mod point;
 mod prepared;

@@ -11,7 +11,7 @@ use Rattle.object_pool_cores.specs.declared.interleave.point.Point.{Point}
 use Rattle.object_pool_cores.specs.declared.interleave.point.Point.TheVariants.{Reading, Clearing, AtLink, Making, Linking, Taken, Holding, Ended}
 use Rattle.object_pool_cores.specs.World.PageState.{PageState}
 use Rattle.object_pool_cores.specs.World.State.{State}
-use Rattle.object_pool_cores.specs.World.Machine.{Outcome, IsOutcome, not_enabled, at_point, with_pages, linked_page, tries, clears, takes, read_mask, clear_bit, read_next, make_page, exchange_next, move_out, write, or_mask, MovesHome, Row, Steps, agent_of, word_of, word_in, is_limit, lowest, has_bit, without_lowest, without_bit, with_word, value_at}
+use Rattle.object_pool_cores.specs.World.Machine.{Outcome, IsOutcome, not_enabled, at_point, with_pages, linked_page, tries, clears, takes, read_mask, read_hinted, clear_bit, read_next, make_page, exchange_next, move_out, write, or_mask, MovesHome, Row, Steps, agent_of, word_of, word_in, is_limit, lowest, has_bit, without_lowest, without_bit, with_word, value_at}
 use Rattle.object_pool_cores.specs.Pool.{AllowsPages, number}
 use Rattle.object_pool_cores.specs.Run.{Act}
 use Rattle.object_pool_cores.specs.World.Visible.{Log}
@@ -22,12 +22,13 @@ use Rattle.object_pool_cores.proofs.World.WordSteps.{known}
 use Rattle.object_pool_cores.proofs.World.LinkSteps.{limit-is, is-limit}
 use Rattle.object_pool_cores.specs.World.OwnSteps.{is_idle, names, own_steps}
 use Rattle.object_pool_cores.specs.World.Rows.{IsExact}
-use Rattle.object_pool_cores.specs.World.Alone.{BringsPage, BringsPages, IsStepAlone, IsAnswered, IsFirstFree, AllFull, HasMovedOut, StepsAlone}
+use Rattle.object_pool_cores.specs.World.Alone.{AsksNoHint, BringsPage, BringsPages, IsStepAlone, IsAnswered, IsFirstFree, AllFull, HasMovedOut, StepsAlone}
 
--- the event is this agent's, and something happened
+-- the event is this agent's, something happened, and no page was asked by a hint
 pub record IsBusyStep {T : Type 0} (a : ℕ) (e : Event T) (answer : Seen) : Type 0 where
   pub own : agent_of e ≡ Some a
   pub busy : is_idle answer ≡ false
+  pub unhinted : AsksNoHint e answer
 
 -- an idle answer is that the event isn't enabled, where no memory was missing
 pub idle-not_enabled : (answer : Seen) → is_idle answer ≡ true → answer ≢ seen.NoMemory → answer ≡ seen.NotEnabled
@@ -40,6 +41,7 @@ module _ {T : Type 0} (Leaves : T → T → Type 0) (old : State T) (a : ℕ) (a
   abbrev RowAt : Option (Point T) → Event T → Type 0
   RowAt lookup event.Begin = ⊤
   RowAt lookup (event.ReadMask b) = IsOutcome (read_mask old a lookup) answer new
+  RowAt lookup (event.ReadHinted b hint) = IsOutcome (read_hinted old a hint lookup) answer new
   RowAt lookup (event.ClearBit b) = IsOutcome (clear_bit old a lookup) answer new
   RowAt lookup (event.ReadNext b) = IsOutcome (read_next old a lookup) answer new
   RowAt lookup (event.MakePage b prepared) = IsOutcome (make_page old a prepared lookup) answer new
@@ -58,6 +60,10 @@ module _ {T : Type 0} (Leaves : T → T → Type 0) (old : State T) (a : ℕ) (a
   row-at lookup (event.ReadMask b) who at row =
       let P : ℕ → Type 0 = λ c. IsOutcome (read_mask old c (slice_get old.agents c)) answer new in
       let Q : Option (Point T) → Type 0 = λ f. IsOutcome (read_mask old a f) answer new in subst Q at (subst P (named b who) row)
+  row-at lookup (event.ReadHinted b hint) who at row =
+      let P : ℕ → Type 0 = λ c. IsOutcome (read_hinted old c hint (slice_get old.agents c)) answer new in
+      let Q : Option (Point T) → Type 0 = λ f. IsOutcome (read_hinted old a hint f) answer new in
+      subst Q at (subst P (named b who) row)
   row-at lookup (event.ClearBit b) who at row =
       let P : ℕ → Type 0 = λ c. IsOutcome (clear_bit old c (slice_get old.agents c)) answer new in
       let Q : Option (Point T) → Type 0 = λ f. IsOutcome (clear_bit old a f) answer new in subst Q at (subst P (named b who) row)
@@ -91,8 +97,8 @@ module _ {T : Type 0} (Leaves : T → T → Type 0) (old : State T) (a : ℕ) (a
   busy-not busy row = absurd (let idle : is_idle answer ≡ true = ap is_idle row.0 in cc)
 
   -- what the only busy step of an agent does, by its point
-  reading-row : (k : ℕ) (e : Event T) → is_idle answer ≡ false → agent_of e ≡ Some a → RowAt (Some (Reading k)) e
-      → IsOutcome (read_mask old a (Some (Reading k))) answer new
+  reading-row : (k : ℕ) (e : Event T) → is_idle answer ≡ false → agent_of e ≡ Some a → RowAt (Some (Reading k None)) e
+      → IsOutcome (read_mask old a (Some (Reading k None))) answer new
   reading-row k (event.ReadMask b) busy who row = row
   reading-row k event.Begin busy who row = absurd (cc)
   reading-row k (event.MakePage b (Ok values)) busy who row = busy-not busy row
@@ -101,18 +107,21 @@ module _ {T : Type 0} (Leaves : T → T → Type 0) (old : State T) (a : ℕ) (a
   reading-row k (event.MakePage b (Err Limit)) busy who row = busy-not busy row
   reading-row k _ busy who row = busy-not busy row
 
-  link-row : (k : ℕ) (e : Event T) → is_idle answer ≡ false → agent_of e ≡ Some a → RowAt (Some (AtLink k)) e
-      → IsOutcome (read_next old a (Some (AtLink k))) answer new
-  link-row k (event.ReadNext b) busy who row = row
-  link-row k event.Begin busy who row = absurd (cc)
-  link-row k (event.MakePage b (Ok values)) busy who row = busy-not busy row
-  link-row k (event.MakePage b (Err Memory)) busy who row = busy-not busy row
-  link-row k (event.MakePage b (Err Init)) busy who row = busy-not busy row
-  link-row k (event.MakePage b (Err Limit)) busy who row = busy-not busy row
-  link-row k _ busy who row = busy-not busy row
+  link-row : (k : ℕ) (e : Event T) → is_idle answer ≡ false → agent_of e ≡ Some a → AsksNoHint e answer
+      → RowAt (Some (AtLink k None)) e
+      → IsOutcome (read_next old a (Some (AtLink k None))) answer new
+  link-row k (event.ReadNext b) busy who unhinted row = row
+  link-row k (event.ReadHinted b hint) busy who unhinted row =
+      absurd (let idle : is_idle answer ≡ true = ap is_idle unhinted in cc)
+  link-row k event.Begin busy who unhinted row = absurd (cc)
+  link-row k (event.MakePage b (Ok values)) busy who unhinted row = busy-not busy row
+  link-row k (event.MakePage b (Err Memory)) busy who unhinted row = busy-not busy row
+  link-row k (event.MakePage b (Err Init)) busy who unhinted row = busy-not busy row
+  link-row k (event.MakePage b (Err Limit)) busy who unhinted row = busy-not busy row
+  link-row k _ busy who unhinted row = busy-not busy row
 
-  clearing-row : (k mask : ℕ) (e : Event T) → is_idle answer ≡ false → agent_of e ≡ Some a → RowAt (Some (Clearing k mask)) e
-      → IsOutcome (clear_bit old a (Some (Clearing k mask))) answer new
+  clearing-row : (k mask : ℕ) (e : Event T) → is_idle answer ≡ false → agent_of e ≡ Some a → RowAt (Some (Clearing k mask None)) e
+      → IsOutcome (clear_bit old a (Some (Clearing k mask None))) answer new
   clearing-row k mask (event.ClearBit b) busy who row = row
   clearing-row k mask event.Begin busy who row = absurd (cc)
   clearing-row k mask (event.MakePage b (Ok values)) busy who row = busy-not busy row
@@ -162,17 +171,17 @@ no-limit (Some limit) pages count less allowed = ne_eqb limit count (λ is. absu
 module _ {T : Type 0} where
   -- where an agent is that has page k as the first with a free number, after n steps from its step c on
   pub data Walk (pages : List (PageState T)) (k c n a : ℕ) (log : Log T) (world : State T) (lookup : Option (Point T)) : Type 0 where
-    AtWord : (j : ℕ) → j ≤ k → n ≡ c + 2 * j → lookup ≡ Some (Reading j) → world.pages ≡ pages → Walk pages k c n a log world lookup
-    AtChain : (j : ℕ) → j < k → n ≡ c + 2 * j + 1 → lookup ≡ Some (AtLink j) → world.pages ≡ pages → Walk pages k c n a log world lookup
-    AtBits : n ≡ c + 2 * k + 1 → lookup ≡ Some (Clearing k (word_of pages k)) → world.pages ≡ pages → Walk pages k c n a log world lookup
+    AtWord : (j : ℕ) → j ≤ k → n ≡ c + 2 * j → lookup ≡ Some (Reading j None) → world.pages ≡ pages → Walk pages k c n a log world lookup
+    AtChain : (j : ℕ) → j < k → n ≡ c + 2 * j + 1 → lookup ≡ Some (AtLink j None) → world.pages ≡ pages → Walk pages k c n a log world lookup
+    AtBits : n ≡ c + 2 * k + 1 → lookup ≡ Some (Clearing k (word_of pages k) None) → world.pages ≡ pages → Walk pages k c n a log world lookup
     HasTaken : (id : ℕ) → n ≡ c + 2 * k + 2 → lookup ≡ Some (Taken k id) → Walk pages k c n a log world lookup
     HasMoved : c + 2 * k + 3 ≤ n → IsAnswered log (seen.MovedOut a) → (n ≡ c + 2 * k + 3 → HasMovedOut lookup) → Walk pages k c n a log world lookup
 
   -- where an agent is that found all pages full, after the steps of the log
   pub data Chain (pages : List (PageState T)) (limit : Option ℕ) (a : ℕ) (log : Log T) (n : ℕ) (world : State T) (lookup : Option (Point T)) : Type 0 where
-    FullWord : (j : ℕ) → j < length pages → n ≡ 2 * j → lookup ≡ Some (Reading j) → world.pages ≡ pages → world.limit ≡ limit
+    FullWord : (j : ℕ) → j < length pages → n ≡ 2 * j → lookup ≡ Some (Reading j None) → world.pages ≡ pages → world.limit ≡ limit
         → Chain pages limit a log n world lookup
-    FullLink : (j : ℕ) → j < length pages → n ≡ 2 * j + 1 → lookup ≡ Some (AtLink j) → world.pages ≡ pages → world.limit ≡ limit
+    FullLink : (j : ℕ) → j < length pages → n ≡ 2 * j + 1 → lookup ≡ Some (AtLink j None) → world.pages ≡ pages → world.limit ≡ limit
         → Chain pages limit a log n world lookup
     FullMake : (k : ℕ) → length pages ≡ k + 1 → n ≡ 2 * length pages → lookup ≡ Some (Making k) → world.pages ≡ pages
         → limit ≢ Some (length pages) → Chain pages limit a log n world lookup
@@ -223,32 +232,33 @@ module _ {T : Type 0} (Leaves : T → T → Type 0) (first : List T) (log : Log 
     (agrees : Agrees Leaves first log acts old) (a : ℕ) (e : Event T) (answer : Seen) (new : State T)
     (alone : IsBusyStep a e answer) (step : Steps Leaves old e answer new) where
   -- an agent reads a word
-  read-word : (j word : ℕ) → slice_get old.agents a ≡ Some (Reading j) → word_of old.pages j ≡ word
-      → (slice_get new.agents a ≡ Some (tries j word)) × (new.pages ≡ old.pages) × (new.limit ≡ old.limit)
+  read-word : (j word : ℕ) → slice_get old.agents a ≡ Some (Reading j None) → word_of old.pages j ≡ word
+      → (slice_get new.agents a ≡ Some (tries j word None)) × (new.pages ≡ old.pages) × (new.limit ≡ old.limit)
   read-word j word at is =
-      let row = reading-row Leaves old a answer new j e alone.busy alone.own (alone-row Leaves old a answer new e alone (Some (Reading j)) at step) in
-      let there = moved-to old new a (Reading j) (tries j (word_of old.pages j)) at (ap (λ w. w.agents) row.1) in
-      (there ∙ ap (λ w. Some (tries j w)) is, ap (λ w. w.pages) row.1, ap (λ w. w.limit) row.1)
+      let row = reading-row Leaves old a answer new j e alone.busy alone.own (alone-row Leaves old a answer new e alone (Some (Reading j None)) at step) in
+      let there = moved-to old new a (Reading j None) (tries j (word_of old.pages j) None) at (ap (λ w. w.agents) row.1) in
+      (there ∙ ap (λ w. Some (tries j w None)) is, ap (λ w. w.pages) row.1, ap (λ w. w.limit) row.1)
 
   -- an agent goes on to a page that is linked
-  go-on : (j : ℕ) → slice_get old.agents a ≡ Some (AtLink j) → j + 1 < length old.pages
-      → (slice_get new.agents a ≡ Some (Reading (j + 1))) × (new.pages ≡ old.pages) × (new.limit ≡ old.limit)
+  go-on : (j : ℕ) → slice_get old.agents a ≡ Some (AtLink j None) → j + 1 < length old.pages
+      → (slice_get new.agents a ≡ Some (Reading (j + 1) None)) × (new.pages ≡ old.pages) × (new.limit ≡ old.limit)
   go-on j at more =
       let one : Outcome T = (seen.Refused a Limit, at_point old a Ended) in
       let two : Outcome T = (seen.Next a false, at_point old a (Making j)) in
-      let three : Outcome T = (seen.Next a true, at_point old a (Reading (j + 1))) in
+      let three : Outcome T = (seen.Next a true, at_point old a (Reading (j + 1) None)) in
       let rest : Outcome T = if length old.pages == j + 1 then two else three in
-      let row = link-row Leaves old a answer new j e alone.busy alone.own (alone-row Leaves old a answer new e alone (Some (AtLink j)) at step) in
+      let row = link-row Leaves old a answer new j e alone.busy alone.own alone.unhinted
+      (alone-row Leaves old a answer new e alone (Some (AtLink j None)) at step) in
       let there = known-test (nat_lt j (length old.pages)) (if is_limit old.limit (j + 1) then one else rest)
       (not_enabled old) answer new (lt-ltb j (length old.pages) (omega arith)) row in
       let below = failed-test (is_limit old.limit (j + 1)) one rest answer new (no-limit old.limit (length old.pages) (j + 1) more agrees.allowed) there in
       let last = failed-test (length old.pages == j + 1) two three answer new (ne_eqb (length old.pages) (j + 1) (λ is. absurd (omega arith))) below in
-      (moved-to old new a (AtLink j) (Reading (j + 1)) at (ap (λ w. w.agents) last.1), ap (λ w. w.pages) last.1, ap (λ w. w.limit) last.1)
+      (moved-to old new a (AtLink j None) (Reading (j + 1) None) at (ap (λ w. w.agents) last.1), ap (λ w. w.pages) last.1, ap (λ w. w.limit) last.1)
 
-  tries-none : (j word : ℕ) → word ≡ 0 → tries {T = T} j word ≡ AtLink j
+  tries-none : (j word : ℕ) → word ≡ 0 → tries {T = T} j word None ≡ AtLink j None
   tries-none j word none = rw (eq-eqb word 0 none) refl
 
-  tries-some : (j word : ℕ) → 0 < word → tries {T = T} j word ≡ Clearing j word
+  tries-some : (j word : ℕ) → 0 < word → tries {T = T} j word None ≡ Clearing j word None
   tries-some j word some = rw (ne_eqb word 0 (λ is. absurd (omega arith))) refl
 
   taken-step : (k id : ℕ) → slice_get old.agents a ≡ Some (Taken k id) → (lookup : Option T)
@@ -266,8 +276,8 @@ module _ {T : Type 0} (Leaves : T → T → Type 0) (first : List T) (log : Log 
       elim (cases_eq j k) [
         | inl here ↦
             let word : word_of pages j ≡ word_of pages k = ap (word_of pages) here in
-            let point : tries {T = T} j (word_of pages j) ≡ Clearing k (word_of pages k) = ap (tries j) word
-            ∙ ap (λ i. tries i (word_of pages k)) here ∙ tries-some k (word_of pages k) free.free in
+            let point : tries {T = T} j (word_of pages j) None ≡ Clearing k (word_of pages k) None = ap (λ w. tries j w None) word
+            ∙ ap (λ i. tries i (word_of pages k) None) here ∙ tries-some k (word_of pages k) free.free in
             AtBits (omega arith) (there ∙ ap Some point) (kept ∙ same)
         | inr other ↦
             AtChain j (omega arith) (omega arith) (there ∙ ap Some (tries-none j (word_of pages j) (free.full j (omega arith)))) (kept ∙ same)
@@ -279,7 +289,7 @@ module _ {T : Type 0} (Leaves : T → T → Type 0) (first : List T) (log : Log 
       AtWord (j + 1) (omega arith) (omega arith) there (kept ∙ same)
   walk-step pages k c n so_far free (AtBits is at same) =
       let word = word_of pages k in
-      let bits = (known Leaves first log acts old agrees a (Clearing k word) at).1 in
+      let bits = (known Leaves first log acts old agrees a (Clearing k word None) at).1 in
       let some = bits.some in
       let id = lowest word in
       let now : word_of old.pages k ≡ word = ap (λ all. word_of all k) same in
@@ -288,13 +298,13 @@ module _ {T : Type 0} (Leaves : T → T → Type 0) (first : List T) (log : Log 
         at_point
             (with_pages old (with_word old.pages k (without_bit (word_of old.pages k) id))) a (Taken k id),
       ) in
-      let two : Outcome T = (seen.Found a (word_of old.pages k), at_point old a (tries k (without_lowest word))) in
+      let two : Outcome T = (seen.Found a (word_of old.pages k), at_point old a (tries k (without_lowest word) None)) in
       let row = clearing-row Leaves old a answer new k word e alone.busy alone.own
-      (alone-row Leaves old a answer new e alone (Some (Clearing k word)) at step) in
+      (alone-row Leaves old a answer new e alone (Some (Clearing k word None)) at step) in
       let more = failed-test (word == 0) (not_enabled old)
-      (clears old a k word (word_of old.pages k)) answer new (ne_eqb word 0 (λ none. absurd (omega arith))) row in
+      (clears old a k (lowest word) (word_of old.pages k) (tries k (without_lowest word) None)) answer new (ne_eqb word 0 (λ none. absurd (omega arith))) row in
       let set = known-test (has_bit (word_of old.pages k) id) one two answer new (ap (λ w. has_bit w id) now ∙ has_bit-lowest word some bits.in_word) more in
-      HasTaken id (omega arith) (moved-to old new a (Clearing k word) (Taken k id) at (ap (λ w. w.agents) set.1))
+      HasTaken id (omega arith) (moved-to old new a (Clearing k word None) (Taken k id) at (ap (λ w. w.agents) set.1))
   walk-step pages k c n so_far free (HasTaken id is at) =
       let row = taken-row Leaves old a answer new k id e alone.busy alone.own (alone-row Leaves old a answer new e alone (Some (Taken k id)) at step) in
       let taken = taken-step k id at (value_at old.pages k id) row in
@@ -320,9 +330,10 @@ module _ {T : Type 0} (Leaves : T → T → Type 0) (first : List T) (log : Log 
       let count : length old.pages ≡ length pages = ap length same in
       let one : Outcome T = (seen.Refused a Limit, at_point old a Ended) in
       let two : Outcome T = (seen.Next a false, at_point old a (Making j)) in
-      let three : Outcome T = (seen.Next a true, at_point old a (Reading (j + 1))) in
+      let three : Outcome T = (seen.Next a true, at_point old a (Reading (j + 1) None)) in
       let rest : Outcome T = if length old.pages == j + 1 then two else three in
-      let row = link-row Leaves old a answer new j e alone.busy alone.own (alone-row Leaves old a answer new e alone (Some (AtLink j)) at step) in
+      let row = link-row Leaves old a answer new j e alone.busy alone.own alone.unhinted
+      (alone-row Leaves old a answer new e alone (Some (AtLink j None)) at step) in
       let there = known-test (nat_lt j (length old.pages)) (if is_limit old.limit (j + 1) then one else rest)
       (not_enabled old) answer new (lt-ltb j (length old.pages) (omega arith)) row in
       elim (cases_eq (length pages) (j + 1)) [
@@ -333,7 +344,7 @@ module _ {T : Type 0} (Leaves : T → T → Type 0) (first : List T) (log : Log 
           | inr below_limit ↦
               let next = failed-test (is_limit old.limit (j + 1)) one rest answer new below_limit there in
               let makes = known-test (length old.pages == j + 1) two three answer new (eq-eqb (length old.pages) (j + 1) (omega arith)) next in
-              FullMake j last (omega arith) (moved-to old new a (AtLink j) (Making j) at (ap (λ w. w.agents) makes.1)) (ap (λ w. w.pages) makes.1 ∙ same)
+              FullMake j last (omega arith) (moved-to old new a (AtLink j None) (Making j) at (ap (λ w. w.agents) makes.1)) (ap (λ w. w.pages) makes.1 ∙ same)
               (λ limited. absurd (false≢true (sym below_limit ∙ is-limit old.limit (j + 1) (bound ∙ limited ∙ ap Some last))))
         ]
         | inr more ↦
@@ -350,8 +361,8 @@ module _ {T : Type 0} (Leaves : T → T → Type 0) (first : List T) (log : Log 
       (ap (λ w. w.pages) made.1 ∙ same) unlimited
   chain-step pages limit so_far n all brings (FullMade k values last is at same unlimited) =
       let count : length old.pages ≡ length pages = ap length same in
-      let one : Outcome T = (seen.Linked a, at_point (with_pages old (old.pages ++ linked_page values ∷ [])) a (Reading (k + 1))) in
-      let two : Outcome T = (seen.Lost a, at_point old a (Reading (k + 1))) in
+      let one : Outcome T = (seen.Linked a, at_point (with_pages old (old.pages ++ linked_page values ∷ [])) a (Reading (k + 1) None)) in
+      let two : Outcome T = (seen.Lost a, at_point old a (Reading (k + 1) None)) in
       let row = linking-row Leaves old a answer new k values e alone.busy alone.own
       (alone-row Leaves old a answer new e alone (Some (Linking k values)) at step) in
       let there = known-test (nat_lt k (length old.pages)) (if length old.pages == k + 1 then one else two)
@@ -359,7 +370,7 @@ module _ {T : Type 0} (Leaves : T → T → Type 0) (first : List T) (log : Log 
       let linked = known-test (length old.pages == k + 1) one two answer new (eq-eqb (length old.pages) (k + 1) (omega arith)) there in
       FullLinked values (omega arith) unlimited
       (AtWord (k + 1) (omega arith) (omega arith) (moved-to old new a (Linking k values)
-      (Reading (k + 1)) at (ap (λ w. w.agents) linked.1))
+      (Reading (k + 1) None) at (ap (λ w. w.agents) linked.1))
       (ap (λ w. w.pages) linked.1 ∙ ap (λ every. every ++ linked_page values ∷ []) same))
   chain-step pages limit so_far n all brings (FullLinked values past unlimited walk) =
       FullLinked values (omega arith) unlimited (walk-step (pages ++ linked_page values ∷ []) (length pages) 2 n so_far (linked-free pages values all) walk)
@@ -404,7 +415,7 @@ module _ {T : Type 0} where
     pub chains : AllFull old.pages → (old.limit ≢ Some (length old.pages) → BringsPages log)
         → Chain old.pages old.limit a log (own_steps log a) new (slice_get new.agents a)
 
-  pub stands-first : (old : State T) (a : ℕ) → slice_get old.agents a ≡ Some (Reading 0) → Stands old [] old a
+  pub stands-first : (old : State T) (a : ℕ) → slice_get old.agents a ≡ Some (Reading 0 None) → Stands old [] old a
   stands-first old a at = record {
     walks = λ k free. AtWord 0 (omega arith) refl at refl;
     chains = λ all brings. FullWord 0 all.some refl at refl refl;
@@ -462,7 +473,7 @@ module _ {T : Type 0} where
   stands-next Leaves first before acts start old agrees log a e answer new alone step exact stands =
       elim (cases_Bool (is_idle answer)) [
         | inl idle ↦ stands-idle start old log a e answer new idle (exact.unchanged (idle-not_enabled answer idle alone.memory)) stands
-        | inr busy ↦ stands-busy Leaves first before acts start old agrees log a e answer new (record { own = alone.own; busy = busy }) step stands
+        | inr busy ↦ stands-busy Leaves first before acts start old agrees log a e answer new (record { own = alone.own; busy = busy; unhinted = alone.unhinted }) step stands
       ]
 
   pub stands-alone : (old : State T) (log : Log T) (new : State T) (a : ℕ) → Stands old log new a → StepsAlone old log new a

@@ -20,7 +20,7 @@ use Rattle.object_pool_cores.specs.Laws.PoolSteps.{grown-new}
 use Rattle.object_pool_cores.proofs.Holders.{holders-run, whole-run}
 use Rattle.object_pool_cores.proofs.World.Reading.{same-grown, pushed-all}
 use Rattle.object_pool_cores.proofs.World.Invariant.{GoesOn, idle, pages-some, allows-fewer}
-use Rattle.object_pool_cores.proofs.World.WordSteps.{read_mask-goes, clear_bit-goes, or_mask-goes, known}
+use Rattle.object_pool_cores.proofs.World.WordSteps.{read_mask-goes, read_hinted-goes, clear_bit-goes, or_mask-goes, known}
 use Rattle.object_pool_cores.proofs.World.ValueSteps.{move_out-goes, write-goes, move_home-goes, begin-goes}
 use Rattle.object_pool_cores.proofs.World.LinkSteps.{read_next-goes, make_page-goes, exchange_next-goes}
 
@@ -29,6 +29,7 @@ module _ {T : Type 0} where
   nothing-made : (e : Event T) (b : ℕ) → made_by e seen.NoMemory b ≡ None
   nothing-made event.Begin b = refl
   nothing-made (event.ReadMask a) b = refl
+  nothing-made (event.ReadHinted a hint) b = refl
   nothing-made (event.ClearBit a) b = refl
   nothing-made (event.ReadNext a) b = refl
   nothing-made (event.MakePage a (Ok values)) b = refl
@@ -45,6 +46,8 @@ module _ {T : Type 0} (Leaves : T → T → Type 0) (first : List T) (full : len
   row-goes log acts old agrees event.Begin answer new row = begin-goes Leaves first log acts old agrees answer new row
   row-goes log acts old agrees (event.ReadMask a) answer new row =
       read_mask-goes Leaves first log acts old agrees a (slice_get old.agents a) refl answer new row
+  row-goes log acts old agrees (event.ReadHinted a hint) answer new row =
+      read_hinted-goes Leaves first log acts old agrees a hint (slice_get old.agents a) refl answer new row
   row-goes log acts old agrees (event.ClearBit a) answer new row =
       clear_bit-goes Leaves first log acts old agrees full a (slice_get old.agents a) refl answer new row
   row-goes log acts old agrees (event.ReadNext a) answer new row =

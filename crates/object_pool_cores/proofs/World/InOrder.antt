@@ -1,5 +1,5 @@
 -- Of an agent alone whose events come in the order of the table each event is a step.
-use Rattle.std.proofs.Common.{◌≡◌, ◌≢◌, inl, inr, ℕ, zero, suc, false, ◌+◌, ◌*◌, ◌<◌, ◌≤◌, Some, List, [], ◌∷◌, ◌++◌, length, slice_get, Option, Ok, ap, sym, ◌∙◌, subst, arith}
+use Rattle.std.proofs.Common.{◌≡◌, ◌≢◌, inl, inr, ℕ, zero, suc, false, ◌+◌, ◌*◌, ◌<◌, ◌≤◌, Some, None, List, [], ◌∷◌, ◌++◌, length, slice_get, Option, Ok, ap, sym, ◌∙◌, subst, arith}
 use Rattle.std.proofs.lemmas.Bool.{cases_Bool}
 use Rattle.object_pool_cores.specs.declared.interleave.event.Event.{Event}
 use Rattle.object_pool_cores.specs.declared.interleave.event.Event.TheVariants as event
@@ -21,23 +21,23 @@ use Rattle.object_pool_cores.proofs.World.Reached.{ran-stands}
 module _ {T : Type 0} where
   -- where an agent is by the count of its steps
   walk-word : (pages : List (PageState T)) (k c n a : ℕ) (log : Log T) (world : State T) (lookup : Option (Point T)) (i : ℕ)
-      → i ≤ k → n ≡ c + 2 * i → Walk pages k c n a log world lookup → lookup ≡ Some (Reading i)
-  walk-word pages k c n a log world lookup i less now (AtWord j below is at same) = let here : j ≡ i = omega arith in at ∙ ap (λ m. Some (Reading m)) here
+      → i ≤ k → n ≡ c + 2 * i → Walk pages k c n a log world lookup → lookup ≡ Some (Reading i None)
+  walk-word pages k c n a log world lookup i less now (AtWord j below is at same) = let here : j ≡ i = omega arith in at ∙ ap (λ m. Some (Reading m None)) here
   walk-word pages k c n a log world lookup i less now (AtChain j below is at same) = absurd (omega arith)
   walk-word pages k c n a log world lookup i less now (AtBits is at same) = absurd (omega arith)
   walk-word pages k c n a log world lookup i less now (HasTaken id is at) = absurd (omega arith)
   walk-word pages k c n a log world lookup i less now (HasMoved past told holds) = absurd (omega arith)
 
   walk-link : (pages : List (PageState T)) (k n a : ℕ) (log : Log T) (world : State T) (lookup : Option (Point T)) (i : ℕ) → i < k
-      → n ≡ 2 * i + 1 → Walk pages k 0 n a log world lookup → lookup ≡ Some (AtLink i)
+      → n ≡ 2 * i + 1 → Walk pages k 0 n a log world lookup → lookup ≡ Some (AtLink i None)
   walk-link pages k n a log world lookup i less now (AtWord j below is at same) = absurd (omega arith)
-  walk-link pages k n a log world lookup i less now (AtChain j below is at same) = let here : j ≡ i = omega arith in at ∙ ap (λ m. Some (AtLink m)) here
+  walk-link pages k n a log world lookup i less now (AtChain j below is at same) = let here : j ≡ i = omega arith in at ∙ ap (λ m. Some (AtLink m None)) here
   walk-link pages k n a log world lookup i less now (AtBits is at same) = absurd (omega arith)
   walk-link pages k n a log world lookup i less now (HasTaken id is at) = absurd (omega arith)
   walk-link pages k n a log world lookup i less now (HasMoved past told holds) = absurd (omega arith)
 
   walk-bits : (pages : List (PageState T)) (k c n a : ℕ) (log : Log T) (world : State T) (lookup : Option (Point T))
-      → n ≡ c + 2 * k + 1 → Walk pages k c n a log world lookup → lookup ≡ Some (Clearing k (word_of pages k))
+      → n ≡ c + 2 * k + 1 → Walk pages k c n a log world lookup → lookup ≡ Some (Clearing k (word_of pages k) None)
   walk-bits pages k c n a log world lookup now (AtWord j below is at same) = absurd (omega arith)
   walk-bits pages k c n a log world lookup now (AtChain j below is at same) = absurd (omega arith)
   walk-bits pages k c n a log world lookup now (AtBits is at same) = at
@@ -54,9 +54,9 @@ module _ {T : Type 0} where
 
   chain-word : (pages : List (PageState T)) (limit : Option ℕ) (a : ℕ) (log : Log T) (n : ℕ) (world : State T)
       (lookup : Option (Point T)) (i : ℕ) → i < length pages → n ≡ 2 * i → Chain pages limit a log n world lookup
-      → lookup ≡ Some (Reading i)
+      → lookup ≡ Some (Reading i None)
   chain-word pages limit a log n world lookup i less now (FullWord j below is at same bound) =
-      let here : j ≡ i = omega arith in at ∙ ap (λ m. Some (Reading m)) here
+      let here : j ≡ i = omega arith in at ∙ ap (λ m. Some (Reading m None)) here
   chain-word pages limit a log n world lookup i less now (FullLink j below is at same bound) = absurd (omega arith)
   chain-word pages limit a log n world lookup i less now (FullMake k last is at same other) = absurd (omega arith)
   chain-word pages limit a log n world lookup i less now (FullMade k values last is at same other) = absurd (omega arith)
@@ -65,10 +65,10 @@ module _ {T : Type 0} where
 
   chain-link : (pages : List (PageState T)) (limit : Option ℕ) (a : ℕ) (log : Log T) (n : ℕ) (world : State T)
       (lookup : Option (Point T)) (i : ℕ) → i < length pages → n ≡ 2 * i + 1 → Chain pages limit a log n world lookup
-      → lookup ≡ Some (AtLink i)
+      → lookup ≡ Some (AtLink i None)
   chain-link pages limit a log n world lookup i less now (FullWord j below is at same bound) = absurd (omega arith)
   chain-link pages limit a log n world lookup i less now (FullLink j below is at same bound) =
-      let here : j ≡ i = omega arith in at ∙ ap (λ m. Some (AtLink m)) here
+      let here : j ≡ i = omega arith in at ∙ ap (λ m. Some (AtLink m None)) here
   chain-link pages limit a log n world lookup i less now (FullMake k last is at same other) = absurd (omega arith)
   chain-link pages limit a log n world lookup i less now (FullMade k values last is at same other) = absurd (omega arith)
   chain-link pages limit a log n world lookup i less now (FullLinked values past other walk) = absurd (omega arith)
@@ -107,30 +107,30 @@ module _ {T : Type 0} where
 
   -- an event for which the table has a row is a step
   row-counts : (a : ℕ) (e : Event T) (answer : Seen) (log : Log T) (old new : State T) → IsStepAlone a e answer
-      → IsExact old e answer new → HasRow e (point_of old e) → own_steps ((e, answer) ∷ log) a ≡ own_steps log a + 1
+      → IsExact old e answer new → HasRow old e (point_of old e) → own_steps ((e, answer) ∷ log) a ≡ own_steps log a + 1
   row-counts a e answer log old new alone exact row =
       let busy : is_idle answer ≡ false = elim (cases_Bool (is_idle answer)) [
         | inl idle ↦ absurd (exact.enabled.0 (idle-not_enabled answer idle alone.memory) row)
         | inr busy ↦ busy
       ] in
-      own_steps-busy log a e answer (record { own = alone.own; busy = busy })
+      own_steps-busy log a e answer (record { own = alone.own; busy = busy; unhinted = alone.unhinted })
 
   -- the same for an event that is known, at a point that is known
   known-counts : (a : ℕ) (e is : Event T) (answer : Seen) (log : Log T) (old new : State T) (point : Option (Point T))
-      → IsStepAlone a e answer → IsExact old e answer new → e ≡ is → point_of old is ≡ point → HasRow is point
+      → IsStepAlone a e answer → IsExact old e answer new → e ≡ is → point_of old is ≡ point → HasRow old is point
       → own_steps ((e, answer) ∷ log) a ≡ own_steps log a + 1
   known-counts a e is answer log old new point alone exact same at row =
-      let P : Event T → Type 0 = λ x. HasRow x (point_of old x) in
-      let Q : Option (Point T) → Type 0 = HasRow is in
+      let P : Event T → Type 0 = λ x. HasRow old x (point_of old x) in
+      let Q : Option (Point T) → Type 0 = HasRow old is in
       row-counts a e answer log old new alone exact (subst P (sym same) (subst Q (sym at) row))
 
-module _ {T : Type 0} (Leaves : T → T → Type 0) (old : State T) (reached : IsReached old) (a : ℕ) (at : slice_get old.agents a ≡ Some (Reading 0)) where
+module _ {T : Type 0} (Leaves : T → T → Type 0) (old : State T) (reached : IsReached old) (a : ℕ) (at : slice_get old.agents a ≡ Some (Reading 0 None)) where
   -- where an agent is that passes so many full pages
   record Passes (bound : ℕ) : Type 0 where
     pub word : (i : ℕ) → i < bound → (log : Log T) (new : State T) → BringsPages log → Stands old log new a
-        → own_steps log a ≡ 2 * i → slice_get new.agents a ≡ Some (Reading i)
+        → own_steps log a ≡ 2 * i → slice_get new.agents a ≡ Some (Reading i None)
     pub link : (i : ℕ) → i < bound → (log : Log T) (new : State T) → BringsPages log → Stands old log new a
-        → own_steps log a ≡ 2 * i + 1 → slice_get new.agents a ≡ Some (AtLink i)
+        → own_steps log a ≡ 2 * i + 1 → slice_get new.agents a ≡ Some (AtLink i None)
 
   -- an event that brings no page
   brings-as : (e is : Event T) (answer : Seen) → e ≡ is → BringsPage is answer → BringsPage e answer
@@ -152,13 +152,13 @@ module _ {T : Type 0} (Leaves : T → T → Type 0) (old : State T) (reached : I
       let (count, brings) = passed bound passes i (omega arith) log middle ran alone others in
       let reads = passes.word i (omega arith) log middle brings (ran-stands Leaves old reached a at log middle ran alone) count in
       let one : own_steps ((f, given) ∷ log) a ≡ own_steps log a + 1 = known-counts a f
-      (event.ReadMask a) given log middle between (Some (Reading i)) before first_exact read reads tt in
+      (event.ReadMask a) given log middle between (Some (Reading i None)) before first_exact read reads tt in
       let brings_read : BringsPages ((f, given) ∷ log) = (brings-as f (event.ReadMask a) given read tt, brings) in
       let follows = passes.link i (omega arith)
       ((f, given) ∷ log) between brings_read (ran-stands Leaves old reached a at ((f, given) ∷ log) between
       (middle, ran, first, first_exact) (before, alone)) (omega arith) in
       let two : own_steps ((e, answer) ∷ ((f, given) ∷ log)) a ≡ own_steps ((f, given) ∷ log) a + 1 = known-counts a e
-      (event.ReadNext a) answer ((f, given) ∷ log) between new (Some (AtLink i)) own exact last follows tt in
+      (event.ReadNext a) answer ((f, given) ∷ log) between new (Some (AtLink i None)) own exact last follows tt in
       (omega arith, (brings-as e (event.ReadNext a) answer last tt, brings_read))
 
   walk-passes : (k : ℕ) → IsFirstFree old.pages k → Passes k
@@ -201,12 +201,12 @@ module _ {T : Type 0} (Leaves : T → T → Type 0) (old : State T) (reached : I
       let (pages0, walk0) = walks log first brings (ran-stands Leaves old reached a at log first ran alone) (omega arith) in
       let at0 = walk-word pages0 k c (own_steps log a) a log first (slice_get first.agents a) k (omega arith) count walk0 in
       let one : own_steps log1 a ≡ own_steps log a + 1 = known-counts a d (event.ReadMask a) word log first second
-      (Some (Reading k)) own1 exact1 reads at0 tt in
+      (Some (Reading k None)) own1 exact1 reads at0 tt in
       let (pages1, walk1) = walks log1 second brings1 (ran-stands Leaves old reached a at log1 second (first, ran, step1, exact1)
       (own1, alone)) (omega arith) in
       let at1 = walk-bits pages1 k c (own_steps log1 a) a log1 second (slice_get second.agents a) (omega arith) walk1 in
       let two : own_steps log2 a ≡ own_steps log1 a + 1 = known-counts a f (event.ClearBit a) given log1 second third
-      (Some (Clearing k (word_of pages1 k))) own2 exact2 clears at1 tt in
+      (Some (Clearing k (word_of pages1 k) None)) own2 exact2 clears at1 tt in
       let (pages2, walk2) = walks log2 third brings2
       (ran-stands Leaves old reached a at log2 third (second, (first, ran, step1, exact1), step2, exact2)
       (own2, (own1, alone))) (omega arith) in

@@ -4,7 +4,7 @@ use Rattle.std.proofs.lemmas.Bool.{cases_eq}
 use Rattle.object_pool_cores.specs.declared.interleave.event.Event.{Event}
 use Rattle.object_pool_cores.specs.declared.interleave.event.Seen.{Seen}
 use Rattle.object_pool_cores.specs.declared.interleave.point.Point.{Point}
-use Rattle.object_pool_cores.specs.declared.interleave.point.Point.TheVariants.{Reading, Clearing, AtLink, Making, Linking, Taken, Holding, Home, Ended}
+use Rattle.object_pool_cores.specs.declared.interleave.point.Point.TheVariants.{Reading, Clearing, AtLink, ClearingHinted, Making, Linking, Taken, Holding, Home, Ended}
 use Rattle.object_pool_cores.specs.Pool.{Pool, IsSame, IsOut, AllowsPages, number}
 use Rattle.object_pool_cores.specs.Move.{Pull, Return, Growth, Refusal}
 use Rattle.object_pool_cores.specs.Run.{Act, Opens, Writes, Moves, Holds, agent_of, stage_of, pool_of, FoundOut, HadPages, MayCome, FoundOutBefore}
@@ -13,7 +13,7 @@ use Rattle.object_pool_cores.specs.World.State.{State}
 use Rattle.object_pool_cores.specs.World.Machine.{Outcome, IsOutcome, value_at}
 use Rattle.object_pool_cores.specs.World.Reading.{reading}
 use Rattle.object_pool_cores.specs.World.Visible.{Log, IsHidden, made_by, or_else, last_made, Shows}
-use Rattle.object_pool_cores.specs.World.Invariant.{LooksOn, IsPast, IsAtEnd, HoldsAt, Knows, KnowsIf, Agrees}
+use Rattle.object_pool_cores.specs.World.Invariant.{FoundAsked, LooksOn, IsPast, IsAtEnd, TriesBits, HoldsAt, Knows, KnowsIf, Agrees}
 use Rattle.object_pool_cores.proofs.Runs.{since-later, other-opens, stage_of-other}
 use Rattle.object_pool_cores.proofs.Holders.{IsSound, sound-run}
 use Rattle.object_pool_cores.proofs.World.Reading.{get-set_same, get-set_other}
@@ -37,23 +37,39 @@ module _ {T : Type 0} (first : List T) where
 
 module _ {T : Type 0} (Leaves : T → T → Type 0) (first : List T) where
   module _ (log later : Log T) (acts more : List (Act T)) (old new : State T) (b : ℕ) (carries : Carries first log later acts more old new b) where
-    looks-carried : (k : ℕ) → LooksOn first acts old b k → LooksOn first more new b k
-    looks-carried k looks = record {
+    asked-carried : (asked : Option ℕ) → FoundAsked first acts (length old.pages) b asked → FoundAsked first more (length new.pages) b asked
+    asked-carried None full = tt
+    asked-carried (Some hint) full = record {
+      linked = let below = full.linked in let more_pages = carries.pages in omega arith;
+      found_out = λ id within. carries.out (number hint id) (full.found_out id within);
+    }
+
+    bits-carried : (k mask : ℕ) → TriesBits first acts b k mask → TriesBits first more b k mask
+    bits-carried k mask bits = record {
+      some = bits.some;
+      in_word = bits.in_word;
+      others = λ id within clear. carries.out (number k id) (bits.others id within clear);
+    }
+
+    looks-carried : (k : ℕ) (asked : Option ℕ) → LooksOn first acts old b k asked → LooksOn first more new b k asked
+    looks-carried k asked looks = record {
       looking = carries.stage ∙ looks.looking;
       linked = let below = looks.linked in let more_pages = carries.pages in omega arith;
       found_out = λ n below. carries.out n (looks.found_out n below);
+      asked_full = asked-carried asked looks.asked_full;
     }
 
-    past-carried : (k : ℕ) → IsPast first acts old b k → IsPast first more new b k
-    past-carried k past = record {
+    past-carried : (k : ℕ) (asked : Option ℕ) → IsPast first acts old b k asked → IsPast first more new b k asked
+    past-carried k asked past = record {
       looking = carries.stage ∙ past.looking;
       linked = let below = past.linked in let more_pages = carries.pages in omega arith;
       found_out = λ n below. carries.out n (past.found_out n below);
+      asked_full = asked-carried asked past.asked_full;
     }
 
     end-carried : (k : ℕ) → IsAtEnd first acts old b k → IsAtEnd first more new b k
     end-carried k end = record {
-      past = past-carried k end.past;
+      past = past-carried k None end.past;
       last = carries.had (k + 1) end.last;
       allowed = let P : Option ℕ → Type 0 = λ limit. AllowsPages limit (k + 1 + 1) in subst P (sym carries.limit) end.allowed;
     }
@@ -66,17 +82,15 @@ module _ {T : Type 0} (Leaves : T → T → Type 0) (first : List T) where
     }
 
     knows-carried : (point : Point T) → Knows Leaves first log acts old b point → Knows Leaves first later more new b point
-    knows-carried (Reading k) knows = looks-carried k knows
-    knows-carried (Clearing k mask) knows = (
-      looks-carried k knows.0,
-      record {
-        some = knows.1.some;
-        in_word = knows.1.in_word;
-        others = λ id within clear. carries.out (number k id)
-            (knows.1.others id within clear);
-      },
-    )
-    knows-carried (AtLink k) knows = past-carried k knows
+    knows-carried (Reading k asked) knows = looks-carried k asked knows
+    knows-carried (Clearing k mask asked) knows = (looks-carried k asked knows.0, bits-carried k mask knows.1)
+    knows-carried (AtLink k asked) knows = past-carried k asked knows
+    knows-carried (ClearingHinted hint mask) knows = record {
+      past = past-carried 0 None knows.past;
+      further = knows.further;
+      linked = let below = knows.linked in let more_pages = carries.pages in omega arith;
+      bits = bits-carried hint mask knows.bits;
+    }
     knows-carried (Making k) knows = end-carried k knows
     knows-carried (Linking k values) knows = (end-carried k knows.0, carries.made ∙ knows.1)
     knows-carried (Taken k id) (value, holds, lies) =

@@ -1,6 +1,6 @@
 -- The steps at a page's link keep the invariant: the read, the page that is made, and the exchange.
-use Rattle.std.proofs.Common.{◌≡◌, ◌≢◌, ℕ, ◌+◌, ◌^◌, ◌<◌, ◌≤◌, ◌==◌, nat_lt, true, false, if◌then◌else◌, Option, Some, None, List, [], ◌∷◌, ◌++◌, length, slice_get, Result, Ok, Err, refl, ap, sym, ◌∙◌, subst, arith, length-append, lit<}
-use Rattle.std.proofs.lemmas.Bool.{eq-eqb, ne_eqb, eqb-true, eqb-false}
+use Rattle.std.proofs.Common.{◌≡◌, ◌≢◌, inl, inr, ℕ, ◌+◌, ◌-◌, ◌*◌, ◌^◌, ◌<◌, ◌≤◌, ◌==◌, nat_lt, true, false, if◌then◌else◌, Option, Some, None, List, [], ◌∷◌, ◌++◌, length, slice_get, Result, Ok, Err, refl, ap, sym, ◌∙◌, subst, arith, length-append, lit<}
+use Rattle.std.proofs.lemmas.Bool.{eq-eqb, ne_eqb, eqb-true, eqb-false, cases_lt, cases_Bool}
 use Rattle.std.proofs.lemmas.List.{length-map}
 use Rattle.lockfree_object_pool.specs.declared.pull_error.PullError.{PullError}
 use Rattle.lockfree_object_pool.specs.declared.pull_error.PullError.TheVariants.{Memory, Init, Limit}
@@ -10,14 +10,14 @@ use Rattle.object_pool_cores.specs.declared.interleave.event.Seen.{Seen}
 use Rattle.object_pool_cores.specs.declared.interleave.event.Seen.TheVariants as seen
 use Rattle.object_pool_cores.specs.declared.interleave.point.Point.{Point}
 use Rattle.object_pool_cores.specs.declared.interleave.point.Point.TheVariants.{Reading, AtLink, Making, Linking, Ended}
-use Rattle.object_pool_cores.specs.Pool.{IsOut, AllowsPages}
+use Rattle.object_pool_cores.specs.Pool.{IsOut, AllowsPages, number}
 use Rattle.object_pool_cores.specs.Move.{Growth, Refusal}
-use Rattle.object_pool_cores.specs.Run.{Act, Opens, Moves, Looking, stage_of, pool_of, FoundAllOut, HadPages, MayCome}
+use Rattle.object_pool_cores.specs.Run.{Act, Opens, Moves, Looking, stage_of, pool_of, FoundOut, FoundAllOut, HadPages, MayCome}
 use Rattle.object_pool_cores.specs.World.PageState.{PageState}
 use Rattle.object_pool_cores.specs.World.State.{State}
-use Rattle.object_pool_cores.specs.World.Machine.{Outcome, IsOutcome, not_enabled, is_limit, linked_page, value_in, prepared_by, read_next, make_page, exchange_next, LinksWhole}
+use Rattle.object_pool_cores.specs.World.Machine.{Outcome, IsOutcome, not_enabled, is_limit, was_asked, comes_to, linked_page, value_in, prepared_by, read_next, make_page, exchange_next, LinksWhole}
 use Rattle.object_pool_cores.specs.World.Visible.{Log, IsHidden, made_by, or_else, last_made}
-use Rattle.object_pool_cores.specs.World.Invariant.{IsPast, IsAtEnd, Agrees}
+use Rattle.object_pool_cores.specs.World.Invariant.{FoundAsked, FoundFull, IsPast, IsAtEnd, Agrees}
 use Rattle.object_pool_cores.proofs.Runs.{since-now, since-later, stage_of-own}
 use Rattle.object_pool_cores.proofs.World.Reading.{get-push_old, pushed-all, same-grown}
 use Rattle.object_pool_cores.proofs.World.Invariant.{GoesOn, moved, pages-stay, hidden-step, visible-step, from-outcome, from-if, allows-fewer}
@@ -31,6 +31,11 @@ is-limit (Some limit) count is = let same : limit ≡ count = cc in eq-eqb limit
 pub limit-is : (limit : Option ℕ) (count : ℕ) → is_limit limit count ≡ true → limit ≡ Some count
 limit-is None count is = cc
 limit-is (Some limit) count is = ap Some (eqb-true limit count is)
+
+-- a hint led to this page in vain
+pub asked-is : (asked : Option ℕ) (k : ℕ) → was_asked asked k ≡ true → asked ≡ Some k
+asked-is None k is = cc
+asked-is (Some hint) k is = ap Some (eqb-true hint k is)
 
 -- below the limit one page more is allowed
 allows-next : (limit : Option ℕ) (count : ℕ) → is_limit limit count ≡ false → AllowsPages limit count → AllowsPages limit (count + 1)
@@ -58,10 +63,10 @@ module _ {T : Type 0} (Leaves : T → T → Type 0) (first : List T) (log : Log 
             tt;
       }
 
-  at-limit : (a k : ℕ) → slice_get old.agents a ≡ Some (AtLink k) → is_limit old.limit (k + 1) ≡ true
+  at-limit : (a k : ℕ) (asked : Option ℕ) → slice_get old.agents a ≡ Some (AtLink k asked) → is_limit old.limit (k + 1) ≡ true
       → GoesOn Leaves first log (event.ReadNext a) (seen.Refused a Limit) (moved Leaves first old old.pages a Ended)
-  at-limit a k at is =
-      let past : IsPast first acts old a k = known Leaves first log acts old agrees a (AtLink k) at in
+  at-limit a k asked at is =
+      let past : IsPast first acts old a k asked = known Leaves first log acts old agrees a (AtLink k asked) at in
       let limit = limit-is old.limit (k + 1) is in
       let P : Option ℕ → Type 0 = λ limit. AllowsPages limit (length old.pages) in
       let most : length old.pages ≤ k + 1 = subst P limit agrees.allowed in
@@ -69,54 +74,96 @@ module _ {T : Type 0} (Leaves : T → T → Type 0) (first : List T) (log : Log 
       let count : length old.pages ≡ k + 1 = omega arith in
       let pages : (pool_of first acts).pages ≡ k + 1 = agrees.same.pages ∙ count in
       let Q : ℕ → Type 0 = FoundAllOut first acts a in
-      refused (event.ReadNext a) a k (k + 1) (AtLink k) Limit at (λ b. refl)
+      refused (event.ReadNext a) a k (k + 1) (AtLink k asked) Limit at (λ b. refl)
       (limit ∙ ap Some (sym pages), (past.looking, subst Q (sym pages) past.found_out)) past.found_out (had-now a (k + 1) past.looking count)
 
-  at-end : (a k : ℕ) → slice_get old.agents a ≡ Some (AtLink k) → is_limit old.limit (k + 1) ≡ false → length old.pages ≡ k + 1
+  at-end : (a k : ℕ) (asked : Option ℕ) → slice_get old.agents a ≡ Some (AtLink k asked) → is_limit old.limit (k + 1) ≡ false → length old.pages ≡ k + 1
       → GoesOn Leaves first log (event.ReadNext a) (seen.Next a false) (moved Leaves first old old.pages a (Making k))
-  at-end a k at not count =
-      let past : IsPast first acts old a k = known Leaves first log acts old agrees a (AtLink k) at in
+  at-end a k asked at not count =
+      let past : IsPast first acts old a k asked = known Leaves first log acts old agrees a (AtLink k asked) at in
       let P : ℕ → Type 0 = AllowsPages old.limit in
       record {
         acts = acts;
-        agrees = hidden-step Leaves first log acts old (event.ReadNext a) (seen.Next a false) a (AtLink k) (Making k) old.pages agrees at tt (λ b other. refl)
+        agrees = hidden-step Leaves first log acts old (event.ReadNext a) (seen.Next a false) a (AtLink k asked) (Making k) old.pages agrees at tt (λ b other. refl)
             (pages-stay Leaves first log acts acts old a agrees refl)
             (record {
-              past = record { looking = past.looking; linked = past.linked; found_out = past.found_out };
+              past = record { looking = past.looking; linked = past.linked; found_out = past.found_out; asked_full = tt };
               last = had-now a (k + 1) past.looking count;
               allowed = allows-next old.limit (k + 1) not (subst P count agrees.allowed);
             });
       }
 
   -- the agent goes to the next page, which is linked
-  goes-next : (e : Event T) (answer : Seen) (a k : ℕ) (from : Point T) → slice_get old.agents a ≡ Some from
-      → IsHidden answer × ((b : ℕ) → made_by e answer b ≡ None) → IsPast first acts old a k → (length old.pages ≡ k + 1 → ⊥)
-      → GoesOn Leaves first log e answer (moved Leaves first old old.pages a (Reading (k + 1)))
-  goes-next e answer a k from at hidden past more =
+  goes-next : (e : Event T) (answer : Seen) (a k : ℕ) (asked : Option ℕ) (from : Point T) → slice_get old.agents a ≡ Some from
+      → IsHidden answer × ((b : ℕ) → made_by e answer b ≡ None) → IsPast first acts old a k asked → (length old.pages ≡ k + 1 → ⊥)
+      → GoesOn Leaves first log e answer (moved Leaves first old old.pages a (Reading (k + 1) asked))
+  goes-next e answer a k asked from at hidden past more =
       let linked = past.linked in
       record {
         acts = acts;
-        agrees = hidden-step Leaves first log acts old e answer a from (Reading (k + 1)) old.pages agrees at hidden.0 (λ b other. hidden.1 b)
+        agrees = hidden-step Leaves first log acts old e answer a from (Reading (k + 1) asked) old.pages agrees at hidden.0 (λ b other. hidden.1 b)
             (pages-stay Leaves first log acts acts old a agrees refl)
-            (record { looking = past.looking; linked = omega arith; found_out = past.found_out });
+            (record { looking = past.looking; linked = omega arith; found_out = past.found_out; asked_full = past.asked_full });
       }
+
+  -- the agent goes past the next page, where a hint led it in vain
+  goes-past : (a k : ℕ) (asked : Option ℕ) → slice_get old.agents a ≡ Some (AtLink k asked) → IsPast first acts old a k asked
+      → asked ≡ Some (k + 1)
+      → GoesOn Leaves first log (event.ReadNext a) (seen.Next a true) (moved Leaves first old old.pages a (AtLink (k + 1) asked))
+  goes-past a k asked at past is =
+      let P : Option ℕ → Type 0 = FoundAsked first acts (length old.pages) a in
+      let full : FoundFull first acts (length old.pages) a (k + 1) = subst P is past.asked_full in
+      record {
+        acts = acts;
+        agrees = hidden-step Leaves first log acts old (event.ReadNext a) (seen.Next a true) a (AtLink k asked) (AtLink (k + 1) asked)
+            old.pages agrees at tt (λ b other. refl)
+            (pages-stay Leaves first log acts acts old a agrees refl)
+            (record {
+              looking = past.looking;
+              linked = full.linked;
+              found_out = λ n below. elim (cases_lt n (32 * (k + 1))) [
+                | inl before ↦ past.found_out n before
+                | inr here ↦
+                    let same : number (k + 1) (n - 32 * (k + 1)) ≡ n = omega arith in
+                    let Q : ℕ → Type 0 = FoundOut first acts a in
+                    subst Q same (full.found_out (n - 32 * (k + 1)) (omega arith))
+              ];
+              asked_full = past.asked_full;
+            });
+      }
+
+  -- the agent comes to the next page, which is linked
+  comes-next : (a k : ℕ) (asked : Option ℕ) → slice_get old.agents a ≡ Some (AtLink k asked) → IsPast first acts old a k asked
+      → (length old.pages ≡ k + 1 → ⊥)
+      → GoesOn Leaves first log (event.ReadNext a) (seen.Next a true) (moved Leaves first old old.pages a (comes_to (k + 1) asked))
+  comes-next a k asked at past more =
+      let e : Event T = event.ReadNext a in
+      let P : Point T → Type 0 = λ point. GoesOn Leaves first log e (seen.Next a true) (moved Leaves first old old.pages a point) in
+      elim (cases_Bool (was_asked asked (k + 1))) [
+        | inl is ↦
+            let past_it : comes_to {T = T} (k + 1) asked ≡ AtLink (k + 1) asked = rw is refl in
+            subst P (sym past_it) (goes-past a k asked at past (asked-is asked (k + 1) is))
+        | inr not ↦
+            let to_it : comes_to {T = T} (k + 1) asked ≡ Reading (k + 1) asked = rw not refl in
+            subst P (sym to_it) (goes-next e (seen.Next a true) a k asked (AtLink k asked) at (tt, λ b. refl) past more)
+      ]
 
   pub read_next-goes : (a : ℕ) (lookup : Option (Point T)) → slice_get old.agents a ≡ lookup → (answer : Seen) (new : State T)
       → IsOutcome (read_next old a lookup) answer new → GoesOn Leaves first log (event.ReadNext a) answer new
-  read_next-goes a (Some (AtLink k)) at answer new row =
+  read_next-goes a (Some (AtLink k asked)) at answer new row =
       let e : Event T = event.ReadNext a in
-      let past : IsPast first acts old a k = known Leaves first log acts old agrees a (AtLink k) at in
+      let past : IsPast first acts old a k asked = known Leaves first log acts old agrees a (AtLink k asked) at in
       let one : Outcome T = (seen.Refused a Limit, moved Leaves first old old.pages a Ended) in
       let two : Outcome T = (seen.Next a false, moved Leaves first old old.pages a (Making k)) in
-      let three : Outcome T = (seen.Next a true, moved Leaves first old old.pages a (Reading (k + 1))) in
+      let three : Outcome T = (seen.Next a true, moved Leaves first old old.pages a (comes_to (k + 1) asked)) in
       let rest : Outcome T = if length old.pages == k + 1 then two else three in
       from-if Leaves first log e (nat_lt k (length old.pages)) (if is_limit old.limit (k + 1) then one else rest) (not_enabled old) answer new
       (λ linked gave. from-if Leaves first log e (is_limit old.limit (k + 1)) one rest answer new
-      (λ is given. from-outcome Leaves first log e one answer new (at-limit a k at is) given)
+      (λ is given. from-outcome Leaves first log e one answer new (at-limit a k asked at is) given)
       (λ not given. from-if Leaves first log e (length old.pages == k + 1) two three answer new
-      (λ last this. from-outcome Leaves first log e two answer new (at-end a k at not (eqb-true (length old.pages) (k + 1) last)) this)
+      (λ last this. from-outcome Leaves first log e two answer new (at-end a k asked at not (eqb-true (length old.pages) (k + 1) last)) this)
       (λ more this. from-outcome Leaves first log e three answer new
-      (goes-next e (seen.Next a true) a k (AtLink k) at (tt, λ b. refl) past (eqb-false (length old.pages) (k + 1) more))
+      (comes-next a k asked at past (eqb-false (length old.pages) (k + 1) more))
       this)
       given)
       gave)
@@ -138,7 +185,7 @@ module _ {T : Type 0} (Leaves : T → T → Type 0) (first : List T) (log : Log 
             (Linking k values) old.pages agrees at tt (λ b other. rw (ne_eqb a b other) refl)
             (pages-stay Leaves first log acts acts old a agrees refl) (
               record {
-                past = record { looking = end.past.looking; linked = end.past.linked; found_out = end.past.found_out };
+                past = record { looking = end.past.looking; linked = end.past.linked; found_out = end.past.found_out; asked_full = tt };
                 last = end.last;
                 allowed = end.allowed;
               },
@@ -176,7 +223,7 @@ module _ {T : Type 0} (Leaves : T → T → Type 0) (first : List T) (log : Log 
   -- the agent's own page is linked
   linked : (a k : ℕ) (values : List T) → slice_get old.agents a ≡ Some (Linking k values) → length values ≡ 32
       → length old.pages ≡ k + 1 → GoesOn Leaves first log (event.ExchangeNext a) (seen.Linked a)
-      (moved Leaves first old (old.pages ++ linked_page values ∷ []) a (Reading (k + 1)))
+      (moved Leaves first old (old.pages ++ linked_page values ∷ []) a (Reading (k + 1) None))
   linked a k values at full count =
       let (end, last) = known Leaves first log acts old agrees a (Linking k values) at in
       let act : Act T = Moves a (Growth values) in
@@ -189,7 +236,7 @@ module _ {T : Type 0} (Leaves : T → T → Type 0) (first : List T) (log : Log 
       record {
         acts = act ∷ acts;
         agrees = visible-step Leaves first log acts old (event.ExchangeNext a) (seen.Linked a) a (Linking k values)
-            (Reading (k + 1)) pages act agrees at (values, last, refl)
+            (Reading (k + 1) None) pages act agrees at (values, last, refl)
             ((full, allows-fewer old.limit ((pool_of first acts).pages + 1) (k + 1 + 1) (omega arith) end.allowed), looking)
             (subst Q (sym pool_pages) end.past.found_out) refl (λ b other. refl)
             (record {
@@ -204,6 +251,7 @@ module _ {T : Type 0} (Leaves : T → T → Type 0) (first : List T) (log : Log 
               looking = stage_of-own act acts a refl ∙ looking;
               linked = omega arith;
               found_out = λ n below. since-later first act acts a (λ pool. IsOut pool n) not_opens (end.past.found_out n below);
+              asked_full = tt;
             });
       }
 
@@ -213,15 +261,15 @@ module _ {T : Type 0} (Leaves : T → T → Type 0) (first : List T) (log : Log 
   exchange_next-goes a (Some (Linking k values)) at answer new row whole =
       let e : Event T = event.ExchangeNext a in
       let (end, last) = known Leaves first log acts old agrees a (Linking k values) at in
-      let one : Outcome T = (seen.Linked a, moved Leaves first old (old.pages ++ linked_page values ∷ []) a (Reading (k + 1))) in
-      let two : Outcome T = (seen.Lost a, moved Leaves first old old.pages a (Reading (k + 1))) in
+      let one : Outcome T = (seen.Linked a, moved Leaves first old (old.pages ++ linked_page values ∷ []) a (Reading (k + 1) None)) in
+      let two : Outcome T = (seen.Lost a, moved Leaves first old old.pages a (Reading (k + 1) None)) in
       let Whole : Seen → Type 0 = λ seen. LinksWhole seen (Some values) in
       from-if Leaves first log e (nat_lt k (length old.pages)) (if length old.pages == k + 1 then one else two) (not_enabled old) answer new
       (λ there gave. from-if Leaves first log e (length old.pages == k + 1) one two answer new
       (λ is given. from-outcome Leaves first log e one answer new (linked a k values at (subst Whole given.0 whole)
       (eqb-true (length old.pages) (k + 1) is)) given)
       (λ not given. from-outcome Leaves first log e two answer new
-      (goes-next e (seen.Lost a) a k (Linking k values) at (tt, λ b. refl) end.past
+      (goes-next e (seen.Lost a) a k None (Linking k values) at (tt, λ b. refl) end.past
       (eqb-false (length old.pages) (k + 1) not)) given)
       gave)
       (λ none gave. disabled Leaves first log acts old agrees e (λ b. refl) answer new gave)

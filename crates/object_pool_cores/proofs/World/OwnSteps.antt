@@ -1,7 +1,7 @@
 -- An agent that looks goes on with each of its own steps.
 use Rattle.std.proofs.Common.{◌≡◌, inl, inr, ℕ, ◌+◌, ◌*◌, ◌^◌, ◌<◌, ◌≤◌, ◌==◌, nat_lt, Bool, true, false, if◌then◌else◌, Option, Some, None, List, [], ◌∷◌, ◌++◌, length, slice_get, slice_set, Result, Ok, Err, refl, ap, sym, ◌∙◌, subst, arith, length-append}
 use Rattle.std.specs.Int.{w32, bit_at}
-use Rattle.std.proofs.lemmas.Bool.{eq-eqb, ne_eqb, cases_eq, cases_lt}
+use Rattle.std.proofs.lemmas.Bool.{eq-eqb, ne_eqb, eqb-true, eqb-false, lt-ltb, ltb-true, cases_eq, cases_lt, cases_Bool}
 use Rattle.std.proofs.lemmas.Nat.Bits.{bit_at-trailing_zeros}
 use Rattle.std.proofs.lemmas.Option.{slice_get_past}
 use Rattle.lockfree_object_pool.specs.declared.pull_error.PullError.TheVariants.{Memory, Init, Limit}
@@ -11,17 +11,17 @@ use Rattle.object_pool_cores.specs.declared.interleave.event.Event.TheVariants a
 use Rattle.object_pool_cores.specs.declared.interleave.event.Seen.{Seen}
 use Rattle.object_pool_cores.specs.declared.interleave.event.Seen.TheVariants as seen
 use Rattle.object_pool_cores.specs.declared.interleave.point.Point.{Point}
-use Rattle.object_pool_cores.specs.declared.interleave.point.Point.TheVariants.{Reading, Clearing, AtLink, Making, Linking, Taken, Holding, Home, Ended}
+use Rattle.object_pool_cores.specs.declared.interleave.point.Point.TheVariants.{Reading, Clearing, AtLink, ClearingHinted, Making, Linking, Taken, Holding, Home, Ended}
 use Rattle.object_pool_cores.specs.Pool.{number}
 use Rattle.object_pool_cores.specs.Run.{Act}
 use Rattle.object_pool_cores.specs.World.State.{State}
-use Rattle.object_pool_cores.specs.World.Machine.{Outcome, IsOutcome, not_enabled, lowest, without_lowest, has_bit, without_bit, with_bit, with_word, word_of, value_at, linked_page, with_pages, at_point, tries, takes, clears, puts, read_mask, clear_bit, read_next, make_page, exchange_next, move_out, write, or_mask, begin, is_limit, Row, Steps, MovesHome, agent_of}
+use Rattle.object_pool_cores.specs.World.Machine.{Outcome, IsOutcome, not_enabled, lowest, without_lowest, has_bit, without_bit, with_bit, with_word, word_of, value_at, linked_page, with_pages, at_point, tries, tries_hinted, comes_to, was_asked, may_name, takes, clears, puts, read_mask, read_hinted, clear_bit, read_next, make_page, exchange_next, move_out, write, or_mask, begin, is_limit, Row, Steps, MovesHome, agent_of}
 use Rattle.object_pool_cores.specs.World.Visible.{Log}
 use Rattle.object_pool_cores.specs.World.OwnSteps.{is_idle, names, is_step_of}
-use Rattle.object_pool_cores.specs.World.Invariant.{Agrees}
+use Rattle.object_pool_cores.specs.World.Invariant.{FoundAsked, IsPast, TriesBits, TriesHinted, Agrees}
 use Rattle.object_pool_cores.proofs.World.Reading.{get-set_same, get-set_other, get-push_old, get-push_new}
 use Rattle.object_pool_cores.proofs.World.Bits.{lowest-lt, without_lowest-lt}
-use Rattle.object_pool_cores.proofs.World.WordSteps.{known}
+use Rattle.object_pool_cores.proofs.World.WordSteps.{known, may_name-is}
 
 -- ---- the bits that are tried go up
 lowest-grows : (mask : ℕ) → 0 < mask → mask < 2 ^ 32 → without_lowest mask < 2 ^ 32 → 0 < without_lowest mask → lowest mask < lowest (without_lowest mask)
@@ -44,47 +44,185 @@ lowest-grows mask some fits rest_fits more =
       ]
     ]
 
+-- the steps on a page further on to which a hint led, as far as they came beforehand
+abbrev pub taken_early : Option ℕ → ℕ → ℕ
+taken_early None k = 0
+taken_early (Some hint) k = if nat_lt k hint then 33 else 0
+
+pub early-most : (asked : Option ℕ) (k : ℕ) → taken_early asked k ≤ 33
+early-most None k = omega arith
+early-most (Some hint) k = elim (cases_Bool (nat_lt k hint)) [ inl is ↦ rw is (omega arith) | inr not ↦ rw not (omega arith) ]
+
+-- on the page before it they are all taken, on itself none any more
+early-before : (hint k : ℕ) → k < hint → taken_early (Some hint) k ≡ 33
+early-before hint k less = rw (lt-ltb k hint less) refl
+
+pub early-past : (hint k : ℕ) → hint ≤ k → taken_early (Some hint) k ≡ 0
+early-past hint k past = elim (cases_Bool (nat_lt k hint)) [
+  | inl is ↦ let less = ltb-true k hint is in absurd (omega arith)
+  | inr not ↦ rw not refl
+]
+
+-- on to the next page, which the hint didn't name, they stay
+early-next : (asked : Option ℕ) (k : ℕ) → was_asked asked (k + 1) ≡ false → taken_early asked (k + 1) ≡ taken_early asked k
+early-next None k not = refl
+early-next (Some hint) k not =
+    let other = eqb-false hint (k + 1) not in
+    elim (cases_lt k hint) [
+      | inl less ↦ let further : k + 1 < hint = omega arith in early-before hint (k + 1) further ∙ sym (early-before hint k less)
+      | inr past ↦ early-past hint (k + 1) (omega arith) ∙ sym (early-past hint k past)
+    ]
+
+-- how far an agent is at the link of page k by its page, before a hint and after
+abbrev pub link_position : ℕ → Option ℕ → ℕ
+link_position k None = 69 * k + 33
+link_position k (Some hint) = 69 * k + 66
+
+link-between : (k : ℕ) (asked : Option ℕ) → (69 * k + 33 ≤ link_position k asked) × (link_position k asked ≤ 69 * k + 66)
+link-between k None = (omega arith, omega arith)
+link-between k (Some hint) = (omega arith, omega arith)
+
 module _ {T : Type 0} where
-  -- how far an agent is that looks: 36 for each page before, and what it did on this one
-  abbrev progress : Point T → Option ℕ
-  progress (Reading k) = Some (36 * k)
-  progress (Clearing k mask) = Some (36 * k + 1 + lowest mask)
-  progress (AtLink k) = Some (36 * k + 33)
+  -- how far an agent is that looks: 36 for each page before, what it did on this one, and on the one further on that a hint named
+  abbrev pub progress : Point T → Option ℕ
+  progress (Reading k asked) = Some (36 * k + taken_early asked k)
+  progress (Clearing k mask asked) = Some (36 * k + 1 + lowest mask + taken_early asked k)
+  progress (AtLink k asked) = Some (36 * k + 33 + taken_early asked k)
+  progress (ClearingHinted hint mask) = Some (34 + lowest mask)
   progress (Making k) = Some (36 * k + 34)
   progress (Linking k values) = Some (36 * k + 35)
   progress _ = None
 
+  -- how far it is by its page: room for a page that a hint names is left at each
+  abbrev pub position : Point T → Option ℕ
+  position (Reading k asked) = Some (69 * k)
+  position (Clearing k mask asked) = Some (69 * k + 1 + lowest mask)
+  position (AtLink k asked) = Some (link_position k asked)
+  position (ClearingHinted hint mask) = Some (34 + lowest mask)
+  position (Making k) = Some (69 * k + 67)
+  position (Linking k values) = Some (69 * k + 68)
+  position _ = None
+
+  -- one step further, as this counts
+  abbrev pub Rises : (Point T → Option ℕ) → Point T → Point T → Type 0
+  Rises measure from point = (later : ℕ) → measure point ≡ Some later → (sooner : ℕ) × (measure from ≡ Some sooner) × (sooner + 1 ≤ later)
+
   -- one step further
-  abbrev pub Advances : Point T → Point T → Type 0
-  Advances from point = (later : ℕ) → progress point ≡ Some later → (sooner : ℕ) × (progress from ≡ Some sooner) × (sooner + 1 ≤ later)
+  pub record Advances (from point : Point T) : Type 0 where
+    pub steps : Rises progress from point
+    pub pages : Rises position from point
 
   -- what a step does to an agent: nothing, or it begins, or it goes one step further
   pub data Effect (old new : Option (Point T)) (own : Bool) : Type 0 where
     Stays : (own ≡ false) → (new ≡ old) → Effect old new own
-    Begins : (own ≡ false) → (old ≡ None) → (new ≡ Some (Reading 0)) → Effect old new own
+    Begins : (own ≡ false) → (old ≡ None) → (new ≡ Some (Reading 0 None)) → Effect old new own
     Goes : (from point : Point T) → (own ≡ true) → (old ≡ Some from) → (new ≡ Some point) → Advances from point → Effect old new own
 
-  advances-to : (from point : Point T) (sooner later : ℕ) → progress from ≡ Some sooner → progress point ≡ Some later → sooner + 1 ≤ later → Advances from point
-  advances-to from point sooner later is to less other lookup =
+  rises-to : (measure : Point T → Option ℕ) (from point : Point T) (sooner later : ℕ) → measure from ≡ Some sooner → measure point ≡ Some later
+      → sooner + 1 ≤ later → Rises measure from point
+  rises-to measure from point sooner later is to less other lookup =
       let same : Some later ≡ Some other = sym to ∙ lookup in
       let equal : later ≡ other = cc in
       (sooner, is, omega arith)
 
-  advances-past : (from point : Point T) → progress point ≡ None → Advances from point
-  advances-past from point none later lookup = absurd (let both : None ≡ Some later = sym none ∙ lookup in cc)
+  rises-past : (measure : Point T → Option ℕ) (from point : Point T) → measure point ≡ None → Rises measure from point
+  rises-past measure from point none later lookup = absurd (let both : None ≡ Some later = sym none ∙ lookup in cc)
 
-  advances-tries : (from : Point T) (k mask sooner : ℕ) → progress from ≡ Some sooner → sooner + 1 ≤ 36 * k + 33
-      → (0 < mask → sooner + 1 ≤ 36 * k + 1 + lowest mask) → Advances from (tries k mask)
-  advances-tries from k mask sooner is link bits =
+  advances-past : (from point : Point T) → progress point ≡ None → position point ≡ None → Advances from point
+  advances-past from point none nowhere = record { steps = rises-past progress from point none; pages = rises-past position from point nowhere }
+
+  -- on a page of the chain, with these bits to try
+  advances-tries : (from : Point T) (k mask : ℕ) (asked : Option ℕ) (sooner on_page : ℕ) → progress from ≡ Some (sooner + taken_early asked k)
+      → position from ≡ Some on_page → sooner + 1 ≤ 36 * k + 33 → on_page + 1 ≤ 69 * k + 33
+      → (0 < mask → (sooner + 1 ≤ 36 * k + 1 + lowest mask) × (on_page + 1 ≤ 69 * k + 1 + lowest mask)) → Advances from (tries k mask asked)
+  advances-tries from k mask asked sooner on_page is here link page bits =
       let P : Point T → Type 0 = Advances from in
+      let early = taken_early asked k in
       elim (cases_eq mask 0) [
         | inl none ↦
-            let at : tries {T = T} k mask ≡ AtLink k = rw (eq-eqb mask 0 none) refl in
-            subst P (sym at) (advances-to from (AtLink k) sooner (36 * k + 33) is refl link)
+            let at : tries {T = T} k mask asked ≡ AtLink k asked = rw (eq-eqb mask 0 none) refl in
+            let (least, most) = link-between k asked in
+            subst P (sym at) (record {
+              steps = rises-to progress from (AtLink k asked) (sooner + early) (36 * k + 33 + early) is refl (omega arith);
+              pages = rises-to position from (AtLink k asked) on_page (link_position k asked) here refl (omega arith);
+            })
         | inr some ↦
-            let at : tries {T = T} k mask ≡ Clearing k mask = rw (ne_eqb mask 0 some) refl in
-            subst P (sym at) (advances-to from (Clearing k mask) sooner (36 * k + 1 + lowest mask) is refl (bits (omega arith)))
+            let at : tries {T = T} k mask asked ≡ Clearing k mask asked = rw (ne_eqb mask 0 some) refl in
+            let (up, up_page) = bits (omega arith) in
+            subst P (sym at) (record {
+              steps = rises-to progress from (Clearing k mask asked) (sooner + early) (36 * k + 1 + lowest mask + early) is refl (omega arith);
+              pages = rises-to position from (Clearing k mask asked) on_page (69 * k + 1 + lowest mask) here refl (omega arith);
+            })
       ]
+
+  -- on a page that a hint named
+  advances-hinted : (from : Point T) (hint mask sooner : ℕ) → progress from ≡ Some sooner → position from ≡ Some sooner → 0 < hint
+      → sooner + 1 ≤ 66 → (0 < mask → sooner + 1 ≤ 34 + lowest mask) → Advances from (tries_hinted hint mask)
+  advances-hinted from hint mask sooner is here further link bits =
+      let P : Point T → Type 0 = Advances from in
+      let early = early-before hint 0 further in
+      elim (cases_eq mask 0) [
+        | inl none ↦
+            let at : tries_hinted {T = T} hint mask ≡ AtLink 0 (Some hint) = rw (eq-eqb mask 0 none) refl in
+            subst P (sym at) (record {
+              steps = rises-to progress from (AtLink 0 (Some hint)) sooner (36 * 0 + 33 + taken_early (Some hint) 0) is refl (omega arith);
+              pages = rises-to position from (AtLink 0 (Some hint)) sooner 66 here refl (omega arith);
+            })
+        | inr some ↦
+            let at : tries_hinted {T = T} hint mask ≡ ClearingHinted hint mask = rw (ne_eqb mask 0 some) refl in
+            let up = bits (omega arith) in
+            subst P (sym at) (record {
+              steps = rises-to progress from (ClearingHinted hint mask) sooner (34 + lowest mask) is refl (omega arith);
+              pages = rises-to position from (ClearingHinted hint mask) sooner (34 + lowest mask) here refl (omega arith);
+            })
+      ]
+
+  -- over the link to the next page, or past it where a hint led there in vain
+  advances-next : (k : ℕ) (asked : Option ℕ) → Advances (AtLink k asked) (comes_to (k + 1) asked)
+  advances-next k asked =
+      let P : Point T → Type 0 = Advances (AtLink k asked) in
+      let (least, most) = link-between k asked in
+      let early = taken_early asked k in
+      elim (cases_Bool (was_asked asked (k + 1))) [
+        | inl is ↦
+            let at : comes_to {T = T} (k + 1) asked ≡ AtLink (k + 1) asked = rw is refl in
+            let (from_there, to_there) = link-between (k + 1) asked in
+            let little = early-most asked k in
+            subst P (sym at) (record {
+              steps = rises-to progress (AtLink k asked) (AtLink (k + 1) asked) (36 * k + 33 + early)
+                  (36 * (k + 1) + 33 + taken_early asked (k + 1)) refl refl (omega arith);
+              pages = rises-to position (AtLink k asked) (AtLink (k + 1) asked) (link_position k asked) (link_position (k + 1) asked) refl refl (omega arith);
+            })
+        | inr not ↦
+            let at : comes_to {T = T} (k + 1) asked ≡ Reading (k + 1) asked = rw not refl in
+            let stays = early-next asked k not in
+            subst P (sym at) (record {
+              steps = rises-to progress (AtLink k asked) (Reading (k + 1) asked) (36 * k + 33 + early)
+                  (36 * (k + 1) + taken_early asked (k + 1)) refl refl (omega arith);
+              pages = rises-to position (AtLink k asked) (Reading (k + 1) asked) (link_position k asked) (69 * (k + 1)) refl refl (omega arith);
+            })
+      ]
+
+  -- at the end of the chain, behind each page that a hint may have named
+  advances-end : (k : ℕ) (asked : Option ℕ) → taken_early asked k ≡ 0 → Advances (AtLink k asked) (Making k)
+  advances-end k asked none =
+      let (least, most) = link-between k asked in
+      record {
+        steps = rises-to progress (AtLink k asked) (Making k) (36 * k + 33 + taken_early asked k) (36 * k + 34) refl refl (omega arith);
+        pages = rises-to position (AtLink k asked) (Making k) (link_position k asked) (69 * k + 67) refl refl (omega arith);
+      }
+
+  advances-made : (k : ℕ) (values : List T) → Advances (Making k) (Linking k values)
+  advances-made k values = record {
+    steps = rises-to progress (Making k) (Linking k values) (36 * k + 34) (36 * k + 35) refl refl (omega arith);
+    pages = rises-to position (Making k) (Linking k values) (69 * k + 67) (69 * k + 68) refl refl (omega arith);
+  }
+
+  advances-linked : (k : ℕ) (values : List T) → Advances (Linking k values) (Reading (k + 1) None)
+  advances-linked k values = record {
+    steps = rises-to progress (Linking k values) (Reading (k + 1) None) (36 * k + 35) (36 * (k + 1) + 0) refl refl (omega arith);
+    pages = rises-to position (Linking k values) (Reading (k + 1) None) (69 * k + 68) (69 * (k + 1)) refl refl (omega arith);
+  }
 
   -- a world in which an agent moved, by an event that names it
   goes : (e : Event T) (old new : State T) (answer : Seen) (b : ℕ) (from point : Point T) → agent_of e ≡ Some b
@@ -132,49 +270,87 @@ module _ {T : Type 0} (Leaves : T → T → Type 0) (first : List T) (log : Log 
 
   read_mask-does : (b : ℕ) (lookup : Option (Point T)) → slice_get old.agents b ≡ lookup
       → IsOutcome (read_mask old b lookup) answer new → Does (event.ReadMask b)
-  read_mask-does b (Some (Reading k)) at row =
-      moves (event.ReadMask b) b (Reading k) (tries k (word_of old.pages k)) (read_mask old b (Some (Reading k))) refl refl at refl
-      (advances-tries (Reading k) k (word_of old.pages k) (36 * k) refl (omega arith) (λ some. omega arith)) row
+  read_mask-does b (Some (Reading k asked)) at row =
+      let word = word_of old.pages k in
+      moves (event.ReadMask b) b (Reading k asked) (tries k word asked) (read_mask old b (Some (Reading k asked))) refl refl at refl
+      (advances-tries (Reading k asked) k word asked (36 * k) (69 * k) refl refl (omega arith) (omega arith)
+      (λ some. (omega arith, omega arith))) row
   read_mask-does b _ at row = idles (event.ReadMask b) row
+
+  read_hinted-does : (b hint : ℕ) (lookup : Option (Point T)) → slice_get old.agents b ≡ lookup
+      → IsOutcome (read_hinted old b hint lookup) answer new → Does (event.ReadHinted b hint)
+  read_hinted-does b hint (Some (AtLink k None)) at row =
+      let e : Event T = event.ReadHinted b hint in
+      let word = word_of old.pages hint in
+      let one : Outcome T = (seen.Word b word, at_point old b (tries_hinted hint word)) in
+      by-test (Does e) (may_name old k hint) one (not_enabled old) answer new row
+      (λ may gave.
+      let (is, further, linked) = may_name-is old k hint may in
+      moves e b (AtLink 0 None) (tries_hinted hint word) one refl refl (at ∙ ap (λ j. Some (AtLink j None)) is) refl
+      (advances-hinted (AtLink 0 None) hint word 33 refl refl further (omega arith) (λ some. omega arith)) gave)
+      (λ not gave. idles e gave)
+  read_hinted-does b hint _ at row = idles (event.ReadHinted b hint) row
+
+  -- a clearing, which is won, or lost
+  clears-does : (b k mask : ℕ) (from next : Point T) → slice_get old.agents b ≡ Some from → Advances from next
+      → IsOutcome (if mask == 0 then not_enabled old else clears old b k (lowest mask) (word_of old.pages k) next) answer new
+      → Does (event.ClearBit b)
+  clears-does b k mask from next at further row =
+      let e : Event T = event.ClearBit b in
+      let word = word_of old.pages k in
+      let id = lowest mask in
+      let one : Outcome T = (seen.Pulled b (number k id), at_point (with_pages old (with_word old.pages k (without_bit word id))) b (Taken k id)) in
+      let two : Outcome T = (seen.Found b word, at_point old b next) in
+      by-test (Does e) (mask == 0) (not_enabled old) (clears old b k id word next) answer new row
+      (λ none gave. idles e gave)
+      (λ more gave. by-test (Does e) (has_bit word id) one two answer new gave
+      (λ set given. moves e b from (Taken k id) one refl refl at refl (advances-past {T = T} from (Taken k id) refl refl) given)
+      (λ clear given. moves e b from next two refl refl at refl further given))
 
   clear_bit-does : (b : ℕ) (lookup : Option (Point T)) → slice_get old.agents b ≡ lookup
       → IsOutcome (clear_bit old b lookup) answer new → Does (event.ClearBit b)
-  clear_bit-does b (Some (Clearing k mask)) at row =
-      let e : Event T = event.ClearBit b in
-      let bits = (known Leaves first log acts old agrees b (Clearing k mask) at).1 in
-      let word = word_of old.pages k in
+  clear_bit-does b (Some (Clearing k mask asked)) at row =
+      let bits : TriesBits first acts b k mask = (known Leaves first log acts old agrees b (Clearing k mask asked) at).1 in
       let id = lowest mask in
-      let rest = without_lowest mask in
       let some = bits.some in
       let fits = bits.in_word in
       let within = lowest-lt mask some fits in
-      let one : Outcome T = (seen.Pulled b (number k id), at_point (with_pages old (with_word old.pages k (without_bit word id))) b (Taken k id)) in
-      let two : Outcome T = (seen.Found b word, at_point old b (tries k rest)) in
-      by-test (Does e) (mask == 0) (not_enabled old) (clears old b k mask word) answer new row
-      (λ none gave. idles e gave)
-      (λ more gave. by-test (Does e) (has_bit word id) one two answer new gave
-      (λ set given. moves e b (Clearing k mask) (Taken k id) one refl refl at refl (advances-past {T = T} (Clearing k mask) (Taken k id) refl) given)
-      (λ clear given. moves e b (Clearing k mask) (tries k rest) two refl refl at refl
-      (advances-tries (Clearing k mask) k rest (36 * k + 1 + id) refl (omega arith)
-      (λ left. let up = lowest-grows mask some fits (without_lowest-lt mask fits) left in omega arith)) given))
+      clears-does b k mask (Clearing k mask asked) (tries k (without_lowest mask) asked) at
+      (advances-tries (Clearing k mask asked) k (without_lowest mask) asked (36 * k + 1 + id) (69 * k + 1 + id) refl refl
+      (omega arith) (omega arith)
+      (λ left. let up = lowest-grows mask some fits (without_lowest-lt mask fits) left in (omega arith, omega arith))) row
+  clear_bit-does b (Some (ClearingHinted hint mask)) at row =
+      let knows : TriesHinted first acts old b hint mask = known Leaves first log acts old agrees b (ClearingHinted hint mask) at in
+      let bits = knows.bits in
+      let some = bits.some in
+      let fits = bits.in_word in
+      let within = lowest-lt mask some fits in
+      clears-does b hint mask (ClearingHinted hint mask) (tries_hinted hint (without_lowest mask)) at
+      (advances-hinted (ClearingHinted hint mask) hint (without_lowest mask) (34 + lowest mask) refl refl knows.further (omega arith)
+      (λ left. let up = lowest-grows mask some fits (without_lowest-lt mask fits) left in omega arith)) row
   clear_bit-does b _ at row = idles (event.ClearBit b) row
+
+  -- a page that a hint named lies before the end of the chain
+  early-end : (b k : ℕ) (asked : Option ℕ) → FoundAsked first acts (length old.pages) b asked → length old.pages ≡ k + 1 → taken_early asked k ≡ 0
+  early-end b k None full last = refl
+  early-end b k (Some hint) full last = let linked = full.linked in early-past hint k (omega arith)
 
   read_next-does : (b : ℕ) (lookup : Option (Point T)) → slice_get old.agents b ≡ lookup
       → IsOutcome (read_next old b lookup) answer new → Does (event.ReadNext b)
-  read_next-does b (Some (AtLink k)) at row =
+  read_next-does b (Some (AtLink k asked)) at row =
       let e : Event T = event.ReadNext b in
+      let past : IsPast first acts old b k asked = known Leaves first log acts old agrees b (AtLink k asked) at in
       let one : Outcome T = (seen.Refused b Limit, at_point old b Ended) in
       let two : Outcome T = (seen.Next b false, at_point old b (Making k)) in
-      let three : Outcome T = (seen.Next b true, at_point old b (Reading (k + 1))) in
+      let three : Outcome T = (seen.Next b true, at_point old b (comes_to (k + 1) asked)) in
       let rest : Outcome T = if length old.pages == k + 1 then two else three in
       by-test (Does e) (nat_lt k (length old.pages)) (if is_limit old.limit (k + 1) then one else rest) (not_enabled old) answer new row
       (λ there gave. by-test (Does e) (is_limit old.limit (k + 1)) one rest answer new gave
-      (λ limit given. moves e b (AtLink k) Ended one refl refl at refl (advances-past {T = T} (AtLink k) Ended refl) given)
+      (λ limit given. moves e b (AtLink k asked) Ended one refl refl at refl (advances-past {T = T} (AtLink k asked) Ended refl refl) given)
       (λ below given. by-test (Does e) (length old.pages == k + 1) two three answer new given
-      (λ last this. moves e b (AtLink k) (Making k) two refl refl at refl (advances-to {T = T} (AtLink k) (Making k) (36 * k + 33)
-      (36 * k + 34) refl refl (omega arith)) this)
-      (λ more this. moves e b (AtLink k) (Reading (k + 1)) three refl refl at refl (advances-to {T = T} (AtLink k)
-      (Reading (k + 1)) (36 * k + 33) (36 * (k + 1)) refl refl (omega arith)) this)))
+      (λ last this. moves e b (AtLink k asked) (Making k) two refl refl at refl
+      (advances-end k asked (early-end b k asked past.asked_full (eqb-true (length old.pages) (k + 1) last))) this)
+      (λ more this. moves e b (AtLink k asked) (comes_to (k + 1) asked) three refl refl at refl (advances-next k asked) this)))
       (λ beyond gave. idles e gave)
   read_next-does b _ at row = idles (event.ReadNext b) row
 
@@ -184,15 +360,14 @@ module _ {T : Type 0} (Leaves : T → T → Type 0) (first : List T) (log : Log 
       let e : Event T = event.MakePage b (Ok values) in
       let one : Outcome T = (seen.Made b, at_point old b (Linking k values)) in
       by-test (Does e) (nat_lt k (length old.pages)) one (not_enabled old) answer new row
-      (λ there gave. moves e b (Making k) (Linking k values) one refl refl at refl (advances-to {T = T} (Making k)
-      (Linking k values) (36 * k + 34) (36 * k + 35) refl refl (omega arith)) gave)
+      (λ there gave. moves e b (Making k) (Linking k values) one refl refl at refl (advances-made k values) gave)
       (λ beyond gave. idles e gave)
   make_page-does b (Err Memory) (Some (Making k)) at row =
       moves (event.MakePage b (Err Memory)) b (Making k) Ended (seen.Refused b Memory, at_point old b Ended) refl refl at refl
-      (advances-past {T = T} (Making k) Ended refl) row
+      (advances-past {T = T} (Making k) Ended refl refl) row
   make_page-does b (Err Init) (Some (Making k)) at row =
       moves (event.MakePage b (Err Init)) b (Making k) Ended (seen.Refused b Init, at_point old b Ended) refl refl at refl
-      (advances-past {T = T} (Making k) Ended refl) row
+      (advances-past {T = T} (Making k) Ended refl refl) row
   make_page-does b (Ok values) _ at row = idles (event.MakePage b (Ok values)) row
   make_page-does b (Err Limit) _ at row = idles (event.MakePage b (Err Limit)) row
   make_page-does b (Err Memory) _ at row = idles (event.MakePage b (Err Memory)) row
@@ -202,14 +377,13 @@ module _ {T : Type 0} (Leaves : T → T → Type 0) (first : List T) (log : Log 
       → IsOutcome (exchange_next old b lookup) answer new → Does (event.ExchangeNext b)
   exchange_next-does b (Some (Linking k values)) at row =
       let e : Event T = event.ExchangeNext b in
-      let one : Outcome T = (seen.Linked b, at_point (with_pages old (old.pages ++ linked_page values ∷ [])) b (Reading (k + 1))) in
-      let two : Outcome T = (seen.Lost b, at_point old b (Reading (k + 1))) in
-      let further : Advances (Linking k values) (Reading (k + 1)) = advances-to {T = T} (Linking k values) (Reading (k + 1))
-      (36 * k + 35) (36 * (k + 1)) refl refl (omega arith) in
+      let one : Outcome T = (seen.Linked b, at_point (with_pages old (old.pages ++ linked_page values ∷ [])) b (Reading (k + 1) None)) in
+      let two : Outcome T = (seen.Lost b, at_point old b (Reading (k + 1) None)) in
+      let further : Advances (Linking k values) (Reading (k + 1) None) = advances-linked k values in
       by-test (Does e) (nat_lt k (length old.pages)) (if length old.pages == k + 1 then one else two) (not_enabled old) answer new row
       (λ there gave. by-test (Does e) (length old.pages == k + 1) one two answer new gave
-      (λ last given. moves e b (Linking k values) (Reading (k + 1)) one refl refl at refl further given)
-      (λ more given. moves e b (Linking k values) (Reading (k + 1)) two refl refl at refl further given))
+      (λ last given. moves e b (Linking k values) (Reading (k + 1) None) one refl refl at refl further given)
+      (λ more given. moves e b (Linking k values) (Reading (k + 1) None) two refl refl at refl further given))
       (λ beyond gave. idles e gave)
   exchange_next-does b _ at row = idles (event.ExchangeNext b) row
 
@@ -217,7 +391,7 @@ module _ {T : Type 0} (Leaves : T → T → Type 0) (first : List T) (log : Log 
       → IsOutcome (takes old b k id lookup) answer new → Does (event.MoveOut b)
   takes-does b k id at None row = idles (event.MoveOut b) row
   takes-does b k id at (Some value) row = moves (event.MoveOut b) b (Taken k id) (Holding k id value)
-      (takes old b k id (Some value)) refl refl at refl (advances-past {T = T} (Taken k id) (Holding k id value) refl) row
+      (takes old b k id (Some value)) refl refl at refl (advances-past {T = T} (Taken k id) (Holding k id value) refl refl) row
 
   move_out-does : (b : ℕ) (lookup : Option (Point T)) → slice_get old.agents b ≡ lookup → IsOutcome (move_out old b lookup) answer new → Does (event.MoveOut b)
   move_out-does b (Some (Taken k id)) at row = takes-does b k id at (value_at old.pages k id) row
@@ -228,12 +402,12 @@ module _ {T : Type 0} (Leaves : T → T → Type 0) (first : List T) (log : Log 
   write-does b value (Some (Holding k id before)) at row = moves (event.Write b value) b (Holding k id before)
       (Holding k id value)
       (write old b value (Some (Holding k id before))) refl refl at refl (advances-past {T = T} (Holding k id before)
-      (Holding k id value) refl) row
+      (Holding k id value) refl refl) row
   write-does b value _ at row = idles (event.Write b value) row
 
   move_home-does : (b : ℕ) (lookup : Option (Point T)) → slice_get old.agents b ≡ lookup → MovesHome Leaves old b lookup answer new → Does (event.MoveHome b)
   move_home-does b (Some (Holding k id value)) at (kept, leaves, row) = moves (event.MoveHome b) b (Holding k id value)
-      (Home k id) (puts old b k id kept) refl refl at refl (advances-past {T = T} (Holding k id value) (Home k id) refl) row
+      (Home k id) (puts old b k id kept) refl refl at refl (advances-past {T = T} (Holding k id value) (Home k id) refl refl) row
   move_home-does b None at row = idles (event.MoveHome b) row
   move_home-does b _ at row = idles (event.MoveHome b) row
 
@@ -242,24 +416,24 @@ module _ {T : Type 0} (Leaves : T → T → Type 0) (first : List T) (log : Log 
       let e : Event T = event.OrMask b in
       let one : Outcome T = (seen.Returned b (number k id), at_point (with_pages old (with_word old.pages k (with_bit (word_of old.pages k) id))) b Ended) in
       by-test (Does e) (nat_lt id 32) one (not_enabled old) answer new row
-      (λ within gave. moves e b (Home k id) Ended one refl refl at refl (advances-past {T = T} (Home k id) Ended refl) gave)
+      (λ within gave. moves e b (Home k id) Ended one refl refl at refl (advances-past {T = T} (Home k id) Ended refl refl) gave)
       (λ beyond gave. idles e gave)
   or_mask-does b _ at row = idles (event.OrMask b) row
 
   begin-does : IsOutcome (begin old) answer new → Does event.Begin
   begin-does row a =
-      let agents : new.agents ≡ old.agents ++ Reading 0 ∷ [] = ap (λ world. world.agents) row.1 in
+      let agents : new.agents ≡ old.agents ++ Reading 0 None ∷ [] = ap (λ world. world.agents) row.1 in
       let own : is_step_of {T = T} event.Begin answer a ≡ false = ap (λ idle. if idle then false else false) (ap is_idle row.0) in
       elim (cases_lt a (length old.agents)) [
-        | inl below ↦ Stays own (ap (λ all. slice_get all a) agents ∙ get-push_old old.agents (Reading 0) a below)
+        | inl below ↦ Stays own (ap (λ all. slice_get all a) agents ∙ get-push_old old.agents (Reading 0 None) a below)
         | inr past ↦ elim (cases_eq a (length old.agents)) [
           | inl same ↦ Begins own (slice_get_past old.agents a past)
-              (ap (λ all. slice_get all a) agents ∙ ap (λ c. slice_get (old.agents ++ Reading 0 ∷ []) c) same
-              ∙ get-push_new old.agents (Reading 0))
+              (ap (λ all. slice_get all a) agents ∙ ap (λ c. slice_get (old.agents ++ Reading 0 None ∷ []) c) same
+              ∙ get-push_new old.agents (Reading 0 None))
           | inr other ↦
               Stays own
               (ap (λ all. slice_get all a) agents
-              ∙ slice_get_past (old.agents ++ Reading 0 ∷ []) a (omega (arith, length-append old.agents (Reading 0 ∷ [])))
+              ∙ slice_get_past (old.agents ++ Reading 0 None ∷ []) a (omega (arith, length-append old.agents (Reading 0 None ∷ [])))
               ∙ sym (slice_get_past old.agents a past))
         ]
       ]
@@ -267,6 +441,7 @@ module _ {T : Type 0} (Leaves : T → T → Type 0) (first : List T) (log : Log 
   row-does : (e : Event T) → Row Leaves old e answer new → Does e
   row-does event.Begin row = begin-does row
   row-does (event.ReadMask b) row = read_mask-does b (slice_get old.agents b) refl row
+  row-does (event.ReadHinted b hint) row = read_hinted-does b hint (slice_get old.agents b) refl row
   row-does (event.ClearBit b) row = clear_bit-does b (slice_get old.agents b) refl row
   row-does (event.ReadNext b) row = read_next-does b (slice_get old.agents b) refl row
   row-does (event.MakePage b prepared) row = make_page-does b prepared (slice_get old.agents b) refl row
@@ -281,41 +456,42 @@ module _ {T : Type 0} (Leaves : T → T → Type 0) (first : List T) (log : Log 
   step-does e (inr (may, lacks, same)) = stays e old new answer (ap is_idle lacks) same
 
 -- ---- over a list of steps
-module _ {T : Type 0} where
+module _ {T : Type 0} (measure : Point T → Option ℕ) where
   -- where an agent started that hadn't begun, or was at a point
   abbrev pub start_of : Option (Point T) → Option ℕ
   start_of None = Some 0
-  start_of (Some point) = progress point
+  start_of (Some point) = measure point
 
   -- an agent went on by as many steps as were its own
   abbrev pub AdvancedTo : Option (Point T) → ℕ → Option (Point T) → Type 0
   AdvancedTo start n None = (n ≡ 0) × (start ≡ None)
-  AdvancedTo start n (Some point) = (later : ℕ) → progress point ≡ Some later → (sooner : ℕ) × (start_of start ≡ Some sooner) × (sooner + n ≤ later)
+  AdvancedTo start n (Some point) = (later : ℕ) → measure point ≡ Some later → (sooner : ℕ) × (start_of start ≡ Some sooner) × (sooner + n ≤ later)
 
-  begin-advances : (start old new : Option (Point T)) (n : ℕ) → old ≡ None → new ≡ Some (Reading 0) → AdvancedTo start n old → AdvancedTo start n new
+  begin-advances : (start old new : Option (Point T)) (n : ℕ) → old ≡ None → new ≡ Some (Reading 0 None) → AdvancedTo start n old → AdvancedTo start n new
   begin-advances start old new n was is before =
       let P : Option (Point T) → Type 0 = AdvancedTo start n in
       let (none, same) = subst P was before in
-      let at : AdvancedTo start n (Some (Reading 0)) = λ later lookup. (0, ap start_of same, omega arith) in
+      let at : AdvancedTo start n (Some (Reading 0 None)) = λ later lookup. (0, ap start_of same, omega arith) in
       subst P (sym is) at
 
   -- by one step more
-  pub effect-advances : (start old new : Option (Point T)) (n : ℕ) (own : Bool) → Effect old new own → AdvancedTo start n old
+  pub effect-advances : ((from point : Point T) → Advances from point → Rises measure from point)
+      → (start old new : Option (Point T)) (n : ℕ) (own : Bool) → Effect old new own → AdvancedTo start n old
       → AdvancedTo start (if own then n + 1 else n) new
-  effect-advances start old new n own (Stays not same) before =
+  effect-advances counts start old new n own (Stays not same) before =
       let P : Option (Point T) → Type 0 = AdvancedTo start n in
       let Q : Bool → Type 0 = λ b. AdvancedTo start (if b then n + 1 else n) new in
       subst Q (sym not) (subst P (sym same) before)
-  effect-advances start old new n own (Begins not was is) before =
+  effect-advances counts start old new n own (Begins not was is) before =
       let Q : Bool → Type 0 = λ b. AdvancedTo start (if b then n + 1 else n) new in
       subst Q (sym not) (begin-advances start old new n was is before)
-  effect-advances start old new n own (Goes from point mine was is further) before =
+  effect-advances counts start old new n own (Goes from point mine was is further) before =
       let P : Option (Point T) → Type 0 = AdvancedTo start n in
       let R : Option (Point T) → Type 0 = AdvancedTo start (n + 1) in
       let Q : Bool → Type 0 = λ b. AdvancedTo start (if b then n + 1 else n) new in
       let there : AdvancedTo start n (Some from) = subst P was before in
       let at : AdvancedTo start (n + 1) (Some point) = λ later lookup.
-      let (middle, from_is, less) = further later lookup in
+      let (middle, from_is, less) = counts from point further later lookup in
       let (sooner, start_is, few) = there middle from_is in
       (sooner, start_is, omega arith) in
       subst Q (sym mine) (subst R (sym is) at)

@@ -1,6 +1,7 @@
 -- Steps one after another, from a world that can be reached.
 use Rattle.std.specs.Bool.{⊤}
-use Rattle.std.proofs.Common.{◌≡◌, ℕ, Some, [], ◌∷◌, ◌++◌, slice_get, sym, subst}
+use Rattle.std.proofs.Common.{◌≡◌, ℕ, Option, Some, None, [], ◌∷◌, ◌++◌, slice_get, sym, subst}
+use Rattle.object_pool_cores.specs.declared.interleave.point.Point.{Point}
 use Rattle.object_pool_cores.specs.declared.interleave.point.Point.TheVariants.{Reading}
 use Rattle.object_pool_cores.specs.World.State.{State}
 use Rattle.object_pool_cores.specs.World.Visible.{Log}
@@ -10,7 +11,7 @@ use Rattle.object_pool_cores.specs.World.OwnSteps.{own_steps, is_step_of}
 use Rattle.object_pool_cores.specs.World.Alone.{IsAlone}
 use Rattle.object_pool_cores.proofs.World.Rows.{any-step, reached-step, reached-agrees}
 use Rattle.object_pool_cores.proofs.World.Alone.{Stands, stands-first, stands-next}
-use Rattle.object_pool_cores.proofs.World.OwnSteps.{AdvancedTo, effect-advances, none-advanced, step-does}
+use Rattle.object_pool_cores.proofs.World.OwnSteps.{Advances, Rises, AdvancedTo, effect-advances, none-advanced, step-does}
 
 module _ {T : Type 0} (Leaves : T → T → Type 0) where
   -- steps that follow others
@@ -31,20 +32,22 @@ module _ {T : Type 0} (Leaves : T → T → Type 0) where
       reached-step Leaves between e answer new (ran-reached old reached log between ran) step
 
   -- an agent goes on by its own steps
-  pub ran-advances : (old : State T) → IsReached old → (a : ℕ) (log : Log T) (new : State T) → Ran Leaves old log new
-      → AdvancedTo (slice_get old.agents a) (own_steps log a) (slice_get new.agents a)
-  ran-advances old reached a [] new same =
-      let P : State T → Type 0 = λ world. AdvancedTo (slice_get old.agents a) 0 (slice_get world.agents a) in
-      subst P (sym same) (none-advanced (slice_get old.agents a))
-  ran-advances old reached a ((e, answer) ∷ log) new (between, ran, step, exact) =
+  pub ran-advances : (measure : Point T → Option ℕ) → ((from point : Point T) → Advances from point → Rises measure from point)
+      → (old : State T) → IsReached old → (a : ℕ) (log : Log T) (new : State T) → Ran Leaves old log new
+      → AdvancedTo measure (slice_get old.agents a) (own_steps log a) (slice_get new.agents a)
+  ran-advances measure counts old reached a [] new same =
+      let P : State T → Type 0 = λ world. AdvancedTo measure (slice_get old.agents a) 0 (slice_get world.agents a) in
+      subst P (sym same) (none-advanced measure (slice_get old.agents a))
+  ran-advances measure counts old reached a ((e, answer) ∷ log) new (between, ran, step, exact) =
       let there = ran-reached old reached log between ran in
       let agreed = reached-agrees between there in
-      effect-advances (slice_get old.agents a) (slice_get between.agents a) (slice_get new.agents a) (own_steps log a) (is_step_of e answer a)
+      effect-advances measure counts (slice_get old.agents a) (slice_get between.agents a) (slice_get new.agents a)
+      (own_steps log a) (is_step_of e answer a)
       (step-does (λ before kept. ⊤) there.is_new.first there.log agreed.acts between agreed.agrees answer new e (any-step Leaves between e answer new step) a)
-      (ran-advances old reached a log between ran)
+      (ran-advances measure counts old reached a log between ran)
 
   -- an agent that steps alone
-  pub ran-stands : (old : State T) → IsReached old → (a : ℕ) → slice_get old.agents a ≡ Some (Reading 0)
+  pub ran-stands : (old : State T) → IsReached old → (a : ℕ) → slice_get old.agents a ≡ Some (Reading 0 None)
       → (log : Log T) (new : State T) → Ran Leaves old log new → IsAlone a log → Stands old log new a
   ran-stands old reached a at [] new same alone =
       let P : State T → Type 0 = λ world. Stands old [] world a in

@@ -11,11 +11,13 @@ use Rattle.object_pool_cores.specs.World.Visible.{Log}
 use Rattle.object_pool_cores.specs.World.Headline.{IsNew, Ran, Stretch, Advances, SinceNew, RunsEvents}
 use Rattle.object_pool_cores.specs.World.Reached.{IsReached}
 use Rattle.object_pool_cores.specs.World.Rows.{IsExact}
-use Rattle.object_pool_cores.specs.World.OwnSteps.{own_steps, IsOnPage, IsLooking}
-use Rattle.object_pool_cores.specs.World.Invariant.{Knows}
+use Rattle.object_pool_cores.specs.World.OwnSteps.{own_steps, IsOnPage, IsOnHinted, IsLooking}
+use Rattle.object_pool_cores.specs.World.Invariant.{FoundAsked, Knows}
 use Rattle.object_pool_cores.specs.declared.interleave.point.Point.{Point}
-use Rattle.object_pool_cores.specs.declared.interleave.point.Point.TheVariants.{Reading, Clearing, AtLink, Making, Linking}
+use Rattle.object_pool_cores.specs.declared.interleave.point.Point.TheVariants.{Reading, Clearing, AtLink, ClearingHinted, Making, Linking}
 use Rattle.object_pool_cores.specs.Pool.{AllowsPages}
+use Rattle.object_pool_cores.specs.Run.{Act}
+use Rattle.std.proofs.lemmas.Bool.{cases_lt}
 use Rattle.object_pool_cores.proofs.World.Bits.{lowest-lt}
 use Rattle.object_pool_cores.proofs.World.WordSteps.{known}
 use Rattle.object_pool_cores.proofs.World.Headline.{ran-is_run}
@@ -23,7 +25,7 @@ use Rattle.object_pool_cores.proofs.World.Rows.{reached-new, reached-agrees}
 use Rattle.object_pool_cores.proofs.World.Alone.{stands-alone}
 use Rattle.object_pool_cores.proofs.World.Reached.{ran-append, ran-reached, ran-advances, ran-stands}
 use Rattle.object_pool_cores.proofs.World.InOrder.{ran-in_order, none-in_order}
-use Rattle.object_pool_cores.proofs.World.OwnSteps.{start_of, AdvancedTo}
+use Rattle.object_pool_cores.proofs.World.OwnSteps.{start_of, AdvancedTo, progress, position, taken_early, early-most, early-past}
 
 -- an error isn't Ok
 pub on-err : {A E : Type 0} (result : Result A E) (P : Type 0) → IsErr result → OnOk result P
@@ -58,51 +60,90 @@ module _ {T : Type 0} where
       subst P is (reached-agrees new reached).agrees.allowed
 
   -- the steps on one page
-  page-steps-at : (start : Option (Point T)) (new : State T) (log : Log T) (a k : ℕ) → IsReached new → start ≡ Some (Reading k)
-      → (lookup : Option (Point T)) → slice_get new.agents a ≡ lookup → AdvancedTo start (own_steps log a) lookup
-      → IsOnPage k lookup → own_steps log a < 33
-  page-steps-at start new log a k reached is (Some (Reading j)) at advanced here =
-      let (sooner, start_is, few) = advanced (36 * j) refl in
-      let same : Some (36 * k) ≡ Some sooner = sym (ap start_of is) ∙ start_is in
-      let equal : 36 * k ≡ sooner = cc in
+  page-steps-at : (start : Option (Point T)) (new : State T) (log : Log T) (a k : ℕ) (asked : Option ℕ) → IsReached new
+      → start ≡ Some (Reading k asked) → (lookup : Option (Point T)) → slice_get new.agents a ≡ lookup
+      → AdvancedTo position start (own_steps log a) lookup → IsOnPage k lookup → own_steps log a < 33
+  page-steps-at start new log a k asked reached is (Some (Reading j later)) at advanced here =
+      let (sooner, start_is, few) = advanced (69 * j) refl in
+      let same : Some (69 * k) ≡ Some sooner = sym (ap (start_of position) is) ∙ start_is in
+      let equal : 69 * k ≡ sooner = cc in
       omega arith
-  page-steps-at start new log a k reached is (Some (Clearing j mask)) at advanced here =
-      let bits = (known-reached new reached a (Clearing j mask) at).1 in
+  page-steps-at start new log a k asked reached is (Some (Clearing j mask later)) at advanced here =
+      let bits = (known-reached new reached a (Clearing j mask later) at).1 in
       let within = lowest-lt mask bits.some bits.in_word in
-      let (sooner, start_is, few) = advanced (36 * j + 1 + lowest mask) refl in
-      let same : Some (36 * k) ≡ Some sooner = sym (ap start_of is) ∙ start_is in
-      let equal : 36 * k ≡ sooner = cc in
+      let (sooner, start_is, few) = advanced (69 * j + 1 + lowest mask) refl in
+      let same : Some (69 * k) ≡ Some sooner = sym (ap (start_of position) is) ∙ start_is in
+      let equal : 69 * k ≡ sooner = cc in
       omega arith
-  page-steps-at start new log a k reached is _ at advanced here = absurd here
+  page-steps-at start new log a k asked reached is _ at advanced here = absurd here
+
+  -- the steps on the page that a hint names
+  hint-steps-at : (start : Option (Point T)) (new : State T) (log : Log T) (a : ℕ) → IsReached new → start ≡ Some (AtLink 0 None)
+      → (lookup : Option (Point T)) → slice_get new.agents a ≡ lookup → AdvancedTo position start (own_steps log a) lookup
+      → IsOnHinted lookup → own_steps log a < 33
+  hint-steps-at start new log a reached is (Some (ClearingHinted hint mask)) at advanced here =
+      let knows = known-reached new reached a (ClearingHinted hint mask) at in
+      let within = lowest-lt mask knows.bits.some knows.bits.in_word in
+      let (sooner, start_is, few) = advanced (34 + lowest mask) refl in
+      let same : Some 33 ≡ Some sooner = sym (ap (start_of position) is) ∙ start_is in
+      let equal : 33 ≡ sooner = cc in
+      omega arith
+  hint-steps-at start new log a reached is _ at advanced here = absurd here
 
   -- the steps of an agent that began
-  since-begun : (start : Option (Point T)) (n later : ℕ) → start ≡ None → (sooner : ℕ) → start_of start ≡ Some sooner → sooner + n ≤ later → n ≤ later
+  since-begun : (start : Option (Point T)) (n later : ℕ) → start ≡ None → (sooner : ℕ) → start_of progress start ≡ Some sooner
+      → sooner + n ≤ later → n ≤ later
   since-begun start n later none sooner is few =
-      let same : Some 0 ≡ Some sooner = sym (ap start_of none) ∙ is in
+      let same : Some 0 ≡ Some sooner = sym (ap (start_of progress) none) ∙ is in
       let zero : 0 ≡ sooner = cc in
       omega arith
 
+  -- those that were taken early, on a page that is linked, are within the limit
+  early-within : (asked : Option ℕ) (first : List T) (acts : List (Act T)) (pages a k : ℕ) → FoundAsked first acts pages a asked
+      → k < pages → 36 * k + taken_early asked k + 36 ≤ 36 * pages
+  early-within None first acts pages a k full linked = omega arith
+  early-within (Some hint) first acts pages a k full linked =
+      let there = full.linked in
+      elim (cases_lt k hint) [
+        | inl before ↦ let most = early-most (Some hint) k in omega arith
+        | inr past ↦ let none = early-past hint k past in omega arith
+      ]
+
   limit-steps-at : (start : Option (Point T)) (new : State T) (log : Log T) (a limit : ℕ) → IsReached new → new.limit ≡ Some limit
-      → start ≡ None → (lookup : Option (Point T)) → slice_get new.agents a ≡ lookup → AdvancedTo start (own_steps log a) lookup
-      → IsLooking lookup → own_steps log a < 36 * limit - 2
-  limit-steps-at start new log a limit reached is none (Some (Reading k)) at advanced looks =
-      let (sooner, start_is, few) = advanced (36 * k) refl in
-      let most = since-begun start (own_steps log a) (36 * k) none sooner start_is few in
-      let linked = (known-reached new reached a (Reading k) at).linked in
+      → start ≡ None → (lookup : Option (Point T)) → slice_get new.agents a ≡ lookup
+      → AdvancedTo progress start (own_steps log a) lookup → IsLooking lookup → own_steps log a < 36 * limit - 2
+  limit-steps-at start new log a limit reached is none (Some (Reading k asked)) at advanced looks =
+      let later = 36 * k + taken_early asked k in
+      let (sooner, start_is, few) = advanced later refl in
+      let most = since-begun start (own_steps log a) later none sooner start_is few in
+      let knows = known-reached new reached a (Reading k asked) at in
+      let within = early-within asked _ _ (length new.pages) a k knows.asked_full knows.linked in
       let allowed = allowed-under new reached limit is in
       omega arith
-  limit-steps-at start new log a limit reached is none (Some (Clearing k mask)) at advanced looks =
-      let (sooner, start_is, few) = advanced (36 * k + 1 + lowest mask) refl in
-      let most = since-begun start (own_steps log a) (36 * k + 1 + lowest mask) none sooner start_is few in
-      let knows = known-reached new reached a (Clearing k mask) at in
-      let linked = knows.0.linked in
-      let within = lowest-lt mask knows.1.some knows.1.in_word in
+  limit-steps-at start new log a limit reached is none (Some (Clearing k mask asked)) at advanced looks =
+      let later = 36 * k + 1 + lowest mask + taken_early asked k in
+      let (sooner, start_is, few) = advanced later refl in
+      let most = since-begun start (own_steps log a) later none sooner start_is few in
+      let (looks_on, bits) = known-reached new reached a (Clearing k mask asked) at in
+      let within = lowest-lt mask bits.some bits.in_word in
+      let early = early-within asked _ _ (length new.pages) a k looks_on.asked_full looks_on.linked in
       let allowed = allowed-under new reached limit is in
       omega arith
-  limit-steps-at start new log a limit reached is none (Some (AtLink k)) at advanced looks =
-      let (sooner, start_is, few) = advanced (36 * k + 33) refl in
-      let most = since-begun start (own_steps log a) (36 * k + 33) none sooner start_is few in
-      let linked = (known-reached new reached a (AtLink k) at).linked in
+  limit-steps-at start new log a limit reached is none (Some (AtLink k asked)) at advanced looks =
+      let later = 36 * k + 33 + taken_early asked k in
+      let (sooner, start_is, few) = advanced later refl in
+      let most = since-begun start (own_steps log a) later none sooner start_is few in
+      let knows = known-reached new reached a (AtLink k asked) at in
+      let within = early-within asked _ _ (length new.pages) a k knows.asked_full knows.linked in
+      let allowed = allowed-under new reached limit is in
+      omega arith
+  limit-steps-at start new log a limit reached is none (Some (ClearingHinted hint mask)) at advanced looks =
+      let (sooner, start_is, few) = advanced (34 + lowest mask) refl in
+      let most = since-begun start (own_steps log a) (34 + lowest mask) none sooner start_is few in
+      let knows = known-reached new reached a (ClearingHinted hint mask) at in
+      let within = lowest-lt mask knows.bits.some knows.bits.in_word in
+      let further = knows.further in
+      let linked = knows.linked in
       let allowed = allowed-under new reached limit is in
       omega arith
   limit-steps-at start new log a limit reached is none (Some (Making k)) at advanced looks =
@@ -127,16 +168,21 @@ module _ {T : Type 0} (Leaves : T → T → Type 0) where
   -- what own steps come to, from a world that can be reached
   reached-leads : (whole : Stretch T) → IsReached whole.from → Advances Leaves whole
   reached-leads whole reached = record {
-    per_page = λ part is a k at here.
+    per_page = λ part is a k asked at here.
         let there = ran-reached Leaves whole.from reached is.earlier part.from is.before in
         let end = ran-reached Leaves part.from there part.log part.to is.steps in
-        page-steps-at (slice_get part.from.agents a) part.to part.log a k end at (slice_get part.to.agents a) refl
-        (ran-advances Leaves part.from there a part.log part.to is.steps) here;
+        page-steps-at (slice_get part.from.agents a) part.to part.log a k asked end at (slice_get part.to.agents a) refl
+        (ran-advances Leaves position (λ from point further. further.pages) part.from there a part.log part.to is.steps) here;
+    per_hint = λ part is a at here.
+        let there = ran-reached Leaves whole.from reached is.earlier part.from is.before in
+        let end = ran-reached Leaves part.from there part.log part.to is.steps in
+        hint-steps-at (slice_get part.from.agents a) part.to part.log a end at (slice_get part.to.agents a) refl
+        (ran-advances Leaves position (λ from point further. further.pages) part.from there a part.log part.to is.steps) here;
     bounded = λ part is a limit none limited looks.
         let there = ran-reached Leaves whole.from reached is.earlier part.from is.before in
         let end = ran-reached Leaves part.from there part.log part.to is.steps in
         limit-steps-at (slice_get part.from.agents a) part.to part.log a limit end limited none (slice_get part.to.agents a) refl
-        (ran-advances Leaves part.from there a part.log part.to is.steps) looks;
+        (ran-advances Leaves progress (λ from point further. further.steps) part.from there a part.log part.to is.steps) looks;
     alone = λ part is a at only.
         let there = ran-reached Leaves whole.from reached is.earlier part.from is.before in
         stands-alone part.from part.log part.to a (ran-stands Leaves part.from there a at part.log part.to is.steps only);
@@ -148,7 +194,8 @@ module _ {T : Type 0} (Leaves : T → T → Type 0) where
   -- where no steps were done there is none on any part
   nothing-leads : (whole : Stretch T) → whole.log ≡ [] → Advances Leaves whole
   nothing-leads whole empty = record {
-    per_page = λ part is a k at here. let none = no-steps is.later part.log is.earlier a (is.logs ∙ empty) in omega arith;
+    per_page = λ part is a k asked at here. let none = no-steps is.later part.log is.earlier a (is.logs ∙ empty) in omega arith;
+    per_hint = λ part is a at here. let none = no-steps is.later part.log is.earlier a (is.logs ∙ empty) in omega arith;
     bounded = λ part is a limit begins limited looks.
         let P : Option (Point T) → Type 0 = IsLooking in
         absurd (subst P (none-goes part.from part.to a part.log (no-events is.later part.log is.earlier (is.logs ∙ empty)) is.steps ∙ begins) looks);
@@ -176,7 +223,7 @@ module _ {T : Type 0} (Leaves : T → T → Type 0) where
         headline = ran-is_run Leaves start is_new log new ran;
         bounded = λ a limit is looks.
             limit-steps-at (slice_get start.agents a) new log a limit end is (new-limit start is_new a)
-            (slice_get new.agents a) refl (ran-advances Leaves start reached a log new ran) looks;
+            (slice_get new.agents a) refl (ran-advances Leaves progress (λ from point further. further.steps) start reached a log new ran) looks;
         advances = reached-leads (record { from = start; log = log; to = new }) reached;
       }
 

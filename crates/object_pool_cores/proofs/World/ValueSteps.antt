@@ -154,7 +154,7 @@ module _ {T : Type 0} (Leaves : T → T → Type 0) (first : List T) (log : Log 
       let act : Act T = Opens a in
       let seen_now = seen.Began a in
       let later : Log T = (event.Begin, seen_now) ∷ log in
-      let world : State T = record { pages = old.pages; agents = old.agents ++ Reading 0 ∷ []; limit = old.limit } in
+      let world : State T = record { pages = old.pages; agents = old.agents ++ Reading 0 None ∷ []; limit = old.limit } in
       let unknown : (b : ℕ) → length old.agents ≤ b → stage_of acts b ≡ NotBegun = λ b past.
       let P : Option (Point T) → Type 0 = KnowsIf Leaves first log acts old b in
       subst P (slice_get_past old.agents b past) (agrees.agents b) in
@@ -184,21 +184,22 @@ module _ {T : Type 0} (Leaves : T → T → Type 0) (first : List T) (log : Log 
               let Known : Option (Point T) → Type 0 = KnowsIf Leaves first later (act ∷ acts) world b in
               elim (cases_lt b a) [
                 | inl below ↦
-                    subst Known (sym (get-push_old old.agents (Reading 0) b below))
+                    subst Known (sym (get-push_old old.agents (Reading 0 None) b below))
                     (known-carried Leaves first log later acts (act ∷ acts) old world b (carries b (λ is. absurd (omega arith)))
                     (slice_get old.agents b) (agrees.agents b))
                 | inr past ↦ elim (cases_eq a b) [
                   | inl same ↦
-                      let here : slice_get (old.agents ++ Reading 0 ∷ []) b ≡ Some (Reading 0) = ap
-                      (λ c. slice_get (old.agents ++ Reading 0 ∷ []) c) (sym same) ∙ get-push_new old.agents (Reading 0) in
+                      let here : slice_get (old.agents ++ Reading 0 None ∷ []) b ≡ Some (Reading 0 None) = ap
+                      (λ c. slice_get (old.agents ++ Reading 0 None ∷ []) c) (sym same) ∙ get-push_new old.agents (Reading 0 None) in
                       subst Known (sym here)
                       (record {
                         looking = stage_of-own act acts b same;
                         linked = omega arith;
                         found_out = λ n below. absurd (omega arith);
+                        asked_full = tt;
                       })
                   | inr other ↦
-                      subst Known (sym (slice_get_past (old.agents ++ Reading 0 ∷ []) b (omega (arith, length-append old.agents (Reading 0 ∷ [])))))
+                      subst Known (sym (slice_get_past (old.agents ++ Reading 0 None ∷ []) b (omega (arith, length-append old.agents (Reading 0 None ∷ [])))))
                       (stage_of-other act acts b other ∙ unknown b past)
                 ]
               ];

@@ -1,37 +1,50 @@
 -- The steps on a page's word keep the invariant: a read, a clearing, and the bit that is set again.
-use Rattle.std.proofs.Common.{◌≡◌, inl, inr, ℕ, ◌-◌, ◌*◌, ◌^◌, ◌<◌, ◌==◌, nat_lt, true, false, Option, Some, None, List, ◌∷◌, length, slice_get, refl, ap, sym, ◌∙◌, subst, arith}
-use Rattle.std.proofs.lemmas.Bool.{eq-eqb, ne_eqb, cases_eq, cases_lt}
+use Rattle.std.proofs.Common.{◌≡◌, inl, inr, ℕ, ◌-◌, ◌*◌, ◌^◌, ◌<◌, ◌==◌, nat_lt, Bool, true, false, if◌then◌else◌, Option, Some, None, List, ◌∷◌, length, slice_get, refl, ap, sym, ◌∙◌, subst, arith}
+use Rattle.std.proofs.lemmas.Bool.{eq-eqb, ne_eqb, eqb-true, ltb-true, false≢true, cases_eq, cases_lt}
 use Rattle.object_pool_cores.specs.declared.interleave.event.Event.{Event}
 use Rattle.object_pool_cores.specs.declared.interleave.event.Event.TheVariants as event
 use Rattle.object_pool_cores.specs.declared.interleave.event.Seen.{Seen}
 use Rattle.object_pool_cores.specs.declared.interleave.event.Seen.TheVariants as seen
 use Rattle.object_pool_cores.specs.declared.interleave.point.Point.{Point}
-use Rattle.object_pool_cores.specs.declared.interleave.point.Point.TheVariants.{Reading, Clearing, AtLink, Taken, Home, Ended}
+use Rattle.object_pool_cores.specs.declared.interleave.point.Point.TheVariants.{Reading, Clearing, AtLink, ClearingHinted, Taken, Home, Ended}
 use Rattle.object_pool_cores.specs.Pool.{IsSame, IsFree, IsOut, number}
 use Rattle.object_pool_cores.specs.Move.{Pull, Return}
-use Rattle.object_pool_cores.specs.Run.{Act, Moves, pool_of, FoundOut}
+use Rattle.object_pool_cores.specs.Run.{Act, Looking, Moves, stage_of, pool_of, FoundOut}
 use Rattle.object_pool_cores.specs.World.PageState.{PageState}
 use Rattle.object_pool_cores.specs.World.State.{State}
-use Rattle.object_pool_cores.specs.World.Machine.{Outcome, IsOutcome, not_enabled, has_bit, with_bit, without_bit, lowest, without_lowest, word_in, word_of, value_at, with_word, tries, clears, read_mask, clear_bit, or_mask}
+use Rattle.object_pool_cores.specs.World.Machine.{Outcome, IsOutcome, not_enabled, has_bit, with_bit, without_bit, lowest, without_lowest, word_in, word_of, value_at, with_word, tries, tries_hinted, clears, may_name, read_mask, read_hinted, clear_bit, or_mask}
 use Rattle.object_pool_cores.specs.World.Reading.{place_of, reading}
 use Rattle.object_pool_cores.specs.World.Visible.{Log, made_by}
-use Rattle.object_pool_cores.specs.World.Invariant.{LooksOn, IsPast, Knows, KnowsIf, Agrees}
+use Rattle.object_pool_cores.specs.World.Invariant.{LooksOn, IsPast, TriesBits, TriesHinted, Knows, KnowsIf, Agrees}
 use Rattle.object_pool_cores.proofs.Runs.{since-now, stage_of-own}
 use Rattle.object_pool_cores.proofs.World.Bits.{has_bit-none, has_bit-without_lowest, lowest-lt, with_bit-lt, without_bit-lt, without_lowest-lt}
 use Rattle.object_pool_cores.proofs.World.Reading.{get-some, length-changed, changed-all, reads-number, value-word, same-cleared, same-set}
 use Rattle.object_pool_cores.proofs.World.Invariant.{GoesOn, StepsPages, moved, pages-stay, hidden-step, visible-step, from-outcome, from-if, idle, sound-of, allows-fewer}
 
+all-three : (one two three : Bool) → (if one then if two then three else false else false) ≡ true
+    → (one ≡ true) × (two ≡ true) × (three ≡ true)
+all-three true true three is = (refl, refl, is)
+all-three true false three is = absurd (false≢true is)
+all-three false two three is = absurd (false≢true is)
+
+-- what a hint may name
+pub may_name-is : {T : Type 0} (world : State T) (k hint : ℕ) → may_name world k hint ≡ true
+    → (k ≡ 0) × (0 < hint) × (hint < length world.pages)
+may_name-is world k hint may =
+    let (first_link, further, linked) = all-three (k == 0) (nat_lt 0 hint) (nat_lt hint (length world.pages)) may in
+    (eqb-true k 0 first_link, ltb-true 0 hint further, ltb-true hint (length world.pages) linked)
+
 module _ {T : Type 0} (Leaves : T → T → Type 0) (first : List T) where
   -- an agent that has some bits to try, or none
-  tries-known : (later : Log T) (acts : List (Act T)) (world : State T) (a k mask : ℕ) → LooksOn first acts world a k
+  tries-known : (later : Log T) (acts : List (Act T)) (world : State T) (a k mask : ℕ) (asked : Option ℕ) → LooksOn first acts world a k asked
       → mask < 2 ^ 32 → ((id : ℕ) → id < 32 → has_bit mask id ≡ false → FoundOut first acts a (number k id))
-      → Knows Leaves first later acts world a (tries k mask)
-  tries-known later acts world a k mask looks fits others =
+      → Knows Leaves first later acts world a (tries k mask asked)
+  tries-known later acts world a k mask asked looks fits others =
       let Known : Point T → Type 0 = Knows Leaves first later acts world a in
       elim (cases_eq mask 0) [
         | inl none ↦
-            let is : tries {T = T} k mask ≡ AtLink k = rw (eq-eqb mask 0 none) refl in
-            let past : IsPast first acts world a k = record {
+            let is : tries {T = T} k mask asked ≡ AtLink k asked = rw (eq-eqb mask 0 none) refl in
+            let past : IsPast first acts world a k asked = record {
               looking = looks.looking;
               linked = looks.linked;
               found_out = λ n below. elim (cases_lt n (32 * k)) [
@@ -41,11 +54,43 @@ module _ {T : Type 0} (Leaves : T → T → Type 0) (first : List T) where
                     let P : ℕ → Type 0 = FoundOut first acts a in
                     subst P same (others (n - 32 * k) (omega arith) (ap (λ m. has_bit m (n - 32 * k)) none ∙ has_bit-none (n - 32 * k)))
               ];
+              asked_full = looks.asked_full;
             } in
             subst Known (sym is) past
         | inr some ↦
-            let is : tries {T = T} k mask ≡ Clearing k mask = rw (ne_eqb mask 0 some) refl in
+            let is : tries {T = T} k mask asked ≡ Clearing k mask asked = rw (ne_eqb mask 0 some) refl in
             subst Known (sym is) (looks, record { some = omega arith; in_word = fits; others = others })
+      ]
+
+  -- so it is of an agent on a page that a hint named
+  tries_hinted-known : (later : Log T) (acts : List (Act T)) (world : State T) (a hint mask : ℕ) → IsPast first acts world a 0 None
+      → 0 < hint → hint < length world.pages → mask < 2 ^ 32
+      → ((id : ℕ) → id < 32 → has_bit mask id ≡ false → FoundOut first acts a (number hint id))
+      → Knows Leaves first later acts world a (tries_hinted hint mask)
+  tries_hinted-known later acts world a hint mask past further linked fits others =
+      let Known : Point T → Type 0 = Knows Leaves first later acts world a in
+      elim (cases_eq mask 0) [
+        | inl none ↦
+            let is : tries_hinted {T = T} hint mask ≡ AtLink 0 (Some hint) = rw (eq-eqb mask 0 none) refl in
+            let asked : IsPast first acts world a 0 (Some hint) = record {
+              looking = past.looking;
+              linked = past.linked;
+              found_out = past.found_out;
+              asked_full = record {
+                linked = linked;
+                found_out = λ id within. others id within (ap (λ m. has_bit m id) none ∙ has_bit-none id);
+              };
+            } in
+            subst Known (sym is) asked
+        | inr some ↦
+            let is : tries_hinted {T = T} hint mask ≡ ClearingHinted hint mask = rw (ne_eqb mask 0 some) refl in
+            let tried : TriesHinted first acts world a hint mask = record {
+              past = past;
+              further = further;
+              linked = linked;
+              bits = record { some = omega arith; in_word = fits; others = others };
+            } in
+            subst Known (sym is) tried
       ]
 
 module _ {T : Type 0} (Leaves : T → T → Type 0) (first : List T) (log : Log T) (acts : List (Act T)) (old : State T)
@@ -88,26 +133,64 @@ module _ {T : Type 0} (Leaves : T → T → Type 0) (first : List T) (log : Log 
 
   pub read_mask-goes : (a : ℕ) (lookup : Option (Point T)) → slice_get old.agents a ≡ lookup → (answer : Seen) (new : State T)
       → IsOutcome (read_mask old a lookup) answer new → GoesOn Leaves first log (event.ReadMask a) answer new
-  read_mask-goes a (Some (Reading k)) at answer new row =
-      let looks : LooksOn first acts old a k = known a (Reading k) at in
+  read_mask-goes a (Some (Reading k asked)) at answer new row =
+      let looks : LooksOn first acts old a k asked = known a (Reading k asked) at in
       let (page, here) = get-some old.pages k looks.linked in
       let word_is : word_of old.pages k ≡ page.word = ap word_in here in
       let fits = agrees.words k page here in
-      from-outcome Leaves first log (event.ReadMask a) (read_mask old a (Some (Reading k))) answer new
+      from-outcome Leaves first log (event.ReadMask a) (read_mask old a (Some (Reading k asked))) answer new
       (record {
         acts = acts;
-        agrees = hidden-step Leaves first log acts old (event.ReadMask a) (seen.Word a (word_of old.pages k)) a (Reading k)
-            (tries k (word_of old.pages k)) old.pages agrees at tt (λ b other. refl)
+        agrees = hidden-step Leaves first log acts old (event.ReadMask a) (seen.Word a (word_of old.pages k)) a (Reading k asked)
+            (tries k (word_of old.pages k) asked) old.pages agrees at tt (λ b other. refl)
             (pages-stay Leaves first log acts acts old a agrees refl)
             (tries-known Leaves first ((event.ReadMask a, seen.Word a (word_of old.pages k)) ∷ log) acts
-            (moved Leaves first old old.pages a (tries k (word_of old.pages k))) a k (word_of old.pages k)
-            (record { looking = looks.looking; linked = looks.linked; found_out = looks.found_out })
+            (moved Leaves first old old.pages a (tries k (word_of old.pages k) asked)) a k (word_of old.pages k) asked
+            (record { looking = looks.looking; linked = looks.linked; found_out = looks.found_out; asked_full = looks.asked_full })
             (omega arith)
             (λ id within clear. since-now first acts a (λ pool. IsOut pool (number k id)) looks.looking
             (out-at k id page within here (ap (λ w. has_bit w id) (sym word_is) ∙ clear))));
       })
       row
   read_mask-goes a _ at answer new row = disabled (event.ReadMask a) (λ b. refl) answer new row
+
+  -- an agent at the first link reads the word of a page that a hint names
+  hinted : (a hint : ℕ) → slice_get old.agents a ≡ Some (AtLink 0 None) → 0 < hint → hint < length old.pages
+      → GoesOn Leaves first log (event.ReadHinted a hint) (seen.Word a (word_of old.pages hint))
+      (moved Leaves first old old.pages a (tries_hinted hint (word_of old.pages hint)))
+  hinted a hint at further linked =
+      let past : IsPast first acts old a 0 None = known a (AtLink 0 None) at in
+      let (page, here) = get-some old.pages hint linked in
+      let word_is : word_of old.pages hint ≡ page.word = ap word_in here in
+      let fits = agrees.words hint page here in
+      record {
+        acts = acts;
+        agrees = hidden-step Leaves first log acts old (event.ReadHinted a hint) (seen.Word a (word_of old.pages hint)) a (AtLink 0 None)
+            (tries_hinted hint (word_of old.pages hint)) old.pages agrees at tt (λ b other. refl)
+            (pages-stay Leaves first log acts acts old a agrees refl)
+            (tries_hinted-known Leaves first ((event.ReadHinted a hint, seen.Word a (word_of old.pages hint)) ∷ log) acts
+            (moved Leaves first old old.pages a (tries_hinted hint (word_of old.pages hint))) a hint (word_of old.pages hint)
+            (record { looking = past.looking; linked = past.linked; found_out = past.found_out; asked_full = tt })
+            further linked (omega arith)
+            (λ id within clear. since-now first acts a (λ pool. IsOut pool (number hint id)) past.looking
+            (out-at hint id page within here (ap (λ w. has_bit w id) (sym word_is) ∙ clear))));
+      }
+
+  pub read_hinted-goes : (a hint : ℕ) (lookup : Option (Point T)) → slice_get old.agents a ≡ lookup → (answer : Seen) (new : State T)
+      → IsOutcome (read_hinted old a hint lookup) answer new → GoesOn Leaves first log (event.ReadHinted a hint) answer new
+  read_hinted-goes a hint (Some (AtLink k None)) at answer new row =
+      let e : Event T = event.ReadHinted a hint in
+      let one : Outcome T = (
+        seen.Word a (word_of old.pages hint),
+        moved Leaves first old old.pages a (tries_hinted hint (word_of old.pages hint)),
+      ) in
+      from-if Leaves first log e (may_name old k hint) one (not_enabled old) answer new
+      (λ may gave.
+      let (is, further, linked) = may_name-is old k hint may in
+      from-outcome Leaves first log e one answer new (hinted a hint (at ∙ ap (λ j. Some (AtLink j None)) is) further linked) gave)
+      (λ not gave. disabled e (λ b. refl) answer new gave)
+      row
+  read_hinted-goes a hint _ at answer new row = disabled (event.ReadHinted a hint) (λ b. refl) answer new row
 
   -- the pages after another word was put on one of them
   worded : (more : List (Act T)) (a k word : ℕ) (page : PageState T) → slice_get old.pages k ≡ Some page → word < 2 ^ 32
@@ -133,78 +216,107 @@ module _ {T : Type 0} (Leaves : T → T → Type 0) (first : List T) (log : Log 
       omega arith
 
   -- the bit is set in the word: the agent pulls its number
-  won : length first ≡ 32 → (a k mask : ℕ) → slice_get old.agents a ≡ Some (Clearing k mask)
-      → has_bit (word_of old.pages k) (lowest mask) ≡ true
+  won : length first ≡ 32 → (a k mask : ℕ) (from : Point T) → slice_get old.agents a ≡ Some from → stage_of acts a ≡ Looking
+      → k < length old.pages → TriesBits first acts a k mask → has_bit (word_of old.pages k) (lowest mask) ≡ true
       → GoesOn Leaves first log (event.ClearBit a) (seen.Pulled a (number k (lowest mask)))
       (moved Leaves first old (with_word old.pages k (without_bit (word_of old.pages k) (lowest mask))) a (Taken k (lowest mask)))
-  won full a k mask at set =
-      let (looks, bits) = known a (Clearing k mask) at in
+  won full a k mask from at looking linked bits set =
       let id = lowest mask in
       let within : id < 32 = lowest-lt mask bits.some bits.in_word in
-      let (page, here) = get-some old.pages k looks.linked in
+      let (page, here) = get-some old.pages k linked in
       let word_is : word_of old.pages k ≡ page.word = ap word_in here in
       let fits = agrees.words k page here in
       let word = without_bit (word_of old.pages k) id in
       let pages = with_word old.pages k word in
-      let (value, lies, free) = free-at full k id page within here looks.linked (ap (λ w. has_bit w id) (sym word_is) ∙ set) in
+      let (value, lies, free) = free-at full k id page within here linked (ap (λ w. has_bit w id) (sym word_is) ∙ set) in
       let act : Act T = Moves a (Pull (number k id) value) in
       record {
         acts = act ∷ acts;
-        agrees = visible-step Leaves first log acts old (event.ClearBit a) (seen.Pulled a (number k id)) a (Clearing k mask)
-            (Taken k id) pages act agrees at (value, refl) (free, looks.looking) tt refl (λ b other. refl)
+        agrees = visible-step Leaves first log acts old (event.ClearBit a) (seen.Pulled a (number k id)) a from
+            (Taken k id) pages act agrees at (value, refl) (free, looking) tt refl (λ b other. refl)
             (worded (act ∷ acts) a k word page here (without_bit-lt (word_of old.pages k) id (omega arith))
             (same-cleared (pool_of first acts) old
             (record { pages = pages; agents = old.agents; limit = old.limit }) k id page within here agrees.same
             (ap (λ w. with_word old.pages k (without_bit w id)) word_is))) (
               value,
-              record { linked = linked-worded k k word page here looks.linked; in_page = within; stage = stage_of-own act acts a refl },
+              record { linked = linked-worded k k word page here linked; in_page = within; stage = stage_of-own act acts a refl },
               value-word old.pages k word page here k id ∙ lies,
             );
       }
 
   -- the bit isn't set in the word: the agent goes on with the rest
-  lost : (a k mask : ℕ) → slice_get old.agents a ≡ Some (Clearing k mask) → has_bit (word_of old.pages k) (lowest mask) ≡ false
-      → GoesOn Leaves first log (event.ClearBit a) (seen.Found a (word_of old.pages k))
-      (moved Leaves first old old.pages a (tries k (without_lowest mask)))
-  lost a k mask at clear =
-      let (looks, bits) = known a (Clearing k mask) at in
-      let (page, here) = get-some old.pages k looks.linked in
-      let word_is : word_of old.pages k ≡ page.word = ap word_in here in
-      let answer = seen.Found a (word_of old.pages k) in
-      record {
-        acts = acts;
-        agrees = hidden-step Leaves first log acts old (event.ClearBit a) answer a (Clearing k mask)
-            (tries k (without_lowest mask)) old.pages agrees at tt (λ b other. refl)
-            (pages-stay Leaves first log acts acts old a agrees refl)
-            (tries-known Leaves first ((event.ClearBit a, answer) ∷ log) acts
-            (moved Leaves first old old.pages a (tries k (without_lowest mask))) a k (without_lowest mask)
-            (record { looking = looks.looking; linked = looks.linked; found_out = looks.found_out })
-            (without_lowest-lt mask bits.in_word)
-            (λ id within gone. elim (cases_eq id (lowest mask)) [
-              | inl tried ↦
-                  since-now first acts a (λ pool. IsOut pool (number k id)) looks.looking
-                  (out-at k id page within here (ap (λ i. has_bit page.word i) tried ∙ ap (λ w. has_bit w (lowest mask))
-                  (sym word_is) ∙ clear))
-              | inr other ↦ bits.others id within (sym (has_bit-without_lowest mask id bits.some bits.in_word other) ∙ gone)
-            ]));
-      }
+  lost : (a k : ℕ) (from next : Point T) → slice_get old.agents a ≡ Some from
+      → Knows Leaves first ((event.ClearBit a, seen.Found a (word_of old.pages k)) ∷ log) acts
+      (moved Leaves first old old.pages a next) a next
+      → GoesOn Leaves first log (event.ClearBit a) (seen.Found a (word_of old.pages k)) (moved Leaves first old old.pages a next)
+  lost a k from next at knows = record {
+    acts = acts;
+    agrees = hidden-step Leaves first log acts old (event.ClearBit a) (seen.Found a (word_of old.pages k)) a from next
+        old.pages agrees at tt (λ b other. refl) (pages-stay Leaves first log acts acts old a agrees refl) knows;
+  }
 
-  pub clear_bit-goes : length first ≡ 32 → (a : ℕ) (lookup : Option (Point T)) → slice_get old.agents a ≡ lookup
-      → (answer : Seen) (new : State T) → IsOutcome (clear_bit old a lookup) answer new
+  -- the numbers that it has found out then
+  lost-others : (a k mask : ℕ) → stage_of acts a ≡ Looking → k < length old.pages → TriesBits first acts a k mask
+      → has_bit (word_of old.pages k) (lowest mask) ≡ false → (id : ℕ) → id < 32 → has_bit (without_lowest mask) id ≡ false
+      → FoundOut first acts a (number k id)
+  lost-others a k mask looking linked bits clear id within gone =
+      let (page, here) = get-some old.pages k linked in
+      let word_is : word_of old.pages k ≡ page.word = ap word_in here in
+      elim (cases_eq id (lowest mask)) [
+        | inl tried ↦
+            since-now first acts a (λ pool. IsOut pool (number k id)) looking
+            (out-at k id page within here (ap (λ i. has_bit page.word i) tried ∙ ap (λ w. has_bit w (lowest mask))
+            (sym word_is) ∙ clear))
+        | inr other ↦ bits.others id within (sym (has_bit-without_lowest mask id bits.some bits.in_word other) ∙ gone)
+      ]
+
+  -- a clearing, which is won, or lost
+  clears-goes : length first ≡ 32 → (a k mask : ℕ) (from next : Point T) → slice_get old.agents a ≡ Some from → stage_of acts a ≡ Looking
+      → k < length old.pages → TriesBits first acts a k mask
+      → (has_bit (word_of old.pages k) (lowest mask) ≡ false
+      → Knows Leaves first ((event.ClearBit a, seen.Found a (word_of old.pages k)) ∷ log) acts
+      (moved Leaves first old old.pages a next) a next)
+      → (answer : Seen) (new : State T)
+      → IsOutcome (if mask == 0 then not_enabled old else clears old a k (lowest mask) (word_of old.pages k) next) answer new
       → GoesOn Leaves first log (event.ClearBit a) answer new
-  clear_bit-goes full a (Some (Clearing k mask)) at answer new row =
+  clears-goes full a k mask from next at looking linked bits knows answer new row =
       let e : Event T = event.ClearBit a in
       let id = lowest mask in
       let word = word_of old.pages k in
       let yes : Outcome T = (seen.Pulled a (number k id), moved Leaves first old (with_word old.pages k (without_bit word id)) a (Taken k id)) in
-      let not : Outcome T = (seen.Found a word, moved Leaves first old old.pages a (tries k (without_lowest mask))) in
-      from-if Leaves first log e (mask == 0) (not_enabled old) (clears old a k mask word) answer new
+      let not : Outcome T = (seen.Found a word, moved Leaves first old old.pages a next) in
+      from-if Leaves first log e (mask == 0) (not_enabled old) (clears old a k id word next) answer new
       (λ none given. disabled e (λ b. refl) answer new given)
       (λ some given. from-if Leaves first log e (has_bit word id) yes not answer new
-      (λ set gave. from-outcome Leaves first log e yes answer new (won full a k mask at set) gave)
-      (λ clear gave. from-outcome Leaves first log e not answer new (lost a k mask at clear) gave)
+      (λ set gave. from-outcome Leaves first log e yes answer new (won full a k mask from at looking linked bits set) gave)
+      (λ clear gave. from-outcome Leaves first log e not answer new (lost a k from next at (knows clear)) gave)
       given)
       row
+
+  pub clear_bit-goes : length first ≡ 32 → (a : ℕ) (lookup : Option (Point T)) → slice_get old.agents a ≡ lookup
+      → (answer : Seen) (new : State T) → IsOutcome (clear_bit old a lookup) answer new
+      → GoesOn Leaves first log (event.ClearBit a) answer new
+  clear_bit-goes full a (Some (Clearing k mask asked)) at answer new row =
+      let (looks, bits) = known a (Clearing k mask asked) at in
+      let next : Point T = tries k (without_lowest mask) asked in
+      clears-goes full a k mask (Clearing k mask asked) next at looks.looking looks.linked bits
+      (λ clear. tries-known Leaves first ((event.ClearBit a, seen.Found a (word_of old.pages k)) ∷ log) acts
+      (moved Leaves first old old.pages a next) a k (without_lowest mask) asked
+      (record { looking = looks.looking; linked = looks.linked; found_out = looks.found_out; asked_full = looks.asked_full })
+      (without_lowest-lt mask bits.in_word) (lost-others a k mask looks.looking looks.linked bits clear))
+      answer new row
+  clear_bit-goes full a (Some (ClearingHinted hint mask)) at answer new row =
+      let knows : TriesHinted first acts old a hint mask = known a (ClearingHinted hint mask) at in
+      let past = knows.past in
+      let bits = knows.bits in
+      let next : Point T = tries_hinted hint (without_lowest mask) in
+      clears-goes full a hint mask (ClearingHinted hint mask) next at past.looking knows.linked bits
+      (λ clear. tries_hinted-known Leaves first ((event.ClearBit a, seen.Found a (word_of old.pages hint)) ∷ log) acts
+      (moved Leaves first old old.pages a next) a hint (without_lowest mask)
+      (record { looking = past.looking; linked = past.linked; found_out = past.found_out; asked_full = tt })
+      knows.further knows.linked
+      (without_lowest-lt mask bits.in_word) (lost-others a hint mask past.looking knows.linked bits clear))
+      answer new row
   clear_bit-goes full a _ at answer new row = disabled (event.ClearBit a) (λ b. refl) answer new row
 
   -- the bit is set again: the agent returns its number

@@ -14,10 +14,16 @@ use Rattle.object_pool_cores.specs.World.Visible.{Log}
 use Rattle.object_pool_cores.specs.World.OwnSteps.{own_steps}
 
 module _ {T : Type 0} where
-  -- the event is this agent's, and no memory was missing
+  -- no page was asked by a hint
+  abbrev pub AsksNoHint : Event T → Seen → Type 0
+  AsksNoHint (event.ReadHinted a hint) answer = answer ≡ seen.NotEnabled
+  AsksNoHint _ answer = ⊤
+
+  -- the event is this agent's, no memory was missing, and no page was asked by a hint
   pub record IsStepAlone (a : ℕ) (e : Event T) (answer : Seen) : Type 0 where
     pub own : agent_of e ≡ Some a
     pub memory : answer ≢ seen.NoMemory
+    pub unhinted : AsksNoHint e answer
 
   -- each of the events is this agent's, those too that weren't enabled
   abbrev pub IsAlone : ℕ → Log T → Type 0
@@ -77,7 +83,7 @@ module _ {T : Type 0} where
   abbrev pub events_of : Log T → List (Event T)
   events_of log = map (λ entry. entry.0) log
 
--- an agent that reads page 0 first and then steps alone has an item after two
+-- an agent that reads page 0 first and then steps alone, without a hint, has an item after two
 -- steps for each full page and three more, or after two more where it links a
 -- page, and is refused by the second step at the last page of a limit
 pub record StepsAlone {T : Type 0} (old : State T) (log : Log T) (new : State T) (a : ℕ) : Type 0 where

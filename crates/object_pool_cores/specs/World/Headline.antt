@@ -1,8 +1,8 @@
 -- The headline: what agents do in a world, in any order of their steps, is a run of one pool.
-use Rattle.std.specs.Prelude.{◌≡◌, ℕ, ◌-◌, ◌*◌, ◌<◌, Some, None, List, [], ◌∷◌, ◌++◌, map, reverse, length, slice_get, Result, OnOk}
+use Rattle.std.specs.Prelude.{◌≡◌, ℕ, ◌-◌, ◌*◌, ◌<◌, Option, Some, None, List, [], ◌∷◌, ◌++◌, map, reverse, length, slice_get, Result, OnOk}
 use Rattle.object_pool_cores.specs.declared.interleave.event.Event.{Event}
 use Rattle.object_pool_cores.specs.declared.interleave.event.Seen.{Seen}
-use Rattle.object_pool_cores.specs.declared.interleave.point.Point.TheVariants.{Reading}
+use Rattle.object_pool_cores.specs.declared.interleave.point.Point.TheVariants.{Reading, AtLink}
 use Rattle.object_pool_cores.specs.declared.run_error.RunError.{RunError}
 use Rattle.object_pool_cores.specs.Pool.{IsSame, AllowsPages}
 use Rattle.object_pool_cores.specs.Run.{Act, Holds, stage_of, pool_of, Run, FoundOutBeforeEach, HasHolders, IsWhole, AtEachPlace}
@@ -12,7 +12,7 @@ use Rattle.object_pool_cores.specs.World.Rows.{IsExact}
 use Rattle.object_pool_cores.specs.World.Reading.{reading}
 use Rattle.object_pool_cores.specs.World.Visible.{Log, Reads}
 use Rattle.object_pool_cores.specs.World.Alone.{IsAlone, StepsAlone, StepsInOrder}
-use Rattle.object_pool_cores.specs.World.OwnSteps.{own_steps, IsOnPage, IsLooking}
+use Rattle.object_pool_cores.specs.World.OwnSteps.{own_steps, IsOnPage, IsOnHinted, IsLooking}
 use Rattle.lockfree_object_pool.specs.declared.page.TheConstants.{PAGE_ITEMS}
 
 -- what the events did, from a world of these first values in which no agent had begun, is a run of one pool
@@ -95,8 +95,13 @@ module _ {T : Type 0} (Leaves : T → T → Type 0) where
   pub record Advances (whole : Stretch T) : Type 0 where
     -- an agent that reads page k is off it by its 33rd own step: while it is on the page it took fewer
     pub per_page :
-        (part : Stretch T) → IsPart part whole → (a k : ℕ)
-        → slice_get part.from.agents a ≡ Some (Reading k) → IsOnPage k (slice_get part.to.agents a)
+        (part : Stretch T) → IsPart part whole → (a k : ℕ) (asked : Option ℕ)
+        → slice_get part.from.agents a ≡ Some (Reading k asked) → IsOnPage k (slice_get part.to.agents a)
+        → own_steps part.log a < 33
+    -- so it is of the page that a hint names: an agent at the first link is off it by its 33rd own step
+    pub per_hint :
+        (part : Stretch T) → IsPart part whole → (a : ℕ)
+        → slice_get part.from.agents a ≡ Some (AtLink 0 None) → IsOnHinted (slice_get part.to.agents a)
         → own_steps part.log a < 33
     -- under a limit an agent that begins is pulled or refused by its own step 36 * limit - 2: while it looks
     -- it took fewer
@@ -105,15 +110,15 @@ module _ {T : Type 0} (Leaves : T → T → Type 0) where
         → slice_get part.from.agents a ≡ None → part.to.limit ≡ Some limit
         → IsLooking (slice_get part.to.agents a)
         → own_steps part.log a < 36 * limit - 2
-    -- an agent that has begun, and alone steps, has an item or is refused after so many steps
+    -- an agent that has begun, and alone steps, without a hint, has an item or is refused after so many steps
     pub alone :
         (part : Stretch T) → IsPart part whole → (a : ℕ)
-        → slice_get part.from.agents a ≡ Some (Reading 0) → IsAlone a part.log
+        → slice_get part.from.agents a ≡ Some (Reading 0 None) → IsAlone a part.log
         → StepsAlone part.from part.log part.to a
     -- so it is where its events come in the order of the table
     pub in_order :
         (part : Stretch T) → IsPart part whole → (a : ℕ)
-        → slice_get part.from.agents a ≡ Some (Reading 0) → IsAlone a part.log
+        → slice_get part.from.agents a ≡ Some (Reading 0 None) → IsAlone a part.log
         → StepsInOrder part.from part.log part.to a
 
   -- all that was done since the world was new

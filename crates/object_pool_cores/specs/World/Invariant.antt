@@ -2,7 +2,7 @@
 -- the places and the points of the agents belong together.
 use Rattle.std.specs.Prelude.{◌≡◌, ℕ, ◌+◌, ◌^◌, ◌<◌, false, Option, Some, None, List, length, slice_get, ⊤}
 use Rattle.object_pool_cores.specs.declared.interleave.point.Point.{Point}
-use Rattle.object_pool_cores.specs.declared.interleave.point.Point.TheVariants.{Reading, Clearing, AtLink, Making, Linking, Taken, Holding, Home, Ended}
+use Rattle.object_pool_cores.specs.declared.interleave.point.Point.TheVariants.{Reading, Clearing, AtLink, ClearingHinted, Making, Linking, Taken, Holding, Home, Ended}
 use Rattle.object_pool_cores.specs.Pool.{IsSame, AllowsPages, number}
 use Rattle.object_pool_cores.specs.Run.{Act, NotBegun, Looking, Holds, stage_of, pool_of, FoundOut, FoundAllOut, HadPages, Run, FoundOutBeforeEach}
 use Rattle.object_pool_cores.specs.World.PageState.{PageState}
@@ -13,21 +13,33 @@ use Rattle.object_pool_cores.specs.World.Visible.{Log, last_made, Reads}
 use Rattle.lockfree_object_pool.specs.declared.page.TheConstants.{PAGE_ITEMS}
 
 module _ {T : Type 0} (first : List T) where
+  -- an agent found each number of a page out, which is one of so many that are linked
+  pub record FoundFull (acts : List (Act T)) (pages a k : ℕ) : Type 0 where
+    pub linked : k < pages
+    pub found_out : (id : ℕ) → id < PAGE_ITEMS → FoundOut first acts a (number k id)
+
+  -- so it is of the page to which a hint led in vain, if one did
+  abbrev pub FoundAsked : List (Act T) → ℕ → ℕ → Option ℕ → Type 0
+  FoundAsked acts pages a None = ⊤
+  FoundAsked acts pages a (Some hint) = FoundFull acts pages a hint
+
   -- an agent looks on page k, and found each number of the pages before it out
-  pub record LooksOn (acts : List (Act T)) (world : State T) (a k : ℕ) : Type 0 where
+  pub record LooksOn (acts : List (Act T)) (world : State T) (a k : ℕ) (asked : Option ℕ) : Type 0 where
     pub looking : stage_of acts a ≡ Looking
     pub linked : k < length world.pages
     pub found_out : FoundAllOut first acts a k
+    pub asked_full : FoundAsked acts (length world.pages) a asked
 
   -- an agent found each number of page k and of the pages before it out
-  pub record IsPast (acts : List (Act T)) (world : State T) (a k : ℕ) : Type 0 where
+  pub record IsPast (acts : List (Act T)) (world : State T) (a k : ℕ) (asked : Option ℕ) : Type 0 where
     pub looking : stage_of acts a ≡ Looking
     pub linked : k < length world.pages
     pub found_out : FoundAllOut first acts a (k + 1)
+    pub asked_full : FoundAsked acts (length world.pages) a asked
 
   -- and page k was the last page at some place, after which one more is allowed
   pub record IsAtEnd (acts : List (Act T)) (world : State T) (a k : ℕ) : Type 0 where
-    pub past : IsPast acts world a k
+    pub past : IsPast acts world a k None
     pub last : HadPages first acts a (k + 1)
     pub allowed : AllowsPages world.limit (k + 1 + 1)
 
@@ -36,6 +48,13 @@ module _ {T : Type 0} (first : List T) where
     pub some : 0 < mask
     pub in_word : mask < 2 ^ 32
     pub others : (id : ℕ) → id < PAGE_ITEMS → has_bit mask id ≡ false → FoundOut first acts a (number k id)
+
+  -- an agent that found the first page full has bits to try on a further page, which a hint named
+  pub record TriesHinted (acts : List (Act T)) (world : State T) (a hint mask : ℕ) : Type 0 where
+    pub past : IsPast acts world a 0 None
+    pub further : 0 < hint
+    pub linked : hint < length world.pages
+    pub bits : TriesBits acts a hint mask
 
 module _ {T : Type 0} where
   -- an agent holds the number at a place with this value
@@ -47,9 +66,11 @@ module _ {T : Type 0} where
 module _ {T : Type 0} (Leaves : T → T → Type 0) (first : List T) where
   -- what is known of an agent at its point
   abbrev pub Knows : Log T → List (Act T) → State T → ℕ → Point T → Type 0
-  Knows log acts world a (Reading k) = LooksOn first acts world a k
-  Knows log acts world a (Clearing k mask) = LooksOn first acts world a k × TriesBits first acts a k mask
-  Knows log acts world a (AtLink k) = IsPast first acts world a k
+  Knows log acts world a (Reading k asked) = LooksOn first acts world a k asked
+  Knows log acts world a (Clearing k mask asked) =
+      LooksOn first acts world a k asked × TriesBits first acts a k mask
+  Knows log acts world a (AtLink k asked) = IsPast first acts world a k asked
+  Knows log acts world a (ClearingHinted hint mask) = TriesHinted first acts world a hint mask
   Knows log acts world a (Making k) = IsAtEnd first acts world a k
   Knows log acts world a (Linking k values) = IsAtEnd first acts world a k × (last_made log a ≡ Some values)
   Knows log acts world a (Taken k id) =

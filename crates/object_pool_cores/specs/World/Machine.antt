@@ -8,7 +8,7 @@ use Rattle.object_pool_cores.specs.declared.interleave.event.Event.TheVariants a
 use Rattle.object_pool_cores.specs.declared.interleave.event.Seen.{Seen}
 use Rattle.object_pool_cores.specs.declared.interleave.event.Seen.TheVariants as seen
 use Rattle.object_pool_cores.specs.declared.interleave.point.Point.{Point}
-use Rattle.object_pool_cores.specs.declared.interleave.point.Point.TheVariants.{Reading, Clearing, AtLink, Making, Linking, Taken, Holding, Home, Ended}
+use Rattle.object_pool_cores.specs.declared.interleave.point.Point.TheVariants.{Reading, Clearing, AtLink, ClearingHinted, Making, Linking, Taken, Holding, Home, Ended}
 use Rattle.object_pool_cores.specs.Pool.{number}
 use Rattle.object_pool_cores.specs.World.PageState.{PageState}
 use Rattle.object_pool_cores.specs.World.State.{State}
@@ -39,6 +39,11 @@ without_lowest mask = bit_and mask (mask - 1)
 abbrev pub is_limit : Option ℕ → ℕ → Bool
 is_limit None count = false
 is_limit (Some limit) count = limit == count
+
+-- a hint led to a page in vain, and it is this one
+abbrev pub was_asked : Option ℕ → ℕ → Bool
+was_asked None k = false
+was_asked (Some hint) k = hint == k
 
 module _ {T : Type 0} where
   -- a page that was just linked with these values: each of its items is free
@@ -130,40 +135,69 @@ module _ {T : Type 0} where
   prepared_by _ = None
 
   -- where an agent on page k goes next with these bits to try
-  abbrev pub tries : ℕ → ℕ → Point T
-  tries k mask = if mask == 0 then AtLink k else Clearing k mask
+  abbrev pub tries : ℕ → ℕ → Option ℕ → Point T
+  tries k mask asked = if mask == 0 then AtLink k asked else Clearing k mask asked
+
+  -- where an agent on a page that a hint named goes next with these bits to try
+  abbrev pub tries_hinted : ℕ → ℕ → Point T
+  tries_hinted hint mask = if mask == 0 then AtLink 0 (Some hint) else ClearingHinted hint mask
+
+  -- where an agent goes next that comes to page k: past it, if a hint led there in vain
+  abbrev pub comes_to : ℕ → Option ℕ → Point T
+  comes_to k asked = if was_asked asked k then AtLink k asked else Reading k asked
 
   -- an agent reads the word of its page, and tries the bits that it saw
   abbrev pub read_mask : State T → ℕ → Option (Point T) → Outcome T
-  read_mask world a (Some (Reading k)) =
-      let word = word_of world.pages k in (seen.Word a word, at_point world a (tries k word))
+  read_mask world a (Some (Reading k asked)) =
+      let word = word_of world.pages k in (seen.Word a word, at_point world a (tries k word asked))
   read_mask world a _ = not_enabled world
 
-  -- the bit is set in the word: it is cleared there; or it isn't, and the next bit is tried
-  abbrev pub clears : State T → ℕ → ℕ → ℕ → ℕ → Outcome T
-  clears world a k mask word =
-      if has_bit word (lowest mask)
+  -- a hint may name any linked page but the first, to an agent at the first link
+  abbrev pub may_name : State T → ℕ → ℕ → Bool
+  may_name world k hint =
+      if k == 0 then if nat_lt 0 hint then nat_lt hint (length world.pages) else false else false
+
+  -- an agent at the first link, before any hint, reads the word of a page that a hint names
+  abbrev pub read_hinted : State T → ℕ → ℕ → Option (Point T) → Outcome T
+  read_hinted world a hint (Some (AtLink k None)) =
+      if may_name world k hint
+      then (let word = word_of world.pages hint in (seen.Word a word, at_point world a (tries_hinted hint word)))
+      else not_enabled world
+  read_hinted world a hint _ = not_enabled world
+
+  -- the bit is set in the word: it is cleared there; or it isn't, and the agent goes on
+  abbrev pub clears : State T → ℕ → ℕ → ℕ → ℕ → Point T → Outcome T
+  clears world a k id word next =
+      if has_bit word id
       then (
-        seen.Pulled a (number k (lowest mask)),
-        at_point
-            (with_pages world (with_word world.pages k (without_bit word (lowest mask)))) a
-            (Taken k (lowest mask)),
+        seen.Pulled a (number k id),
+        at_point (with_pages world (with_word world.pages k (without_bit word id))) a (Taken k id),
       )
-      else (seen.Found a word, at_point world a (tries k (without_lowest mask)))
+      else (seen.Found a word, at_point world a next)
+
+  -- the same of an agent on a page that a hint named
+  abbrev pub clear_hinted : State T → ℕ → Option (Point T) → Outcome T
+  clear_hinted world a (Some (ClearingHinted hint mask)) =
+      if mask == 0
+      then not_enabled world
+      else clears world a hint (lowest mask) (word_of world.pages hint) (tries_hinted hint (without_lowest mask))
+  clear_hinted world a _ = not_enabled world
 
   -- an agent clears the lowest bit that it has to try, if it is still set
   abbrev pub clear_bit : State T → ℕ → Option (Point T) → Outcome T
-  clear_bit world a (Some (Clearing k mask)) =
-      if mask == 0 then not_enabled world else clears world a k mask (word_of world.pages k)
-  clear_bit world a _ = not_enabled world
+  clear_bit world a (Some (Clearing k mask asked)) =
+      if mask == 0
+      then not_enabled world
+      else clears world a k (lowest mask) (word_of world.pages k) (tries k (without_lowest mask) asked)
+  clear_bit world a lookup = clear_hinted world a lookup
 
   -- an agent that found its page full goes to the next, is refused at the limit, or makes a page
   abbrev pub read_next : State T → ℕ → Option (Point T) → Outcome T
-  read_next world a (Some (AtLink k)) =
+  read_next world a (Some (AtLink k asked)) =
       if_linked world k
       (if is_limit world.limit (k + 1) then (seen.Refused a Limit, at_point world a Ended)
       else if length world.pages == k + 1 then (seen.Next a false, at_point world a (Making k))
-      else (seen.Next a true, at_point world a (Reading (k + 1))))
+      else (seen.Next a true, at_point world a (comes_to (k + 1) asked)))
   read_next world a _ = not_enabled world
 
   -- an agent has the values of a page of its own, or is refused
@@ -181,9 +215,9 @@ module _ {T : Type 0} where
       (if length world.pages == k + 1
       then (
         seen.Linked a,
-        at_point (with_pages world (world.pages ++ linked_page values ∷ [])) a (Reading (k + 1)),
+        at_point (with_pages world (world.pages ++ linked_page values ∷ [])) a (Reading (k + 1) None),
       )
-      else (seen.Lost a, at_point world a (Reading (k + 1))))
+      else (seen.Lost a, at_point world a (Reading (k + 1) None)))
   exchange_next world a _ = not_enabled world
 
   -- the value of the place goes to the agent; one lies there in each world that can be reached
@@ -223,7 +257,7 @@ module _ {T : Type 0} where
   abbrev pub begin : State T → Outcome T
   begin world = (
     seen.Began (length world.agents),
-    record { pages = world.pages; agents = world.agents ++ Reading 0 ∷ []; limit = world.limit },
+    record { pages = world.pages; agents = world.agents ++ Reading 0 None ∷ []; limit = world.limit },
   )
 
   -- the answer and the world are those of the outcome
@@ -245,6 +279,7 @@ module _ {T : Type 0} where
   abbrev pub agent_of : Event T → Option ℕ
   agent_of event.Begin = None
   agent_of (event.ReadMask a) = Some a
+  agent_of (event.ReadHinted a hint) = Some a
   agent_of (event.ClearBit a) = Some a
   agent_of (event.ReadNext a) = Some a
   agent_of (event.MakePage a prepared) = Some a
@@ -269,6 +304,8 @@ module _ {T : Type 0} (Leaves : T → T → Type 0) where
   abbrev pub Row : State T → Event T → Seen → State T → Type 0
   Row old event.Begin answer new = IsOutcome (begin old) answer new
   Row old (event.ReadMask a) answer new = IsOutcome (read_mask old a (slice_get old.agents a)) answer new
+  Row old (event.ReadHinted a hint) answer new =
+      IsOutcome (read_hinted old a hint (slice_get old.agents a)) answer new
   Row old (event.ClearBit a) answer new = IsOutcome (clear_bit old a (slice_get old.agents a)) answer new
   Row old (event.ReadNext a) answer new = IsOutcome (read_next old a (slice_get old.agents a)) answer new
   Row old (event.MakePage a prepared) answer new =

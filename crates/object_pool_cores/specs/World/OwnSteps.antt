@@ -4,7 +4,7 @@ use Rattle.object_pool_cores.specs.declared.interleave.event.Event.{Event}
 use Rattle.object_pool_cores.specs.declared.interleave.event.Seen.{Seen}
 use Rattle.object_pool_cores.specs.declared.interleave.event.Seen.TheVariants as seen
 use Rattle.object_pool_cores.specs.declared.interleave.point.Point.{Point}
-use Rattle.object_pool_cores.specs.declared.interleave.point.Point.TheVariants.{Reading, Clearing, AtLink, Making, Linking}
+use Rattle.object_pool_cores.specs.declared.interleave.point.Point.TheVariants.{Reading, Clearing, AtLink, ClearingHinted, Making, Linking}
 use Rattle.object_pool_cores.specs.World.Machine.{agent_of}
 use Rattle.object_pool_cores.specs.World.Visible.{Log}
 
@@ -31,15 +31,21 @@ module _ {T : Type 0} where
 
   -- an agent is on page k: it reads the word, or clears bits
   abbrev pub IsOnPage : ℕ → Option (Point T) → Type 0
-  IsOnPage k (Some (Reading j)) = j ≡ k
-  IsOnPage k (Some (Clearing j mask)) = j ≡ k
+  IsOnPage k (Some (Reading j asked)) = j ≡ k
+  IsOnPage k (Some (Clearing j mask asked)) = j ≡ k
   IsOnPage k _ = ⊥
+
+  -- an agent is on the page that a hint named
+  abbrev pub IsOnHinted : Option (Point T) → Type 0
+  IsOnHinted (Some (ClearingHinted hint mask)) = ⊤
+  IsOnHinted _ = ⊥
 
   -- an agent has neither taken a number nor been refused
   abbrev pub IsLooking : Option (Point T) → Type 0
-  IsLooking (Some (Reading k)) = ⊤
-  IsLooking (Some (Clearing k mask)) = ⊤
-  IsLooking (Some (AtLink k)) = ⊤
+  IsLooking (Some (Reading k asked)) = ⊤
+  IsLooking (Some (Clearing k mask asked)) = ⊤
+  IsLooking (Some (AtLink k asked)) = ⊤
+  IsLooking (Some (ClearingHinted hint mask)) = ⊤
   IsLooking (Some (Making k)) = ⊤
   IsLooking (Some (Linking k values)) = ⊤
   IsLooking _ = ⊥

@@ -9,9 +9,11 @@ pub enum Event<T> {
     Begin,
     /// The agent reads its page's word.
     ReadMask(usize),
+    /// The agent, which found the first page full, reads the word of a page that a hint names.
+    ReadHinted(usize, usize),
     /// The agent clears in the word the lowest bit that it hasn't tried yet.
     ClearBit(usize),
-    /// The agent reads its page's link.
+    /// The agent reads its page's link. It doesn't ask the next page where its hint led there in vain.
     ReadNext(usize),
     /// The agent makes the 32 values of a new page, or is refused.
     MakePage(usize, Result<Prepared<T>, PullError>),

@@ -3,14 +3,19 @@ use crate::interleave::Prepared;
 use lockfree_object_pool::page::PageId;
 
 /// The point of an agent, between two of its steps. The first number is a page's.
+///
+/// Where there is an optional number, it is the page that a hint named and that the agent asked in vain. An
+/// agent that makes a page has passed each page that was linked, and so that one.
 #[derive(Drop)]
 pub enum Point<T> {
     /// It reads the page's word next.
-    Reading(usize),
+    Reading(usize, Option<usize>),
     /// It clears next; the set bits that it hasn't tried yet.
-    Clearing(usize, u32),
+    Clearing(usize, u32, Option<usize>),
     /// It has found each number of the page out, and reads the link next.
-    AtLink(usize),
+    AtLink(usize, Option<usize>),
+    /// It clears next, on a page that a hint named; the set bits that it hasn't tried yet.
+    ClearingHinted(usize, u32),
     /// It makes the values of a page after this one.
     Making(usize),
     /// It links a page with these values after this one.

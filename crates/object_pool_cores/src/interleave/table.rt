@@ -2,19 +2,22 @@
 ghost use Rattle.std.specs.Prelude.{slice_set, vec_len, vec_capacity, ◌++◌, ◌∷◌, [], ◌≡◌, ◌+◌, ◌<◌, ◌≤◌, ◌↔◌, ◌==◌, ◌⊎◌, Option, Some, None, option_map, option_copied, slice_get, length, IfOk, OnOk, IsTrue, bit_and};
 ghost use Rattle.object_pool_cores.specs.World.PageState.{PageState};
 ghost use Rattle.object_pool_cores.specs.World.Room.{NeedsNoRoom};
-ghost use Rattle.object_pool_cores.specs.World.Machine.{prepared_by, at_point, linked_page, lowest, without_lowest, has_bit, is_limit, word_of, value_at, with_word, with_value, opening_world, tries, read_mask, clear_bit, held_by, read_next, make_page, exchange_next, move_out, write, or_mask, begin, IsOutcome, MayGrow, LinksWhole, MovesHome, Steps};
+ghost use Rattle.object_pool_cores.specs.World.Machine.{prepared_by, at_point, linked_page, lowest, without_lowest, has_bit, is_limit, was_asked, word_of, value_at, with_word, with_value, opening_world, tries, tries_hinted, comes_to, may_name, read_mask, read_hinted, clears, clear_hinted, clear_bit, held_by, read_next, make_page, exchange_next, move_out, write, or_mask, begin, IsOutcome, MayGrow, LinksWhole, MovesHome, Steps};
 ghost use Rattle.object_pool_cores.specs.Pool.{number};
 ghost use Rattle.object_pool_cores.specs.declared.interleave.point.Point.TheVariants.{Reading};
 ghost use Rattle.object_pool_cores.specs.declared.interleave.event.Seen.TheVariants.{NoMemory};
 ghost use Rattle.object_pool_cores.specs.declared.interleave.event.Event.TheVariants.{MakePage};
 
+use crate::interleave::moves::{
+    comes_to, has_bit, is_last, is_last_allowed, number, split_lowest, tries, tries_hinted,
+};
 use crate::interleave::page::Page;
 use crate::interleave::point::Point;
 use crate::interleave::{Event, Prepared, Seen};
 use lockfree_object_pool::PullError;
 use lockfree_object_pool::clean::AnyValue;
 use lockfree_object_pool::closures::Reset;
-use lockfree_object_pool::page::{PAGE_ITEMS, PageId, take_least, with_bit, without_bit};
+use lockfree_object_pool::page::{PAGE_ITEMS, PageId, with_bit, without_bit};
 use std::alloc::{AllocError, Global};
 use std::marker::Model;
 use std::mem;
@@ -39,31 +42,6 @@ impl<T> Model for Table<T> {
     ghost invariant = { λ table. All (HasRoom (vec_capacity table.pages)) table.agents.items };
 }
 
-/// The bit of an id is set in the word.
-fn has_bit(word: u32, id: PageId) -> bool
-    requires { id < PAGE_ITEMS }
-    ensures { result ≡ has_bit word id }
-{
-    word >> id & 1 == 1
-}
-
-/// There is a limit, and it is the count after `page`.
-fn is_last_allowed(limit: Option<usize>, page: usize) -> bool
-    ensures { result ≡ is_limit limit (page + 1) }
-{
-    match limit {
-        Some(limit) => is_last(limit, page),
-        None => false,
-    }
-}
-
-/// The page is the last of so many.
-fn is_last(pages: usize, page: usize) -> bool
-    ensures { result ≡ (pages == page + 1) }
-{
-    pages > page && pages - page == 1
-}
-
 /// The word of a page, 0 where there is no such page.
 fn word_of<T: Drop>(pages: &Vec<Page<T>>, page: usize) -> u32
     ensures { result ≡ word_of pages.now.items page }
@@ -71,18 +49,6 @@ fn word_of<T: Drop>(pages: &Vec<Page<T>>, page: usize) -> u32
     match pages.get(page) {
         Some(page) => page.word(),
         None => 0,
-    }
-}
-
-/// Where an agent on a page goes next with these bits to try.
-fn tries<T>(page: usize, mask: u32) -> Point<T>
-    ensures value { result ≡ tries page mask }
-    ensures room { NeedsNoRoom result }
-{
-    if mask == 0 {
-        Point::AtLink(page)
-    } else {
-        Point::Clearing(page, mask)
     }
 }
 
@@ -128,33 +94,13 @@ fn put_value<T: Drop>(pages: &mut Vec<Page<T>>, page: usize, id: PageId, value: 
     }
 }
 
-/// A mask without its lowest set bit, and that bit's place.
-fn split_lowest(mask: u32) -> (u32, PageId)
-    requires { 0 < mask }
-    ensures rest { result.0 ≡ without_lowest mask }
-    ensures lowest { result.1 ≡ lowest mask }
-    ensures in_page { result.1 < PAGE_ITEMS }
-{
-    match take_least(mask) {
-        Some(split) => split,
-        None => (0, 0),
-    }
-}
-
-/// The number of an item.
-fn number(page: usize, id: PageId) -> u128
-    ensures { result ≡ number page id }
-{
-    PAGE_ITEMS as u128 * page as u128 + u128::from(id)
-}
-
 /// Moves an agent to the next page; what comes back is the values that it had for a page of its own.
 fn pass_link<T: Drop>(agents: &mut Vec<Point<T>>, agent: usize, next: usize) -> Option<Prepared<T>>
     requires { agent < vec_len agents.old }
     ensures values { result ≡ prepared_by (slice_get agents.old.items agent) }
-    ensures agents { agents.new.items ≡ slice_set agents.old.items agent (Reading next) }
+    ensures agents { agents.new.items ≡ slice_set agents.old.items agent (Reading next None) }
 {
-    match mem::replace(&mut agents[agent], Point::Reading(next)) {
+    match mem::replace(&mut agents[agent], Point::Reading(next, None)) {
         Point::Linking(_, values) => Some(values),
         _ => None,
     }
@@ -243,6 +189,7 @@ impl<T: Drop> Table<T> {
         match event {
             Event::Begin => self.begin(),
             Event::ReadMask(agent) => self.read_mask(agent),
+            Event::ReadHinted(agent, hint) => self.read_hinted(agent, hint),
             Event::ClearBit(agent) => self.clear_bit(agent),
             Event::ReadNext(agent) => self.read_next(agent),
             Event::MakePage(agent, prepared) => self.make_page(agent, prepared),
@@ -267,7 +214,7 @@ impl<T: Drop> Table<T> {
         ensures { IsOutcome (begin self.old) result self.new ⊎ ((result ≡ NoMemory) × (self.new ≡ self.old)) }
     {
         let agent = self.agents.len();
-        match self.agents.push(Point::Reading(0)) {
+        match self.agents.push(Point::Reading(0, None)) {
             Ok(()) => Seen::Began(agent),
             Err(_) => Seen::NoMemory,
         }
@@ -276,41 +223,89 @@ impl<T: Drop> Table<T> {
     fn read_mask(&mut self, agent: usize) -> Seen
         ensures { IsOutcome (read_mask self.old agent (slice_get self.old.agents agent)) result self.new }
     {
-        let page = match self.agents.get(agent) {
-            Some(Point::Reading(page)) => *page,
+        let (page, asked) = match self.agents.get(agent) {
+            Some(Point::Reading(page, asked)) => (*page, *asked),
             _ => return Seen::NotEnabled,
         };
         let word = word_of(&self.pages, page);
-        self.go(agent, tries(page, word));
+        self.go(agent, tries(page, word, asked));
+        Seen::Word(agent, word)
+    }
+
+    /// A hint may name any linked page but the first, to an agent at the first link.
+    fn may_name(&self, page: usize, hint: usize) -> bool
+        ensures { result ≡ may_name self.now page hint }
+    {
+        page == 0 && 0 < hint && hint < self.pages.len()
+    }
+
+    fn read_hinted(&mut self, agent: usize, hint: usize) -> Seen
+        ensures { IsOutcome (read_hinted self.old agent hint (slice_get self.old.agents agent))
+            result self.new }
+    {
+        let page = match self.agents.get(agent) {
+            Some(Point::AtLink(page, None)) => *page,
+            _ => return Seen::NotEnabled,
+        };
+        if !self.may_name(page, hint) {
+            return Seen::NotEnabled;
+        }
+        let word = word_of(&self.pages, hint);
+        self.go(agent, tries_hinted(hint, word));
         Seen::Word(agent, word)
     }
 
     fn clear_bit(&mut self, agent: usize) -> Seen
         ensures { IsOutcome (clear_bit self.old agent (slice_get self.old.agents agent)) result self.new }
     {
-        let (page, mask) = match self.agents.get(agent) {
-            Some(Point::Clearing(page, mask)) => (*page, *mask),
+        let (page, mask, asked) = match self.agents.get(agent) {
+            Some(Point::Clearing(page, mask, asked)) => (*page, *mask, *asked),
+            _ => return self.clear_hinted(agent),
+        };
+        if mask == 0 {
+            return Seen::NotEnabled;
+        }
+        let (rest, id) = split_lowest(mask);
+        self.clear(agent, page, id, tries(page, rest, asked))
+    }
+
+    fn clear_hinted(&mut self, agent: usize) -> Seen
+        ensures { IsOutcome (clear_hinted self.old agent (slice_get self.old.agents agent)) result self.new }
+    {
+        let (hint, mask) = match self.agents.get(agent) {
+            Some(Point::ClearingHinted(hint, mask)) => (*hint, *mask),
             _ => return Seen::NotEnabled,
         };
         if mask == 0 {
             return Seen::NotEnabled;
         }
         let (rest, id) = split_lowest(mask);
+        self.clear(agent, hint, id, tries_hinted(hint, rest))
+    }
+
+    /// Clears a bit that is set in the word; where it isn't, the agent goes on to `next`.
+    fn clear(&mut self, agent: usize, page: usize, id: PageId, next: Point<T>) -> Seen
+        requires begun { agent < length self.old.agents }
+        requires in_page { id < PAGE_ITEMS }
+        requires room { NeedsNoRoom next }
+        ensures { IsOutcome (clears self.old agent page id (word_of self.old.pages page) next)
+            result self.new }
+    {
         let word = word_of(&self.pages, page);
         if has_bit(word, id) {
             set_word(&mut self.pages, page, without_bit(word, id));
             self.go(agent, Point::Taken(page, id));
             return Seen::Pulled(agent, number(page, id));
         }
-        self.go(agent, tries(page, rest));
+        self.go(agent, next);
         Seen::Found(agent, word)
     }
 
     fn read_next(&mut self, agent: usize) -> Seen
         ensures { IsOutcome (read_next self.old agent (slice_get self.old.agents agent)) result self.new }
     {
-        let page = match self.agents.get(agent) {
-            Some(Point::AtLink(page)) => *page,
+        let (page, asked) = match self.agents.get(agent) {
+            Some(Point::AtLink(page, asked)) => (*page, *asked),
             _ => return Seen::NotEnabled,
         };
         let pages = self.pages.len();
@@ -325,7 +320,7 @@ impl<T: Drop> Table<T> {
             self.go(agent, Point::Making(page));
             return Seen::Next(agent, false);
         }
-        self.go(agent, Point::Reading(page + 1));
+        self.go(agent, comes_to(page + 1, asked));
         Seen::Next(agent, true)
     }
 
@@ -372,7 +367,7 @@ impl<T: Drop> Table<T> {
         }
         let next = page + 1;
         if !is_last(self.pages.len(), page) {
-            self.go(agent, Point::Reading(next));
+            self.go(agent, Point::Reading(next, None));
             return Seen::Lost(agent);
         }
         match pass_link(&mut self.agents, agent, next) {
