@@ -1,7 +1,7 @@
 //! Values that say themselves how they are made and reset, and the linear pool of them.
 //!
 //! One impl of [`Recyclable`] is all that a type needs, and [`Pool`] names its pool.
-ghost use Rattle.std.specs.Prelude.{◌≡◌, ⊤, None, IfSome, IfOk, IfErr};
+ghost use Rattle.std.specs.Prelude.{◌≡◌, ⊤, [], None, IfSome, IfOk, IfErr};
 
 use crate::PullError;
 use crate::clean::Clean;
@@ -22,6 +22,34 @@ pub trait Recyclable: Drop {
 
     fn reset(&mut self)
         ensures { is_clean self.new };
+}
+
+/// A vector comes empty. Its room grows with its use and is kept.
+impl<X: Drop> Recyclable for Vec<X> {
+    ghost is_clean = { λ vector. vector.items ≡ [] };
+
+    fn make(alloc: Global) -> Option<Vec<X>> {
+        Some(Vec::new(alloc))
+    }
+
+    fn reset(&mut self) {
+        self.clear();
+    }
+}
+
+/// A text comes empty. Its room grows with its use and is kept.
+impl Recyclable for String {
+    ghost use Rattle.std.specs.Prelude.{string_bytes};
+
+    ghost is_clean = { λ text. string_bytes text ≡ [] };
+
+    fn make(alloc: Global) -> Option<String> {
+        Some(String::new(alloc))
+    }
+
+    fn reset(&mut self) {
+        self.clear();
+    }
 }
 
 /// Makes and resets the values of any [`Recyclable`] type. It is the condition of their pool too: a value is clean.

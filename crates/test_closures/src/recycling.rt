@@ -90,3 +90,18 @@ fn an_owned_value_and_its_pool_are_shown(rt: HostRuntime) -> Result<(), Fail> {
     assert_eq!(rt; shown.as_str(), "Scratch { words: [7], sum: 7 }");
     Ok(())
 }
+
+#[test]
+fn vectors_and_texts_come_empty_with_their_room(rt: HostRuntime) -> Result<(), Fail> {
+    let vectors = Pool::<Vec<u8>>::with_recycler(rt.alloc())?;
+    vectors.pull()?.extend_from_slice(b"hello")?;
+    let vector = vectors.pull()?;
+    assert_eq!(rt; (vector.page_id(), vector.len()), (0, 0));
+    assert!(rt; vector.capacity() >= 5);
+    let texts = Pool::<String>::with_recycler(rt.alloc())?;
+    texts.pull()?.push_str("hello")?;
+    let text = texts.pull()?;
+    assert_eq!(rt; (text.page_id(), text.len()), (0, 0));
+    assert!(rt; text.capacity() >= 5);
+    Ok(())
+}
