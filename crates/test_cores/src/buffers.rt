@@ -1,0 +1,122 @@
+//! A buffer pool beside the linear core of its buffers.
+use crate::answer::Stopped;
+use crate::comparison::{Ask, Comparison, Gives, compare_ends, compare_openings};
+use crate::figures::Figures;
+use crate::held::{Pulled, number_of};
+use crate::linear::refuse_opening;
+use crate::session::Session;
+use crate::tallies::Tallies;
+use crate::tally::Tally;
+use crate::value::Value;
+use lockfree_object_pool::PullError;
+use lockfree_object_pool::closures::{Init, Reset};
+use object_pool_cores::buffers::{Buffer, BufferPool, Empty};
+use object_pool_cores::sequential::LinearCore;
+use std::alloc::{AllocError, Global};
+use std::sync::Arc;
+
+/// Makes empty buffers, and refuses where its tally says so.
+#[derive(Drop)]
+struct NewBuffers {
+    alloc: Global,
+    tally: Arc<Tally>,
+}
+
+impl Init<Vec<u8>, Empty> for NewBuffers {
+    fn make(&self) -> Option<Vec<u8>> {
+        let _number = self.tally.next_number()?;
+        Some(Vec::new(self.alloc))
+    }
+}
+
+/// Counts the resets, and leaves each buffer empty.
+#[derive(Drop)]
+struct Empties {
+    tally: Arc<Tally>,
+}
+
+impl Reset<Vec<u8>, Empty> for Empties {
+    fn reset(&self, value: &mut Vec<u8>) {
+        self.tally.count_reset();
+        value.clear();
+    }
+}
+
+/// A number that tells the bytes of a buffer.
+fn told(bytes: &[u8]) -> u64 {
+    bytes.iter().fold(
+        7,
+        |told: u64, &byte| told.wrapping_mul(31).wrapping_add(u64::from(byte)),
+    )
+}
+
+impl Value for Vec<u8> {
+    fn new(_tally: &Arc<Tally>, _number: u64) -> Option<Vec<u8>> {
+        None
+    }
+
+    fn content(&self) -> u64 {
+        told(self.as_slice())
+    }
+
+    /// Puts the number's bytes behind those that are there, as far as there is memory.
+    fn write(&mut self, content: u64) {
+        let _appended = self.extend_from_slice(&content.to_le_bytes()).is_ok();
+    }
+}
+
+impl<I: Init<Vec<u8>, Empty>, R: Reset<Vec<u8>, Empty>> Pulled for Buffer<'_, I, R> {
+    fn shown(&self) -> u64 {
+        told(self.as_slice())
+    }
+
+    fn overwrite(&mut self, content: u64) {
+        let _appended = self.append(&content.to_le_bytes()).is_ok();
+    }
+
+    fn number(&self) -> Option<u128> {
+        Some(number_of(self.page_number(), self.page_id()))
+    }
+}
+
+/// A pool of buffers, which it gives under a borrow alone.
+#[derive(Drop)]
+struct Buffers<'p> {
+    pool: &'p BufferPool<NewBuffers, Empties>,
+}
+
+impl<'p> Gives<Vec<u8>, Buffer<'p, NewBuffers, Empties>> for Buffers<'p> {
+    fn gives(&self, _asked: Ask<Vec<u8>>) -> Result<Buffer<'p, NewBuffers, Empties>, PullError> {
+        self.pool.pull()
+    }
+}
+
+/// The session's calls. A buffer pool always has a limit.
+pub fn compare_buffers(alloc: Global, session: Session) -> Result<Figures, Stopped> {
+    let tallies = Tallies::new(alloc)?;
+    refuse_opening(&tallies, session);
+    let pages = session.limit.unwrap_or(70).max(1);
+    let (init, reset) = closures(alloc, &tallies.running)?;
+    let pool = BufferPool::new(alloc, init, reset, pages);
+    let (init, reset) = closures(alloc, &tallies.core)?;
+    let core: Result<LinearCore<Vec<u8>, NewBuffers, Empties, Empty>, PullError> =
+        LinearCore::with_limit(alloc, init, reset, pages);
+    let Some((pool, core)) = compare_openings(&tallies, pool, core)? else {
+        return Ok(Figures::default());
+    };
+    let giver = Buffers { pool: &pool };
+    let ended = Comparison::new(alloc, core, session, tallies, false).play(&giver)?;
+    drop(pool);
+    compare_ends(ended)
+}
+
+fn closures(alloc: Global, tally: &Arc<Tally>) -> Result<(NewBuffers, Empties), AllocError> {
+    let init = NewBuffers {
+        alloc,
+        tally: Arc::try_clone(tally)?,
+    };
+    let reset = Empties {
+        tally: Arc::try_clone(tally)?,
+    };
+    Ok((init, reset))
+}

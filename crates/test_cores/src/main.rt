@@ -1,0 +1,118 @@
+//! Random calls of one thread, each done on a running pool and on the proved core of its kind, whose answers are compared.
+//!
+//! The two arguments are a seed and how many calls are done at least, both below 2^64. It prints a line of figures. Where an
+//! answer differs it prints the seed, the session, the call and both answers, and ends with status 1.
+#![tactic(auto)]
+
+mod answer;
+mod buffers;
+mod comparison;
+mod dice;
+mod figures;
+mod fresh;
+mod held;
+mod linear;
+mod maker;
+mod pages;
+mod recycled;
+mod session;
+mod stacks;
+mod tallies;
+mod tally;
+mod value;
+
+use answer::Stopped;
+use buffers::compare_buffers;
+use figures::Figures;
+use fresh::compare_fresh;
+use linear::compare_linear;
+use pages::compare_pages;
+use recycled::compare_recycled;
+use session::{Element, Kind, Session, drawn, many_held, many_pages};
+use stacks::{compare_mutex, compare_spin_lock};
+use std::alloc::Global;
+use std::process::ExitCode;
+use std::rt::Env;
+use std::sync::Wait;
+use std::{env, io};
+use value::{Block, Counted, Nothing, Number, Value};
+
+fn main(rt: HostRuntime) -> io::Result<ExitCode> {
+    match arguments(&rt) {
+        Some((seed, calls)) => compare_all(&rt, rt.alloc(), seed, calls),
+        None => {
+            eprintln!(rt; "usage: test_cores SEED CALLS")?;
+            Ok(ExitCode::from(2))
+        }
+    }
+}
+
+/// The seed and the number of calls.
+fn arguments<R: Env + AllocGlobal>(rt: &R) -> Option<(u64, u64)> {
+    let mut arguments = env::args(rt).ok()?;
+    let _name = arguments.next();
+    let seed = arguments.next()?.parse().ok()?;
+    let calls = arguments.next()?.parse().ok()?;
+    Some((seed, calls))
+}
+
+/// The sessions, until as many calls are done as are wanted.
+fn compare_all<R: Print + Eprint + Wait + Copy>(
+    rt: &R,
+    alloc: Global,
+    seed: u64,
+    calls: u64,
+) -> io::Result<ExitCode> {
+    let mut figures = Figures::default();
+    for number in 0..u64::MAX {
+        if figures.calls >= calls && number > 2 {
+            break;
+        }
+        let session = match number {
+            0 => many_held(seed, number),
+            1 => many_pages(seed, number),
+            _ => drawn(seed, number),
+        };
+        match compare_items(rt, alloc, session) {
+            Ok(seen) => figures.add_session(seen),
+            Err(stopped) => {
+                eprintln!(rt; "session {number} of seed {seed}, {session:?}: {stopped}")?;
+                return Ok(ExitCode::from(1));
+            }
+        }
+    }
+    println!(rt; "{figures}")?;
+    Ok(ExitCode::SUCCESS)
+}
+
+/// A session with its items.
+fn compare_items<W: Wait + Copy>(
+    rt: &W,
+    alloc: Global,
+    session: Session,
+) -> Result<Figures, Stopped> {
+    match session.element {
+        Element::Nothing => compare_pools::<Nothing, W>(rt, alloc, session),
+        Element::Number => compare_pools::<Number, W>(rt, alloc, session),
+        Element::Block => compare_pools::<Block, W>(rt, alloc, session),
+        Element::CountedNumber => compare_pools::<Counted<Number>, W>(rt, alloc, session),
+        Element::CountedBlock => compare_pools::<Counted<Block>, W>(rt, alloc, session),
+    }
+}
+
+/// A session on its pool.
+fn compare_pools<T: Value, W: Wait + Copy>(
+    rt: &W,
+    alloc: Global,
+    session: Session,
+) -> Result<Figures, Stopped> {
+    match session.kind {
+        Kind::Linear => compare_linear::<T>(alloc, session),
+        Kind::Mutex => compare_mutex::<T, W>(rt, alloc, session),
+        Kind::SpinLock => compare_spin_lock::<T, W>(rt, alloc, session),
+        Kind::None => compare_fresh::<T>(alloc, session),
+        Kind::Recycling => compare_recycled(alloc, session),
+        Kind::Buffers => compare_buffers(alloc, session),
+        Kind::Pages => compare_pages::<T>(alloc, session),
+    }
+}

@@ -1,0 +1,37 @@
+//! The tallies of both sides.
+use crate::answer::{Call, Stopped};
+use crate::tally::Tally;
+use std::alloc::{AllocError, Global};
+use std::sync::Arc;
+
+/// The tally of the running pool's items, and that of the core's.
+#[derive(Drop)]
+pub struct Tallies {
+    pub running: Arc<Tally>,
+    pub core: Arc<Tally>,
+}
+
+impl Tallies {
+    pub fn new(alloc: Global) -> Result<Tallies, AllocError> {
+        Ok(Tallies {
+            running: Tally::new(alloc)?,
+            core: Tally::new(alloc)?,
+        })
+    }
+
+    /// From now on the call of `init` behind so many others is refused on both sides.
+    pub fn refuse_after(&self, calls: usize) {
+        self.running.refuse_after(calls as u64);
+        self.core.refuse_after(calls as u64);
+    }
+
+    /// Stops where the figures of both sides differ.
+    pub fn compare(&self, call: Call) -> Result<(), Stopped> {
+        let (running, core) = (self.running.counts(), self.core.counts());
+        if running == core {
+            Ok(())
+        } else {
+            Err(Stopped::OtherCounts(call, running, core))
+        }
+    }
+}
