@@ -1,0 +1,198 @@
+//! Callers that rest on a pool's history: what stands before what, what a refusal shows, and which refusals may come.
+ghost use Rattle.std.specs.Prelude.{◌≡◌, ◌<◌, ℕ, ◌∷◌, IfSome, IfErr};
+ghost use Rattle.lockfree_object_pool.specs.FixedAnswer.{busy_since, busy_history};
+ghost use Rattle.lockfree_object_pool.specs.FixedPool.{pool_identity, pool_items, pool_opening};
+ghost use Rattle.lockfree_object_pool.specs.FixedReusable.{reusable_item};
+ghost use Rattle.lockfree_object_pool.specs.Note.{note_page, note_history};
+ghost use Rattle.lockfree_object_pool.specs.PageHistory.{History, IsBeginningOf, WasOutBetween};
+ghost use Rattle.lockfree_object_pool.specs.declared.page.history.PageAct.TheVariants.{Gave};
+ghost use Rattle.lockfree_object_pool.specs.declared.pull_error.PullError.TheVariants.{Limit};
+ghost use Rattle.test_fixed_pool.specs.Returned.{EndsWithReturn, EndsWithReturnOf, WasReturnedBefore};
+
+use crate::values::{NumberItem, NumberPool, held, new_calls, new_pool};
+use lockfree_object_pool::PullError;
+use lockfree_object_pool::fixed_object_pool::{BusySeen, PoolNote};
+use lockfree_object_pool::page::PullPass;
+use std::sync::Arc;
+use std::test::Fail;
+use std::thread;
+use std::thread::Threads;
+
+/// A pull by a note stands after all that the note knew.
+fn pulled_after<'p>(pool: &'p NumberPool, note: PoolNote<usize>) -> Option<NumberItem<'p>>
+    requires { note_page note ≡ pool_identity pool.now }
+    ensures pool { IfSome result (λ item. (reusable_item item).page ≡ pool_identity pool.now) }
+    ensures after { IfSome result (λ item. IsBeginningOf (note_history note) (reusable_item item).history) }
+{
+    let pass = PullPass::new();
+    match pool.try_pull_from(&pass, note) {
+        Ok(item) => Some(item),
+        Err(_) => None,
+    }
+}
+
+/// Writes a number to an item near a page and returns it: the return of that number is the last operation that the note knows.
+fn returned_near(pool: &NumberPool, page: usize, number: usize) -> Option<PoolNote<usize>>
+    ensures pool { IfSome result (λ note. note_page note ≡ pool_identity pool.now) }
+    ensures last { IfSome result (λ note. EndsWithReturn number (note_history note)) }
+{
+    let mut item = pool.pull_near(page).ok()?;
+    *item = number;
+    Some(item.give_back())
+}
+
+/// Writes a number to an item of a pool of one and returns it: the return of item 0 is the last operation that the note knows.
+fn returned_alone(pool: &NumberPool, number: usize) -> Option<PoolNote<usize>>
+    requires { pool_items pool.now ≡ 1 }
+    ensures pool { IfSome result (λ note. note_page note ≡ pool_identity pool.now) }
+    ensures last { IfSome result (λ note. EndsWithReturnOf 0 (note_history note)) }
+{
+    let mut item = pool.pull().ok()?;
+    *item = number;
+    Some(item.give_back())
+}
+
+/// An item of a pool of one, pulled after a return of it: its value isn't the one that the pool opened with.
+fn pulled_again<'p>(pool: &'p NumberPool, note: PoolNote<usize>) -> Option<NumberItem<'p>>
+    requires of_pool { note_page note ≡ pool_identity pool.now }
+    requires one_item { pool_items pool.now ≡ 1 }
+    requires returned { EndsWithReturnOf 0 (note_history note) }
+    ensures { IfSome result (λ item. WasReturnedBefore (reusable_item item)) }
+{
+    let pass = PullPass::new();
+    match pool.try_pull_from(&pass, note) {
+        Ok(item) => Some(item),
+        Err(_) => None,
+    }
+}
+
+/// What a refused pull shows of one item: it was out during the pull.
+fn refused_while_out<'p>(
+    pool: &NumberPool,
+    pass: &'p PullPass,
+    number: usize,
+) -> Option<BusySeen<'p, usize>>
+    requires { number < pool_items pool.now }
+    ensures { IfSome result (λ busy. WasOutBetween (pool_opening pool.now) (busy_since busy) (busy_history busy) number) }
+{
+    match pool.try_pull(pass) {
+        Ok(_) => None,
+        Err(busy) => Some(busy),
+    }
+}
+
+/// Work that takes no memory: what it may meet is `Limit`.
+fn work(pool: &NumberPool, rounds: usize) -> Result<usize, PullError>
+    ensures { IfErr result (λ error. error ≡ Limit) }
+{
+    let mut last = 0;
+    for round in 0..rounds {
+        let mut item = pool.pull()?;
+        *item = round;
+        last = item.number();
+    }
+    Ok(last)
+}
+
+/// One thread returns 5 on page 0, another 6 on page 2, each with a note. A pull by the first note, then told the second,
+/// stands after both returns.
+fn handed_on<'p, R: Threads + Sync>(rt: &R, pool: &'p NumberPool) -> Option<NumberItem<'p>>
+    ensures first { IfSome result (λ item. (user id : ℕ) × (before : History ℕ) × IsBeginningOf (Gave user id 5 ∷ before) (reusable_item item).history) }
+    ensures second { IfSome result (λ item. (user id : ℕ) × (before : History ℕ) × IsBeginningOf (Gave user id 6 ∷ before) (reusable_item item).history) }
+{
+    let (first, second) = thread::join(
+        rt,
+        || -> Option<PoolNote<usize>>
+            ensures pool { IfSome result (λ note. note_page note ≡ pool_identity pool.entry.now) }
+            ensures last { IfSome result (λ note. EndsWithReturn 5 (note_history note)) }
+        { returned_near(pool, 0, 5) },
+        || -> Option<PoolNote<usize>>
+            ensures pool { IfSome result (λ note. note_page note ≡ pool_identity pool.entry.now) }
+            ensures last { IfSome result (λ note. EndsWithReturn 6 (note_history note)) }
+        { returned_near(pool, 2, 6) },
+    );
+    pulled_after_both(pool, first?, second?)
+}
+
+/// A pull after all that two notes knew.
+fn pulled_after_both<'p>(
+    pool: &'p NumberPool,
+    first: PoolNote<usize>,
+    second: PoolNote<usize>,
+) -> Option<NumberItem<'p>>
+    requires first { note_page first ≡ pool_identity pool.now }
+    requires second { note_page second ≡ pool_identity pool.now }
+    ensures after_first { IfSome result (λ item. IsBeginningOf (note_history first) (reusable_item item).history) }
+    ensures after_second { IfSome result (λ item. IsBeginningOf (note_history second) (reusable_item item).history) }
+{
+    let mut both = first;
+    pool.tell(&mut both, second.into_witness());
+    let Some(item) = pulled_after(pool, both) else {
+        return None;
+    };
+    Some(item)
+}
+
+#[test]
+fn a_pull_stands_after_returns_of_two_threads(rt: HostRuntime) -> Result<(), Fail> {
+    let pool = new_pool(rt.alloc(), &new_calls(rt.alloc())?, 70)?;
+    let Some(item) = handed_on(&rt, &pool) else {
+        panic!(rt; "an item is free")
+    };
+    assert!(rt; *item == 5 || *item == 6 || *item == item.number());
+    drop(item);
+    assert_eq!(rt; held(rt.alloc(), &pool, 70)?.len(), 70);
+    Ok(())
+}
+
+#[test]
+fn a_value_that_was_returned_is_pulled_again(rt: HostRuntime) -> Result<(), Fail> {
+    let pool = new_pool(rt.alloc(), &new_calls(rt.alloc())?, 1)?;
+    let Some(note) = returned_alone(&pool, 8) else {
+        panic!(rt; "an item is free")
+    };
+    let Some(item) = pulled_again(&pool, note) else {
+        panic!(rt; "an item is free")
+    };
+    assert_eq!(rt; *item, 8);
+    Ok(())
+}
+
+#[test]
+fn a_refusal_shows_that_each_item_was_out(rt: HostRuntime) -> Result<(), Fail> {
+    let pool = new_pool(rt.alloc(), &new_calls(rt.alloc())?, 33)?;
+    let mut all = held(rt.alloc(), &pool, 33)?;
+    let pass = PullPass::new();
+    assert!(rt; refused_while_out(&pool, &pass, 32).is_some());
+    drop(all.pop());
+    assert!(rt; refused_while_out(&pool, &pass, 32).is_none());
+    Ok(())
+}
+
+#[test]
+fn work_meets_no_refusal_but_the_limit(rt: HostRuntime) -> Result<(), Fail> {
+    let pool = new_pool(rt.alloc(), &new_calls(rt.alloc())?, 33)?;
+    assert_eq!(rt; work(&pool, 1_000), Ok(0));
+    let all = held(rt.alloc(), &pool, 33)?;
+    assert_eq!(rt; work(&pool, 1_000), Err(PullError::Limit));
+    drop(all);
+    assert_eq!(rt; work(&pool, 0), Ok(0));
+    Ok(())
+}
+
+#[test]
+fn a_holder_tells_what_it_knows(rt: HostRuntime) -> Result<(), Fail> {
+    let pool = Arc::new(
+        rt.alloc(),
+        new_pool(rt.alloc(), &new_calls(rt.alloc())?, 33)?,
+    )?;
+    let mut owned = pool.pull_owned()?;
+    let mut item = pool.pull()?;
+    assert_eq!(rt; (owned.number(), item.number()), (0, 1));
+    let (one, other) = (owned.witness(), item.witness());
+    drop((one, other));
+    *owned = 11;
+    drop(owned.give_back());
+    assert_eq!(rt; *pool.pull()?, 11);
+    Ok(())
+}

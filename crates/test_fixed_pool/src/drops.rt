@@ -1,0 +1,55 @@
+//! Values that count their drops, in pools that are refused and in pools that end.
+use crate::values::{CountedPool, CountedValues, Counts, NEVER};
+use lockfree_object_pool::closures::Keep;
+use lockfree_object_pool::{FixedObjectPool, PullError};
+use std::alloc::Global;
+use std::mem;
+use std::sync::Arc;
+use std::test::Fail;
+
+fn counted<'c>(
+    alloc: Global,
+    counts: &'c Counts,
+    refused: usize,
+) -> Result<CountedPool<'c>, PullError> {
+    FixedObjectPool::new(alloc, CountedValues { counts, refused }, Keep, 33)
+}
+
+#[test]
+fn init_that_refuses_stops_a_new_pool(rt: HostRuntime) {
+    for refused in 0..33usize {
+        let counts = Counts::new();
+        let refusal = counted(rt.alloc(), &counts, refused).err();
+        assert_eq!(rt; refusal, Some(PullError::Init));
+        assert_eq!(rt; counts.now(), (refused.saturating_add(1), refused));
+    }
+}
+
+#[test]
+fn a_pool_drops_what_it_has(rt: HostRuntime) -> Result<(), Fail> {
+    let counts = Counts::new();
+    let pool = counted(rt.alloc(), &counts, NEVER)?;
+    let item = pool.pull()?;
+    assert_eq!(rt; (item.call, counts.now()), (0, (33, 0)));
+    drop(item);
+    mem::forget(pool.pull()?);
+    assert_eq!(rt; counts.now(), (33, 0));
+    drop(pool);
+    assert_eq!(rt; counts.now(), (33, 32));
+    Ok(())
+}
+
+#[test]
+fn a_last_owner_drops_what_the_pool_has(rt: HostRuntime) -> Result<(), Fail> {
+    let counts = Counts::new();
+    let pool = Arc::new(rt.alloc(), counted(rt.alloc(), &counts, NEVER)?)?;
+    let first = pool.pull_owned()?;
+    let second = pool.pull_owned()?;
+    drop(pool);
+    assert_eq!(rt; (first.call, second.call, counts.now()), (0, 1, (33, 0)));
+    drop(first);
+    assert_eq!(rt; counts.now(), (33, 0));
+    drop(second);
+    assert_eq!(rt; counts.now(), (33, 33));
+    Ok(())
+}

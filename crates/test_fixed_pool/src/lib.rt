@@ -1,0 +1,15 @@
+//! Tests of the fixed pool: sizes, refusals, drops, threads, and callers that rest on its history.
+#![tactic(auto)]
+
+#[cfg(test)]
+mod callers;
+#[cfg(test)]
+mod drops;
+#[cfg(test)]
+mod near;
+#[cfg(test)]
+mod sizes;
+#[cfg(test)]
+mod threads;
+#[cfg(test)]
+mod values;

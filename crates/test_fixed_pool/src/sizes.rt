@@ -1,0 +1,96 @@
+//! Pools of many sizes: each item is pulled once, then none, and then what came back.
+ghost use Rattle.std.specs.Prelude.{◌≤◌};
+
+use crate::values::{NumberItem, held, new_calls, new_pool};
+use lockfree_object_pool::clean::AnyValue;
+use lockfree_object_pool::closures::{Copied, Init, Keep};
+use lockfree_object_pool::{FixedObjectPool, PullError};
+use std::alloc::Global;
+use std::mem::size_of;
+use std::sync::atomic::Ordering::SeqCst;
+use std::test::Fail;
+
+/// Whether item `i` of the list has the number `i`, and the value of call `i`.
+fn are_in_order(items: &[NumberItem<'_>]) -> bool {
+    for (number, item) in items.iter().enumerate() {
+        let place = (item.page_number(), item.page_id() as usize);
+        if (item.number(), **item) != (number, number) || place != (number / 32, number % 32) {
+            return false;
+        }
+    }
+    true
+}
+
+/// Whether a pool of so many items makes and hands out each once, and then what was returned last.
+fn hands_out_each_once(alloc: Global, items: usize) -> Result<bool, PullError>
+    requires { 1 ≤ items }
+{
+    let calls = new_calls(alloc)?;
+    let pool = new_pool(alloc, &calls, items)?;
+    let mut all = held(alloc, &pool, items)?;
+    let complete = pool.items() == items && calls.load(SeqCst) == items;
+    if !complete || !are_in_order(&all) || pool.pull().err() != Some(PullError::Limit) {
+        return Ok(false);
+    }
+    let Some(mut last) = all.pop() else {
+        return Ok(false);
+    };
+    let number = last.number();
+    *last = 1_000_000;
+    drop(last);
+    let again = pool.pull()?;
+    let none_left = pool.pull().err() == Some(PullError::Limit);
+    Ok(none_left && again.number() == number && *again == 1_000_000)
+}
+
+#[test]
+fn pools_of_many_sizes_hand_out_each_item_once(rt: HostRuntime) -> Result<(), Fail> {
+    assert!(rt; hands_out_each_once(rt.alloc(), 1)?);
+    assert!(rt; hands_out_each_once(rt.alloc(), 31)?);
+    assert!(rt; hands_out_each_once(rt.alloc(), 32)?);
+    assert!(rt; hands_out_each_once(rt.alloc(), 33)?);
+    assert!(rt; hands_out_each_once(rt.alloc(), 64)?);
+    assert!(rt; hands_out_each_once(rt.alloc(), 65)?);
+    assert!(rt; hands_out_each_once(rt.alloc(), 70_000)?);
+    Ok(())
+}
+
+/// Makes values of no bytes.
+#[derive(Drop)]
+struct Units;
+
+impl Init<(), AnyValue> for Units {
+    fn make(&self) -> Option<()> {
+        Some(())
+    }
+}
+
+#[test]
+fn a_value_may_have_no_bytes(rt: HostRuntime) -> Result<(), Fail> {
+    let pool = FixedObjectPool::<(), Units, Keep>::new(rt.alloc(), Units, Keep, 2)?;
+    let one = pool.pull()?;
+    let other = pool.pull()?;
+    assert_eq!(rt; (one.number(), other.number(), *one), (0, 1, ()));
+    assert_eq!(rt; pool.pull().err(), Some(PullError::Limit));
+    drop(one);
+    assert_eq!(rt; pool.pull()?.number(), 0);
+    Ok(())
+}
+
+#[test]
+fn a_value_may_have_many_bytes(rt: HostRuntime) -> Result<(), Fail> {
+    let init = Copied::<[u8; 4096], AnyValue>::new([3; 4096]);
+    let pool = FixedObjectPool::<[u8; 4096], _, _>::new(rt.alloc(), init, Keep, 33)?;
+    let mut item = pool.pull()?;
+    item[4095] = 9;
+    drop(item);
+    let again = pool.pull()?;
+    assert_eq!(rt; (again.number(), again[0], again[4095]), (0, 3, 9));
+    Ok(())
+}
+
+/// What a pulled value knows of the history costs nothing: it has a borrow, a number and the value.
+#[test]
+fn a_history_takes_no_bytes(rt: HostRuntime) {
+    assert_eq!(rt; size_of::<NumberItem<'static>>(), 24);
+}
