@@ -28,22 +28,23 @@ mod threads;
 mod waits;
 
 /// The free list of a mutex pool.
-type UnderMutex<T, K> = Mutex<Stack<T, K>>;
+type UnderMutex<T, I, R, K> = Mutex<Stack<T, MadeOrReset<I, R, K>>>;
 
 /// The free list of a spin lock pool.
-type UnderSpinLock<T, K> = SpinLock<Stack<T, K>>;
+type UnderSpinLock<T, I, R, K> = SpinLock<Stack<T, MadeOrReset<I, R, K>>>;
 
 /// A kind of stack pool, by its free list, with the public call that makes such a pool.
-trait Kind<T, K: Clean<T>>: FreeList<T, K> {
-    fn new_pool<I: Init<T, K>, R: Reset<T, K>>(
+trait Kind<T, I: Init<T, K>, R: Reset<T, K>, K: Clean<T>>: FreeList<T, MadeOrReset<I, R, K>> {
+    fn new_pool(
         alloc: Global,
         init: I,
         reset: R,
     ) -> Result<StackObjectPool<T, I, R, K, Self>, PullError>;
 }
 
-impl<T: Drop, K: Clean<T>> Kind<T, K> for UnderMutex<T, K> {
-    fn new_pool<I: Init<T, K>, R: Reset<T, K>>(
+impl<T: Drop, I: Init<T, K>, R: Reset<T, K>, K: Clean<T>> Kind<T, I, R, K>
+    for UnderMutex<T, I, R, K> {
+    fn new_pool(
         alloc: Global,
         init: I,
         reset: R,
@@ -52,8 +53,9 @@ impl<T: Drop, K: Clean<T>> Kind<T, K> for UnderMutex<T, K> {
     }
 }
 
-impl<T: Drop, K: Clean<T>> Kind<T, K> for UnderSpinLock<T, K> {
-    fn new_pool<I: Init<T, K>, R: Reset<T, K>>(
+impl<T: Drop, I: Init<T, K>, R: Reset<T, K>, K: Clean<T>> Kind<T, I, R, K>
+    for UnderSpinLock<T, I, R, K> {
+    fn new_pool(
         alloc: Global,
         init: I,
         reset: R,
@@ -65,13 +67,16 @@ impl<T: Drop, K: Clean<T>> Kind<T, K> for UnderSpinLock<T, K> {
 /// A pool that keeps what was written.
 type Kept<F> = StackObjectPool<u32, CountedZeros, Keep, AnyValue, F>;
 
+/// What a pool that resets to 0 keeps.
+type ClearedValues = MadeOrReset<CountedZeros, Copied<u32, Zero>, Zero>;
+
 /// A pool that resets to 0.
 type Cleared<F> = StackObjectPool<u32, CountedZeros, Copied<u32, Zero>, Zero, F>;
 
 /// A pool of values that know which call made them, and count their drops.
 type Tracked<F> = StackObjectPool<Tallied, TalliedValues, Keep, AnyValue, F>;
 
-fn kept<F: Kind<u32, AnyValue>>(
+fn kept<F: Kind<u32, CountedZeros, Keep, AnyValue>>(
     alloc: Global,
     calls: &Arc<AtomicUsize>,
 ) -> Result<Arc<Kept<F>>, PullError> {
@@ -79,7 +84,7 @@ fn kept<F: Kind<u32, AnyValue>>(
     Ok(Arc::new(alloc, F::new_pool(alloc, CountedZeros { calls }, Keep)?)?)
 }
 
-fn cleared<F: Kind<u32, Zero>>(
+fn cleared<F: Kind<u32, CountedZeros, Copied<u32, Zero>, Zero>>(
     alloc: Global,
     calls: &Arc<AtomicUsize>,
 ) -> Result<Arc<Cleared<F>>, PullError> {
@@ -91,7 +96,7 @@ fn cleared<F: Kind<u32, Zero>>(
 }
 
 /// `init` refuses at one call, counted from 0.
-fn tracked<F: Kind<Tallied, AnyValue>>(
+fn tracked<F: Kind<Tallied, TalliedValues, Keep, AnyValue>>(
     alloc: Global,
     tally: &Arc<Tally>,
     refused: usize,

@@ -6,11 +6,13 @@ use std::test::Fail;
 
 pub type ClearedPool = LinearObjectPool<u32, CountedZeros, ToZero, Zero>;
 
+type ClearedValues = MadeOrReset<CountedZeros, ToZero, Zero>;
+
 /// The page of a pool behind so many links.
 pub fn page_at(
     pool: &ClearedPool,
     number: usize,
-) -> Option<LinearPage<'_, u32, Zero, AnswerOf<CountedZeros, Zero>>> {
+) -> Option<LinearPage<'_, u32, ClearedValues, AnswerOf<CountedZeros, Zero>>> {
     let mut page = pool.chain.first();
     for _ in 0..number {
         page = page.next()?;

@@ -7,10 +7,13 @@ use super::*;
 use std::test::Fail;
 
 /// Whatever other threads do and attach, a pulled value meets the condition.
-fn pulled<K: Clean<u32>, I: Init<u32, K>, R: Reset<u32, K>, F: FreeList<u32, K>, W: Wait + Copy>(
-    rt: &W,
-    pool: &Arc<StackObjectPool<u32, I, R, K, F>>,
-) -> Option<u32>
+fn pulled<
+    K: Clean<u32>,
+    I: Init<u32, K>,
+    R: Reset<u32, K>,
+    F: FreeList<u32, MadeOrReset<I, R, K>>,
+    W: Wait + Copy,
+>(rt: &W, pool: &Arc<StackObjectPool<u32, I, R, K, F>>) -> Option<u32>
     ensures { IfSome result K.meets }
 {
     let item = pool.pull(rt).ok()?;
@@ -21,7 +24,7 @@ fn pulled_owned<
     K: Clean<u32>,
     I: Init<u32, K>,
     R: Reset<u32, K>,
-    F: FreeList<u32, K>,
+    F: FreeList<u32, MadeOrReset<I, R, K>>,
     W: Wait + Copy,
 >(rt: &W, pool: &Arc<StackObjectPool<u32, I, R, K, F>>) -> Option<u32>
     ensures { IfSome result K.meets }
@@ -31,10 +34,13 @@ fn pulled_owned<
 }
 
 /// A write changes the value alone.
-fn write<K: Clean<u32>, I: Init<u32, K>, R: Reset<u32, K>, F: FreeList<u32, K>, W: Wait + Copy>(
-    item: &mut StackReusable<'_, u32, I, R, K, F, W>,
-    value: u32,
-)
+fn write<
+    K: Clean<u32>,
+    I: Init<u32, K>,
+    R: Reset<u32, K>,
+    F: FreeList<u32, MadeOrReset<I, R, K>>,
+    W: Wait + Copy,
+>(item: &mut StackReusable<'_, u32, I, R, K, F, W>, value: u32)
     ensures { item.new ≡ stack_with item.old value }
 {
     **item = value;
@@ -44,7 +50,7 @@ fn write_owned<
     K: Clean<u32>,
     I: Init<u32, K>,
     R: Reset<u32, K>,
-    F: FreeList<u32, K>,
+    F: FreeList<u32, MadeOrReset<I, R, K>>,
     W: Wait + Copy,
 >(item: &mut StackOwnedReusable<u32, I, R, K, F, W>, value: u32)
     ensures { item.new ≡ stack_owned_with item.old value }
@@ -54,7 +60,10 @@ fn write_owned<
 
 /// An attached value is shown until it is written, also where it doesn't meet the condition; a
 /// refusal gives it back.
-fn attached<F: FreeList<u32, Zero>, W: Wait + Copy>(rt: &W, pool: &Cleared<F>) -> Result<u32, u32>
+fn attached<F: FreeList<u32, ClearedValues>, W: Wait + Copy>(
+    rt: &W,
+    pool: &Cleared<F>,
+) -> Result<u32, u32>
     ensures shown { IfOk result (λ shown. shown ≡ 9) }
     ensures back { IfErr result (λ back. back ≡ 9) }
 {
@@ -63,16 +72,19 @@ fn attached<F: FreeList<u32, Zero>, W: Wait + Copy>(rt: &W, pool: &Cleared<F>) -
 }
 
 /// Where `init` always has an answer, a pull is refused for memory alone.
-fn refusal<F: FreeList<u32, Zero>, W: Wait + Copy>(rt: &W, pool: &Cleared<F>) -> Option<PullError>
+fn refusal<F: FreeList<u32, ClearedValues>, W: Wait + Copy>(
+    rt: &W,
+    pool: &Cleared<F>,
+) -> Option<PullError>
     ensures { IfSome result (λ error. error ≡ Memory) }
 {
     pool.pull(rt).err()
 }
 
-fn shows_what_its_callers_know<F: Kind<u32, Zero>, W: Abort + Wait + Copy>(
-    rt: &W,
-    alloc: Global,
-) -> Result<(), Fail> {
+fn shows_what_its_callers_know<
+    F: Kind<u32, CountedZeros, Copied<u32, Zero>, Zero>,
+    W: Abort + Wait + Copy,
+>(rt: &W, alloc: Global) -> Result<(), Fail> {
     let pool = cleared::<F>(alloc, &new_calls(alloc)?)?;
     let mut item = pool.pull(rt)?;
     write(&mut item, 7);
@@ -91,6 +103,12 @@ fn shows_what_its_callers_know<F: Kind<u32, Zero>, W: Abort + Wait + Copy>(
 
 #[test]
 fn a_value_is_written_and_read(rt: HostRuntime) -> Result<(), Fail> {
-    shows_what_its_callers_know::<UnderMutex<u32, Zero>, _>(&rt, rt.alloc())?;
-    shows_what_its_callers_know::<UnderSpinLock<u32, Zero>, _>(&rt, rt.alloc())
+    shows_what_its_callers_know::<UnderMutex<u32, CountedZeros, Copied<u32, Zero>, Zero>, _>(
+        &rt,
+        rt.alloc(),
+    )?;
+    shows_what_its_callers_know::<UnderSpinLock<u32, CountedZeros, Copied<u32, Zero>, Zero>, _>(
+        &rt,
+        rt.alloc(),
+    )
 }

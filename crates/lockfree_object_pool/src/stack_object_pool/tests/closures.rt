@@ -4,12 +4,11 @@ use crate::closures::{InitBy, Makes};
 use std::test::Fail;
 
 /// A refusal of `init` is the pull's answer at once.
-fn refuses_at_the_first_call<F: Kind<u32, AnyValue>, I: InitBy<u32>, W: Abort + Wait + Copy>(
-    rt: &W,
-    alloc: Global,
-    init: I,
-    calls: &AtomicUsize,
-) -> Result<(), Fail>
+fn refuses_at_the_first_call<
+    F: Kind<u32, Makes<u32, I, AnyValue>, Keep, AnyValue>,
+    I: InitBy<u32>,
+    W: Abort + Wait + Copy,
+>(rt: &W, alloc: Global, init: I, calls: &AtomicUsize) -> Result<(), Fail>
     requires { I.may_make init }
 {
     let pool = Arc::new(alloc, F::new_pool(alloc, Makes::new(init), Keep)?)?;
@@ -27,11 +26,21 @@ fn a_closure_that_refuses_is_asked_once_a_pull(rt: HostRuntime) -> Result<(), Fa
         calls.fetch_add(1, SeqCst);
         None
     };
-    refuses_at_the_first_call::<UnderMutex<u32, AnyValue>, _, _>(&rt, rt.alloc(), refuse, &calls)?;
+    refuses_at_the_first_call::<UnderMutex<u32, _, Keep, AnyValue>, _, _>(
+        &rt,
+        rt.alloc(),
+        refuse,
+        &calls,
+    )?;
     let calls = AtomicUsize::new(0);
     let refuse = || -> Option<u32> {
         calls.fetch_add(1, SeqCst);
         None
     };
-    refuses_at_the_first_call::<UnderSpinLock<u32, AnyValue>, _, _>(&rt, rt.alloc(), refuse, &calls)
+    refuses_at_the_first_call::<UnderSpinLock<u32, _, Keep, AnyValue>, _, _>(
+        &rt,
+        rt.alloc(),
+        refuse,
+        &calls,
+    )
 }

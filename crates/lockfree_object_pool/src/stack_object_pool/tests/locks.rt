@@ -51,18 +51,18 @@ impl Steps {
 }
 
 /// A free list whose lock can be held.
-trait Lockable: Kind<u32, AnyValue> {
+trait Lockable: Kind<u32, CountedZeros, Keep, AnyValue> {
     fn lock_during<W: Wait>(&self, rt: &W, steps: &Steps);
 }
 
-impl Lockable for UnderMutex<u32, AnyValue> {
+impl Lockable for UnderMutex<u32, CountedZeros, Keep, AnyValue> {
     fn lock_during<W: Wait>(&self, rt: &W, steps: &Steps) {
         let _guard = self.lock(rt);
         steps.hold();
     }
 }
 
-impl Lockable for UnderSpinLock<u32, AnyValue> {
+impl Lockable for UnderSpinLock<u32, CountedZeros, Keep, AnyValue> {
     fn lock_during<W: Wait>(&self, rt: &W, steps: &Steps) {
         let _guard = self.lock(rt);
         steps.hold();
@@ -106,6 +106,6 @@ fn waits_for_the_lock<
 
 #[test]
 fn a_pull_and_a_return_wait_for_the_lock(rt: HostRuntime) -> Result<(), Fail> {
-    waits_for_the_lock::<UnderMutex<u32, AnyValue>, _>(&rt, rt.alloc())?;
-    waits_for_the_lock::<UnderSpinLock<u32, AnyValue>, _>(&rt, rt.alloc())
+    waits_for_the_lock::<UnderMutex<u32, CountedZeros, Keep, AnyValue>, _>(&rt, rt.alloc())?;
+    waits_for_the_lock::<UnderSpinLock<u32, CountedZeros, Keep, AnyValue>, _>(&rt, rt.alloc())
 }

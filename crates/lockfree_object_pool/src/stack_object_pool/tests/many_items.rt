@@ -3,7 +3,7 @@ use super::*;
 use crate::testing::counted::NEVER;
 use std::test::Fail;
 
-fn keeps_many<F: Kind<Tallied, AnyValue>, W: Abort + Wait + Copy>(
+fn keeps_many<F: Kind<Tallied, TalliedValues, Keep, AnyValue>, W: Abort + Wait + Copy>(
     rt: &W,
     alloc: Global,
 ) -> Result<(), Fail> {
@@ -29,6 +29,6 @@ fn keeps_many<F: Kind<Tallied, AnyValue>, W: Abort + Wait + Copy>(
 
 #[test]
 fn more_than_a_thousand_items_are_kept(rt: HostRuntime) -> Result<(), Fail> {
-    keeps_many::<UnderMutex<Tallied, AnyValue>, _>(&rt, rt.alloc())?;
-    keeps_many::<UnderSpinLock<Tallied, AnyValue>, _>(&rt, rt.alloc())
+    keeps_many::<UnderMutex<Tallied, TalliedValues, Keep, AnyValue>, _>(&rt, rt.alloc())?;
+    keeps_many::<UnderSpinLock<Tallied, TalliedValues, Keep, AnyValue>, _>(&rt, rt.alloc())
 }

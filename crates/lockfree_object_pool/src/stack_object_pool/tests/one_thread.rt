@@ -3,7 +3,7 @@ use super::kept_items::{dropped_and_pulled, held_together, returned_in_turn, wri
 use super::*;
 use std::test::Fail;
 
-fn pulls_what_came_last<F: Kind<u32, AnyValue>, W: Abort + Wait + Copy>(
+fn pulls_what_came_last<F: Kind<u32, CountedZeros, Keep, AnyValue>, W: Abort + Wait + Copy>(
     rt: &W,
     alloc: Global,
 ) -> Result<(), Fail> {
@@ -19,11 +19,11 @@ fn pulls_what_came_last<F: Kind<u32, AnyValue>, W: Abort + Wait + Copy>(
 
 #[test]
 fn the_item_that_came_last_is_pulled_first(rt: HostRuntime) -> Result<(), Fail> {
-    pulls_what_came_last::<UnderMutex<u32, AnyValue>, _>(&rt, rt.alloc())?;
-    pulls_what_came_last::<UnderSpinLock<u32, AnyValue>, _>(&rt, rt.alloc())
+    pulls_what_came_last::<UnderMutex<u32, CountedZeros, Keep, AnyValue>, _>(&rt, rt.alloc())?;
+    pulls_what_came_last::<UnderSpinLock<u32, CountedZeros, Keep, AnyValue>, _>(&rt, rt.alloc())
 }
 
-fn makes_what_is_held<F: Kind<u32, AnyValue>, W: Abort + Wait + Copy>(
+fn makes_what_is_held<F: Kind<u32, CountedZeros, Keep, AnyValue>, W: Abort + Wait + Copy>(
     rt: &W,
     alloc: Global,
 ) -> Result<(), Fail> {
@@ -39,11 +39,11 @@ fn makes_what_is_held<F: Kind<u32, AnyValue>, W: Abort + Wait + Copy>(
 
 #[test]
 fn items_that_are_held_together_are_made_anew(rt: HostRuntime) -> Result<(), Fail> {
-    makes_what_is_held::<UnderMutex<u32, AnyValue>, _>(&rt, rt.alloc())?;
-    makes_what_is_held::<UnderSpinLock<u32, AnyValue>, _>(&rt, rt.alloc())
+    makes_what_is_held::<UnderMutex<u32, CountedZeros, Keep, AnyValue>, _>(&rt, rt.alloc())?;
+    makes_what_is_held::<UnderSpinLock<u32, CountedZeros, Keep, AnyValue>, _>(&rt, rt.alloc())
 }
 
-fn keeps_what_was_written<F: Kind<u32, AnyValue>, W: Abort + Wait + Copy>(
+fn keeps_what_was_written<F: Kind<u32, CountedZeros, Keep, AnyValue>, W: Abort + Wait + Copy>(
     rt: &W,
     alloc: Global,
 ) -> Result<(), Fail> {
@@ -57,14 +57,14 @@ fn keeps_what_was_written<F: Kind<u32, AnyValue>, W: Abort + Wait + Copy>(
 
 #[test]
 fn a_kept_value_comes_back(rt: HostRuntime) -> Result<(), Fail> {
-    keeps_what_was_written::<UnderMutex<u32, AnyValue>, _>(&rt, rt.alloc())?;
-    keeps_what_was_written::<UnderSpinLock<u32, AnyValue>, _>(&rt, rt.alloc())
+    keeps_what_was_written::<UnderMutex<u32, CountedZeros, Keep, AnyValue>, _>(&rt, rt.alloc())?;
+    keeps_what_was_written::<UnderSpinLock<u32, CountedZeros, Keep, AnyValue>, _>(&rt, rt.alloc())
 }
 
-fn resets_what_was_written<F: Kind<u32, Zero>, W: Abort + Wait + Copy>(
-    rt: &W,
-    alloc: Global,
-) -> Result<(), Fail> {
+fn resets_what_was_written<
+    F: Kind<u32, CountedZeros, Copied<u32, Zero>, Zero>,
+    W: Abort + Wait + Copy,
+>(rt: &W, alloc: Global) -> Result<(), Fail> {
     let calls = new_calls(alloc)?;
     let pool = cleared::<F>(alloc, &calls)?;
     for _ in 0..2 {
@@ -79,11 +79,17 @@ fn resets_what_was_written<F: Kind<u32, Zero>, W: Abort + Wait + Copy>(
 
 #[test]
 fn a_reset_value_comes_back(rt: HostRuntime) -> Result<(), Fail> {
-    resets_what_was_written::<UnderMutex<u32, Zero>, _>(&rt, rt.alloc())?;
-    resets_what_was_written::<UnderSpinLock<u32, Zero>, _>(&rt, rt.alloc())
+    resets_what_was_written::<UnderMutex<u32, CountedZeros, Copied<u32, Zero>, Zero>, _>(
+        &rt,
+        rt.alloc(),
+    )?;
+    resets_what_was_written::<UnderSpinLock<u32, CountedZeros, Copied<u32, Zero>, Zero>, _>(
+        &rt,
+        rt.alloc(),
+    )
 }
 
-fn keeps_what_was_attached<F: Kind<u32, AnyValue>, W: Abort + Wait + Copy>(
+fn keeps_what_was_attached<F: Kind<u32, CountedZeros, Keep, AnyValue>, W: Abort + Wait + Copy>(
     rt: &W,
     alloc: Global,
 ) -> Result<(), Fail> {
@@ -105,14 +111,14 @@ fn keeps_what_was_attached<F: Kind<u32, AnyValue>, W: Abort + Wait + Copy>(
 
 #[test]
 fn an_attached_item_is_kept(rt: HostRuntime) -> Result<(), Fail> {
-    keeps_what_was_attached::<UnderMutex<u32, AnyValue>, _>(&rt, rt.alloc())?;
-    keeps_what_was_attached::<UnderSpinLock<u32, AnyValue>, _>(&rt, rt.alloc())
+    keeps_what_was_attached::<UnderMutex<u32, CountedZeros, Keep, AnyValue>, _>(&rt, rt.alloc())?;
+    keeps_what_was_attached::<UnderSpinLock<u32, CountedZeros, Keep, AnyValue>, _>(&rt, rt.alloc())
 }
 
-fn resets_what_was_attached<F: Kind<u32, Zero>, W: Abort + Wait + Copy>(
-    rt: &W,
-    alloc: Global,
-) -> Result<(), Fail> {
+fn resets_what_was_attached<
+    F: Kind<u32, CountedZeros, Copied<u32, Zero>, Zero>,
+    W: Abort + Wait + Copy,
+>(rt: &W, alloc: Global) -> Result<(), Fail> {
     let calls = new_calls(alloc)?;
     let pool = cleared::<F>(alloc, &calls)?;
     let item = StackReusable::new(rt, &*pool, 9).ok().ok_or("memory")?;
@@ -131,6 +137,12 @@ fn resets_what_was_attached<F: Kind<u32, Zero>, W: Abort + Wait + Copy>(
 
 #[test]
 fn an_attached_item_is_reset(rt: HostRuntime) -> Result<(), Fail> {
-    resets_what_was_attached::<UnderMutex<u32, Zero>, _>(&rt, rt.alloc())?;
-    resets_what_was_attached::<UnderSpinLock<u32, Zero>, _>(&rt, rt.alloc())
+    resets_what_was_attached::<UnderMutex<u32, CountedZeros, Copied<u32, Zero>, Zero>, _>(
+        &rt,
+        rt.alloc(),
+    )?;
+    resets_what_was_attached::<UnderSpinLock<u32, CountedZeros, Copied<u32, Zero>, Zero>, _>(
+        &rt,
+        rt.alloc(),
+    )
 }

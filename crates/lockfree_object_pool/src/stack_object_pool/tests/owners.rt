@@ -4,7 +4,7 @@ use super::*;
 use crate::testing::counted::NEVER;
 use std::test::Fail;
 
-fn lets_its_owners_go<F: Kind<Tallied, AnyValue>, W: Abort + Wait + Copy>(
+fn lets_its_owners_go<F: Kind<Tallied, TalliedValues, Keep, AnyValue>, W: Abort + Wait + Copy>(
     rt: &W,
     alloc: Global,
 ) -> Result<(), Fail> {
@@ -21,14 +21,14 @@ fn lets_its_owners_go<F: Kind<Tallied, AnyValue>, W: Abort + Wait + Copy>(
 
 #[test]
 fn pulled_items_let_their_pool_end(rt: HostRuntime) -> Result<(), Fail> {
-    lets_its_owners_go::<UnderMutex<Tallied, AnyValue>, _>(&rt, rt.alloc())?;
-    lets_its_owners_go::<UnderSpinLock<Tallied, AnyValue>, _>(&rt, rt.alloc())
+    lets_its_owners_go::<UnderMutex<Tallied, TalliedValues, Keep, AnyValue>, _>(&rt, rt.alloc())?;
+    lets_its_owners_go::<UnderSpinLock<Tallied, TalliedValues, Keep, AnyValue>, _>(&rt, rt.alloc())
 }
 
-fn lets_its_attached_owners_go<F: Kind<Tallied, AnyValue>, W: Abort + Wait + Copy>(
-    rt: &W,
-    alloc: Global,
-) -> Result<(), Fail> {
+fn lets_its_attached_owners_go<
+    F: Kind<Tallied, TalliedValues, Keep, AnyValue>,
+    W: Abort + Wait + Copy,
+>(rt: &W, alloc: Global) -> Result<(), Fail> {
     let tally = new_tally(alloc)?;
     let pool = tracked::<F>(alloc, &tally, NEVER)?;
     let value = pool.init.make().ok_or("init makes a value")?;
@@ -41,14 +41,20 @@ fn lets_its_attached_owners_go<F: Kind<Tallied, AnyValue>, W: Abort + Wait + Cop
 
 #[test]
 fn attached_items_let_their_pool_end(rt: HostRuntime) -> Result<(), Fail> {
-    lets_its_attached_owners_go::<UnderMutex<Tallied, AnyValue>, _>(&rt, rt.alloc())?;
-    lets_its_attached_owners_go::<UnderSpinLock<Tallied, AnyValue>, _>(&rt, rt.alloc())
+    lets_its_attached_owners_go::<UnderMutex<Tallied, TalliedValues, Keep, AnyValue>, _>(
+        &rt,
+        rt.alloc(),
+    )?;
+    lets_its_attached_owners_go::<UnderSpinLock<Tallied, TalliedValues, Keep, AnyValue>, _>(
+        &rt,
+        rt.alloc(),
+    )
 }
 
-fn is_kept_alive_by_an_item<F: Kind<Tallied, AnyValue>, W: Abort + Wait + Copy>(
-    rt: &W,
-    alloc: Global,
-) -> Result<(), Fail> {
+fn is_kept_alive_by_an_item<
+    F: Kind<Tallied, TalliedValues, Keep, AnyValue>,
+    W: Abort + Wait + Copy,
+>(rt: &W, alloc: Global) -> Result<(), Fail> {
     let tally = new_tally(alloc)?;
     let pool = tracked::<F>(alloc, &tally, NEVER)?;
     let item = pool.pull_owned(rt)?;
@@ -61,6 +67,12 @@ fn is_kept_alive_by_an_item<F: Kind<Tallied, AnyValue>, W: Abort + Wait + Copy>(
 
 #[test]
 fn a_pool_ends_with_its_last_owned_item(rt: HostRuntime) -> Result<(), Fail> {
-    is_kept_alive_by_an_item::<UnderMutex<Tallied, AnyValue>, _>(&rt, rt.alloc())?;
-    is_kept_alive_by_an_item::<UnderSpinLock<Tallied, AnyValue>, _>(&rt, rt.alloc())
+    is_kept_alive_by_an_item::<UnderMutex<Tallied, TalliedValues, Keep, AnyValue>, _>(
+        &rt,
+        rt.alloc(),
+    )?;
+    is_kept_alive_by_an_item::<UnderSpinLock<Tallied, TalliedValues, Keep, AnyValue>, _>(
+        &rt,
+        rt.alloc(),
+    )
 }

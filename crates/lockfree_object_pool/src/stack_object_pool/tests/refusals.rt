@@ -7,10 +7,10 @@ use crate::testing::refused::again;
 use std::mem;
 use std::test::Fail;
 
-fn asks_again_after_a_refusal<F: Kind<Tallied, AnyValue>, W: Abort + Wait + Copy>(
-    rt: &W,
-    alloc: Global,
-) -> Result<(), Fail> {
+fn asks_again_after_a_refusal<
+    F: Kind<Tallied, TalliedValues, Keep, AnyValue>,
+    W: Abort + Wait + Copy,
+>(rt: &W, alloc: Global) -> Result<(), Fail> {
     let tally = new_tally(alloc)?;
     let pool = tracked::<F>(alloc, &tally, 0)?;
     assert_eq!(rt; pool.pull(rt).err(), Some(PullError::Init));
@@ -23,11 +23,17 @@ fn asks_again_after_a_refusal<F: Kind<Tallied, AnyValue>, W: Abort + Wait + Copy
 
 #[test]
 fn init_that_refuses_once_is_asked_again(rt: HostRuntime) -> Result<(), Fail> {
-    asks_again_after_a_refusal::<UnderMutex<Tallied, AnyValue>, _>(&rt, rt.alloc())?;
-    asks_again_after_a_refusal::<UnderSpinLock<Tallied, AnyValue>, _>(&rt, rt.alloc())
+    asks_again_after_a_refusal::<UnderMutex<Tallied, TalliedValues, Keep, AnyValue>, _>(
+        &rt,
+        rt.alloc(),
+    )?;
+    asks_again_after_a_refusal::<UnderSpinLock<Tallied, TalliedValues, Keep, AnyValue>, _>(
+        &rt,
+        rt.alloc(),
+    )
 }
 
-fn goes_on_without_memory<F: Kind<Tallied, AnyValue>, W: Abort + Wait + Copy>(
+fn goes_on_without_memory<F: Kind<Tallied, TalliedValues, Keep, AnyValue>, W: Abort + Wait + Copy>(
     rt: &W,
     alloc: Global,
 ) -> Result<(), Fail> {
@@ -56,21 +62,29 @@ fn goes_on_without_memory<F: Kind<Tallied, AnyValue>, W: Abort + Wait + Copy>(
 /// `init`.
 #[test]
 fn pulls_go_on_where_memory_was_refused(rt: HostRuntime) -> Result<(), Fail> {
-    goes_on_without_memory::<UnderMutex<Tallied, AnyValue>, _>(&rt, rt.alloc())?;
-    goes_on_without_memory::<UnderSpinLock<Tallied, AnyValue>, _>(&rt, rt.alloc())
+    goes_on_without_memory::<UnderMutex<Tallied, TalliedValues, Keep, AnyValue>, _>(
+        &rt,
+        rt.alloc(),
+    )?;
+    goes_on_without_memory::<UnderSpinLock<Tallied, TalliedValues, Keep, AnyValue>, _>(
+        &rt,
+        rt.alloc(),
+    )
 }
 
 /// A pool of zeros that counts nothing.
 type Plain<F> = StackObjectPool<u32, Copied<u32, AnyValue>, Keep, AnyValue, F>;
 
-fn plain<F: Kind<u32, AnyValue>>(alloc: Global) -> Result<Arc<Plain<F>>, PullError> {
+fn plain<F: Kind<u32, Copied<u32, AnyValue>, Keep, AnyValue>>(
+    alloc: Global,
+) -> Result<Arc<Plain<F>>, PullError> {
     Ok(Arc::new(alloc, F::new_pool(alloc, Copied::new(0), Keep)?)?)
 }
 
-fn gives_back_what_is_not_attached<F: Kind<u32, AnyValue>, W: Abort + Wait + Copy>(
-    rt: &W,
-    alloc: Global,
-) -> Result<(), Fail> {
+fn gives_back_what_is_not_attached<
+    F: Kind<u32, Copied<u32, AnyValue>, Keep, AnyValue>,
+    W: Abort + Wait + Copy,
+>(rt: &W, alloc: Global) -> Result<(), Fail> {
     let pool = again(&|| plain::<F>(alloc))?;
     assert_eq!(rt; shown_or_back(StackReusable::new(rt, &*pool, 8)), 8);
     let owner = Arc::try_clone(&pool)?;
@@ -81,11 +95,17 @@ fn gives_back_what_is_not_attached<F: Kind<u32, AnyValue>, W: Abort + Wait + Cop
 /// Holds with each request for memory refused in turn too: a value that isn't attached comes back.
 #[test]
 fn an_attached_value_comes_back_where_memory_was_refused(rt: HostRuntime) -> Result<(), Fail> {
-    gives_back_what_is_not_attached::<UnderMutex<u32, AnyValue>, _>(&rt, rt.alloc())?;
-    gives_back_what_is_not_attached::<UnderSpinLock<u32, AnyValue>, _>(&rt, rt.alloc())
+    gives_back_what_is_not_attached::<UnderMutex<u32, Copied<u32, AnyValue>, Keep, AnyValue>, _>(
+        &rt,
+        rt.alloc(),
+    )?;
+    gives_back_what_is_not_attached::<UnderSpinLock<u32, Copied<u32, AnyValue>, Keep, AnyValue>, _>(
+        &rt,
+        rt.alloc(),
+    )
 }
 
-fn loses_what_is_forgotten<F: Kind<Tallied, AnyValue>, W: Abort + Wait + Copy>(
+fn loses_what_is_forgotten<F: Kind<Tallied, TalliedValues, Keep, AnyValue>, W: Abort + Wait + Copy>(
     rt: &W,
     alloc: Global,
 ) -> Result<(), Fail> {
@@ -101,6 +121,12 @@ fn loses_what_is_forgotten<F: Kind<Tallied, AnyValue>, W: Abort + Wait + Copy>(
 
 #[test]
 fn a_forgotten_item_takes_its_room_with_it(rt: HostRuntime) -> Result<(), Fail> {
-    loses_what_is_forgotten::<UnderMutex<Tallied, AnyValue>, _>(&rt, rt.alloc())?;
-    loses_what_is_forgotten::<UnderSpinLock<Tallied, AnyValue>, _>(&rt, rt.alloc())
+    loses_what_is_forgotten::<UnderMutex<Tallied, TalliedValues, Keep, AnyValue>, _>(
+        &rt,
+        rt.alloc(),
+    )?;
+    loses_what_is_forgotten::<UnderSpinLock<Tallied, TalliedValues, Keep, AnyValue>, _>(
+        &rt,
+        rt.alloc(),
+    )
 }

@@ -17,7 +17,7 @@ impl Reset<u32, AnyValue> for AddsOne {
     }
 }
 
-fn adds_one<F: Kind<u32, AnyValue>, W: Abort + Wait + Copy>(
+fn adds_one<F: Kind<u32, CountedZeros, AddsOne, AnyValue>, W: Abort + Wait + Copy>(
     rt: &W,
     alloc: Global,
 ) -> Result<(), Fail> {
@@ -43,6 +43,6 @@ fn adds_one<F: Kind<u32, AnyValue>, W: Abort + Wait + Copy>(
 
 #[test]
 fn each_return_resets_once(rt: HostRuntime) -> Result<(), Fail> {
-    adds_one::<UnderMutex<u32, AnyValue>, _>(&rt, rt.alloc())?;
-    adds_one::<UnderSpinLock<u32, AnyValue>, _>(&rt, rt.alloc())
+    adds_one::<UnderMutex<u32, CountedZeros, AddsOne, AnyValue>, _>(&rt, rt.alloc())?;
+    adds_one::<UnderSpinLock<u32, CountedZeros, AddsOne, AnyValue>, _>(&rt, rt.alloc())
 }

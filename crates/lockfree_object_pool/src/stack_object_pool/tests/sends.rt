@@ -75,7 +75,7 @@ fn shared_over_a_list<
     I: Init<T, K> + Send + Sync,
     R: Reset<T, K> + Send + Sync,
     K: Clean<T> + Send,
-    F: FreeList<T, K> + Send + Sync,
+    F: FreeList<T, MadeOrReset<I, R, K>> + Send + Sync,
     W: Wait + Copy + Send + Sync,
 >(item: &StackReusable<'_, T, I, R, K, F, W>, owned: &StackOwnedReusable<T, I, R, K, F, W>) {
     sent(item);

@@ -6,7 +6,7 @@ use std::thread;
 use std::thread::Threads;
 
 fn makes_without_the_lock<
-    F: Kind<u32, AnyValue> + Send + Sync + 'static,
+    F: Kind<u32, WaitsForDrop, Keep, AnyValue> + Send + Sync + 'static,
     W: Abort + Wait + Threads + Copy + Send + 'static,
 >(rt: &W, alloc: Global) -> Result<(), Fail> {
     let steps = Arc::new(alloc, Steps::new())?;
@@ -23,13 +23,13 @@ fn makes_without_the_lock<
 
 #[test]
 fn init_runs_without_the_lock(rt: HostRuntime) -> Result<(), Fail> {
-    makes_without_the_lock::<UnderMutex<u32, AnyValue>, _>(&rt, rt.alloc())?;
-    makes_without_the_lock::<UnderSpinLock<u32, AnyValue>, _>(&rt, rt.alloc())
+    makes_without_the_lock::<UnderMutex<u32, WaitsForDrop, Keep, AnyValue>, _>(&rt, rt.alloc())?;
+    makes_without_the_lock::<UnderSpinLock<u32, WaitsForDrop, Keep, AnyValue>, _>(&rt, rt.alloc())
 }
 
 /// The item that was pulled and dropped meanwhile lies under the one whose reset took so long.
 fn resets_without_the_lock<
-    F: Kind<u32, AnyValue> + Send + Sync + 'static,
+    F: Kind<u32, Copied<u32, AnyValue>, WaitsForDrop, AnyValue> + Send + Sync + 'static,
     W: Abort + Wait + Threads + Copy + Send + 'static,
 >(rt: &W, alloc: Global) -> Result<(), Fail> {
     let steps = Arc::new(alloc, Steps::new())?;
@@ -48,6 +48,12 @@ fn resets_without_the_lock<
 
 #[test]
 fn reset_runs_without_the_lock(rt: HostRuntime) -> Result<(), Fail> {
-    resets_without_the_lock::<UnderMutex<u32, AnyValue>, _>(&rt, rt.alloc())?;
-    resets_without_the_lock::<UnderSpinLock<u32, AnyValue>, _>(&rt, rt.alloc())
+    resets_without_the_lock::<UnderMutex<u32, Copied<u32, AnyValue>, WaitsForDrop, AnyValue>, _>(
+        &rt,
+        rt.alloc(),
+    )?;
+    resets_without_the_lock::<UnderSpinLock<u32, Copied<u32, AnyValue>, WaitsForDrop, AnyValue>, _>(
+        &rt,
+        rt.alloc(),
+    )
 }
