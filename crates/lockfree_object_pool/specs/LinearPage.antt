@@ -2,14 +2,13 @@
 use Rattle.std.specs.Prelude.{◌≡◌, ℕ, ◌+◌, ◌<◌, Some, IfSome}
 use Rattle.std.specs.Arc.{arc_value}
 use Rattle.atomic_table.specs.Seated.{TableId}
-use Rattle.once_cell.specs.Once.{cell_name}
 use Rattle.lockfree_object_pool.specs.Item.{Item}
 use Rattle.lockfree_object_pool.specs.LinkNote.{known_next}
+use Rattle.lockfree_object_pool.specs.LinkRow.{link_at}
 use Rattle.lockfree_object_pool.specs.Page.{page_identity}
 use Rattle.lockfree_object_pool.specs.declared.clean.Clean.{Ghosts}
 use Rattle.lockfree_object_pool.specs.declared.linear_page.Chain.{Chain}
 use Rattle.lockfree_object_pool.specs.declared.linear_page.LinearPage.{LinearPage}
-use Rattle.lockfree_object_pool.specs.declared.linear_page.directory.LinkPlace.{LinkPlace}
 use Rattle.lockfree_object_pool.specs.declared.linear_page.link_note.LinkNote.{LinkNote}
 use Rattle.lockfree_object_pool.specs.declared.page.TheConstants.{PAGE_ITEMS}
 
@@ -25,10 +24,6 @@ module _ {T K O : Type 0} {opens : Ghosts O T} where
   -- how many links the page lies behind its chain's first one
   abbrev pub page_number : LinearPage T K O opens → ℕ
   page_number page = page.number
-
-  -- which link lies at a place
-  abbrev pub link_at : LinkPlace T K O opens → ℕ × ℕ
-  link_at place = (cell_name place.row.now, place.offset)
 
   -- which link leads on from a page
   abbrev pub next_link : LinearPage T K O opens → ℕ × ℕ

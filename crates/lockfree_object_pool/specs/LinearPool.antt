@@ -7,10 +7,14 @@ use Rattle.lockfree_object_pool.specs.Item.{Item}
 use Rattle.lockfree_object_pool.specs.LinearPage.{first_page}
 use Rattle.lockfree_object_pool.specs.OwnedSlot.{owned_slot_item, owned_slot_with}
 use Rattle.lockfree_object_pool.specs.Slot.{taken_item}
+use Rattle.lockfree_object_pool.specs.Walk.{start_of, number_of, IsReached}
 use Rattle.lockfree_object_pool.specs.declared.linear_object_pool.LinearObjectPool.{LinearObjectPool}
+use Rattle.lockfree_object_pool.specs.declared.linear_object_pool.answer_of.AnswerOf.{AnswerOf}
 use Rattle.lockfree_object_pool.specs.declared.linear_object_pool.page_limit.PageLimit.{PageLimit}
 use Rattle.lockfree_object_pool.specs.declared.linear_owned_reusable.LinearOwnedReusable.{LinearOwnedReusable}
+use Rattle.lockfree_object_pool.specs.declared.linear_page.page_number.PageNumber.{PageNumber}
 use Rattle.lockfree_object_pool.specs.declared.linear_reusable.LinearReusable.{LinearReusable}
+use Rattle.lockfree_object_pool.specs.declared.made_or_reset.MadeOrReset.{MadeOrReset}
 use Rattle.lockfree_object_pool.specs.declared.page.TheConstants.{PAGE_ITEMS}
 
 -- how many pages a limit allows
@@ -42,9 +46,13 @@ module _ {T I R K : Type 0} where
   abbrev pub reusable_item : LinearReusable T I R K → Item T
   reusable_item reusable = taken_item reusable.taken reusable.value
 
+  -- the number of the item's page, with what the pull learned of the link to it
+  abbrev pub reusable_page : LinearReusable T I R K → PageNumber T (MadeOrReset I R K) (AnswerOf I K)
+  reusable_page reusable = reusable.number
+
   -- the number of the item's page in the pool
   abbrev pub reusable_number : LinearReusable T I R K → ℕ
-  reusable_number reusable = reusable.number
+  reusable_number reusable = number_of (reusable_page reusable)
 
   -- the same item with another value
   abbrev pub reusable_with : LinearReusable T I R K → T → LinearReusable T I R K
@@ -58,9 +66,13 @@ module _ {T I R K : Type 0} where
   abbrev pub owned_item : LinearOwnedReusable T I R K → Item T
   owned_item reusable = owned_slot_item reusable.slot
 
+  -- the number of the item's page, with what the pull learned of the link to it
+  abbrev pub owned_page : LinearOwnedReusable T I R K → PageNumber T (MadeOrReset I R K) (AnswerOf I K)
+  owned_page reusable = reusable.number
+
   -- the number of the item's page in the pool
   abbrev pub owned_number : LinearOwnedReusable T I R K → ℕ
-  owned_number reusable = reusable.number
+  owned_number reusable = number_of (owned_page reusable)
 
   -- the same item with another value
   abbrev pub owned_with : LinearOwnedReusable T I R K → T → LinearOwnedReusable T I R K
@@ -71,3 +83,7 @@ module _ {T I R K : Type 0} where
     pub in_page : item.id < PAGE_ITEMS
     pub meets_condition : meets item.value
     pub of_first : number ≡ 0 → item.page ≡ pool_first_page pool
+
+  -- the item's page is the pool's page of this number: the first one where it is 0, else the one to which that page's link leads
+  abbrev pub IsOnPage : LinearObjectPool T I R K → PageNumber T (MadeOrReset I R K) (AnswerOf I K) → Item T → Type 0
+  IsOnPage pool number item = IsReached (start_of pool.chain) number item.page

@@ -10,7 +10,7 @@ use Rattle.lockfree_object_pool.specs.declared.linear_page.link_note.LinkNote.{L
 module _ {T K O : Type 0} {opens : Ghosts O T} where
   -- which link the note is of
   abbrev pub known_link : LinkNote T K O opens → ℕ × ℕ
-  known_link note = (note.row.cell, note.offset)
+  known_link note = (note.row.cell, note.offset.value)
 
   -- which cell the link is
   abbrev pub link_cell : LinkNote T K O opens → ℕ

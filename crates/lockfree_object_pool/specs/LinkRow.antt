@@ -1,8 +1,8 @@
--- What a row of links shows, and where a link lies.
+-- What a row of links shows, and which link leads to a page.
 use Rattle.std.specs.Prelude.{◌≡◌, ℕ, ◌+◌, ◌^◌, ◌<◌, List, Option, None, Some, slice_get}
 use Rattle.std.specs.Option.{option_map}
+use Rattle.std.specs.declared.alloc.Global.{Global}
 use Rattle.once_cell.specs.Once.{cell_name}
-use Rattle.once_cell.specs.declared.race.once_box.OnceBox.{OnceBox}
 use Rattle.lockfree_object_pool.specs.declared.clean.Clean.{Ghosts}
 use Rattle.lockfree_object_pool.specs.declared.linear_page.directory.LinkPlace.{LinkPlace}
 use Rattle.lockfree_object_pool.specs.declared.linear_page.directory.Row.{Row}
@@ -12,8 +12,19 @@ abbrev pub cell_in_row : {T K O : Type 0} → Option (Row T K O) → ℕ → Opt
 cell_in_row None offset = None
 cell_in_row (Some row) offset = option_map cell_name (slice_get row.links.items offset)
 
--- the place of the link to a page: row `b` begins with the link to page `2 ^ b` and has as many links
-pub record IsPlaceOf {T K O : Type 0} {opens : Ghosts O T} (rows : List (OnceBox (Row T K O))) (number : ℕ) (place : LinkPlace T K O opens) : Type 0 where
-  pub row : slice_get rows place.row_number ≡ Some place.row.now
-  pub offset : 2 ^ place.row_number + place.offset ≡ number
-  pub in_row : place.offset < 2 ^ place.row_number
+-- which link lies at a place
+abbrev pub link_at : {T K O : Type 0} {opens : Ghosts O T} → LinkPlace T K O opens → ℕ × ℕ
+link_at place = (cell_name place.row.now, place.offset)
+
+-- cells that are set once, as contracts see them
+abbrev pub Cells : Type 0
+Cells = List (Global × ℕ)
+
+-- the link to a page, by its row's cell and its place there: row `b` begins with the link to page `2 ^ b` and has as many links
+pub record IsLinkTo (rows : Cells) (number : ℕ) (link : ℕ × ℕ) : Type 0 where
+  pub row_number : ℕ
+  pub row : Global × ℕ
+  pub is_row : slice_get rows row_number ≡ Some row
+  pub of_row : link.0 ≡ cell_name row
+  pub offset : 2 ^ row_number + link.1 ≡ number
+  pub in_row : link.1 < 2 ^ row_number

@@ -1,41 +1,68 @@
 -- Where a walk along the links of a chain came to.
-use Rattle.std.specs.Prelude.{◌≡◌, ℕ, List, Option, Some, MatchOption}
+use Rattle.std.specs.Prelude.{◌≡◌, ◌⊎◌, ℕ, Some}
+use Rattle.std.specs.Arc.{arc_value}
+use Rattle.std.specs.Option.{option_map}
 use Rattle.atomic_table.specs.Seated.{TableId}
-use Rattle.once_cell.specs.declared.race.once_box.OnceBox.{OnceBox}
-use Rattle.lockfree_object_pool.specs.LinearPage.{first_page, shown_page, page_number, link_at}
+use Rattle.lockfree_object_pool.specs.FullSeen.{full_page}
+use Rattle.lockfree_object_pool.specs.Item.{IsItemOf, HasOrigin}
+use Rattle.lockfree_object_pool.specs.LinearPage.{first_page, shown_page, page_number}
 use Rattle.lockfree_object_pool.specs.LinkNote.{known_link, known_next}
-use Rattle.lockfree_object_pool.specs.LinkRow.{IsPlaceOf}
+use Rattle.lockfree_object_pool.specs.LinkRow.{Cells, IsLinkTo, cell_in_row}
+use Rattle.lockfree_object_pool.specs.Page.{page_identity}
+use Rattle.lockfree_object_pool.specs.Slot.{slot_item}
 use Rattle.lockfree_object_pool.specs.declared.clean.Clean.{Ghosts}
 use Rattle.lockfree_object_pool.specs.declared.linear_page.Chain.{Chain}
 use Rattle.lockfree_object_pool.specs.declared.linear_page.LinearPage.{LinearPage}
-use Rattle.lockfree_object_pool.specs.declared.linear_page.directory.LinkPlace.{LinkPlace}
-use Rattle.lockfree_object_pool.specs.declared.linear_page.directory.Row.{Row}
 use Rattle.lockfree_object_pool.specs.declared.linear_page.link_note.LinkNote.{LinkNote}
+use Rattle.lockfree_object_pool.specs.declared.linear_page.page_number.PageNumber.{PageNumber}
+use Rattle.lockfree_object_pool.specs.declared.linear_page.walk.KnownFull.{KnownFull}
+use Rattle.lockfree_object_pool.specs.declared.page.full_seen.Allocated.{Allocated}
+use Rattle.lockfree_object_pool.specs.declared.page.full_seen.Allocated.TheVariants.{Slot, Full}
 
 -- where a walk starts: the links of its chain, a page of that chain, and the page's number
-pub record Start (T K O : Type 0) : Type 0 where
-  pub links : List (OnceBox (Row T K O))
+pub record Start : Type 0 where
+  pub links : Cells
   pub page : TableId
   pub number : ℕ
 
--- the start of a walk that begins at a chain's first page
-abbrev pub start_of : {T K O : Type 0} → Chain T K O → Start T K O
-start_of chain = record { links = chain.directory; page = first_page chain; number = 0 }
+module _ {T K O : Type 0} where
+  -- the start of a walk that begins at a chain's first page
+  abbrev pub start_of : Chain T K O → Start
+  start_of chain = record { links = chain.directory; page = first_page chain; number = 0 }
+
+  -- how many links the page lies behind its chain's first one
+  abbrev pub number_of : PageNumber T K O → ℕ
+  number_of known = known.number
+
+  -- the link to the page of this number leads to this page, as the notes of its row and of itself know
+  pub record IsLinkedAt (links : Cells) (known : PageNumber T K O) (page : TableId) : Type 0 where
+    -- where in its row that link lies
+    pub offset : ℕ
+    pub is_link : IsLinkTo links known.number (known.row.cell, offset)
+    pub in_row : cell_in_row known.row.known offset ≡ Some known.link.cell
+    pub leads_here : option_map (λ page. page_identity (arc_value page)) known.link.known ≡ Some page
+
+  -- a walk came to the page of this number: it is the start's, or the one to which the link of that number leads
+  abbrev pub IsReached : Start → PageNumber T K O → TableId → Type 0
+  IsReached start known page =
+      ((known.number ≡ start.number) × (page ≡ start.page)) ⊎ IsLinkedAt start.links known page
+
+module _ {T K : Type 0} where
+  -- what a page of a chain answers to a pull: an item of this page with its origin; or each of its ids was found out
+  abbrev pub IsAnsweredBy : (T → Type 0) → (T → Type 0) → TableId → Allocated T K → Type 0
+  IsAnsweredBy meets may_open page (Slot slot) = IsItemOf meets page (slot_item slot) × HasOrigin may_open (slot_item slot)
+  IsAnsweredBy meets may_open page (Full seen) = full_page seen ≡ page
 
 module _ {T K O : Type 0} {opens : Ghosts O T} where
   -- the start of a walk that begins at this page
-  abbrev pub start_at : LinearPage T K O opens → Start T K O
+  abbrev pub start_at : LinearPage T K O opens → Start
   start_at page = record { links = page.directory.now; page = shown_page page; number = page_number page }
 
   -- a note of the link to the page of this number knows that page
-  pub record IsKnownAt (links : List (OnceBox (Row T K O))) (number : ℕ) (note : LinkNote T K O opens) (page : TableId) : Type 0 where
-    -- where that link lies
-    pub place : LinkPlace T K O opens
-    pub is_place : IsPlaceOf links number place
-    pub of_link : known_link note ≡ link_at place
+  pub record IsKnownAt (links : Cells) (number : ℕ) (note : LinkNote T K O opens) (page : TableId) : Type 0 where
+    pub is_link : IsLinkTo links number (known_link note)
     pub knows : known_next note ≡ Some page
 
-  -- a walk came to the page of this number: past no link it is the start's, past some the note of the last link knows it
-  abbrev pub IsReached : Start T K O → ℕ → Option (LinkNote T K O opens) → TableId → Type 0
-  IsReached start number note page =
-      MatchOption note ((number ≡ start.number) × (page ≡ start.page)) (λ note. IsKnownAt start.links number note page)
+  -- the page of this number was found full
+  abbrev pub IsFullAt : Cells → KnownFull T K O opens → Type 0
+  IsFullAt links full = IsKnownAt links full.number full.note (full_page full.seen)

@@ -5,7 +5,8 @@ ghost use Rattle.lockfree_object_pool.specs.declared.page.TheConstants.{PAGE_ITE
 
 use crate::clean::{AnyValue, Clean};
 use crate::closures::{Init, Reset};
-use crate::linear_object_pool::LinearObjectPool;
+use crate::linear_object_pool::{AnswerOf, LinearObjectPool};
+use crate::linear_page::PageNumber;
 use crate::made_or_reset::MadeOrReset;
 use crate::page::{OwnedSlot, PageId};
 use std::fmt::{self, Debug, Formatter, Write};
@@ -16,21 +17,21 @@ use std::sync::Arc;
 pub struct LinearOwnedReusable<T: Drop, I: Init<T, K>, R: Reset<T, K>, K: Clean<T> = AnyValue> {
     pool: Arc<LinearObjectPool<T, I, R, K>>,
     slot: OwnedSlot<T, MadeOrReset<I, R, K>>,
-    number: usize,
+    number: PageNumber<T, MadeOrReset<I, R, K>, AnswerOf<I, K>>,
 }
 
 impl<T: Drop, I: Init<T, K>, R: Reset<T, K>, K: Clean<T>> LinearOwnedReusable<T, I, R, K> {
-    ghost use Rattle.lockfree_object_pool.specs.LinearPool.{owned_pool, owned_item, owned_number};
+    ghost use Rattle.lockfree_object_pool.specs.LinearPool.{owned_pool, owned_item, owned_page, owned_number};
     ghost use Rattle.lockfree_object_pool.specs.OwnedSlot.{owned_slot_item};
 
     pub(crate) fn new(
         pool: Arc<LinearObjectPool<T, I, R, K>>,
         slot: OwnedSlot<T, MadeOrReset<I, R, K>>,
-        number: usize,
+        number: PageNumber<T, MadeOrReset<I, R, K>, AnswerOf<I, K>>,
     ) -> LinearOwnedReusable<T, I, R, K>
         ensures pool { owned_pool result ≡ arc_value pool }
         ensures item { owned_item result ≡ owned_slot_item slot }
-        ensures number { owned_number result ≡ number }
+        ensures page { owned_page result ≡ number }
     {
         LinearOwnedReusable { pool, slot, number }
     }
@@ -39,7 +40,7 @@ impl<T: Drop, I: Init<T, K>, R: Reset<T, K>, K: Clean<T>> LinearOwnedReusable<T,
     pub fn page_number(&self) -> usize
         ensures { result ≡ owned_number self.now }
     {
-        self.number
+        self.number.get()
     }
 
     /// The number of the item in its page.
@@ -90,7 +91,7 @@ impl<T: Drop, I: Init<T, K>, R: Reset<T, K>, K: Clean<T>> Drop for LinearOwnedRe
         pool.reset(&mut slot);
         let (taken, value) = slot.into_parts();
         if taken.free(value).was_full {
-            pool.no_longer_full(number);
+            pool.no_longer_full(number.get());
         }
     }
 }

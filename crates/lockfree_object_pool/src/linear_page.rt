@@ -1,15 +1,15 @@
 //! A chain of pages, which grows by a page at its end and never shrinks.
 //!
 //! This file has the chain and a page of it. Below it: where a link lies (`directory`), what a caller has learned of a
-//! link (`link_note`), what a linked page opened with (`opened_page`), the walk from page to page for an item (`walk`), which
-//! pages may have a free item (`hints`), and a pull by such hints (`hinted`).
+//! link (`link_note`) and of the number of a page (`page_number`), a page with what it opened with (`opened_page`), the walk
+//! from page to page for an item (`walk`), which pages may have a free item (`hints`), and a pull by such hints (`hinted`).
 //!
 //! No call waits for another thread. A link is set once, in `get_or_create_next_as` alone, for a
 //! caller that has found its page full.
 ghost use Rattle.std.specs.Prelude.{◌≡◌, ◌+◌, ◌^◌, ◌<◌, Option, None, IfSome, IfNone, IfOk, IfErr};
 ghost use Rattle.std.specs.Arc.{arc_value};
 ghost use Rattle.lockfree_object_pool.specs.Answers.{MayOpen};
-ghost use Rattle.lockfree_object_pool.specs.LinkRow.{IsPlaceOf};
+ghost use Rattle.lockfree_object_pool.specs.LinkRow.{IsLinkTo, link_at};
 ghost use Rattle.lockfree_object_pool.specs.Page.{page_identity, page_opening, IsFilled};
 ghost use Rattle.lockfree_object_pool.specs.Refusal.{RefusesMaking};
 
@@ -19,6 +19,7 @@ use crate::page::{FullSeen, Page};
 use directory::{Directory, LinkPlace};
 use opened_page::OpenedPage;
 use std::alloc::{AllocError, Global};
+use std::cell::Cell;
 use std::sync::Arc;
 
 mod directory;
@@ -26,9 +27,11 @@ mod hinted;
 mod hints;
 mod link_note;
 mod opened_page;
+mod page_number;
 mod walk;
 
 pub use link_note::LinkNote;
+pub(crate) use page_number::PageNumber;
 pub(crate) use walk::Reached;
 
 /// A chain of pages: the first one, and the links behind it.
@@ -70,7 +73,7 @@ pub struct LinearPage<'c, T, K: Clean<T>, O: Clean<T> = AnyValue> {
     page: &'c OpenedPage<T, K, O>,
     number: usize,
     next: LinkPlace<'c, T, K, O>,
-    ghost next_place: { ∥ (number + 1 < 2 ^ 64 → IsPlaceOf directory.now (number + 1) next) ∥₁ },
+    ghost next_link: { ∥ (number + 1 < 2 ^ 64 → IsLinkTo directory.now (number + 1) (link_at next)) ∥₁ },
 }
 
 impl<T, K: Clean<T>, O: Clean<T>> Copy for LinearPage<'_, T, K, O> {}
@@ -101,7 +104,7 @@ impl<'c, T: Drop, K: Clean<T>, O: Clean<T>> LinearPage<'c, T, K, O> {
         ensures page { shown_page result ≡ page_identity (arc_value page.now) }
         ensures number { page_number result ≡ number }
         ensures links { (start_at result).links ≡ directory.now }
-        ensures next { number + 1 < 2 ^ 64 → IsPlaceOf directory.now (number + 1) result.next }
+        ensures next { number + 1 < 2 ^ 64 → IsLinkTo directory.now (number + 1) (next_link result) }
     {
         LinearPage {
             directory,
@@ -172,7 +175,7 @@ impl<'c, T: Drop, K: Clean<T>, O: Clean<T>> LinearPage<'c, T, K, O> {
         self.get_or_create_next_as(seen, init, &mut note)
     }
 
-    /// As `get_or_create_next`: where the note knows a page that is linked here, the answer is that page, and the note knows each answer.
+    /// As `get_or_create_next`, by one read of the link, and one exchange where a page was made: where the note knows a page that is linked here, the answer is that page, and the note knows each answer.
     pub fn get_or_create_next_as<I: Fn() -> Option<T>>(
         &self,
         _seen: FullSeen<'_, T>,
@@ -191,10 +194,14 @@ impl<'c, T: Drop, K: Clean<T>, O: Clean<T>> LinearPage<'c, T, K, O> {
         };
         let alloc = self.directory.allocator();
         let link = self.next.link(note);
+        let made = Cell::new(false);
         let page = link.get_or_try_init_as(
-            || -> Result<_, PullError> { Ok(Box::new(alloc, made_page(alloc, init)?)?) },
+            || -> Result<_, PullError> { Ok(Box::new(alloc, told_page(alloc, init, &made)?)?) },
             &mut note.link,
         )?;
+        if made.get() {
+            self.directory.set_hint(number);
+        }
         Ok(LinearPage::new(self.directory, page, number))
     }
 }
@@ -209,4 +216,18 @@ fn made_page<T: Drop, K: Clean<T>, O: Clean<T>, I: Fn() -> Option<T>>(
 {
     let page = Arc::new(alloc, Page::new(alloc, init)?)?;
     Ok(OpenedPage::new(page))
+}
+
+/// As `made_page`, which tells that a page was made.
+fn told_page<T: Drop, K: Clean<T>, O: Clean<T>, I: Fn() -> Option<T>>(
+    alloc: Global,
+    init: &I,
+    made: &Cell<bool>,
+) -> Result<OpenedPage<T, K, O>, PullError>
+    requires { MayOpen (I.pre init.now) (λ answer. I.post init.now answer) K.meets O.meets }
+    ensures refused { IfErr result (RefusesMaking (I.post init.now None)) }
+{
+    let page = made_page(alloc, init)?;
+    made.set(true);
+    Ok(page)
 }

@@ -5,7 +5,8 @@ ghost use Rattle.lockfree_object_pool.specs.declared.page.TheConstants.{PAGE_ITE
 use crate::clean::{AnyValue, Clean};
 use crate::closures::{Init, Reset};
 use crate::lender::Lender;
-use crate::linear_object_pool::LinearObjectPool;
+use crate::linear_object_pool::{AnswerOf, LinearObjectPool};
+use crate::linear_page::PageNumber;
 use crate::made_or_reset::MadeOrReset;
 use crate::page::{PageId, PageSlot, TakenId};
 use std::fmt::{self, Debug, Formatter, Write};
@@ -16,22 +17,22 @@ pub struct LinearReusable<'p, T: Drop, I: Init<T, K>, R: Reset<T, K>, K: Clean<T
     pool: &'p LinearObjectPool<T, I, R, K>,
     lender: Lender,
     taken: TakenId<'p, T, MadeOrReset<I, R, K>>,
-    number: usize,
+    number: PageNumber<T, MadeOrReset<I, R, K>, AnswerOf<I, K>>,
     value: T,
 }
 
 impl<'p, T: Drop, I: Init<T, K>, R: Reset<T, K>, K: Clean<T>> LinearReusable<'p, T, I, R, K> {
-    ghost use Rattle.lockfree_object_pool.specs.LinearPool.{reusable_pool, reusable_item, reusable_number};
+    ghost use Rattle.lockfree_object_pool.specs.LinearPool.{reusable_pool, reusable_item, reusable_page, reusable_number};
     ghost use Rattle.lockfree_object_pool.specs.Slot.{slot_item};
 
     pub(crate) fn new(
         pool: &'p LinearObjectPool<T, I, R, K>,
         slot: PageSlot<'p, T, MadeOrReset<I, R, K>>,
-        number: usize,
+        number: PageNumber<T, MadeOrReset<I, R, K>, AnswerOf<I, K>>,
     ) -> LinearReusable<'p, T, I, R, K>
         ensures pool { reusable_pool result ≡ pool.now }
         ensures item { reusable_item result ≡ slot_item slot.entry }
-        ensures number { reusable_number result ≡ number }
+        ensures page { reusable_page result ≡ number }
     {
         let (taken, value) = slot.into_parts();
         LinearReusable {
@@ -47,7 +48,7 @@ impl<'p, T: Drop, I: Init<T, K>, R: Reset<T, K>, K: Clean<T>> LinearReusable<'p,
     pub fn page_number(&self) -> usize
         ensures { result ≡ reusable_number self.now }
     {
-        self.number
+        self.number.get()
     }
 
     /// The number of the item in its page.
@@ -99,7 +100,7 @@ impl<T: Drop, I: Init<T, K>, R: Reset<T, K>, K: Clean<T>> Drop for LinearReusabl
         } = self;
         pool.reset(&mut value);
         if taken.free(value).was_full {
-            pool.no_longer_full(number);
+            pool.no_longer_full(number.get());
         }
     }
 }

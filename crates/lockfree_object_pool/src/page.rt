@@ -28,6 +28,7 @@ mod slot;
 mod steps;
 pub(crate) mod user_view;
 
+pub(crate) use full_seen::Taken;
 pub use full_seen::{Allocated, FullSeen, PullPass};
 pub(crate) use note::Returned;
 pub use note::{PageNote, Witness};
@@ -168,13 +169,13 @@ impl<T, K: Clean<T>> Page<T, K> {
         ensures answer { IfOk result (IsAnswerOf K.meets (page_identity self.now) (page_opening self.now)) }
         ensures brief { IfOk result (λ answer. IsBrief (answer_view answer)) }
     {
-        Ok(self.take(pass))
+        Ok(self.take(pass).answer)
     }
 
     /// As `try_alloc`, which is never refused.
-    pub(crate) fn take<'s, 'p>(&'s self, pass: &'p PullPass) -> Allocated<'s, 'p, T, K>
-        ensures answer { IsAnswerOf K.meets (page_identity self.now) (page_opening self.now) result }
-        ensures brief { IsBrief (answer_view result) }
+    pub(crate) fn take<'s, 'p>(&'s self, pass: &'p PullPass) -> Taken<'s, 'p, T, K>
+        ensures answer { IsAnswerOf K.meets (page_identity self.now) (page_opening self.now) result.answer }
+        ensures brief { IsBrief (answer_view result.answer) }
     {
         let (word, seat) = self.look();
         self.take_lowest(pass, word, seat)
@@ -192,7 +193,7 @@ impl<T, K: Clean<T>> Page<T, K> {
     {
         let PageNote { mut seat } = note;
         let word = self.look_as(&mut seat);
-        Ok(self.take_lowest(pass, word, seat))
+        Ok(self.take_lowest(pass, word, seat).answer)
     }
 
     /// A note of this page, by a user that did nothing. It costs one load.
@@ -223,30 +224,36 @@ impl<T, K: Clean<T>> Page<T, K> {
         pass: &'p PullPass,
         word: u32,
         mut seat: UserSeat<T>,
-    ) -> Allocated<'s, 'p, T, K>
+    ) -> Taken<'s, 'p, T, K>
         requires page { seat.table_id ≡ page_identity self.now }
         requires carries_none { seat.me.1 ≡ [] }
         requires holds_none { seat.me.0.held ≡ None }
         requires here { seat.me.0.gone ≡ false }
         requires sound { IsSound seat.me.0 }
         requires found { (id : ℕ) → id < PAGE_ITEMS → bit_at word id ≡ 0 → KnowsOut seat.me.0 (item_of 0 id) }
-        ensures answer { IsAnswerFrom K.meets (page_identity self.now) seat.me.0 result }
-        ensures looks { (answer_view result).looks ≡ seat.me.0.looks }
-        ensures tries { (answer_view result).tries ≤ seat.me.0.tries + PAGE_ITEMS }
+        ensures answer { IsAnswerFrom K.meets (page_identity self.now) seat.me.0 result.answer }
+        ensures looks { (answer_view result.answer).looks ≡ seat.me.0.looks }
+        ensures tries { (answer_view result.answer).tries ≤ seat.me.0.tries + PAGE_ITEMS }
     {
         let mut untried = word;
         while let Some((rest, id)) = take_least(untried) {
-            if let Some(value) = self.clear(&mut seat, id) {
+            if let Some((value, left_full)) = self.clear(&mut seat, id) {
                 let taken = TakenId {
                     page: self,
                     seat,
                     id: id as usize,
                 };
-                return Allocated::Slot(PageSlot::new(taken, value));
+                return Taken {
+                    answer: Allocated::Slot(PageSlot::new(taken, value)),
+                    left_full,
+                };
             }
             untried = rest;
         }
-        Allocated::Full(FullSeen { seat, pass })
+        Taken {
+            answer: Allocated::Full(FullSeen { seat, pass }),
+            left_full: true,
+        }
     }
 
     /// The value goes home, and the slot's id is free again. The note knows the page's history up to the return.

@@ -12,6 +12,7 @@ use crate::clean::Clean;
 use once_cell::race::OnceBox;
 use std::alloc::{AllocError, Global};
 use std::marker::Model;
+use std::snapshot::Snapshot;
 
 /// How many rows there are: one for each bit of a page's number.
 const ROWS: usize = 64;
@@ -84,7 +85,7 @@ impl<T, K: Clean<T>, O: Clean<T>> Model for Directory<T, K, O> {
 
 impl<T: Drop, K: Clean<T>, O: Clean<T>> Directory<T, K, O> {
     ghost use Rattle.std.specs.Arc.{arc_value};
-    ghost use Rattle.lockfree_object_pool.specs.LinkRow.{IsPlaceOf};
+    ghost use Rattle.lockfree_object_pool.specs.LinkRow.{IsLinkTo, link_at};
     ghost use Rattle.lockfree_object_pool.specs.Page.{page_identity};
     ghost use Rattle.lockfree_object_pool.specs.Walk.{IsKnownAt};
 
@@ -168,7 +169,7 @@ impl<T: Drop, K: Clean<T>, O: Clean<T>> Directory<T, K, O> {
     /// Where the link to a page lies.
     pub(super) fn place(&self, number: usize) -> LinkPlace<'_, T, K, O>
         requires { 0 < number }
-        ensures { IsPlaceOf self.now number result }
+        ensures { IsLinkTo self.now number (link_at result) }
     {
         let row_number = number.ilog2();
         LinkPlace {
@@ -206,7 +207,7 @@ impl<T, K: Clean<T>, O: Clean<T>> Clone for LinkPlace<'_, T, K, O> {
 impl<'c, T: Drop, K: Clean<T>, O: Clean<T>> LinkPlace<'c, T, K, O> {
     ghost use Rattle.std.specs.Prelude.{None, Some, IfNone};
     ghost use Rattle.std.specs.Arc.{arc_value};
-    ghost use Rattle.lockfree_object_pool.specs.LinearPage.{link_at};
+    ghost use Rattle.lockfree_object_pool.specs.LinkRow.{link_at};
     ghost use Rattle.lockfree_object_pool.specs.LinkNote.{IsNewNoteOf, known_link, known_next, link_cell};
     ghost use Rattle.lockfree_object_pool.specs.Page.{page_identity};
 
@@ -229,12 +230,24 @@ impl<'c, T: Drop, K: Clean<T>, O: Clean<T>> LinkPlace<'c, T, K, O> {
         Some(LinkNote {
             row,
             link,
-            offset: self.offset,
+            offset: Snapshot::of(&self.offset),
         })
     }
 
     /// A note of the link. The row is made where it isn't there.
     pub(super) fn new_note(&self) -> Result<LinkNote<T, K, O>, PullError>
+        ensures note { IfOk result (IsNewNoteOf (link_at self.now)) }
+        ensures refused { IfErr result (RefusesMaking ⊥) }
+    {
+        match self.known_row() {
+            Some(note) => Ok(note),
+            None => self.made_row(),
+        }
+    }
+
+    /// As `new_note`, where the row wasn't there.
+    #[cold]
+    fn made_row(&self) -> Result<LinkNote<T, K, O>, PullError>
         ensures note { IfOk result (IsNewNoteOf (link_at self.now)) }
         ensures refused { IfErr result (RefusesMaking ⊥) }
     {
@@ -260,7 +273,7 @@ impl<'c, T: Drop, K: Clean<T>, O: Clean<T>> LinkPlace<'c, T, K, O> {
     pub(super) fn link(&self, note: &mut LinkNote<T, K, O>) -> &'c OnceBox<OpenedPage<T, K, O>>
         requires { known_link note.old ≡ link_at self.now }
         ensures row { note.new.row.cell ≡ note.old.row.cell }
-        ensures rest { (note.new.link ≡ note.old.link) × (note.new.offset ≡ note.old.offset) }
+        ensures rest { (note.new.link ≡ note.old.link) × (note.new.offset.value ≡ note.old.offset.value) }
         ensures cell { cell_name result.now ≡ link_cell note.old }
     {
         let Some(row) = self.row.get_as(&mut note.row) else {

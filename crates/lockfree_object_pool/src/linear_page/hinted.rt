@@ -1,27 +1,29 @@
-//! A pull from a chain: from its first page, else from a page that a hint names, else by the walk.
+//! A pull from a chain: from its first page, else from a page that a hint names, else by the walk behind the first page.
 //!
 //! A page's hint is set where the page may have a free item. The first page has none, since each pull asks it first. Who
 //! frees an item of a page that was full sets the hint after that, and so does who links a page. A pull that leaves the page
-//! full that it was led to clears the hint, looks at the page again, and sets the hint again where an item came back. So an
+//! full that a hint named clears the hint, looks at the page again, and sets the hint again where an item came back. So an
 //! item that came back before the clearing is seen by that look, and one that came back after it sets the hint itself: once
 //! those calls have ended, each page with a free item has its hint. Between them a hint may be missing, which costs a walk,
 //! or be left over, which costs a look. Neither decides anything: a page is linked and a limit is answered by the walk
-//! alone, which finds each page full on its own way.
+//! alone, with the evidence of each page that it was full in this very pull.
 ghost use Rattle.std.specs.Prelude.{◌≡◌, ◌≤◌, ◌<◌, None, IfSome, IsSome, IfOk, IfErr};
 ghost use Rattle.std.specs.Arc.{arc_value};
 ghost use Rattle.lockfree_object_pool.specs.Answers.{MayOpen};
-ghost use Rattle.lockfree_object_pool.specs.Item.{HasOrigin};
-ghost use Rattle.lockfree_object_pool.specs.LinearPage.{first_page, IsItemFrom};
+ghost use Rattle.lockfree_object_pool.specs.FullSeen.{full_page};
+ghost use Rattle.lockfree_object_pool.specs.Item.{IsItemOf, HasOrigin};
+ghost use Rattle.lockfree_object_pool.specs.LinearPage.{first_page};
 ghost use Rattle.lockfree_object_pool.specs.Page.{page_identity};
 ghost use Rattle.lockfree_object_pool.specs.Refusal.{RefusesPull};
 ghost use Rattle.lockfree_object_pool.specs.Slot.{slot_item};
-ghost use Rattle.lockfree_object_pool.specs.Walk.{start_of, IsReached};
+ghost use Rattle.lockfree_object_pool.specs.Walk.{start_of, number_of, IsAnsweredBy, IsKnownAt, IsReached};
 
-use super::Chain;
-use super::walk::Reached;
+use super::opened_page::OpenedPage;
+use super::walk::{KnownFull, Reached};
+use super::{Chain, LinkNote, PageNumber};
 use crate::PullError;
 use crate::clean::Clean;
-use crate::page::{Allocated, Page, PageSlot, PullPass};
+use crate::page::{Allocated, FullSeen, Page, PullPass};
 
 impl<T: Drop, K: Clean<T>, O: Clean<T>> Chain<T, K, O> {
     /// An item of the first page, or of a page that a hint names, or of the first page that has one.
@@ -32,70 +34,91 @@ impl<T: Drop, K: Clean<T>, O: Clean<T>> Chain<T, K, O> {
     ) -> Result<Reached<'_, T, K, O>, PullError>
         requires some_page { IfSome limit (λ pages. 1 ≤ pages) }
         requires opens { MayOpen (I.pre init.now) (λ answer. I.post init.now answer) K.meets O.meets }
-        ensures item { IfOk result (λ reached. IsItemFrom K.meets (first_page self.now) (slot_item reached.slot) reached.passed) }
+        ensures item { IfOk result (λ reached. IsItemOf K.meets (page_identity (arc_value reached.page.now)) (slot_item reached.slot)) }
         ensures history { IfOk result (λ reached. HasOrigin O.meets (slot_item reached.slot)) }
-        ensures of_page { IfOk result (λ reached. (slot_item reached.slot).page ≡ page_identity (arc_value reached.page.now)) }
-        ensures number { IfOk result (λ reached. IsReached (start_of self.now) reached.passed reached.note (slot_item reached.slot).page) }
-        ensures within { IfOk result (λ reached. IfSome limit (λ pages. reached.passed < pages)) }
+        ensures number { IfOk result (λ reached. IsReached (start_of self.now) reached.number (page_identity (arc_value reached.page.now))) }
+        ensures within { IfOk result (λ reached. IfSome limit (λ pages. number_of reached.number < pages)) }
         ensures refused { IfErr result (RefusesPull (record {
           limited = IsSome limit;
           init_refuses = I.post init.now None;
         })) }
     {
-        match self.pull_first() {
-            Some(slot) => Ok(Reached {
+        let pass = PullPass::new();
+        match self.ask_first(&pass) {
+            Allocated::Slot(slot) => Ok(Reached {
                 slot,
                 page: self.first.owner(),
-                passed: 0,
-                note: None,
+                number: self.first_number(),
             }),
-            None => self.pull_further(limit, init),
+            Allocated::Full(seen) => self.pull_further(seen, limit, init),
         }
     }
 
-    /// An item of the first page.
-    pub(crate) fn pull_first(&self) -> Option<PageSlot<'_, T, K>>
-        ensures item { IfSome result (λ slot. IsItemFrom K.meets (first_page self.now) (slot_item slot) 0) }
-        ensures history { IfSome result (λ slot. HasOrigin O.meets (slot_item slot)) }
-        ensures of_page { IfSome result (λ slot. (slot_item slot).page ≡ first_page self.now) }
+    /// What the first page answers to a pull.
+    pub(crate) fn ask_first<'s, 'p>(&'s self, pass: &'p PullPass) -> Allocated<'s, 'p, T, K>
+        ensures { IsAnsweredBy K.meets O.meets (first_page self.now) result }
     {
-        match self.first.owner().take(&PullPass::new()) {
-            Allocated::Slot(slot) => Some(slot),
-            Allocated::Full(_) => None,
-        }
+        self.first.take(pass).answer
     }
 
-    /// An item of a page that a hint names, or of the first page that has one.
+    /// The number of the first page.
+    pub(crate) fn first_number(&self) -> PageNumber<T, K, O>
+        ensures { number_of result ≡ 0 }
+    {
+        PageNumber::of_start(self.directory.allocator(), 0)
+    }
+
+    /// As `pull`, where the first page was found full in this pull.
     pub(crate) fn pull_further<I: Fn() -> Option<T>>(
         &self,
+        seen: FullSeen<'_, T>,
         limit: Option<usize>,
         init: &I,
     ) -> Result<Reached<'_, T, K, O>, PullError>
+        requires of_first { full_page seen ≡ first_page self.now }
         requires some_page { IfSome limit (λ pages. 1 ≤ pages) }
         requires opens { MayOpen (I.pre init.now) (λ answer. I.post init.now answer) K.meets O.meets }
-        ensures item { IfOk result (λ reached. IsItemFrom K.meets (first_page self.now) (slot_item reached.slot) reached.passed) }
+        ensures item { IfOk result (λ reached. IsItemOf K.meets (page_identity (arc_value reached.page.now)) (slot_item reached.slot)) }
         ensures history { IfOk result (λ reached. HasOrigin O.meets (slot_item reached.slot)) }
-        ensures of_page { IfOk result (λ reached. (slot_item reached.slot).page ≡ page_identity (arc_value reached.page.now)) }
-        ensures number { IfOk result (λ reached. IsReached (start_of self.now) reached.passed reached.note (slot_item reached.slot).page) }
-        ensures within { IfOk result (λ reached. IfSome limit (λ pages. reached.passed < pages)) }
+        ensures number { IfOk result (λ reached. IsReached (start_of self.now) reached.number (page_identity (arc_value reached.page.now))) }
+        ensures within { IfOk result (λ reached. IfSome limit (λ pages. number_of reached.number < pages)) }
         ensures refused { IfErr result (RefusesPull (record {
           limited = IsSome limit;
           init_refuses = I.post init.now None;
         })) }
     {
-        match self.pull_hinted(limit) {
-            Some(reached) => Ok(reached),
-            None => self.first().walk(limit, init),
+        let Some((number, page, note)) = self.hinted_page(limit) else {
+            return self.first().walk_on(seen, None, limit, init);
+        };
+        let taken = page.take(seen.pass);
+        if taken.left_full {
+            self.left_full(number, page.owner());
+        }
+        match taken.answer {
+            Allocated::Slot(slot) => Ok(Reached {
+                slot,
+                page: page.owner(),
+                number: PageNumber::of_link(number, note),
+            }),
+            Allocated::Full(full) => {
+                let known = KnownFull {
+                    number,
+                    note,
+                    seen: full,
+                };
+                self.first().walk_on(seen, Some(known), limit, init)
+            }
         }
     }
 
-    /// An item of the first page that a hint names.
-    fn pull_hinted(&self, limit: Option<usize>) -> Option<Reached<'_, T, K, O>>
-        ensures item { IfSome result (λ reached. IsItemFrom K.meets (first_page self.now) (slot_item reached.slot) reached.passed) }
-        ensures history { IfSome result (λ reached. HasOrigin O.meets (slot_item reached.slot)) }
-        ensures of_page { IfSome result (λ reached. (slot_item reached.slot).page ≡ page_identity (arc_value reached.page.now)) }
-        ensures number { IfSome result (λ reached. IsReached (start_of self.now) reached.passed reached.note (slot_item reached.slot).page) }
-        ensures within { IfSome result (λ reached. IfSome limit (λ pages. reached.passed < pages)) }
+    /// The first page that a hint names within the limit, its number, and a note of the link to it.
+    fn hinted_page(
+        &self,
+        limit: Option<usize>,
+    ) -> Option<(usize, &OpenedPage<T, K, O>, LinkNote<T, K, O>)>
+        ensures known { IfSome result (λ hinted. IsKnownAt self.now.directory hinted.0 hinted.2 (page_identity (arc_value hinted.1.now))) }
+        ensures past_first { IfSome result (λ hinted. 0 < hinted.0) }
+        ensures within { IfSome result (λ hinted. IfSome limit (λ pages. hinted.0 < pages)) }
     {
         let number = self.directory.hinted()?;
         if let Some(pages) = limit
@@ -104,24 +127,12 @@ impl<T: Drop, K: Clean<T>, O: Clean<T>> Chain<T, K, O> {
             return None;
         }
         let (linked, note) = self.directory.linked(number)?;
-        let page = linked.owner();
-        let pass = PullPass::new();
-        let answer = page.take(&pass);
-        if page.is_full() {
-            self.left_full(number, page);
-        }
-        match answer {
-            Allocated::Slot(slot) => Some(Reached {
-                slot,
-                page,
-                passed: number,
-                note: Some(note),
-            }),
-            Allocated::Full(_) => None,
-        }
+        Some((number, linked, note))
     }
 
-    /// Clears the hint of a page that was seen full, and sets it again where an item came back meanwhile.
+    /// Clears the hint of a page that was left full, and sets it again where an item came back meanwhile.
+    ///
+    /// The look at the page's word is for the hint alone: it decides nothing in this pull.
     fn left_full(&self, number: usize, page: &Page<T, K>)
         requires { 0 < number }
     {

@@ -7,15 +7,16 @@ use super::directory::Row;
 use super::opened_page::OpenedPage;
 use crate::clean::{AnyValue, Clean};
 use once_cell::race::Note;
+use std::snapshot::Snapshot;
 
-/// What a caller has learned of one link. It is for proofs: two notes of one link that know a page know the same one,
+/// What a caller has learned of one link. It has no bytes, and is for proofs: two notes of one link that know a page know the same one,
 /// whichever threads made them.
 #[derive(Drop)]
 pub struct LinkNote<T, K: Clean<T>, O: Clean<T> = AnyValue> {
     pub(super) row: Note<Row<T, K, O>>,
     pub(super) link: Note<OpenedPage<T, K, O>>,
-    pub(super) offset: usize,
-    ghost in_row: { cell_in_row row.known offset ≡ Some link.cell } by { same_holding _ _ },
+    pub(super) offset: Snapshot<usize>,
+    ghost in_row: { cell_in_row row.known offset.value ≡ Some link.cell } by { same_holding _ _ },
 }
 
 impl<T, K: Clean<T>, O: Clean<T>> LinkNote<T, K, O> {

@@ -1,10 +1,11 @@
 //! A page of a chain, which opened with values of one kind.
 ghost use Rattle.std.specs.Prelude.{◌≡◌};
 ghost use Rattle.std.specs.Arc.{arc_value};
-ghost use Rattle.lockfree_object_pool.specs.Page.{page_opening, IsFilled};
+ghost use Rattle.lockfree_object_pool.specs.Page.{page_identity, page_opening, IsFilled};
+ghost use Rattle.lockfree_object_pool.specs.Walk.{IsAnsweredBy};
 
 use crate::clean::Clean;
-use crate::page::Page;
+use crate::page::{Page, PullPass, Taken};
 use atomic_table::Badge;
 use std::marker::{Model, PhantomData};
 use std::sync::{Arc, Mutex};
@@ -49,5 +50,12 @@ impl<T, K: Clean<T>, O: Clean<T>> OpenedPage<T, K, O> {
         ensures opened { IsFilled O.meets (page_opening (arc_value result.now)) }
     {
         &self.page
+    }
+
+    /// What the page answers to a pull.
+    pub(super) fn take<'s, 'p>(&'s self, pass: &'p PullPass) -> Taken<'s, 'p, T, K>
+        ensures { IsAnsweredBy K.meets O.meets (page_identity (arc_value self.now)) result.answer }
+    {
+        self.owner().take(pass)
     }
 }

@@ -1,19 +1,19 @@
 //! The walk from page to page for an item.
-ghost use Rattle.std.specs.Prelude.{◌≡◌, ◌+◌, ◌≤◌, ◌<◌, ⊤, Option, None, Some, IfSome, IsSome, IfOk, IfErr, OnOk};
+ghost use Rattle.std.specs.Prelude.{◌≡◌, ◌+◌, ◌-◌, ◌≤◌, ◌<◌, ⊤, Option, None, Some, IfSome, IsSome, IfOk, IfErr, OnOk};
 ghost use Rattle.std.specs.Arc.{arc_value};
 ghost use Rattle.lockfree_object_pool.specs.Answers.{MayOpen};
 ghost use Rattle.lockfree_object_pool.specs.FullSeen.{full_page};
-ghost use Rattle.lockfree_object_pool.specs.Item.{HasOrigin};
+ghost use Rattle.lockfree_object_pool.specs.Item.{IsItemOf, HasOrigin};
 ghost use Rattle.lockfree_object_pool.specs.LinearPage.{shown_page, page_number, IsItemFrom};
 ghost use Rattle.lockfree_object_pool.specs.OwnedSlot.{owned_slot_item};
 ghost use Rattle.lockfree_object_pool.specs.Page.{page_identity};
 ghost use Rattle.lockfree_object_pool.specs.Refusal.{RefusesMaking, RefusesPull};
 ghost use Rattle.lockfree_object_pool.specs.Slot.{slot_item};
-ghost use Rattle.lockfree_object_pool.specs.Walk.{start_at, IsKnownAt, IsReached};
+ghost use Rattle.lockfree_object_pool.specs.Walk.{start_at, number_of, IsAnsweredBy, IsFullAt, IsKnownAt, IsLinkedAt, IsReached};
 ghost use Rattle.lockfree_object_pool.specs.declared.pull_error.PullError.TheVariants.{Limit};
 
 use super::opened_page::OpenedPage;
-use super::{LinearPage, LinkNote};
+use super::{LinearPage, LinkNote, PageNumber};
 use crate::PullError;
 use crate::clean::Clean;
 use crate::page::{Allocated, FullSeen, OwnedSlot, Page, PageSlot, PullPass};
@@ -25,10 +25,16 @@ pub(crate) struct Reached<'c, T, K: Clean<T>, O: Clean<T>> {
     pub(crate) slot: PageSlot<'c, T, K>,
     /// The slot's page.
     pub(crate) page: &'c Arc<Page<T, K>>,
-    /// How many links the walk has passed.
-    pub(crate) passed: usize,
-    /// What the walk learned of the last link that it passed, where it passed any.
-    pub(crate) note: Option<LinkNote<T, K, O>>,
+    /// The page's number, with what was learned of the link to it.
+    pub(crate) number: PageNumber<T, K, O>,
+}
+
+/// A page that was found full in this pull, its number, and a note of the link to it.
+#[derive(Drop)]
+pub(super) struct KnownFull<'p, T, K: Clean<T>, O: Clean<T>> {
+    pub(super) number: usize,
+    pub(super) note: LinkNote<T, K, O>,
+    pub(super) seen: FullSeen<'p, T>,
 }
 
 impl<'c, T: Drop, K: Clean<T>, O: Clean<T>> LinearPage<'c, T, K, O> {
@@ -48,7 +54,8 @@ impl<'c, T: Drop, K: Clean<T>, O: Clean<T>> LinearPage<'c, T, K, O> {
         })) }
     {
         let reached = self.walk(None, init)?;
-        Ok((reached.slot, reached.passed))
+        let passed = reached.number.get() - self.number;
+        Ok((reached.slot, passed))
     }
 
     /// As `alloc`, over the first `pages` pages from this one on alone. It links no page past them.
@@ -68,7 +75,8 @@ impl<'c, T: Drop, K: Clean<T>, O: Clean<T>> LinearPage<'c, T, K, O> {
         })) }
     {
         let reached = self.walk(Some(pages), init)?;
-        Ok((reached.slot, reached.passed))
+        let passed = reached.number.get() - self.number;
+        Ok((reached.slot, passed))
     }
 
     /// As `alloc`, with an item that owns its page with others. The page's owners grow by one once the item is taken.
@@ -84,7 +92,8 @@ impl<'c, T: Drop, K: Clean<T>, O: Clean<T>> LinearPage<'c, T, K, O> {
           init_refuses = I.post init.now None;
         })) }
     {
-        self.walk(None, init)?.into_owned()
+        let (slot, number) = self.walk(None, init)?.into_owned()?;
+        Ok((slot, number.get() - self.number))
     }
 
     /// As `alloc_owned`, over the first `pages` pages from this one on alone. It links no page past them.
@@ -103,7 +112,8 @@ impl<'c, T: Drop, K: Clean<T>, O: Clean<T>> LinearPage<'c, T, K, O> {
           init_refuses = I.post init.now None;
         })) }
     {
-        self.walk(Some(pages), init)?.into_owned()
+        let (slot, number) = self.walk(Some(pages), init)?.into_owned()?;
+        Ok((slot, number.get() - self.number))
     }
 
     /// Goes from page to page, within the limit, until one has an item.
@@ -114,41 +124,79 @@ impl<'c, T: Drop, K: Clean<T>, O: Clean<T>> LinearPage<'c, T, K, O> {
     ) -> Result<Reached<'c, T, K, O>, PullError>
         requires some_page { IfSome limit (λ pages. 1 ≤ pages) }
         requires opens { MayOpen (I.pre init.now) (λ answer. I.post init.now answer) K.meets O.meets }
-        ensures item { IfOk result (λ reached. IsItemFrom K.meets (shown_page self.now) (slot_item reached.slot) reached.passed) }
+        ensures item { IfOk result (λ reached. IsItemOf K.meets (page_identity (arc_value reached.page.now)) (slot_item reached.slot)) }
         ensures history { IfOk result (λ reached. HasOrigin O.meets (slot_item reached.slot)) }
-        ensures of_page { IfOk result (λ reached. (slot_item reached.slot).page ≡ page_identity (arc_value reached.page.now)) }
-        ensures number { IfOk result (λ reached. IsReached (start_at self.now) (page_number self.now + reached.passed) reached.note (slot_item reached.slot).page) }
-        ensures within { IfOk result (λ reached. IfSome limit (λ pages. reached.passed < pages)) }
+        ensures from_start { IfOk result (λ reached. page_number self.now ≤ number_of reached.number) }
+        ensures number { IfOk result (λ reached. IsReached (start_at self.now) reached.number (page_identity (arc_value reached.page.now))) }
+        ensures at_start { IfOk result (λ reached. number_of reached.number ≡ page_number self.now → page_identity (arc_value reached.page.now) ≡ shown_page self.now) }
+        ensures within { IfOk result (λ reached. IfSome limit (λ pages. number_of reached.number - page_number self.now < pages)) }
         ensures refused { IfErr result (RefusesPull (record {
           limited = IsSome limit;
           init_refuses = I.post init.now None;
         })) }
     {
         let pass = PullPass::new();
+        match self.page.take(&pass).answer {
+            Allocated::Slot(slot) => {
+                let number = PageNumber::of_start(self.directory.allocator(), self.number);
+                Ok(Reached {
+                    slot,
+                    page: self.page.owner(),
+                    number,
+                })
+            }
+            Allocated::Full(seen) => self.walk_on(seen, None, limit, init),
+        }
+    }
+
+    /// As `walk`, where this page was found full in this pull, and maybe one that a hint named, which isn't asked again.
+    ///
+    /// Each link is read once, from the one behind this page on, and each other page is asked once.
+    pub(super) fn walk_on<'p, I: Fn() -> Option<T>>(
+        &self,
+        seen: FullSeen<'p, T>,
+        hinted: Option<KnownFull<'p, T, K, O>>,
+        limit: Option<usize>,
+        init: &I,
+    ) -> Result<Reached<'c, T, K, O>, PullError>
+        requires of_page { full_page seen ≡ shown_page self.now }
+        requires hinted { IfSome hinted (IsFullAt self.now.directory.now) }
+        requires some_page { IfSome limit (λ pages. 1 ≤ pages) }
+        requires opens { MayOpen (I.pre init.now) (λ answer. I.post init.now answer) K.meets O.meets }
+        ensures item { IfOk result (λ reached. IsItemOf K.meets (page_identity (arc_value reached.page.now)) (slot_item reached.slot)) }
+        ensures history { IfOk result (λ reached. HasOrigin O.meets (slot_item reached.slot)) }
+        ensures past_start { IfOk result (λ reached. page_number self.now < number_of reached.number) }
+        ensures number { IfOk result (λ reached. IsLinkedAt self.now.directory.now reached.number (page_identity (arc_value reached.page.now))) }
+        ensures within { IfOk result (λ reached. IfSome limit (λ pages. number_of reached.number - page_number self.now < pages)) }
+        ensures refused { IfErr result (RefusesPull (record {
+          limited = IsSome limit;
+          init_refuses = I.post init.now None;
+        })) }
+    {
+        let pass = seen.pass;
         let mut page: &'c OpenedPage<T, K, O> = self.page;
         let mut number = self.number;
-        let mut note = None;
+        let (mut full, mut hinted) = (seen, hinted);
         loop {
-            let passed = number - self.number;
-            let owner = page.owner();
-            match owner.take(&pass) {
+            one_more(limit, number - self.number)?;
+            let next = number.checked_add(1).ok_or(PullError::Memory)?;
+            let (linked, mut note) = self.behind(next, page, full, init)?;
+            let (known, rest) = known_at(hinted, next);
+            hinted = rest;
+            match self.ask(linked, next, &mut note, known, pass) {
                 Allocated::Slot(slot) => {
                     return Ok(Reached {
                         slot,
-                        page: owner,
-                        passed,
-                        note,
+                        page: linked.owner(),
+                        number: PageNumber::of_link(next, note),
                     });
                 }
                 Allocated::Full(seen) => {
-                    one_more(limit, passed)?;
-                    let next = number.checked_add(1).ok_or(PullError::Memory)?;
-                    let (linked, known) = self.behind(next, page, seen, init)?;
-                    page = linked;
-                    number = next;
-                    note = Some(known);
+                    full = seen;
                 }
             }
+            page = linked;
+            number = next;
         }
     }
 
@@ -166,32 +214,56 @@ impl<'c, T: Drop, K: Clean<T>, O: Clean<T>> LinearPage<'c, T, K, O> {
         ensures known { IfOk result (λ next. IsKnownAt self.now.directory.now number next.1 (page_identity (arc_value next.0.now))) }
         ensures refused { IfErr result (RefusesMaking (I.post init.now None)) }
     {
-        match self.directory.linked(number) {
-            Some(linked) => Ok(linked),
-            None => self.made_behind(number, before, seen, init),
-        }
-    }
-
-    /// As `behind`, where no page with this number was linked. One is made and linked, if no other thread was first.
-    #[cold]
-    fn made_behind<I: Fn() -> Option<T>>(
-        &self,
-        number: usize,
-        before: &'c OpenedPage<T, K, O>,
-        seen: FullSeen<'_, T>,
-        init: &I,
-    ) -> Result<(&'c OpenedPage<T, K, O>, LinkNote<T, K, O>), PullError>
-        requires past_first { 0 < number }
-        requires of_page { full_page seen ≡ page_identity (arc_value before.now) }
-        requires opens { MayOpen (I.pre init.now) (λ answer. I.post init.now answer) K.meets O.meets }
-        ensures known { IfOk result (λ made. IsKnownAt self.now.directory.now number made.1 (page_identity (arc_value made.0.now))) }
-        ensures refused { IfErr result (RefusesMaking (I.post init.now None)) }
-    {
         let before = LinearPage::new(self.directory, before, number - 1);
         let mut note = before.next_note()?;
-        let made = before.get_or_create_next_as(seen, init, &mut note)?;
-        self.directory.set_hint(number);
-        Ok((made.page, note))
+        let next = before.get_or_create_next_as(seen, init, &mut note)?;
+        Ok((next.page, note))
+    }
+
+    /// What a page that the walk came to answers: what it did already in this pull, or what it does now.
+    fn ask<'p>(
+        &self,
+        page: &'c OpenedPage<T, K, O>,
+        number: usize,
+        note: &mut LinkNote<T, K, O>,
+        known: Option<KnownFull<'p, T, K, O>>,
+        pass: &'p PullPass,
+    ) -> Allocated<'c, 'p, T, K>
+        requires linked { IsKnownAt self.now.directory.now number note.old (page_identity (arc_value page.now)) }
+        requires full { IfSome known (IsFullAt self.now.directory.now) }
+        requires here { IfSome known (λ known. known.number ≡ number) }
+        ensures linked { IsKnownAt self.now.directory.now number note.new (page_identity (arc_value page.now)) }
+        ensures answer { IsAnsweredBy K.meets O.meets (page_identity (arc_value page.now)) result }
+    {
+        match known {
+            Some(known) => {
+                note.compare(known.note);
+                Allocated::Full(known.seen)
+            }
+            None => page.take(pass).answer,
+        }
+    }
+}
+
+/// What was found of the page with this number, where the hinted one is that page; else what was found of the hinted one.
+fn known_at<'p, T, K: Clean<T>, O: Clean<T>>(
+    hinted: Option<KnownFull<'p, T, K, O>>,
+    number: usize,
+) -> (
+    Option<KnownFull<'p, T, K, O>>,
+    Option<KnownFull<'p, T, K, O>>,
+)
+    ensures same { IfSome result.0 (λ known. hinted.entry ≡ Some known) }
+    ensures here { IfSome result.0 (λ known. known.number ≡ number) }
+    ensures rest { IfSome result.1 (λ rest. hinted.entry ≡ Some rest) }
+{
+    let Some(known) = hinted else {
+        return (None, None);
+    };
+    if known.number == number {
+        (Some(known), None)
+    } else {
+        (None, Some(known))
     }
 }
 
@@ -211,21 +283,16 @@ impl<T: Drop, K: Clean<T>, O: Clean<T>> Reached<'_, T, K, O> {
     /// The same item, with an owner of its page in place of the borrow, and its page's number.
     ///
     /// Where the page can have no more owners, the item goes home again.
-    pub(crate) fn into_owned(self) -> Result<(OwnedSlot<T, K>, usize), PullError>
+    pub(crate) fn into_owned(self) -> Result<(OwnedSlot<T, K>, PageNumber<T, K, O>), PullError>
         requires of_page { (slot_item self.slot).page ≡ page_identity (arc_value self.page.now) }
         requires meets { K.meets (slot_item self.slot).value }
         ensures item { IfOk result (λ reached. owned_slot_item reached.0 ≡ slot_item self.entry.slot) }
-        ensures passed { IfOk result (λ reached. reached.1 ≡ self.entry.passed) }
+        ensures number { IfOk result (λ reached. reached.1 ≡ self.entry.number) }
         ensures refused { IfErr result (RefusesMaking ⊥) }
     {
-        let Reached {
-            slot,
-            page,
-            passed,
-            ..
-        } = self;
+        let Reached { slot, page, number } = self;
         match Arc::try_clone(page) {
-            Ok(owner) => Ok((slot.into_owned(owner), passed)),
+            Ok(owner) => Ok((slot.into_owned(owner), number)),
             Err(_) => {
                 Page::free(slot);
                 Err(PullError::Memory)

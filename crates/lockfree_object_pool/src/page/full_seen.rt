@@ -32,3 +32,11 @@ pub enum Allocated<'s, 'p, T, K: Clean<T>> {
     /// No item: each id was found out.
     Full(FullSeen<'p, T>),
 }
+
+/// What a page answered, and what the last step on its word saw.
+#[derive(Drop)]
+pub(crate) struct Taken<'s, 'p, T, K: Clean<T>> {
+    pub(crate) answer: Allocated<'s, 'p, T, K>,
+    /// Whether no item was free behind that step. It decides nothing.
+    pub(crate) left_full: bool,
+}

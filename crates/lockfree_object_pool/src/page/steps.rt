@@ -32,21 +32,24 @@ impl<T, K: Clean<T>> Page<T, K> {
         self.table.shared.load::<LookAgain>(seat, 0) as u32
     }
 
-    /// Clears one bit. The value of that item, where it was free.
-    pub(super) fn clear(&self, seat: &mut UserSeat<T>, id: PageId) -> Option<T>
+    /// Clears one bit. The value of that item, where it was free, and whether no other bit was set then.
+    pub(super) fn clear(&self, seat: &mut UserSeat<T>, id: PageId) -> Option<(T, bool)>
         requires page { seat.old.table_id ≡ page_identity self.now }
         requires in_page { id < PAGE_ITEMS }
         requires holds_none { seat.old.me.0.held ≡ None }
         requires here { seat.old.me.0.gone ≡ false }
         ensures page { seat.new.table_id ≡ seat.old.table_id }
-        ensures outcome { MatchOption result (Misses id seat.old.me seat.new.me) (λ value. K.meets value × MovesOut id value seat.old.me seat.new.me) }
+        ensures outcome { MatchOption result (Misses id seat.old.me seat.new.me) (λ taken. K.meets taken.0 × MovesOut id taken.0 seat.old.me seat.new.me) }
     {
         let words = &self.table.shared;
         let word = words.fetch_and::<ClearBit<K>>(seat, 0, without_bit(u32::MAX, id) as u64);
         if !has_bit(word as u32, id) {
             return None;
         }
-        words.exchange(seat, id as usize, None)
+        match words.exchange(seat, id as usize, None) {
+            Some(value) => Some((value, without_bit(word as u32, id) == 0)),
+            None => unreachable!(),
+        }
     }
 
     /// Moves the value home, then sets its bit. Whether no other bit was set then.

@@ -1,10 +1,8 @@
-use Rattle.std.proofs.Common.{◌∙◌}
+use Rattle.std.proofs.Common.{◌∙◌, subst, sym}
+use Rattle.lockfree_object_pool.specs.LinkRow.{IsLinkTo}
 use Rattle.lockfree_object_pool.proofs.linear_page.directory.Directory.linked.Goals as goal
 
 pub returns : goal.returns
-returns g c = record {
-  place = c.place-place.result;
-  is_place = c.place-place.ensures;
-  of_link = c.in_ok-page.ensures.link ∙ c.in_ok-note.ensures.of_link;
-  knows = c.in_ok-page.ensures.known;
-}
+returns g c =
+    let of_link = c.in_ok-page.ensures.link ∙ c.in_ok-note.ensures.of_link in
+    record { is_link = subst (IsLinkTo c.args.self.now c.args.number) (sym of_link) c.place-place.ensures; knows = c.in_ok-page.ensures.known }
