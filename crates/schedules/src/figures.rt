@@ -1,4 +1,5 @@
 //! What was seen of the schedules, in figures.
+use crate::step::Step;
 use object_pool_cores::interleave::Seen;
 use std::fmt;
 use std::fmt::{Display, Formatter, Write};
@@ -10,6 +11,7 @@ pub struct Figures {
     events: u64,
     not_enabled: u64,
     pulled: u64,
+    hinted: u64,
     lost_clearings: u64,
     returned: u64,
     linked: u64,
@@ -18,8 +20,11 @@ pub struct Figures {
 }
 
 impl Figures {
-    pub fn count(&mut self, seen: Seen) {
+    pub fn count(&mut self, step: Step, seen: Seen) {
         add_one(&mut self.events);
+        if matches!((step, seen), (Step::ReadHinted(_), Seen::Word(_, _))) {
+            add_one(&mut self.hinted);
+        }
         match seen {
             Seen::NotEnabled => add_one(&mut self.not_enabled),
             Seen::Pulled(_, _) => add_one(&mut self.pulled),
@@ -55,6 +60,7 @@ impl Display for Figures {
             ", {} clearings lost, {} refused",
             self.lost_clearings, self.refused
         )?;
+        write!(f, ", {} pages asked by a hint", self.hinted)?;
         write!(f, ", {} not enabled", self.not_enabled)
     }
 }

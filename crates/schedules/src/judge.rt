@@ -3,7 +3,8 @@
 //! An agent opens once. While it looks for an item it may link a page, be refused, or pull a free number, whose holder it
 //! then is. The holder may write its value, and returns it once, with what `reset` leaves. Nobody else holds the number in
 //! between. Before a link each number of the pages was found out since the agent opened, and so were those of the pages
-//! that there were at some moment since then, before a refusal.
+//! that there were at some moment since then, before a refusal. It asks each page once at most, so it reads no more words
+//! than there are pages.
 use crate::adds::Adds;
 use crate::step::Step;
 use lockfree_object_pool::PullError;
@@ -29,6 +30,8 @@ pub enum Unlawful {
     EarlyLimit,
     #[error("an agent is neither served nor refused within its steps")]
     TooManySteps,
+    #[error("an agent reads more words than there are pages")]
+    AskedAgain,
     #[error("a holder has another value")]
     OtherValue,
     #[error("the world at the end isn't the pool at the end")]
@@ -52,8 +55,9 @@ struct Agent {
     pages_then: usize,
     /// The first value of the page that it made last.
     made: u32,
-    /// How many steps it took.
+    /// How many steps it took, and how many words it read.
     steps: usize,
+    asked: usize,
 }
 
 /// What lies at a number.
@@ -124,6 +128,7 @@ impl Judge {
         let judged = match (seen, step) {
             (Seen::NotEnabled, _) => return Ok(Ok(())),
             (Seen::Began(agent), _) => return self.open(agent),
+            (Seen::Word(agent, _), _) => self.ask(agent),
             (Seen::Made(agent), Step::MakePage(first)) => self.make(agent, first),
             (Seen::Pulled(agent, number), _) => self.pull(agent, number),
             (Seen::Wrote(agent), Step::Write(value)) => self.write(agent, value),
@@ -166,6 +171,7 @@ impl Judge {
             pages_then: self.pages(),
             made: 0,
             steps: 0,
+            asked: 0,
         };
         self.agents.push(opened)?;
         Ok(Ok(()))
@@ -196,6 +202,19 @@ impl Judge {
         self.acts = self.acts.saturating_add(1);
         if let Some(agent) = self.agents.get_mut(agent) {
             agent.stage = stage;
+        }
+    }
+
+    /// Each page is asked once, whether a hint named it or not.
+    fn ask(&mut self, agent: usize) -> Result<(), Unlawful> {
+        let asked = self.looking(agent)?.asked.saturating_add(1);
+        if let Some(agent) = self.agents.get_mut(agent) {
+            agent.asked = asked;
+        }
+        if asked <= self.pages() {
+            Ok(())
+        } else {
+            Err(Unlawful::AskedAgain)
         }
     }
 

@@ -87,7 +87,7 @@ impl Schedule {
     /// One step of the world, which has to answer and change as the table does, and to be lawful in a run.
     fn step(&mut self, figures: &mut Figures, agent: usize, step: Step) -> Result<(), Stopped> {
         let seen = self.world.step(event_of(self.alloc, agent, step)?);
-        figures.count(seen);
+        figures.count(step, seen);
         let wanted = self.table.step(agent, step)?;
         if seen != wanted {
             return Err(Stopped::OtherAnswer(agent, step, seen, wanted));
@@ -128,7 +128,7 @@ impl Schedule {
         for _ in 0..STEPS_ALONE {
             match self.table.point(agent) {
                 Some(Point::Holding(_, _, _) | Point::Ended) | None => return Ok(()),
-                Some(point) => self.step(figures, agent, enabled_step(point, random))?,
+                Some(point) => self.step(figures, agent, self.enabled_step(point, random))?,
             }
         }
         Ok(())
@@ -151,10 +151,59 @@ impl Schedule {
             return Ok(());
         }
         let step = match self.table.point(agent) {
-            Some(point) if random.next_u32() % 8 != 0 => enabled_step(point, random),
-            _ => any_step(random),
+            Some(point) if random.next_u32() % 8 != 0 => self.enabled_step(point, random),
+            _ => self.any_step(random),
         };
         self.step(figures, agent, step)
+    }
+
+    /// A step that the table has at a point.
+    fn enabled_step(&self, point: Point, random: &mut Pcg32) -> Step {
+        match point {
+            Point::Reading(_, _) => Step::ReadMask,
+            Point::Clearing(_, _, _) | Point::ClearingHinted(_, _) => Step::ClearBit,
+            Point::AtLink(0, None) if self.table.pages() > 1 && random.next_u32() % 2 == 0 => {
+                self.hint(random)
+            }
+            Point::AtLink(_, _) => Step::ReadNext,
+            Point::Making(_) => made_or_refused(random),
+            Point::Linking(_, _) => Step::ExchangeNext,
+            Point::Taken(_, _) => Step::MoveOut,
+            Point::Holding(_, _, _) if random.next_u32() % 3 == 0 => {
+                Step::Write(random.next_u32())
+            }
+            Point::Holding(_, _, _) => Step::MoveHome,
+            Point::Home(_, _) => Step::OrMask,
+            Point::Ended => self.any_step(random),
+        }
+    }
+
+    /// A hint at a linked page but the first, where there is one.
+    fn hint(&self, random: &mut Pcg32) -> Step {
+        let further = self.table.pages().saturating_sub(1).max(1);
+        let hint = random.next_u32() as usize % further;
+        Step::ReadHinted(hint.saturating_add(1))
+    }
+
+    /// A hint at any page, and now and then at one that isn't linked.
+    fn any_hint(&self, random: &mut Pcg32) -> Step {
+        let pages = self.table.pages().saturating_add(2);
+        Step::ReadHinted(random.next_u32() as usize % pages)
+    }
+
+    fn any_step(&self, random: &mut Pcg32) -> Step {
+        match random.next_u32() % 10 {
+            0 => Step::ReadMask,
+            1 => Step::ClearBit,
+            2 => Step::ReadNext,
+            3 => made_or_refused(random),
+            4 => Step::ExchangeNext,
+            5 => Step::MoveOut,
+            6 => Step::Write(random.next_u32()),
+            7 => Step::MoveHome,
+            8 => self.any_hint(random),
+            _ => Step::OrMask,
+        }
     }
 
     /// Mostly one of those that began last, and now and then one that doesn't exist.
@@ -169,42 +218,12 @@ impl Schedule {
     }
 }
 
-/// A step that the table has at a point.
-fn enabled_step(point: Point, random: &mut Pcg32) -> Step {
-    match point {
-        Point::Reading(_) => Step::ReadMask,
-        Point::Clearing(_, _) => Step::ClearBit,
-        Point::AtLink(_) => Step::ReadNext,
-        Point::Making(_) => made_or_refused(random),
-        Point::Linking(_, _) => Step::ExchangeNext,
-        Point::Taken(_, _) => Step::MoveOut,
-        Point::Holding(_, _, _) if random.next_u32() % 3 == 0 => Step::Write(random.next_u32()),
-        Point::Holding(_, _, _) => Step::MoveHome,
-        Point::Home(_, _) => Step::OrMask,
-        Point::Ended => any_step(random),
-    }
-}
-
 fn made_or_refused(random: &mut Pcg32) -> Step {
     match random.next_u32() % 8 {
         0 => Step::BeRefused(PullError::Init),
         1 => Step::BeRefused(PullError::Memory),
         2 => Step::BeRefused(PullError::Limit),
         _ => Step::MakePage(random.next_u32()),
-    }
-}
-
-fn any_step(random: &mut Pcg32) -> Step {
-    match random.next_u32() % 9 {
-        0 => Step::ReadMask,
-        1 => Step::ClearBit,
-        2 => Step::ReadNext,
-        3 => made_or_refused(random),
-        4 => Step::ExchangeNext,
-        5 => Step::MoveOut,
-        6 => Step::Write(random.next_u32()),
-        7 => Step::MoveHome,
-        _ => Step::OrMask,
     }
 }
 

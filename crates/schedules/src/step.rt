@@ -9,6 +9,8 @@ use std::cell::Cell;
 pub enum Step {
     Begin,
     ReadMask,
+    /// The page that a hint names.
+    ReadHinted(usize),
     ClearBit,
     ReadNext,
     /// The first of the page's 32 values. Each later one is greater by 1.
@@ -39,6 +41,7 @@ pub fn event_of(alloc: Global, agent: usize, step: Step) -> Result<Event<u32>, P
     Ok(match step {
         Step::Begin => Event::Begin,
         Step::ReadMask => Event::ReadMask(agent),
+        Step::ReadHinted(hint) => Event::ReadHinted(agent, hint),
         Step::ClearBit => Event::ClearBit(agent),
         Step::ReadNext => Event::ReadNext(agent),
         Step::MakePage(first) => Event::MakePage(agent, Ok(values_from(alloc, first)?)),

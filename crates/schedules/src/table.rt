@@ -8,13 +8,18 @@ use std::alloc::{AllocError, Global};
 /// The word of a page all of whose items are free.
 const FULL: u32 = 4294967295;
 
+/// The page that an agent asked by a hint and found full.
+type Asked = Option<usize>;
+
 /// Where an agent is: the page, and what it knows there.
 #[derive(Clone, Copy, Debug, PartialEq, Eq)]
 pub enum Point {
-    Reading(usize),
+    Reading(usize, Asked),
     /// The bits that it hasn't tried yet.
-    Clearing(usize, u32),
-    AtLink(usize),
+    Clearing(usize, u32, Asked),
+    AtLink(usize, Asked),
+    /// The bits of a page that a hint named.
+    ClearingHinted(usize, u32),
     Making(usize),
     /// The first of the values that it made.
     Linking(usize, u32),
@@ -88,7 +93,7 @@ impl Table {
     pub fn step(&mut self, agent: usize, step: Step) -> Result<Seen, AllocError> {
         if step == Step::Begin {
             let begun = self.agents.len();
-            self.agents.push(Point::Reading(0))?;
+            self.agents.push(Point::Reading(0, None))?;
             return Ok(Seen::Began(begun));
         }
         let Some(point) = self.point(agent) else {
@@ -107,12 +112,20 @@ impl Table {
     /// What a step answers at a point, and the next point.
     fn row(&self, agent: usize, point: Point, step: Step) -> Option<(Seen, Point)> {
         match (step, point) {
-            (Step::ReadMask, Point::Reading(page)) => {
+            (Step::ReadMask, Point::Reading(page, asked)) => {
                 let word = self.word(page);
-                Some((Seen::Word(agent, word), after_word(page, word)))
+                Some((Seen::Word(agent, word), after_word(page, word, asked)))
             }
-            (Step::ClearBit, Point::Clearing(page, mask)) => Some(self.cleared(agent, page, mask)),
-            (Step::ReadNext, Point::AtLink(page)) => Some(self.followed(agent, page)),
+            (Step::ReadHinted(hint), Point::AtLink(0, None)) => self.hinted(agent, hint),
+            (Step::ClearBit, Point::Clearing(page, mask, asked)) => {
+                let next = after_word(page, without_lowest(mask), asked);
+                Some(self.cleared(agent, page, mask, next))
+            }
+            (Step::ClearBit, Point::ClearingHinted(hint, mask)) => {
+                let next = after_hinted_word(hint, without_lowest(mask));
+                Some(self.cleared(agent, hint, mask, next))
+            }
+            (Step::ReadNext, Point::AtLink(page, asked)) => Some(self.followed(agent, page, asked)),
             (Step::MakePage(first), Point::Making(page)) => {
                 Some((Seen::Made(agent), Point::Linking(page, first)))
             }
@@ -137,7 +150,17 @@ impl Table {
         }
     }
 
-    fn cleared(&self, agent: usize, page: usize, mask: u32) -> (Seen, Point) {
+    /// A hint names a linked page, and not the first.
+    fn hinted(&self, agent: usize, hint: usize) -> Option<(Seen, Point)> {
+        if hint == 0 || hint >= self.words.len() {
+            return None;
+        }
+        let word = self.word(hint);
+        Some((Seen::Word(agent, word), after_hinted_word(hint, word)))
+    }
+
+    /// Where the lowest bit is lost, the agent goes to the next point.
+    fn cleared(&self, agent: usize, page: usize, mask: u32, next: Point) -> (Seen, Point) {
         let word = self.word(page);
         let id = mask.trailing_zeros();
         let bit = 1u32.wrapping_shl(id);
@@ -147,16 +170,19 @@ impl Table {
                 Point::Taken(page, id),
             )
         } else {
-            (Seen::Found(agent, word), after_word(page, mask & !bit))
+            (Seen::Found(agent, word), next)
         }
     }
 
-    fn followed(&self, agent: usize, page: usize) -> (Seen, Point) {
+    /// A page that was asked by a hint is passed.
+    fn followed(&self, agent: usize, page: usize, asked: Asked) -> (Seen, Point) {
         let next = page.saturating_add(1);
         if self.limit == Some(next) {
             (Seen::Refused(agent, PullError::Limit), Point::Ended)
+        } else if asked == Some(next) {
+            (Seen::Next(agent, true), Point::AtLink(next, asked))
         } else if next < self.words.len() {
-            (Seen::Next(agent, true), Point::Reading(next))
+            (Seen::Next(agent, true), Point::Reading(next, asked))
         } else {
             (Seen::Next(agent, false), Point::Making(page))
         }
@@ -165,16 +191,19 @@ impl Table {
     fn linked(&self, agent: usize, page: usize) -> (Seen, Point) {
         let next = page.saturating_add(1);
         if next < self.words.len() {
-            (Seen::Lost(agent), Point::Reading(next))
+            (Seen::Lost(agent), Point::Reading(next, None))
         } else {
-            (Seen::Linked(agent), Point::Reading(next))
+            (Seen::Linked(agent), Point::Reading(next, None))
         }
     }
 
     /// What a step leaves in the pages, by its answer.
     fn change(&mut self, seen: Seen, point: Point) -> Result<(), AllocError> {
         match (seen, point) {
-            (Seen::Pulled(_, _), Point::Clearing(page, mask)) => {
+            (
+                Seen::Pulled(_, _),
+                Point::Clearing(page, mask, _) | Point::ClearingHinted(page, mask),
+            ) => {
                 if let Some(word) = self.words.get_mut(page) {
                     *word &= !1u32.wrapping_shl(mask.trailing_zeros());
                 }
@@ -202,11 +231,24 @@ impl Table {
     }
 }
 
-fn after_word(page: usize, mask: u32) -> Point {
+/// The bits without the lowest one.
+fn without_lowest(mask: u32) -> u32 {
+    mask & !1u32.wrapping_shl(mask.trailing_zeros())
+}
+
+fn after_word(page: usize, mask: u32, asked: Asked) -> Point {
     if mask == 0 {
-        Point::AtLink(page)
+        Point::AtLink(page, asked)
     } else {
-        Point::Clearing(page, mask)
+        Point::Clearing(page, mask, asked)
+    }
+}
+
+fn after_hinted_word(hint: usize, mask: u32) -> Point {
+    if mask == 0 {
+        Point::AtLink(0, Some(hint))
+    } else {
+        Point::ClearingHinted(hint, mask)
     }
 }
 
