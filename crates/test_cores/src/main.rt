@@ -70,7 +70,7 @@ fn compare_all<R: Print + Eprint + Wait + Copy>(
         }
         let session = match number {
             0 => many_held(seed, number),
-            1 => many_pages(seed, number),
+            1 => many_pages(seed, number, calls),
             _ => drawn(seed, number),
         };
         match compare_items(rt, alloc, session) {

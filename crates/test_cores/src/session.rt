@@ -110,7 +110,7 @@ fn drawn_most(dice: &mut Dice, element: Element) -> usize {
     }
 }
 
-/// How many items are asked for at most: some more than there may be.
+/// How many items are asked for at most: a few more than there may be.
 fn most_asked(kind: Kind, limit: Option<usize>) -> usize {
     match (kind, limit) {
         (Kind::Linear | Kind::Buffers, Some(pages)) => pages.saturating_mul(32).saturating_add(8),
@@ -132,13 +132,13 @@ pub fn many_held(seed: u64, number: u64) -> Session {
     }
 }
 
-/// A session in which a pool grows to more than 65,536 pages.
-pub fn many_pages(seed: u64, number: u64) -> Session {
+/// A session in which a pool grows by half of so many calls, up to more than 65,536 pages.
+pub fn many_pages(seed: u64, number: u64, calls: u64) -> Session {
     Session {
         kind: Kind::Linear,
         element: Element::Nothing,
         limit: Some(usize::MAX),
-        calls: 4_200_000,
+        calls: (calls / 2).min(MOST_CALLS_TO_GROW),
         most_held: 3,
         refuses: false,
         forgets_owners: false,
@@ -146,3 +146,6 @@ pub fn many_pages(seed: u64, number: u64) -> Session {
         ..drawn(seed, number)
     }
 }
+
+/// Calls of which half pull the items of somewhat more than 65,536 pages.
+const MOST_CALLS_TO_GROW: u64 = 4_200_000;
