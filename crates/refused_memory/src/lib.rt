@@ -7,6 +7,8 @@
 #[cfg(test)]
 mod engine;
 #[cfg(test)]
+mod fixed_pools;
+#[cfg(test)]
 mod linear_pools;
 #[cfg(test)]
 mod pages;

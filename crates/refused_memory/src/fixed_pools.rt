@@ -1,0 +1,56 @@
+//! Fixed pools: a refused opening drops what it made, and nothing behind it takes memory.
+use crate::refusals::Refusals;
+use crate::tallied::{Tallied, TalliedValues, Tally, new_tally};
+use lockfree_object_pool::clean::AnyValue;
+use lockfree_object_pool::closures::Keep;
+use lockfree_object_pool::{FixedObjectPool, PullError};
+use std::alloc::Global;
+use std::process::Abort;
+use std::sync::Arc;
+use std::test::Fail;
+
+/// How many items the pools here have: three pages, the last with one item.
+const ITEMS: usize = 65;
+
+/// A pool of values that are tallied.
+type Tracked = FixedObjectPool<Tallied, TalliedValues, Keep, AnyValue>;
+
+/// Such a pool. Where it is refused, each value that was made for it is dropped.
+fn opened(
+    rt: &impl Abort,
+    alloc: Global,
+    refusals: &Refusals,
+    tally: &Arc<Tally>,
+) -> Result<Arc<Tracked>, PullError> {
+    let pool = refusals.again(&|| {
+        let pool = FixedObjectPool::new(alloc, TalliedValues::new(tally)?, Keep, ITEMS)?;
+        Ok(Arc::new(alloc, pool)?)
+    })?;
+    assert_eq!(rt; tally.living(), ITEMS);
+    Ok(pool)
+}
+
+#[test]
+fn a_fixed_pool_that_was_refused_is_made_again(rt: HostRuntime) -> Result<(), Fail> {
+    let refusals = Refusals::new();
+    let tally = refusals.again(&|| new_tally(rt.alloc()))?;
+    let pool = opened(&rt, rt.alloc(), &refusals, &tally)?;
+    drop(pool);
+    assert_eq!(rt; tally.living(), 0);
+    Ok(refusals.tell(&rt)?)
+}
+
+/// Three hundred pulls and returns ask for no memory, whichever request is refused: a refusal would be another than `Limit`.
+#[test]
+fn pulls_and_returns_in_turn_take_no_memory(rt: HostRuntime) -> Result<(), Fail> {
+    let refusals = Refusals::new();
+    let tally = refusals.again(&|| new_tally(rt.alloc()))?;
+    let pool = opened(&rt, rt.alloc(), &refusals, &tally)?;
+    for page in 0..100 {
+        drop(pool.pull()?);
+        drop(pool.pull_near(page)?);
+        drop(pool.pull_owned()?);
+    }
+    assert_eq!(rt; tally.living(), ITEMS);
+    Ok(refusals.tell(&rt)?)
+}
