@@ -1,7 +1,8 @@
 -- What a buffer pool and its buffers show.
 use Rattle.std.specs.Prelude.{ℕ, List, Option}
 use Rattle.std.specs.Global.{Vec}
-use Rattle.lockfree_object_pool.specs.LinearPool.{pool_init, pool_limit, reusable_item, reusable_number}
+use Rattle.lockfree_object_pool.specs.LinearPool.{pool_init, pool_limit, reusable_item, reusable_page, reusable_number, IsOnPage}
+use Rattle.lockfree_object_pool.specs.declared.linear_reusable.LinearReusable.{LinearReusable}
 use Rattle.object_pool_cores.specs.declared.buffers.BufferPool.{BufferPool}
 use Rattle.object_pool_cores.specs.declared.buffers.buffer.Buffer.{Buffer}
 
@@ -13,6 +14,14 @@ module _ {I R K : Type 0} where
   -- how many pages the pool may have
   abbrev pub limit_of_pages : BufferPool I R (Vec ℕ) K → Option ℕ
   limit_of_pages buffers = pool_limit buffers.pool
+
+  -- the item of the linear pool below that the buffer is
+  abbrev pub item_of : Buffer I R (Vec ℕ) K → LinearReusable (Vec ℕ) I R K
+  item_of buffer = buffer.item
+
+  -- the buffer is of the pool's page of the number that it tells
+  abbrev pub IsOnItsPage : BufferPool I R (Vec ℕ) K → Buffer I R (Vec ℕ) K → Type 0
+  IsOnItsPage buffers buffer = IsOnPage buffers.pool (reusable_page (item_of buffer)) (reusable_item (item_of buffer))
 
   -- the bytes in the buffer
   abbrev pub bytes_of : Buffer I R (Vec ℕ) K → List ℕ

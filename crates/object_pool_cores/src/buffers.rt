@@ -42,7 +42,7 @@ pub struct BufferPool<I: Init<T, K>, R: Reset<T, K>, T = Vec<u8>, K: Clean<T> = 
 
 impl<I: Init<Vec<u8>, Empty>, R: Reset<Vec<u8>, Empty>> BufferPool<I, R> {
     ghost use Rattle.lockfree_object_pool.specs.Refusal.{RefusesMaking, RefusesPull};
-    ghost use Rattle.object_pool_cores.specs.Buffers.{maker_of, limit_of_pages, bytes_of, page_of};
+    ghost use Rattle.object_pool_cores.specs.Buffers.{maker_of, limit_of_pages, bytes_of, page_of, IsOnItsPage};
 
     /// A pool of one page, which grows to `pages` pages at most. A page has 32 buffers.
     pub fn new(
@@ -63,6 +63,7 @@ impl<I: Init<Vec<u8>, Empty>, R: Reset<Vec<u8>, Empty>> BufferPool<I, R> {
     /// An empty buffer.
     pub fn pull(&self) -> Result<Buffer<'_, I, R>, PullError>
         ensures empty { IfOk result (λ buffer. bytes_of buffer ≡ []) }
+        ensures on_page { IfOk result (IsOnItsPage self.now) }
         ensures within { IfOk result (λ buffer. IfSome (limit_of_pages self.now)
             (λ pages. page_of buffer < pages)) }
         ensures refused { IfErr result (RefusesPull (record {

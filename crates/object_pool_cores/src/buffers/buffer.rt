@@ -17,13 +17,11 @@ pub struct Buffer<'p, I: Init<T, K>, R: Reset<T, K>, T: Drop = Vec<u8>, K: Clean
 }
 
 impl<'p, I: Init<Vec<u8>, Empty>, R: Reset<Vec<u8>, Empty>> Buffer<'p, I, R> {
-    ghost use Rattle.lockfree_object_pool.specs.LinearPool.{reusable_item, reusable_number};
     ghost use Rattle.lockfree_object_pool.specs.declared.pull_error.PullError.TheVariants.{Memory};
-    ghost use Rattle.object_pool_cores.specs.Buffers.{bytes_of, page_of, id_of};
+    ghost use Rattle.object_pool_cores.specs.Buffers.{item_of, bytes_of, page_of, id_of};
 
     pub(super) fn new(item: LinearReusable<'p, Vec<u8>, I, R, Empty>) -> Buffer<'p, I, R>
-        ensures bytes { bytes_of result ≡ (reusable_item item.entry).value.items }
-        ensures page { page_of result ≡ reusable_number item.entry }
+        ensures { item_of result ≡ item.entry }
     {
         Buffer { item }
     }
