@@ -1,6 +1,7 @@
 //! Letters from one thread to another. The reader drops a letter, and its sheet is written on again.
-ghost use Rattle.std.specs.Prelude.{◌≡◌, IfOk, vec_len, length};
-ghost use Rattle.lockfree_object_pool.specs.LinearPool.{owned_item};
+ghost use Rattle.std.specs.Prelude.{◌≡◌, Err, IsSome, IfOk, vec_len, length};
+ghost use Rattle.std.specs.Arc.{arc_value};
+ghost use Rattle.lockfree_object_pool.specs.LinearPool.{owned_item, pool_limit};
 
 use lockfree_object_pool::clean::Empty;
 use lockfree_object_pool::closures::{Clear, WithCapacity};
@@ -26,7 +27,8 @@ impl Letter {
 
     /// A letter with this text, and nothing of what stood on its sheet before.
     pub fn new(pool: &Arc<SheetPool>, text: &[u8]) -> Result<Letter, PullError>
-        ensures { IfOk result (λ letter. text_of letter ≡ text.now) }
+        ensures text { IfOk result (λ letter. text_of letter ≡ text.now) }
+        ensures limited { result ≡ Err PullError.Limit → IsSome (pool_limit (arc_value pool.now)) }
     {
         let mut sheet = pool.pull_owned()?;
         sheet.extend_from_slice(text)?;

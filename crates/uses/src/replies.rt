@@ -1,6 +1,7 @@
 //! Replies that are put together in a buffer of a pool. The pool has one page, so 32 replies may be under way at once.
-ghost use Rattle.std.specs.Prelude.{◌≡◌, [], IfOk};
-ghost use Rattle.object_pool_cores.specs.Buffers.{bytes_of};
+ghost use Rattle.std.specs.Prelude.{◌≡◌, ◌≢◌, [], Some, Err, IfOk, IfErr};
+ghost use Rattle.lockfree_object_pool.specs.declared.pull_error.PullError.TheVariants.{Memory};
+ghost use Rattle.object_pool_cores.specs.Buffers.{bytes_of, limit_of_pages, maker_of};
 ghost use Rattle.uses.specs.Replies.{greeting_of};
 
 use lockfree_object_pool::PullError;
@@ -11,14 +12,19 @@ use std::alloc::Global;
 pub type Replies = BufferPool<WithCapacity, Clear>;
 
 /// A pool whose buffers have room for `capacity` bytes at first.
-pub fn new_replies(alloc: Global, capacity: usize) -> Result<Replies, PullError> {
+pub fn new_replies(alloc: Global, capacity: usize) -> Result<Replies, PullError>
+    ensures room { IfOk result (λ replies. (maker_of replies).capacity ≡ capacity) }
+    ensures one_page { IfOk result (λ replies. limit_of_pages replies ≡ Some 1) }
+    ensures refused { result ≢ Err PullError.Limit }
+{
     BufferPool::new(alloc, WithCapacity::new(alloc, capacity), Clear, 1)
 }
 
 /// Puts a greeting into an empty buffer.
 fn greet(buffer: &mut Buffer<'_, WithCapacity, Clear>, name: &[u8]) -> Result<(), PullError>
     requires { bytes_of buffer.old ≡ [] }
-    ensures { IfOk result (λ _. bytes_of buffer.new ≡ greeting_of name.now) }
+    ensures greeting { IfOk result (λ _. bytes_of buffer.new ≡ greeting_of name.now) }
+    ensures refused { IfErr result (λ cause. cause ≡ Memory) }
 {
     buffer.append(b"hello, ")?;
     buffer.append(name)?;

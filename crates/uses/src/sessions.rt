@@ -1,5 +1,6 @@
 //! A table of open sessions. Each has a basket of a pool, into which it puts products, until it is closed.
-ghost use Rattle.std.specs.Prelude.{◌≡◌, ◌≢◌, ℕ, [], ◌∷◌, ◌++◌, None, Some, OnOk, OnErr, IfOk};
+ghost use Rattle.std.specs.Prelude.{◌≡◌, ◌≢◌, ℕ, [], ◌∷◌, ◌++◌, None, Some, Err, IsSome, OnOk, OnErr, IfOk, IfErr};
+ghost use Rattle.lockfree_object_pool.specs.declared.pull_error.PullError.TheVariants.{Memory};
 
 use lockfree_object_pool::clean::Empty;
 use lockfree_object_pool::closures::{Clear, WithCapacity};
@@ -23,7 +24,7 @@ pub struct Sessions {
 
 impl Sessions {
     ghost use Rattle.std.specs.Option.{option_copied, option_map};
-    ghost use Rattle.uses.specs.Sessions.{basket_of};
+    ghost use Rattle.uses.specs.Sessions.{basket_of, limit_of};
 
     /// A table of no sessions.
     pub fn new(alloc: Global, pool: Arc<BasketPool>) -> Sessions
@@ -40,6 +41,7 @@ impl Sessions {
         ensures empty { OnOk result (basket_of self.new session ≡ Some []) }
         ensures others { (other : ℕ) → other ≢ session → basket_of self.new other ≡ basket_of self.old other }
         ensures refused { OnErr result (basket_of self.new session ≡ basket_of self.old session) }
+        ensures limited { result ≡ Err PullError.Limit → IsSome (limit_of self.old) }
     {
         let basket = self.pool.pull_owned()?;
         match self.open.insert(session, basket) {
@@ -61,6 +63,8 @@ impl Sessions {
         ensures added { OnOk result (basket_of self.new session ≡ option_map (λ products. products ++ product ∷ []) (basket_of self.old session)) }
         ensures others { (other : ℕ) → other ≢ session → basket_of self.new other ≡ basket_of self.old other }
         ensures refused { OnErr result (basket_of self.new session ≡ basket_of self.old session) }
+        ensures open_alone { OnErr result (IsSome (basket_of self.old session)) }
+        ensures memory_alone { IfErr result (λ cause. cause ≡ Memory) }
     {
         if let Some(basket) = self.open.get_mut(&session) {
             basket.push(product)?;

@@ -89,3 +89,13 @@ fn a_letter_may_be_longer_than_its_sheet_was(rt: HostRuntime) -> Result<(), Fail
     assert!(rt; letter.text() == text.as_slice() && letter.len() == 5000);
     Ok(())
 }
+
+#[test]
+fn a_letter_may_have_no_bytes(rt: HostRuntime) -> Result<(), Fail> {
+    let alloc = rt.alloc();
+    let pool = LinearObjectPool::new(alloc, WithCapacity::new(alloc, 4), Clear)?;
+    let pool = Arc::new(alloc, pool)?;
+    let letter = Letter::new(&pool, b"")?;
+    assert_eq!(rt; (letter.len(), letter.text()), (0, b"".as_slice()));
+    Ok(())
+}

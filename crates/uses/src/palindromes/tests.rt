@@ -37,3 +37,16 @@ fn each_of_forty_long_texts_has_an_answer(rt: HostRuntime) -> Result<(), Fail> {
     assert!(rt; answers.iter().all(|answer| *answer == Some(true)));
     Ok(())
 }
+
+#[test]
+fn each_text_of_one_byte_is_a_palindrome(rt: HostRuntime) -> Result<(), Fail> {
+    let alloc = rt.alloc();
+    let pool = LinearObjectPool::new(alloc, WithCapacity::new(alloc, 8), Clear)?;
+    let texts = vec![in alloc;
+        Vec::from_slice(alloc, b"a")?,
+        Vec::from_slice(alloc, b"\0")?,
+    ]?;
+    let answers = palindromes(&rt, alloc, &pool, &texts)?;
+    assert_eq!(rt; answers.as_slice(), [Some(true), Some(true)].as_slice());
+    Ok(())
+}

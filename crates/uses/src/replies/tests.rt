@@ -56,3 +56,14 @@ fn a_long_name_is_greeted(rt: HostRuntime) -> Result<(), Fail> {
     assert_eq!(rt; reply.len(), 5008);
     Ok(())
 }
+
+#[test]
+fn a_name_may_begin_with_any_byte(rt: HostRuntime) -> Result<(), Fail> {
+    let replies = new_replies(rt.alloc(), 16)?;
+    for byte in 0..=u8::MAX {
+        let reply = greeting(rt.alloc(), &replies, &[byte, b'a'])?;
+        let expected = [b'h', b'e', b'l', b'l', b'o', b',', b' ', byte, b'a', b'\n'];
+        assert_eq!(rt; reply.as_slice(), expected.as_slice());
+    }
+    Ok(())
+}

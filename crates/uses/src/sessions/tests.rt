@@ -84,3 +84,60 @@ fn a_basket_takes_a_thousand_products(rt: HostRuntime) -> Result<(), Fail> {
     );
     Ok(())
 }
+
+#[test]
+fn the_greatest_session_can_be_opened(rt: HostRuntime) -> Result<(), Fail> {
+    let mut sessions = Sessions::new(rt.alloc(), new_pool(rt.alloc())?);
+    sessions.open(u64::MAX)?;
+    sessions.add(u64::MAX, 7)?;
+    assert!(rt; holds(&sessions, u64::MAX, &[7]));
+    Ok(())
+}
+
+#[test]
+fn a_product_for_a_closed_session_is_let_go(rt: HostRuntime) -> Result<(), Fail> {
+    let mut sessions = Sessions::new(rt.alloc(), new_pool(rt.alloc())?);
+    sessions.open(1)?;
+    sessions.close(1);
+    assert_eq!(rt; sessions.add(1, 7), Ok(()));
+    assert!(rt; sessions.products(1).is_none());
+    Ok(())
+}
+
+/// Whether as many sessions can be opened as a page has baskets.
+fn all_baskets_are_home(sessions: &mut Sessions) -> bool {
+    for session in 1_000..1_032u64 {
+        if sessions.open(session).is_err() {
+            return false;
+        }
+    }
+    true
+}
+
+#[test]
+fn the_basket_of_a_session_opened_anew_comes_home(rt: HostRuntime) -> Result<(), Fail> {
+    let mut sessions = Sessions::new(rt.alloc(), new_pool(rt.alloc())?);
+    for products in 0..100u32 {
+        sessions.open(1)?;
+        for product in 0..products {
+            sessions.add(1, product)?;
+        }
+    }
+    sessions.close(1);
+    assert!(rt; all_baskets_are_home(&mut sessions));
+    Ok(())
+}
+
+#[test]
+fn the_basket_of_a_closed_session_comes_home(rt: HostRuntime) -> Result<(), Fail> {
+    let mut sessions = Sessions::new(rt.alloc(), new_pool(rt.alloc())?);
+    for products in 0..100u32 {
+        sessions.open(1)?;
+        for product in 0..products {
+            sessions.add(1, product)?;
+        }
+        sessions.close(1);
+    }
+    assert!(rt; all_baskets_are_home(&mut sessions));
+    Ok(())
+}
