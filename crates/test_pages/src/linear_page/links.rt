@@ -5,7 +5,6 @@ ghost use Rattle.lockfree_object_pool.specs.LinearPage.{shown_page};
 use super::*;
 use std::sync::atomic::AtomicUsize;
 use std::sync::atomic::Ordering::SeqCst;
-use std::test::Fail;
 use std::thread;
 use std::thread::Threads;
 
@@ -53,20 +52,19 @@ fn grown<'c>(alloc: Global, page: &ZeroPage<'c>, calls: &AtomicUsize) -> Option<
 }
 
 #[test]
-fn a_link_is_set_once(rt: HostRuntime) -> Result<(), Fail> {
-    let chain = Zeros::new(rt.alloc(), &|| Some(0))?;
+fn a_link_is_set_once(rt: HostRuntime) {
+    let chain = Zeros::new(rt.alloc(), &|| Some(0)).expect(&rt, "a chain is made");
     let first = chain.first();
     assert!(rt; first.next().is_none());
-    let _slots = hold_all(rt.alloc(), &first).ok_or("32 items are free")?;
-    let next = behind_full(&first, &|| Some(0)).ok_or("a page is linked")?;
+    let _slots = hold_all(rt.alloc(), &first).expect(&rt, "32 items are free");
+    let next = behind_full(&first, &|| Some(0)).expect(&rt, "a page is linked");
     assert_eq!(rt; (next.number(), first_id(&next)), (1, Some(0)));
-    let again = behind_full(&first, &|| None).ok_or("a page is linked")?;
+    let again = behind_full(&first, &|| None).expect(&rt, "a page is linked");
     assert_eq!(rt; (again.number(), first_id(&again)), (1, Some(1)));
-    let (one, other) = both_next(&first).ok_or("a page is linked")?;
+    let (one, other) = both_next(&first).expect(&rt, "a page is linked");
     assert_eq!(rt; (first_id(&one), first_id(&other)), (Some(2), Some(3)));
-    let (linked, found) = linked_and_found(&first).ok_or("a page is linked")?;
+    let (linked, found) = linked_and_found(&first).expect(&rt, "a page is linked");
     assert_eq!(rt; (first_id(&linked), first_id(&found)), (Some(4), Some(5)));
-    Ok(())
 }
 
 /// The ids that two threads take of the page behind a full one.
@@ -79,13 +77,12 @@ fn race<R: Threads + Sync>(rt: &R, page: &ZeroPage<'_>) -> (Option<u8>, Option<u
 }
 
 #[test]
-fn two_threads_come_to_one_page(rt: HostRuntime) -> Result<(), Fail> {
-    let chain = Zeros::new(rt.alloc(), &|| Some(0))?;
+fn two_threads_come_to_one_page(rt: HostRuntime) {
+    let chain = Zeros::new(rt.alloc(), &|| Some(0)).expect(&rt, "a chain is made");
     let first = chain.first();
-    let _slots = hold_all(rt.alloc(), &first).ok_or("32 items are free")?;
+    let _slots = hold_all(rt.alloc(), &first).expect(&rt, "32 items are free");
     let ids = race(&rt, &first);
     assert!(rt; ids == (Some(0), Some(1)) || ids == (Some(1), Some(0)));
-    Ok(())
 }
 
 /// The number of a chain's last page, once so many were linked behind its first one.
@@ -104,12 +101,11 @@ fn first_place(chain: &Zeros) -> Option<(u8, usize)> {
 }
 
 #[test]
-fn sixteen_hundred_pages_are_linked_and_dropped(rt: HostRuntime) -> Result<(), Fail> {
+fn sixteen_hundred_pages_are_linked_and_dropped(rt: HostRuntime) {
     let calls = AtomicUsize::new(0);
-    let chain = Zeros::new(rt.alloc(), &|| Some(0))?;
+    let chain = Zeros::new(rt.alloc(), &|| Some(0)).expect(&rt, "a chain is made");
     let last = grow_by(rt.alloc(), &chain, 1_599, &calls);
     assert_eq!(rt; (last, calls.load(SeqCst)), (Some(1_599), 51_168));
     assert_eq!(rt; first_place(&chain), Some((0, 0)));
     drop(chain);
-    Ok(())
 }

@@ -2,7 +2,6 @@
 use super::*;
 use std::sync::atomic::AtomicUsize;
 use std::sync::atomic::Ordering::SeqCst;
-use std::test::Fail;
 use std::thread;
 use std::thread::Threads;
 use test_values::counted::{Counted, Counts};
@@ -76,19 +75,18 @@ fn run<'c, 'r, R: Threads + Sync>(
 }
 
 #[test]
-fn a_page_that_comes_too_late_is_dropped(rt: HostRuntime) -> Result<(), Fail> {
+fn a_page_that_comes_too_late_is_dropped(rt: HostRuntime) {
     let race = Race {
         counts: Counts::new(),
         winners: AtomicUsize::new(0),
     };
-    let chain = Chain::new(rt.alloc(), &|| Some(race.counts.make()))?;
+    let chain = Chain::new(rt.alloc(), &|| Some(race.counts.make())).expect(&rt, "a chain is made");
     let first = chain.first();
-    let _slots = hold_all(rt.alloc(), &first).ok_or("32 items are free")?;
+    let _slots = hold_all(rt.alloc(), &first).expect(&rt, "32 items are free");
     let (Some(lost), Some(won)) = run(&rt, &first, &race) else {
         panic!(rt; "both threads have the page that is linked")
     };
     assert_eq!(rt; race.counts.now(), (96, 32));
     assert_eq!(rt; (first_id(&lost), first_id(&won)), (Some(0), Some(1)));
     assert!(rt; won.next().is_none());
-    Ok(())
 }

@@ -1,8 +1,8 @@
 //! Chains that are refused values or memory: nothing is linked in part, and what was refused can be asked for again.
 use super::*;
 use std::mem;
-use std::test::Fail;
 use test_values::counted::Counts;
+use test_values::refused::again;
 
 #[test]
 fn init_that_refuses_stops_a_new_chain(rt: HostRuntime) {
@@ -15,17 +15,16 @@ fn init_that_refuses_stops_a_new_chain(rt: HostRuntime) {
 }
 
 #[test]
-fn a_refused_page_is_not_linked(rt: HostRuntime) -> Result<(), Fail> {
+fn a_refused_page_is_not_linked(rt: HostRuntime) {
     let counts = Counts::new();
-    let chain = Chain::new(rt.alloc(), &|| Some(counts.make()))?;
+    let chain = Chain::new(rt.alloc(), &|| Some(counts.make())).expect(&rt, "a chain is made");
     let first = chain.first();
-    let _slots = hold_all(rt.alloc(), &first).ok_or("32 items are free")?;
+    let _slots = hold_all(rt.alloc(), &first).expect(&rt, "32 items are free");
     assert!(rt; behind_full(&first, &|| counts.make_but(40)).is_none());
     assert_eq!(rt; counts.now(), (41, 8));
     assert!(rt; first.next().is_none());
-    let next = behind_full(&first, &|| Some(counts.make())).ok_or("a page is linked")?;
+    let next = behind_full(&first, &|| Some(counts.make())).expect(&rt, "a page is linked");
     assert_eq!(rt; (next.number(), counts.now()), (1, (73, 8)));
-    Ok(())
 }
 
 /// Takes all items of a page out for good, without memory.
@@ -38,17 +37,13 @@ fn forget_all(page: &ZeroPage<'_>) -> Option<()> {
 
 /// Holds with each request for memory refused in turn too: what was refused is asked for again.
 #[test]
-fn a_chain_goes_on_where_memory_was_refused(rt: HostRuntime) -> Result<(), Fail> {
-    let made = match Zeros::new(rt.alloc(), &|| Some(0)) {
-        Err(PullError::Memory) => Zeros::new(rt.alloc(), &|| Some(0)),
-        made => made,
-    };
-    let chain = made?;
+fn a_chain_goes_on_where_memory_was_refused(rt: HostRuntime) {
+    let made = again(&|| Zeros::new(rt.alloc(), &|| Some(0)));
+    let chain = made.expect(&rt, "a chain is made");
     let first = chain.first();
-    forget_all(&first).ok_or("32 items are free")?;
+    forget_all(&first).expect(&rt, "32 items are free");
     let linked = behind_full(&first, &|| Some(0)).is_some();
     assert_eq!(rt; first.next().is_some(), linked);
-    let next = behind_full(&first, &|| Some(0)).ok_or("a page is linked")?;
+    let next = behind_full(&first, &|| Some(0)).expect(&rt, "a page is linked");
     assert_eq!(rt; (next.number(), first_id(&next)), (1, Some(0)));
-    Ok(())
 }

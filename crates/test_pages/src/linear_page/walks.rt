@@ -2,7 +2,6 @@
 use super::*;
 use lockfree_object_pool::PullError;
 use std::alloc::AllocError;
-use std::test::Fail;
 
 /// Slots with the numbers of their pages.
 type Walked<'c> = Vec<(PageSlot<'c, u32, AnyValue>, usize)>;
@@ -29,10 +28,10 @@ fn walk_often<'c>(
 }
 
 #[test]
-fn a_walk_fills_page_after_page(rt: HostRuntime) -> Result<(), Fail> {
-    let chain = Zeros::new(rt.alloc(), &|| Some(0))?;
+fn a_walk_fills_page_after_page(rt: HostRuntime) {
+    let chain = Zeros::new(rt.alloc(), &|| Some(0)).expect(&rt, "a chain is made");
     let first = chain.first();
-    let found = walk_often(rt.alloc(), &first, None, 129)?;
+    let found = walk_often(rt.alloc(), &first, None, 129).expect(&rt, "memory is left");
     assert_eq!(rt; found.len(), 129);
     for (index, (slot, number)) in found.iter().enumerate() {
         assert_eq!(rt; (*number, usize::from(slot.id())), (index / 32, index % 32));
@@ -40,29 +39,31 @@ fn a_walk_fills_page_after_page(rt: HostRuntime) -> Result<(), Fail> {
     let third = first
         .next()
         .and_then(|page| page.next())
-        .ok_or("three pages are linked")?;
+        .expect(&rt, "three pages are linked");
     assert_eq!(rt; third.number(), 2);
-    let (slot, passed) = third.alloc(&|| Some(0))?;
+    let (slot, passed) = third.alloc(&|| Some(0)).expect(&rt, "an item is free");
     assert_eq!(rt; (slot.id(), passed), (1, 2));
-    Ok(())
 }
 
 #[test]
-fn a_limit_of_three_pages_ends_a_walk_behind_the_third(rt: HostRuntime) -> Result<(), Fail> {
-    let chain = Zeros::new(rt.alloc(), &|| Some(0))?;
+fn a_limit_of_three_pages_ends_a_walk_behind_the_third(rt: HostRuntime) {
+    let chain = Zeros::new(rt.alloc(), &|| Some(0)).expect(&rt, "a chain is made");
     let first = chain.first();
-    let before = walk_often(rt.alloc(), &first, Some(3), 40)?;
-    let (aside, _) = first.alloc_within(3, &|| Some(0))?;
-    let behind = walk_often(rt.alloc(), &first, Some(3), 60)?;
+    let before = walk_often(rt.alloc(), &first, Some(3), 40).expect(&rt, "memory is left");
+    let (aside, _) = first
+        .alloc_within(3, &|| Some(0))
+        .expect(&rt, "an item is free");
+    let behind = walk_often(rt.alloc(), &first, Some(3), 60).expect(&rt, "memory is left");
     assert_eq!(rt; (before.len(), behind.len()), (40, 55));
     let refused = first.alloc_owned_within(3, &|| Some(0)).err();
     assert_eq!(rt; refused, Some(PullError::Limit));
-    let (last, number) = behind.last().ok_or("55 items are held")?;
+    let (last, number) = behind.last().expect(&rt, "55 items are held");
     assert_eq!(rt; (last.id(), *number), (31, 2));
     Page::free(aside);
-    let again = first.alloc_within(3, &|| Some(0))?;
+    let again = first
+        .alloc_within(3, &|| Some(0))
+        .expect(&rt, "an item is free");
     assert_eq!(rt; (again.0.id(), again.1), (8, 1));
-    Ok(())
 }
 
 /// The page behind so many links.
@@ -75,19 +76,18 @@ fn behind<'c>(chain: &'c Zeros, links: usize) -> Option<ZeroPage<'c>> {
 }
 
 #[test]
-fn links_lead_to_six_hundred_pages_and_no_further(rt: HostRuntime) -> Result<(), Fail> {
-    let chain = Zeros::new(rt.alloc(), &|| Some(0))?;
+fn links_lead_to_six_hundred_pages_and_no_further(rt: HostRuntime) {
+    let chain = Zeros::new(rt.alloc(), &|| Some(0)).expect(&rt, "a chain is made");
     let mut page = chain.first();
     for _ in 0..600 {
-        let slots = hold_all(rt.alloc(), &page).ok_or("32 items are free")?;
-        page = behind_full(&page, &|| Some(0)).ok_or("a page is linked")?;
+        let slots = hold_all(rt.alloc(), &page).expect(&rt, "32 items are free");
+        page = behind_full(&page, &|| Some(0)).expect(&rt, "a page is linked");
         for slot in slots {
             Page::free(slot);
         }
     }
-    let last = behind(&chain, 600).ok_or("600 links lead on")?;
+    let last = behind(&chain, 600).expect(&rt, "600 links lead on");
     assert_eq!(rt; (last.number(), page.number()), (600, 600));
     assert_eq!(rt; (first_id(&last), first_id(&page)), (Some(0), Some(1)));
     assert!(rt; last.next().is_none());
-    Ok(())
 }

@@ -4,7 +4,6 @@ use lockfree_object_pool::clean::AnyValue;
 use lockfree_object_pool::page::{Allocated, Page, PageSlot, PullPass, with_bit};
 use std::alloc::{AllocError, Global};
 use std::sync::atomic::{AtomicUsize, Ordering};
-use std::test::Fail;
 use std::thread;
 use std::thread::Threads;
 
@@ -28,16 +27,15 @@ fn id_of(found: &Result<Option<ZeroSlot<'_>>, PullError>) -> u8 {
 }
 
 #[test]
-fn a_new_page_is_free(rt: HostRuntime) -> Result<(), Fail> {
-    let page = zeros(rt.alloc())?;
+fn a_new_page_is_free(rt: HostRuntime) {
+    let page = zeros(rt.alloc()).expect(&rt, "a page is made");
     assert!(rt; !page.is_full());
     assert_eq!(rt; page.get_mask(), 4294967295);
-    Ok(())
 }
 
 #[test]
-fn the_word_follows_three_items(rt: HostRuntime) -> Result<(), Fail> {
-    let page = zeros(rt.alloc())?;
+fn the_word_follows_three_items(rt: HostRuntime) {
+    let page = zeros(rt.alloc()).expect(&rt, "a page is made");
     let Ok(Some(zero)) = page.alloc() else {
         panic!(rt; "item 0 is free")
     };
@@ -65,7 +63,6 @@ fn the_word_follows_three_items(rt: HostRuntime) -> Result<(), Fail> {
     assert_eq!(rt; page.get_mask(), 0b11111111111111111111111111111011);
     Page::free(two);
     assert_eq!(rt; page.get_mask(), 4294967295);
-    Ok(())
 }
 
 /// Takes up to `count` slots of a page.
@@ -84,9 +81,9 @@ fn take_slots<'s>(
 }
 
 #[test]
-fn items_come_in_order_until_the_page_is_full(rt: HostRuntime) -> Result<(), Fail> {
-    let page = zeros(rt.alloc())?;
-    let slots = take_slots(rt.alloc(), &page, 32)?;
+fn items_come_in_order_until_the_page_is_full(rt: HostRuntime) {
+    let page = zeros(rt.alloc()).expect(&rt, "a page is made");
+    let slots = take_slots(rt.alloc(), &page, 32).expect(&rt, "memory is left");
     let mut next = 0u8;
     for slot in &slots {
         assert_eq!(rt; slot.id(), next);
@@ -95,19 +92,18 @@ fn items_come_in_order_until_the_page_is_full(rt: HostRuntime) -> Result<(), Fai
     assert_eq!(rt; next, 32);
     assert!(rt; page.is_full());
     assert!(rt; matches!(page.alloc(), Ok(None)));
-    Ok(())
 }
 
 #[test]
-fn a_page_is_full_while_each_item_is_out(rt: HostRuntime) -> Result<(), Fail> {
-    let page = zeros(rt.alloc())?;
-    let mut slots = Vec::with_capacity(rt.alloc(), 32)?;
+fn a_page_is_full_while_each_item_is_out(rt: HostRuntime) {
+    let page = zeros(rt.alloc()).expect(&rt, "a page is made");
+    let mut slots = Vec::with_capacity(rt.alloc(), 32).expect(&rt, "memory is left");
     for _ in 0..32 {
         assert!(rt; !page.is_full());
         let Ok(Some(slot)) = page.alloc() else {
             panic!(rt; "an item is free")
         };
-        slots.push(slot)?;
+        slots.push(slot).expect(&rt, "memory is left");
     }
     assert!(rt; page.is_full());
     for slot in slots {
@@ -116,7 +112,6 @@ fn a_page_is_full_while_each_item_is_out(rt: HostRuntime) -> Result<(), Fail> {
         drop(page.alloc()); // the only free item, which stays out
         assert!(rt; page.is_full());
     }
-    Ok(())
 }
 
 /// Takes 16 slots, and waits until the other thread has 16 too. `None` where that didn't come, or memory was refused.
@@ -174,8 +169,8 @@ fn id_for_pull(page: &Zeros) -> u8 {
 }
 
 #[test]
-fn two_threads_share_the_ids_of_a_page(rt: HostRuntime) -> Result<(), Fail> {
-    let page = zeros(rt.alloc())?;
+fn two_threads_share_the_ids_of_a_page(rt: HostRuntime) {
+    let page = zeros(rt.alloc()).expect(&rt, "a page is made");
     let Some((mut one, two)) = take_halves(&rt, rt.alloc(), &page) else {
         panic!(rt; "two threads hold 16 slots each")
     };
@@ -188,14 +183,12 @@ fn two_threads_share_the_ids_of_a_page(rt: HostRuntime) -> Result<(), Fail> {
     let id = slot.id();
     Page::free(slot);
     assert_eq!(rt; id_for_pull(&page), id);
-    Ok(())
 }
 
 #[test]
-fn a_dropped_slot_leaves_its_id_out(rt: HostRuntime) -> Result<(), Fail> {
-    let page = zeros(rt.alloc())?;
+fn a_dropped_slot_leaves_its_id_out(rt: HostRuntime) {
+    let page = zeros(rt.alloc()).expect(&rt, "a page is made");
     drop(page.alloc());
     assert_eq!(rt; page.get_mask(), 4294967294);
     assert_eq!(rt; id_of(&page.alloc()), 1);
-    Ok(())
 }

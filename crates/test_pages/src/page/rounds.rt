@@ -1,7 +1,6 @@
 //! Many rounds of two threads that hold one item of a page each, and lose clearings to each other.
 use lockfree_object_pool::clean::AnyValue;
 use lockfree_object_pool::page::Page;
-use std::test::Fail;
 use std::thread;
 
 /// How many rounds each thread makes.
@@ -20,13 +19,12 @@ fn rounds_with_an_item(page: &Page<u32, AnyValue>) -> u32 {
 }
 
 #[test]
-fn two_of_thirty_two_items_leave_one_for_each_round(rt: HostRuntime) -> Result<(), Fail> {
-    let page = Page::new(rt.alloc(), &|| Some(0))?;
+fn two_of_thirty_two_items_leave_one_for_each_round(rt: HostRuntime) {
+    let page = Page::new(rt.alloc(), &|| Some(0)).expect(&rt, "a page is made");
     let taken = thread::join(
         &rt,
         || rounds_with_an_item(&page),
         || rounds_with_an_item(&page),
     );
     assert_eq!(rt; taken, (ROUNDS, ROUNDS));
-    Ok(())
 }

@@ -8,7 +8,6 @@ ghost use Rattle.lockfree_object_pool.specs.Slot.{slot_item, slot_with};
 use lockfree_object_pool::clean::{AnyValue, Clean};
 use lockfree_object_pool::page::{Allocated, FullSeen, OwnedSlot, Page, PageSlot, PullPass};
 use std::sync::Arc;
-use std::test::Fail;
 
 /// The value is 0.
 struct Zero;
@@ -86,8 +85,8 @@ fn full_of<'p>(page: &Page<u32, Zero>, pass: &'p PullPass) -> Option<FullSeen<'p
 }
 
 #[test]
-fn a_written_value_comes_back(rt: HostRuntime) -> Result<(), Fail> {
-    let page = Page::<u32, AnyValue>::new(rt.alloc(), &|| Some(0))?;
+fn a_written_value_comes_back(rt: HostRuntime) {
+    let page = Page::<u32, AnyValue>::new(rt.alloc(), &|| Some(0)).expect(&rt, "a page is made");
     let Ok(Some(mut slot)) = page.alloc() else {
         panic!(rt; "an item is free")
     };
@@ -98,12 +97,12 @@ fn a_written_value_comes_back(rt: HostRuntime) -> Result<(), Fail> {
     };
     assert_eq!(rt; (slot.id(), *slot), (0, 5));
     assert_eq!(rt; read_back(slot), (0, 9));
-    Ok(())
 }
 
 #[test]
-fn a_condition_is_kept(rt: HostRuntime) -> Result<(), Fail> {
-    let page = Arc::new(rt.alloc(), Page::<u32, Zero>::new(rt.alloc(), &|| Some(0))?)?;
+fn a_condition_is_kept(rt: HostRuntime) {
+    let page = Page::<u32, Zero>::new(rt.alloc(), &|| Some(0)).expect(&rt, "a page is made");
+    let page = Arc::new(rt.alloc(), page).expect(&rt, "memory is left");
     let Ok(Some(slot)) = page.alloc() else {
         panic!(rt; "an item is free")
     };
@@ -111,12 +110,11 @@ fn a_condition_is_kept(rt: HostRuntime) -> Result<(), Fail> {
     let Ok(Some(slot)) = page.alloc() else {
         panic!(rt; "an item is free")
     };
-    let mut owned = slot.into_owned(Arc::try_clone(&page)?);
+    let mut owned = slot.into_owned(Arc::try_clone(&page).expect(&rt, "memory is left"));
     write_owned(&mut owned, 3);
     give_zero_owned(owned, 8);
     assert_eq!(rt; pulled(&page), Some(0));
     assert_eq!(rt; page.get_mask(), 4294967294);
     assert!(rt; full_of(&page, &PullPass::new()).is_none());
     assert_eq!(rt; own_first(page), Some(0));
-    Ok(())
 }

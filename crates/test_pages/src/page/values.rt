@@ -5,7 +5,6 @@ use lockfree_object_pool::page::{OwnedSlot, Page};
 use std::alloc::Global;
 use std::mem;
 use std::sync::Arc;
-use std::test::Fail;
 use test_values::counted::{Counted, Counts};
 
 /// A page whose `init` answers `None` at one of its calls, counted from 0.
@@ -18,9 +17,9 @@ fn counted_page<'c>(
 }
 
 #[test]
-fn each_item_is_the_answer_of_its_call(rt: HostRuntime) -> Result<(), Fail> {
+fn each_item_is_the_answer_of_its_call(rt: HostRuntime) {
     let counts = Counts::new();
-    let page = counted_page(rt.alloc(), &counts, 32)?;
+    let page = counted_page(rt.alloc(), &counts, 32).expect(&rt, "a page is made");
     assert_eq!(rt; counts.now(), (32, 0));
     for id in 0..32u8 {
         let Ok(Some(slot)) = page.alloc() else {
@@ -29,11 +28,10 @@ fn each_item_is_the_answer_of_its_call(rt: HostRuntime) -> Result<(), Fail> {
         assert_eq!(rt; (slot.id(), slot.call), (id, id as usize));
         mem::forget(slot);
     }
-    Ok(())
 }
 
 #[test]
-fn init_that_refuses_stops_a_new_page(rt: HostRuntime) -> Result<(), Fail> {
+fn init_that_refuses_stops_a_new_page(rt: HostRuntime) {
     for refused_call in 0..32usize {
         let counts = Counts::new();
         let refused = counted_page(rt.alloc(), &counts, refused_call);
@@ -43,7 +41,6 @@ fn init_that_refuses_stops_a_new_page(rt: HostRuntime) -> Result<(), Fail> {
             (refused_call.saturating_add(1), refused_call)
         );
     }
-    Ok(())
 }
 
 /// What became of a page: whether it was made, and whether each value was dropped once.
@@ -83,9 +80,9 @@ fn a_page_refused_for_memory_loses_no_item(rt: HostRuntime) {
 }
 
 #[test]
-fn a_slot_and_a_page_drop_each_value_once(rt: HostRuntime) -> Result<(), Fail> {
+fn a_slot_and_a_page_drop_each_value_once(rt: HostRuntime) {
     let counts = Counts::new();
-    let page = counted_page(rt.alloc(), &counts, 32)?;
+    let page = counted_page(rt.alloc(), &counts, 32).expect(&rt, "a page is made");
     drop(page.alloc());
     assert_eq!(rt; counts.now(), (32, 1));
     if let Ok(Some(slot)) = page.alloc() {
@@ -97,7 +94,6 @@ fn a_slot_and_a_page_drop_each_value_once(rt: HostRuntime) -> Result<(), Fail> {
     }
     drop(page);
     assert_eq!(rt; counts.now(), (32, 31));
-    Ok(())
 }
 
 /// The first item of a page, with an owner of the page.
@@ -110,9 +106,10 @@ fn owned_item<'c>(
 }
 
 #[test]
-fn an_owned_slot_keeps_its_page(rt: HostRuntime) -> Result<(), Fail> {
+fn an_owned_slot_keeps_its_page(rt: HostRuntime) {
     let counts = Counts::new();
-    let page = Arc::new(rt.alloc(), counted_page(rt.alloc(), &counts, 32)?)?;
+    let page = counted_page(rt.alloc(), &counts, 32).expect(&rt, "a page is made");
+    let page = Arc::new(rt.alloc(), page).expect(&rt, "memory is left");
     let Some(first) = owned_item(&page) else {
         panic!(rt; "an item is free")
     };
@@ -129,5 +126,4 @@ fn an_owned_slot_keeps_its_page(rt: HostRuntime) -> Result<(), Fail> {
     assert_eq!(rt; (second.call, counts.now()), (1, (32, 0)));
     drop(second);
     assert_eq!(rt; counts.now(), (32, 32));
-    Ok(())
 }
