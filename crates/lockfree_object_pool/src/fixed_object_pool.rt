@@ -63,7 +63,8 @@ impl<T: Drop, I: Init<T, K>, R: Reset<T, K>, K: Clean<T>> FixedObjectPool<T, I, 
         ensures reset { IfOk result (λ pool. pool_reset pool ≡ reset) }
         ensures items { IfOk result (λ pool. pool_items pool ≡ items) }
         ensures pages { IfOk result (λ pool. pool_pages pool ≡ (items + 31) / 32) }
-        ensures opened { IfOk result (λ pool. IsFilled items (λ made. I.answers init (Some made)) (pool_opening pool)) }
+        ensures opened { IfOk result (λ pool.
+            IsFilled items (λ made. I.answers init (Some made)) (pool_opening pool)) }
         ensures refused { IfErr result (RefusesMaking (I.answers init None)) }
     {
         let maker = &init;
@@ -85,10 +86,13 @@ impl<T: Drop, I: Init<T, K>, R: Reset<T, K>, K: Clean<T>> FixedObjectPool<T, I, 
     /// `Limit`, where each item was found out.
     pub fn pull(&self) -> Result<FixedReusable<'_, T, I, R, K>, PullError>
         ensures pool { IfOk result (λ item. reusable_pool item ≡ self.now) }
-        ensures pulled { IfOk result (λ item. IsPulledOf (pool_identity self.now) (pool_opening self.now) (reusable_item item)) }
+        ensures pulled { IfOk result (λ item.
+            IsPulledOf (pool_identity self.now) (pool_opening self.now) (reusable_item item)) }
         ensures meets { IfOk result (λ item. K.meets (reusable_item item).value) }
-        ensures made_or_reset { IfOk result (λ item. IsMadeOrReset I.answers R.leaves (reusable_item item).value) }
-        ensures brief { IfOk result (λ item. IsWithin (pool_pages self.now) no_steps (reusable_steps item)) }
+        ensures made_or_reset { IfOk result (λ item.
+            IsMadeOrReset I.answers R.leaves (reusable_item item).value) }
+        ensures brief { IfOk result (λ item.
+            IsWithin (pool_pages self.now) no_steps (reusable_steps item)) }
         ensures refused { IfErr result (λ error. error ≡ Limit) }
     {
         let pass = PullPass::new();
@@ -106,10 +110,13 @@ impl<T: Drop, I: Init<T, K>, R: Reset<T, K>, K: Clean<T>> FixedObjectPool<T, I, 
     /// `Limit`, where each item was found out.
     pub fn pull_near(&self, page: usize) -> Result<FixedReusable<'_, T, I, R, K>, PullError>
         ensures pool { IfOk result (λ item. reusable_pool item ≡ self.now) }
-        ensures pulled { IfOk result (λ item. IsPulledOf (pool_identity self.now) (pool_opening self.now) (reusable_item item)) }
+        ensures pulled { IfOk result (λ item.
+            IsPulledOf (pool_identity self.now) (pool_opening self.now) (reusable_item item)) }
         ensures meets { IfOk result (λ item. K.meets (reusable_item item).value) }
-        ensures made_or_reset { IfOk result (λ item. IsMadeOrReset I.answers R.leaves (reusable_item item).value) }
-        ensures brief { IfOk result (λ item. IsWithin (pool_pages self.now) no_steps (reusable_steps item)) }
+        ensures made_or_reset { IfOk result (λ item.
+            IsMadeOrReset I.answers R.leaves (reusable_item item).value) }
+        ensures brief { IfOk result (λ item.
+            IsWithin (pool_pages self.now) no_steps (reusable_steps item)) }
         ensures refused { IfErr result (λ error. error ≡ Limit) }
     {
         let pass = PullPass::new();
@@ -126,12 +133,16 @@ impl<T: Drop, I: Init<T, K>, R: Reset<T, K>, K: Clean<T>> FixedObjectPool<T, I, 
     /// The evidence that each item was out during this call.
     pub fn try_pull<'s, 'p>(&'s self, pass: &'p PullPass) -> FixedPulled<'s, 'p, T, I, R, K>
         ensures pool { IfOk result (λ item. reusable_pool item ≡ self.now) }
-        ensures pulled { IfOk result (λ item. IsPulledOf (pool_identity self.now) (pool_opening self.now) (reusable_item item)) }
+        ensures pulled { IfOk result (λ item.
+            IsPulledOf (pool_identity self.now) (pool_opening self.now) (reusable_item item)) }
         ensures meets { IfOk result (λ item. K.meets (reusable_item item).value) }
-        ensures made_or_reset { IfOk result (λ item. IsMadeOrReset I.answers R.leaves (reusable_item item).value) }
-        ensures brief { IfOk result (λ item. IsWithin (pool_pages self.now) no_steps (reusable_steps item)) }
+        ensures made_or_reset { IfOk result (λ item.
+            IsMadeOrReset I.answers R.leaves (reusable_item item).value) }
+        ensures brief { IfOk result (λ item.
+            IsWithin (pool_pages self.now) no_steps (reusable_steps item)) }
         ensures busy { IfErr result (IsBusyOf (pool_identity self.now) (pool_opening self.now)) }
-        ensures busy_brief { IfErr result (λ busy. IsWithin (pool_pages self.now) no_steps (busy_steps busy)) }
+        ensures busy_brief { IfErr result (λ busy.
+            IsWithin (pool_pages self.now) no_steps (busy_steps busy)) }
     {
         Ok(FixedReusable::new(self, self.items.pull_hinted(pass)?))
     }
@@ -148,12 +159,16 @@ impl<T: Drop, I: Init<T, K>, R: Reset<T, K>, K: Clean<T>> FixedObjectPool<T, I, 
     ) -> FixedPulled<'s, 'p, T, I, R, K>
         requires { note_page note ≡ pool_identity self.now }
         ensures pool { IfOk result (λ item. reusable_pool item ≡ self.now) }
-        ensures pulled { IfOk result (λ item. IsPulledWith (pool_identity self.now) note (reusable_item item)) }
+        ensures pulled { IfOk result (λ item.
+            IsPulledWith (pool_identity self.now) note (reusable_item item)) }
         ensures meets { IfOk result (λ item. K.meets (reusable_item item).value) }
-        ensures made_or_reset { IfOk result (λ item. IsMadeOrReset I.answers R.leaves (reusable_item item).value) }
-        ensures brief { IfOk result (λ item. IsWithin (pool_pages self.now) (note_steps note) (reusable_steps item)) }
+        ensures made_or_reset { IfOk result (λ item.
+            IsMadeOrReset I.answers R.leaves (reusable_item item).value) }
+        ensures brief { IfOk result (λ item.
+            IsWithin (pool_pages self.now) (note_steps note) (reusable_steps item)) }
         ensures busy { IfErr result (IsBusyAfter (pool_identity self.now) note) }
-        ensures busy_brief { IfErr result (λ busy. IsWithin (pool_pages self.now) (note_steps note) (busy_steps busy)) }
+        ensures busy_brief { IfErr result (λ busy.
+            IsWithin (pool_pages self.now) (note_steps note) (busy_steps busy)) }
     {
         let pulled = self.items.pull_from(pass, note)?;
         Ok(FixedReusable::new(self, pulled))
@@ -182,10 +197,14 @@ impl<T: Drop, I: Init<T, K>, R: Reset<T, K>, K: Clean<T>> FixedObjectPool<T, I, 
     /// `Memory`, where the pool can have no more owners; `Limit`, where each item was found out.
     pub fn pull_owned(self: &Arc<Self>) -> Result<FixedOwnedReusable<T, I, R, K>, PullError>
         ensures pool { IfOk result (λ item. owned_pool item ≡ arc_value self.now) }
-        ensures pulled { IfOk result (λ item. IsPulledOf (pool_identity (arc_value self.now)) (pool_opening (arc_value self.now)) (owned_item item)) }
+        ensures pulled { IfOk result (λ item.
+            IsPulledOf (pool_identity (arc_value self.now)) (pool_opening (arc_value self.now))
+            (owned_item item)) }
         ensures meets { IfOk result (λ item. K.meets (owned_item item).value) }
-        ensures made_or_reset { IfOk result (λ item. IsMadeOrReset I.answers R.leaves (owned_item item).value) }
-        ensures brief { IfOk result (λ item. IsWithin (pool_pages (arc_value self.now)) no_steps (owned_steps item)) }
+        ensures made_or_reset { IfOk result (λ item.
+            IsMadeOrReset I.answers R.leaves (owned_item item).value) }
+        ensures brief { IfOk result (λ item.
+            IsWithin (pool_pages (arc_value self.now)) no_steps (owned_steps item)) }
         ensures refused { IfErr result (λ error. (error ≡ Memory) ⊎ (error ≡ Limit)) }
     {
         let owner = Arc::try_clone(self)?;

@@ -1,11 +1,14 @@
-//! Values that say themselves how they are made and reset, and the linear pool of them.
+//! Values that say themselves how they are made and reset, and the linear and the fixed pool of them.
 //!
-//! One impl of [`Recyclable`] is all that a type needs, and [`Pool`] names its pool.
-ghost use Rattle.std.specs.Prelude.{◌≡◌, ⊤, [], None, IfSome, IfOk, IfErr};
+//! One impl of [`Recyclable`] is all that a type needs, and [`Pool`] and [`FixedPool`] name its pools.
+ghost use Rattle.std.specs.Prelude.{◌≡◌, ◌≤◌, ⊤, [], None, IfSome, IfOk, IfErr};
 
 use crate::PullError;
 use crate::clean::Clean;
 use crate::closures::{Init, Reset};
+use crate::fixed_object_pool::FixedObjectPool;
+use crate::fixed_owned_reusable::FixedOwnedReusable;
+use crate::fixed_reusable::FixedReusable;
 use crate::linear_object_pool::LinearObjectPool;
 use crate::linear_owned_reusable::LinearOwnedReusable;
 use crate::linear_reusable::LinearReusable;
@@ -100,5 +103,33 @@ impl<T: Recyclable> Pool<T> {
     {
         let recycler = Recycler::new(alloc);
         LinearObjectPool::new(alloc, recycler, recycler)
+    }
+}
+
+/// The fixed pool of a [`Recyclable`] type: all its values are made at first.
+pub type FixedPool<T> = FixedObjectPool<T, Recycler, Recycler, Recycler>;
+
+/// A value that was pulled from a [`FixedPool`], under a borrow of it.
+pub type FixedPoolReusable<'p, T> = FixedReusable<'p, T, Recycler, Recycler, Recycler>;
+
+/// A value that was pulled from a [`FixedPool`], with an owner of it.
+pub type FixedPoolOwnedReusable<T> = FixedOwnedReusable<T, Recycler, Recycler, Recycler>;
+
+impl<T: Recyclable> FixedPool<T> {
+    ghost use Rattle.lockfree_object_pool.specs.FixedPool.{pool_items};
+    ghost use Rattle.lockfree_object_pool.specs.Refusal.{RefusesMaking};
+
+    /// A pool of so many values.
+    ///
+    /// # Errors
+    ///
+    /// `Memory`, or `Init` where a value can't be made. The values that were made are dropped.
+    pub fn with_recycler(alloc: Global, items: usize) -> Result<FixedPool<T>, PullError>
+        requires { 1 ≤ items }
+        ensures items { IfOk result (λ pool. pool_items pool ≡ items) }
+        ensures refused { IfErr result (RefusesMaking ⊤) }
+    {
+        let recycler = Recycler::new(alloc);
+        FixedObjectPool::new(alloc, recycler, recycler, items)
     }
 }
