@@ -7,6 +7,7 @@ pub mod LinkSteps
 pub mod LowestBit
 pub mod OwnSteps
 pub mod Prepared
+pub mod Progress
 pub mod Reached
 pub mod Reading
 pub mod Room

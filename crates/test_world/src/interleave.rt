@@ -8,6 +8,7 @@ use std::cell::Cell;
 use std::process::Abort;
 use std::test::Fail;
 
+mod hints;
 mod many;
 mod refusals;
 mod sizes;

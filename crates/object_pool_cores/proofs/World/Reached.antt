@@ -11,7 +11,8 @@ use Rattle.object_pool_cores.specs.World.OwnSteps.{own_steps, is_step_of}
 use Rattle.object_pool_cores.specs.World.Alone.{IsAlone}
 use Rattle.object_pool_cores.proofs.World.Rows.{any-step, reached-step, reached-agrees}
 use Rattle.object_pool_cores.proofs.World.Alone.{Stands, stands-first, stands-next}
-use Rattle.object_pool_cores.proofs.World.OwnSteps.{Advances, Rises, AdvancedTo, effect-advances, none-advanced, step-does}
+use Rattle.object_pool_cores.proofs.World.Progress.{Advances, Rises}
+use Rattle.object_pool_cores.proofs.World.OwnSteps.{AdvancedTo, effect-advances, none-advanced, step-does}
 
 module _ {T : Type 0} (Leaves : T → T → Type 0) where
   -- steps that follow others

@@ -25,7 +25,8 @@ use Rattle.object_pool_cores.proofs.World.Rows.{reached-new, reached-agrees}
 use Rattle.object_pool_cores.proofs.World.Alone.{stands-alone}
 use Rattle.object_pool_cores.proofs.World.Reached.{ran-append, ran-reached, ran-advances, ran-stands}
 use Rattle.object_pool_cores.proofs.World.InOrder.{ran-in_order, none-in_order}
-use Rattle.object_pool_cores.proofs.World.OwnSteps.{start_of, AdvancedTo, progress, position, taken_early, early-most, early-past}
+use Rattle.object_pool_cores.proofs.World.OwnSteps.{start_of, AdvancedTo}
+use Rattle.object_pool_cores.proofs.World.Progress.{progress, position, taken_early, early-most, early-past}
 
 -- an error isn't Ok
 pub on-err : {A E : Type 0} (result : Result A E) (P : Type 0) → IsErr result → OnOk result P
