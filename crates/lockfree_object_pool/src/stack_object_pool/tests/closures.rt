@@ -19,6 +19,32 @@ fn refuses_at_the_first_call<
     Ok(())
 }
 
+fn refuses_under_mutex<I: InitBy<u32>, W: Abort + Wait + Copy>(
+    rt: &W,
+    alloc: Global,
+    init: I,
+    calls: &AtomicUsize,
+) -> Result<(), Fail>
+    requires { I.may_make init }
+{
+    refuses_at_the_first_call::<UnderMutex<u32, Makes<u32, I, AnyValue>, Keep, AnyValue>, I, W>(
+        rt, alloc, init, calls,
+    )
+}
+
+fn refuses_under_spin_lock<I: InitBy<u32>, W: Abort + Wait + Copy>(
+    rt: &W,
+    alloc: Global,
+    init: I,
+    calls: &AtomicUsize,
+) -> Result<(), Fail>
+    requires { I.may_make init }
+{
+    refuses_at_the_first_call::<UnderSpinLock<u32, Makes<u32, I, AnyValue>, Keep, AnyValue>, I, W>(
+        rt, alloc, init, calls,
+    )
+}
+
 #[test]
 fn a_closure_that_refuses_is_asked_once_a_pull(rt: HostRuntime) -> Result<(), Fail> {
     let calls = AtomicUsize::new(0);
@@ -26,21 +52,11 @@ fn a_closure_that_refuses_is_asked_once_a_pull(rt: HostRuntime) -> Result<(), Fa
         calls.fetch_add(1, SeqCst);
         None
     };
-    refuses_at_the_first_call::<UnderMutex<u32, _, Keep, AnyValue>, _, _>(
-        &rt,
-        rt.alloc(),
-        refuse,
-        &calls,
-    )?;
+    refuses_under_mutex(&rt, rt.alloc(), refuse, &calls)?;
     let calls = AtomicUsize::new(0);
     let refuse = || -> Option<u32> {
         calls.fetch_add(1, SeqCst);
         None
     };
-    refuses_at_the_first_call::<UnderSpinLock<u32, _, Keep, AnyValue>, _, _>(
-        &rt,
-        rt.alloc(),
-        refuse,
-        &calls,
-    )
+    refuses_under_spin_lock(&rt, rt.alloc(), refuse, &calls)
 }
