@@ -29,14 +29,14 @@ fn is_asked_once<I: InitBy<u32>, W: Abort + Wait + Copy>(
     requires { I.may_make init }
 {
     if under_mutex {
-        refuses_at_the_first_call::<_, UnderMutex<u32, Makes<u32, I, AnyValue>, Keep, AnyValue>, _>(
+        refuses_at_the_first_call::<I, UnderMutex<u32, Makes<u32, I, AnyValue>, Keep, AnyValue>, W>(
             rt, alloc, init, calls,
         )
     } else {
         refuses_at_the_first_call::<
-            _,
+            I,
             UnderSpinLock<u32, Makes<u32, I, AnyValue>, Keep, AnyValue>,
-            _,
+            W,
         >(rt, alloc, init, calls)
     }
 }
