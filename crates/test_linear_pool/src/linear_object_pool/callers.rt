@@ -5,7 +5,6 @@ ghost use Rattle.lockfree_object_pool.specs.declared.pull_error.PullError.TheVar
 
 use super::*;
 use lockfree_object_pool::closures::{Copied, InitBy, Makes, ResetBy, Resets};
-use std::test::Fail;
 
 /// Whatever other threads do, a pulled value meets the condition.
 fn pulled<K: Clean<u32>, I: Init<u32, K>, R: Reset<u32, K>>(
@@ -112,19 +111,20 @@ fn made_and_returned<I: InitBy<u32>, R: ResetBy<u32>>(
 }
 
 #[test]
-fn a_value_is_written_and_read(rt: HostRuntime) -> Result<(), Fail> {
-    let pool = Arc::new(rt.alloc(), cleared(rt.alloc(), &new_calls(rt.alloc())?)?)?;
-    let mut item = pool.pull()?;
+fn a_value_is_written_and_read(rt: HostRuntime) {
+    let calls = new_calls(rt.alloc()).expect(&rt, "memory is left");
+    let pool = cleared(rt.alloc(), &calls).expect(&rt, "a pool is made");
+    let pool = Arc::new(rt.alloc(), pool).expect(&rt, "memory is left");
+    let mut item = pool.pull().expect(&rt, "an item is free");
     write(&mut item, 7);
     assert_eq!(rt; *item, 7);
     assert_eq!(rt; read_back(item), (0, 0, 9));
-    let mut owned = pool.pull_owned()?;
+    let mut owned = pool.pull_owned().expect(&rt, "an item is free");
     write_owned(&mut owned, 7);
     assert_eq!(rt; *owned, 7);
     drop(owned);
     assert_eq!(rt; (pulled(&pool), pulled_owned(&pool)), (Some(0), Some(0)));
     assert_eq!(rt; of_first(&pool).map(|item| *item), Some(0));
-    Ok(())
 }
 
 #[test]
@@ -134,9 +134,9 @@ fn closures_make_and_reset(rt: HostRuntime) {
 }
 
 #[test]
-fn a_limit_of_one_page(rt: HostRuntime) -> Result<(), Fail> {
-    assert_eq!(rt; page_of_one(rt.alloc(), new_calls(rt.alloc())?), Ok(0));
-    let pool = cleared(rt.alloc(), &new_calls(rt.alloc())?)?;
+fn a_limit_of_one_page(rt: HostRuntime) {
+    let calls = new_calls(rt.alloc()).expect(&rt, "memory is left");
+    let pool = cleared(rt.alloc(), &calls).expect(&rt, "a pool is made");
     assert_eq!(rt; refusal(&pool), None);
-    Ok(())
+    assert_eq!(rt; page_of_one(rt.alloc(), calls), Ok(0));
 }

@@ -2,7 +2,6 @@
 ghost use Rattle.std.specs.Prelude.{◌≤◌};
 
 use super::*;
-use std::test::Fail;
 
 fn bounded(alloc: Global, calls: &Arc<AtomicUsize>, pages: usize) -> Cleared
     requires { 1 ≤ pages }
@@ -12,25 +11,25 @@ fn bounded(alloc: Global, calls: &Arc<AtomicUsize>, pages: usize) -> Cleared
 }
 
 #[test]
-fn a_limit_is_told(rt: HostRuntime) -> Result<(), Fail> {
-    let calls = new_calls(rt.alloc())?;
-    assert_eq!(rt; cleared(rt.alloc(), &calls)?.limit(), None);
-    assert_eq!(rt; bounded(rt.alloc(), &calls, 3)?.limit(), Some(3));
-    Ok(())
+fn a_limit_is_told(rt: HostRuntime) {
+    let calls = new_calls(rt.alloc()).expect(&rt, "memory is left");
+    let unlimited = cleared(rt.alloc(), &calls).expect(&rt, "a pool is made");
+    assert_eq!(rt; unlimited.limit(), None);
+    let limited = bounded(rt.alloc(), &calls, 3).expect(&rt, "a pool is made");
+    assert_eq!(rt; limited.limit(), Some(3));
 }
 
 #[test]
-fn a_full_pool_refuses(rt: HostRuntime) -> Result<(), Fail> {
-    let calls = new_calls(rt.alloc())?;
-    let pool = bounded(rt.alloc(), &calls, 1)?;
-    let _before = held(rt.alloc(), &pool, 7)?;
-    let seventh = pool.pull()?;
-    let _behind = held(rt.alloc(), &pool, 24)?;
+fn a_full_pool_refuses(rt: HostRuntime) {
+    let calls = new_calls(rt.alloc()).expect(&rt, "memory is left");
+    let pool = bounded(rt.alloc(), &calls, 1).expect(&rt, "a pool is made");
+    let _before = held(rt.alloc(), &pool, 7).expect(&rt, "items are free");
+    let seventh = pool.pull().expect(&rt, "an item is free");
+    let _behind = held(rt.alloc(), &pool, 24).expect(&rt, "items are free");
     assert_eq!(rt; pool.pull().err(), Some(PullError::Limit));
     drop(seventh);
-    assert_eq!(rt; pool.pull()?.page_id(), 7);
+    assert_eq!(rt; pool.pull().expect(&rt, "an item is free").page_id(), 7);
     assert_eq!(rt; calls.load(SeqCst), 32);
-    Ok(())
 }
 
 /// Owned items that are pulled one after the other and held.
@@ -47,48 +46,51 @@ fn held_owned(
 }
 
 #[test]
-fn a_full_pool_refuses_owned_items(rt: HostRuntime) -> Result<(), Fail> {
-    let calls = new_calls(rt.alloc())?;
-    let pool = Arc::new(rt.alloc(), bounded(rt.alloc(), &calls, 1)?)?;
-    let _before = held_owned(rt.alloc(), &pool, 7)?;
-    let seventh = pool.pull_owned()?;
-    let _behind = held_owned(rt.alloc(), &pool, 24)?;
+fn a_full_pool_refuses_owned_items(rt: HostRuntime) {
+    let calls = new_calls(rt.alloc()).expect(&rt, "memory is left");
+    let pool = bounded(rt.alloc(), &calls, 1).expect(&rt, "a pool is made");
+    let pool = Arc::new(rt.alloc(), pool).expect(&rt, "memory is left");
+    let _before = held_owned(rt.alloc(), &pool, 7).expect(&rt, "items are free");
+    let seventh = pool.pull_owned().expect(&rt, "an item is free");
+    let _behind = held_owned(rt.alloc(), &pool, 24).expect(&rt, "items are free");
     let refused = pool.pull_owned().err();
     assert_eq!(rt; refused, Some(PullError::Limit));
     drop(seventh);
-    assert_eq!(rt; pool.pull_owned()?.page_id(), 7);
+    assert_eq!(rt;
+        pool.pull_owned().expect(&rt, "an item is free").page_id(),
+        7
+    );
     assert_eq!(rt; calls.load(SeqCst), 32);
-    Ok(())
 }
 
 #[test]
-fn a_return_to_an_early_page_is_found(rt: HostRuntime) -> Result<(), Fail> {
-    let pool = Arc::new(rt.alloc(), bounded(rt.alloc(), &new_calls(rt.alloc())?, 2)?)?;
-    let first = pool.pull()?;
-    let _others = held(rt.alloc(), &pool, 63)?;
+fn a_return_to_an_early_page_is_found(rt: HostRuntime) {
+    let calls = new_calls(rt.alloc()).expect(&rt, "memory is left");
+    let pool = bounded(rt.alloc(), &calls, 2).expect(&rt, "a pool is made");
+    let pool = Arc::new(rt.alloc(), pool).expect(&rt, "memory is left");
+    let first = pool.pull().expect(&rt, "an item is free");
+    let _others = held(rt.alloc(), &pool, 63).expect(&rt, "items are free");
     assert_eq!(rt; pool.pull().err(), Some(PullError::Limit));
     drop(first);
-    let item = pool.pull()?;
+    let item = pool.pull().expect(&rt, "an item is free");
     assert_eq!(rt; (item.page_number(), item.page_id()), (0, 0));
     drop(item);
-    let owned = pool.pull_owned()?;
+    let owned = pool.pull_owned().expect(&rt, "an item is free");
     assert_eq!(rt; (owned.page_number(), owned.page_id()), (0, 0));
-    Ok(())
 }
 
 #[test]
-fn three_pages_are_filled_and_no_fourth_is_made(rt: HostRuntime) -> Result<(), Fail> {
-    let calls = new_calls(rt.alloc())?;
-    let pool = bounded(rt.alloc(), &calls, 3)?;
-    let _before = held(rt.alloc(), &pool, 40)?;
-    let item = pool.pull()?;
-    let _between = held(rt.alloc(), &pool, 54)?;
-    let last = pool.pull()?;
+fn three_pages_are_filled_and_no_fourth_is_made(rt: HostRuntime) {
+    let calls = new_calls(rt.alloc()).expect(&rt, "memory is left");
+    let pool = bounded(rt.alloc(), &calls, 3).expect(&rt, "a pool is made");
+    let _before = held(rt.alloc(), &pool, 40).expect(&rt, "items are free");
+    let item = pool.pull().expect(&rt, "an item is free");
+    let _between = held(rt.alloc(), &pool, 54).expect(&rt, "items are free");
+    let last = pool.pull().expect(&rt, "an item is free");
     assert_eq!(rt; (last.page_number(), last.page_id()), (2, 31));
     assert_eq!(rt; pool.pull().err(), Some(PullError::Limit));
     drop(item);
-    let again = pool.pull()?;
+    let again = pool.pull().expect(&rt, "an item is free");
     assert_eq!(rt; (again.page_number(), again.page_id()), (1, 8));
     assert_eq!(rt; calls.load(SeqCst), 96);
-    Ok(())
 }

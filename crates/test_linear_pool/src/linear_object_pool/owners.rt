@@ -3,7 +3,6 @@
 use super::refusals::full;
 use super::*;
 use std::mem;
-use std::test::Fail;
 
 /// The pages of two owned items that are held together, the second behind a page that is full. 31 values are forgotten.
 fn pulled_of_two_pages(pool: &Arc<Tracked<'_>>) -> Result<(usize, usize), PullError> {
@@ -16,36 +15,33 @@ fn pulled_of_two_pages(pool: &Arc<Tracked<'_>>) -> Result<(usize, usize), PullEr
 }
 
 #[test]
-fn pulled_items_let_their_pool_and_pages_end(rt: HostRuntime) -> Result<(), Fail> {
+fn pulled_items_let_their_pool_and_pages_end(rt: HostRuntime) {
     let counts = Counts::new();
-    let pool = shared(rt.alloc(), &counts, NEVER)?;
+    let pool = shared(rt.alloc(), &counts, NEVER).expect(&rt, "a pool is made");
     assert_eq!(rt; pulled_of_two_pages(&pool), Ok((0, 1)));
     assert_eq!(rt; counts.now(), (64, 0));
     drop(pool);
     assert_eq!(rt; counts.now(), (64, 33));
-    Ok(())
 }
 
 #[test]
-fn refused_pulls_let_their_pool_end(rt: HostRuntime) -> Result<(), Fail> {
+fn refused_pulls_let_their_pool_end(rt: HostRuntime) {
     let counts = Counts::new();
-    let pool = shared(rt.alloc(), &counts, 32)?;
-    let items = full(rt.alloc(), &pool)?;
+    let pool = shared(rt.alloc(), &counts, 32).expect(&rt, "a pool is made");
+    let items = full(rt.alloc(), &pool).expect(&rt, "32 items are free");
     assert_eq!(rt; pool.pull_owned().err(), Some(PullError::Init));
     drop(items);
     drop(pool);
     assert_eq!(rt; counts.now(), (33, 32));
-    Ok(())
 }
 
 #[test]
-fn a_pool_ends_with_its_last_owned_item(rt: HostRuntime) -> Result<(), Fail> {
+fn a_pool_ends_with_its_last_owned_item(rt: HostRuntime) {
     let counts = Counts::new();
-    let pool = shared(rt.alloc(), &counts, NEVER)?;
-    let item = pool.pull_owned()?;
+    let pool = shared(rt.alloc(), &counts, NEVER).expect(&rt, "a pool is made");
+    let item = pool.pull_owned().expect(&rt, "an item is free");
     drop(pool);
     assert_eq!(rt; (item.call, counts.now()), (0, (32, 0)));
     drop(item);
     assert_eq!(rt; counts.now(), (32, 32));
-    Ok(())
 }

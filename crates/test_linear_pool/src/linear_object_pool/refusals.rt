@@ -1,7 +1,6 @@
 //! Pools that are refused values or memory: nothing is lost, and what was refused can be asked for again.
 use super::*;
 use std::mem;
-use std::test::Fail;
 use test_values::refused::again;
 
 #[test]
@@ -27,37 +26,35 @@ pub fn full<'p, 'c>(
 }
 
 #[test]
-fn init_that_refuses_stops_a_growth(rt: HostRuntime) -> Result<(), Fail> {
+fn init_that_refuses_stops_a_growth(rt: HostRuntime) {
     for refused in 32..64usize {
         let counts = Counts::new();
-        let pool = shared(rt.alloc(), &counts, refused)?;
-        let items = full(rt.alloc(), &pool)?;
+        let pool = shared(rt.alloc(), &counts, refused).expect(&rt, "a pool is made");
+        let items = full(rt.alloc(), &pool).expect(&rt, "32 items are free");
         assert_eq!(rt; pool.pull().err(), Some(PullError::Init));
         let calls = refused.saturating_add(1);
         assert_eq!(rt; counts.now(), (calls, refused - 32));
         for (id, item) in items.iter().enumerate() {
             assert_eq!(rt; item.call, id);
         }
-        let item = pool.pull()?;
+        let item = pool.pull().expect(&rt, "an item is free");
         assert_eq!(rt; (item.page_number(), item.page_id()), (1, 0));
         assert_eq!(rt; counts.now(), (calls.saturating_add(32), refused - 32));
     }
-    Ok(())
 }
 
 #[test]
-fn init_that_refuses_stops_an_owned_growth(rt: HostRuntime) -> Result<(), Fail> {
+fn init_that_refuses_stops_an_owned_growth(rt: HostRuntime) {
     for refused in 32..64usize {
         let counts = Counts::new();
-        let pool = shared(rt.alloc(), &counts, refused)?;
-        let _items = full(rt.alloc(), &pool)?;
+        let pool = shared(rt.alloc(), &counts, refused).expect(&rt, "a pool is made");
+        let _items = full(rt.alloc(), &pool).expect(&rt, "32 items are free");
         let refusal = pool.pull_owned().err();
         assert_eq!(rt; refusal, Some(PullError::Init));
         assert_eq!(rt; counts.now(), (refused.saturating_add(1), refused - 32));
-        let item = pool.pull_owned()?;
+        let item = pool.pull_owned().expect(&rt, "an item is free");
         assert_eq!(rt; (item.page_number(), item.page_id()), (1, 0));
     }
-    Ok(())
 }
 
 /// How many values are neither dropped nor refused.
@@ -76,22 +73,21 @@ fn forget_first_page(pool: &Tracked<'_>) -> Result<(), PullError> {
 
 /// Holds with each request for memory refused in turn too.
 #[test]
-fn a_pool_goes_on_where_memory_was_refused(rt: HostRuntime) -> Result<(), Fail> {
+fn a_pool_goes_on_where_memory_was_refused(rt: HostRuntime) {
     let counts = Counts::new();
-    let pool = again(&|| shared(rt.alloc(), &counts, NEVER))?;
+    let pool = again(&|| shared(rt.alloc(), &counts, NEVER)).expect(&rt, "a pool is made");
     assert_eq!(rt; living(&counts), 32);
-    forget_first_page(&pool)?;
+    forget_first_page(&pool).expect(&rt, "32 items are free");
     let refusal = pool.pull().err();
     assert!(rt; matches!(refusal, None | Some(PullError::Memory)));
     let kept = if refusal.is_none() { 64 } else { 32 };
     assert_eq!(rt; living(&counts), kept);
-    let item = pool.pull()?;
+    let item = pool.pull().expect(&rt, "an item is free");
     assert_eq!(rt; (item.page_number(), item.page_id()), (1, 0));
     assert_eq!(rt; living(&counts), 64);
     let call = item.call;
     drop(item);
-    assert_eq!(rt; pool.pull()?.call, call);
-    Ok(())
+    assert_eq!(rt; pool.pull().expect(&rt, "an item is free").call, call);
 }
 
 /// A pool that may have two pages, in an `Arc`.
@@ -106,20 +102,19 @@ fn shared_of_two<'c>(alloc: Global, counts: &'c Counts) -> Result<Arc<Tracked<'c
 
 /// Holds with each request for memory refused in turn too.
 #[test]
-fn owned_pulls_go_on_where_memory_was_refused(rt: HostRuntime) -> Result<(), Fail> {
+fn owned_pulls_go_on_where_memory_was_refused(rt: HostRuntime) {
     let counts = Counts::new();
-    let pool = again(&|| shared_of_two(rt.alloc(), &counts))?;
+    let pool = again(&|| shared_of_two(rt.alloc(), &counts)).expect(&rt, "a pool is made");
     assert_eq!(rt; living(&counts), 32);
-    forget_first_page(&pool)?;
+    forget_first_page(&pool).expect(&rt, "32 items are free");
     let refusal = pool.pull_owned().err();
     assert!(rt; matches!(refusal, None | Some(PullError::Memory)));
     let kept = if refusal.is_none() { 64 } else { 32 };
     assert_eq!(rt; living(&counts), kept);
-    let item = pool.pull_owned()?;
+    let item = pool.pull_owned().expect(&rt, "an item is free");
     assert_eq!(rt; (item.page_number(), item.page_id()), (1, 0));
     assert_eq!(rt; living(&counts), 64);
     let call = item.call;
     drop(item);
-    assert_eq!(rt; pool.pull_owned()?.call, call);
-    Ok(())
+    assert_eq!(rt; pool.pull_owned().expect(&rt, "an item is free").call, call);
 }

@@ -2,7 +2,6 @@
 ghost use Rattle.std.specs.Prelude.{⊤};
 
 use super::*;
-use std::test::Fail;
 
 /// A reset that shows how often it ran.
 #[derive(Drop)]
@@ -25,10 +24,9 @@ fn adding(alloc: Global) -> Result<Arc<Adding>, PullError> {
 }
 
 #[test]
-fn each_return_resets_once(rt: HostRuntime) -> Result<(), Fail> {
-    let pool = adding(rt.alloc())?;
-    assert_eq!(rt; *pool.pull()?, 0);
-    assert_eq!(rt; *pool.pull_owned()?, 1);
-    assert_eq!(rt; *pool.pull()?, 2);
-    Ok(())
+fn each_return_resets_once(rt: HostRuntime) {
+    let pool = adding(rt.alloc()).expect(&rt, "a pool is made");
+    assert_eq!(rt; *pool.pull().expect(&rt, "an item is free"), 0);
+    assert_eq!(rt; *pool.pull_owned().expect(&rt, "an item is free"), 1);
+    assert_eq!(rt; *pool.pull().expect(&rt, "an item is free"), 2);
 }

@@ -3,7 +3,6 @@ ghost use Rattle.std.specs.Prelude.{◌≤◌};
 
 use super::*;
 use lockfree_object_pool::page::with_bit;
-use std::test::Fail;
 use std::thread;
 
 /// A thread that still waits after so many turns gives up, and its test fails.
@@ -56,13 +55,14 @@ fn hold_one(shared: &Shared) -> Option<(usize, u8)> {
 }
 
 #[test]
-fn five_threads_hold_the_first_five_items(rt: HostRuntime) -> Result<(), Fail> {
-    let calls = new_calls(rt.alloc())?;
-    let shared = unbounded(rt.alloc(), &calls)?;
-    let mut threads = Vec::with_capacity(rt.alloc(), 5)?;
+fn five_threads_hold_the_first_five_items(rt: HostRuntime) {
+    let calls = new_calls(rt.alloc()).expect(&rt, "memory is left");
+    let shared = unbounded(rt.alloc(), &calls).expect(&rt, "a pool is made");
+    let mut threads = Vec::with_capacity(rt.alloc(), 5).expect(&rt, "memory is left");
     for _ in 0..5 {
-        let shared = Arc::try_clone(&shared)?;
-        threads.push(thread::spawn(&rt, move || hold_one(&shared))?)?;
+        let shared = Arc::try_clone(&shared).expect(&rt, "memory is left");
+        let started = thread::spawn(&rt, move || hold_one(&shared)).expect(&rt, "a thread is made");
+        threads.push(started).expect(&rt, "memory is left");
     }
     let mut ids = 0;
     for thread in threads {
@@ -73,7 +73,6 @@ fn five_threads_hold_the_first_five_items(rt: HostRuntime) -> Result<(), Fail> {
         ids = with_bit(ids, id);
     }
     assert_eq!(rt; (ids, calls.load(SeqCst)), (31, 32));
-    Ok(())
 }
 
 /// Pulls and drops, and writes to each item. Whether each had the value of a reset.
@@ -91,17 +90,21 @@ fn pull_often(shared: &Shared) -> bool {
 }
 
 #[test]
-fn eight_threads_see_reset_values(rt: HostRuntime) -> Result<(), Fail> {
-    let shared = bounded(rt.alloc(), &new_calls(rt.alloc())?, 2)?;
-    let mut threads = Vec::with_capacity(rt.alloc(), 8)?;
+fn eight_threads_see_reset_values(rt: HostRuntime) {
+    let calls = new_calls(rt.alloc()).expect(&rt, "memory is left");
+    let shared = bounded(rt.alloc(), &calls, 2).expect(&rt, "a pool is made");
+    let mut threads = Vec::with_capacity(rt.alloc(), 8).expect(&rt, "memory is left");
     for _ in 0..8 {
-        let shared = Arc::try_clone(&shared)?;
-        threads.push(thread::spawn(&rt, move || pull_often(&shared))?)?;
+        let shared = Arc::try_clone(&shared).expect(&rt, "memory is left");
+        let started = thread::spawn(&rt, move || pull_often(&shared)).expect(
+            &rt,
+            "a thread is made",
+        );
+        threads.push(started).expect(&rt, "memory is left");
     }
     for thread in threads {
         assert!(rt; thread.join(&rt));
     }
-    Ok(())
 }
 
 /// Pulls, writes its own mark and drops, many times. Whether each item had the value of a reset, and then the mark alone.
@@ -123,29 +126,33 @@ fn mark_often(shared: &Shared, mark: u32) -> bool {
 }
 
 #[test]
-fn eight_threads_share_what_ten_full_pages_got_back(rt: HostRuntime) -> Result<(), Fail> {
-    let shared = unbounded(rt.alloc(), &new_calls(rt.alloc())?)?;
-    let mut kept = Vec::with_capacity(rt.alloc(), 312)?;
-    let mut returned = Vec::with_capacity(rt.alloc(), 8)?;
+fn eight_threads_share_what_ten_full_pages_got_back(rt: HostRuntime) {
+    let calls = new_calls(rt.alloc()).expect(&rt, "memory is left");
+    let shared = unbounded(rt.alloc(), &calls).expect(&rt, "a pool is made");
+    let mut kept = Vec::with_capacity(rt.alloc(), 312).expect(&rt, "memory is left");
+    let mut returned = Vec::with_capacity(rt.alloc(), 8).expect(&rt, "memory is left");
     for index in 0..320 {
-        let item = shared.pool.pull()?;
+        let item = shared.pool.pull().expect(&rt, "an item is free");
         if index % 40 == 0 {
-            returned.push(item)?;
+            returned.push(item).expect(&rt, "memory is left");
         } else {
-            kept.push(item)?;
+            kept.push(item).expect(&rt, "memory is left");
         }
     }
     drop(returned);
-    let mut threads = Vec::with_capacity(rt.alloc(), 8)?;
+    let mut threads = Vec::with_capacity(rt.alloc(), 8).expect(&rt, "memory is left");
     for mark in 1..9 {
-        let shared = Arc::try_clone(&shared)?;
-        threads.push(thread::spawn(&rt, move || mark_often(&shared, mark))?)?;
+        let shared = Arc::try_clone(&shared).expect(&rt, "memory is left");
+        let started = thread::spawn(&rt, move || mark_often(&shared, mark)).expect(
+            &rt,
+            "a thread is made",
+        );
+        threads.push(started).expect(&rt, "memory is left");
     }
     for thread in threads {
         assert!(rt; thread.join(&rt));
     }
     assert!(rt; kept.iter().all(|item| **item == 0));
-    Ok(())
 }
 
 /// How many of eight pulls gave an item, and how many were refused by the limit. The items are held until five threads hold theirs.
@@ -167,13 +174,20 @@ fn hold_eight(alloc: Global, shared: &Shared) -> Option<(usize, usize)> {
 }
 
 #[test]
-fn five_threads_share_one_page(rt: HostRuntime) -> Result<(), Fail> {
-    let calls = new_calls(rt.alloc())?;
-    let shared = bounded(rt.alloc(), &calls, 1)?;
-    let mut threads = Vec::with_capacity(rt.alloc(), 5)?;
+fn five_threads_share_one_page(rt: HostRuntime) {
+    let calls = new_calls(rt.alloc()).expect(&rt, "memory is left");
+    let shared = bounded(rt.alloc(), &calls, 1).expect(&rt, "a pool is made");
+    let mut threads = Vec::with_capacity(rt.alloc(), 5).expect(&rt, "memory is left");
     for _ in 0..5 {
-        let (alloc, shared) = (rt.alloc(), Arc::try_clone(&shared)?);
-        threads.push(thread::spawn(&rt, move || hold_eight(alloc, &shared))?)?;
+        let (alloc, shared) = (
+            rt.alloc(),
+            Arc::try_clone(&shared).expect(&rt, "memory is left"),
+        );
+        let started = thread::spawn(&rt, move || hold_eight(alloc, &shared)).expect(
+            &rt,
+            "a thread is made",
+        );
+        threads.push(started).expect(&rt, "memory is left");
     }
     let (mut given, mut refused) = (0usize, 0usize);
     for thread in threads {
@@ -184,5 +198,4 @@ fn five_threads_share_one_page(rt: HostRuntime) -> Result<(), Fail> {
         refused = refused.wrapping_add(counts.1);
     }
     assert_eq!(rt; (given, refused, calls.load(SeqCst)), (32, 8, 32));
-    Ok(())
 }
