@@ -1,7 +1,9 @@
 //! A pool of a type that says itself how its values are made and reset.
 ghost use Rattle.std.specs.Prelude.{◌≡◌, [], IfSome};
 
-use lockfree_object_pool::recycling::{OwnedReusable, Pool, Recyclable, Recycler, Reusable};
+use lockfree_object_pool::recycling::{
+    FixedPool, OwnedReusable, Pool, Recyclable, Recycler, Reusable,
+};
 use lockfree_object_pool::{LinearObjectPool, PullError};
 use std::alloc::Global;
 use std::sync::Arc;
@@ -103,5 +105,25 @@ fn vectors_and_texts_come_empty_with_their_room(rt: HostRuntime) -> Result<(), F
     let text = texts.pull()?;
     assert_eq!(rt; (text.page_id(), text.len()), (0, 0));
     assert!(rt; text.capacity() >= 5);
+    Ok(())
+}
+
+/// What a value of a fixed pool holds as it is pulled, which is then written.
+fn use_fixed_once(pool: &FixedPool<Scratch>) -> Option<(usize, u64)>
+    ensures { IfSome result (λ found. (found.0 ≡ 0) × (found.1 ≡ 0)) }
+{
+    let mut scratch = pool.pull().ok()?;
+    let found = (scratch.words.len(), scratch.sum);
+    scratch.words.push(5).ok()?;
+    scratch.sum = 5;
+    Some(found)
+}
+
+#[test]
+fn each_use_of_a_fixed_pool_finds_the_scratch_clean(rt: HostRuntime) -> Result<(), Fail> {
+    let pool = FixedPool::with_recycler(rt.alloc(), 1)?;
+    for _ in 0..3 {
+        assert_eq!(rt; use_fixed_once(&pool), Some((0, 0)));
+    }
     Ok(())
 }
