@@ -1,5 +1,6 @@
 pub mod FilledItems
 pub mod FixedAnswers
+pub mod FixedShared
 pub mod GuardShared
 pub mod KeptPlaces
 pub mod LockSteps

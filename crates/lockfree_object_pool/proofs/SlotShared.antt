@@ -17,7 +17,7 @@ use Rattle.lockfree_object_pool.specs.contracts.page.Page as Page
 use Rattle.lockfree_object_pool.specs.contracts.page.user_view.UserView as UserView
 
 -- what a seat owns names no thread
-seat_sync : (T : RattleType) → IsSend T → IsSync (Seat.the_row (OptionRow.the_row T) (UserView.the_row T))
+pub seat_sync : (T : RattleType) → IsSend T → IsSync (Seat.the_row (OptionRow.the_row T) (UserView.the_row T))
 seat_sync T sent =
     let item : IsSend (OptionRow.the_row T) = search (sendable, crosses) depth 20 in
     record { shared = λ seat block offset lifetime share. part_keyless (Seat.the_row (OptionRow.the_row T) (UserView.the_row T)) (the_send (OptionRow.the_row T) (UserView.the_row T) item) share seat block offset }

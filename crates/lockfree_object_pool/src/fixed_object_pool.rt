@@ -231,3 +231,6 @@ impl<T: Drop, I: Init<T, K>, R: Reset<T, K>, K: Clean<T>> Debug for FixedObjectP
             .finish_non_exhaustive()
     }
 }
+
+#[cfg(test)]
+mod tests;

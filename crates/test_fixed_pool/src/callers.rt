@@ -19,7 +19,7 @@ use std::thread;
 use std::thread::Threads;
 
 /// A pull by a note stands after all that the note knew.
-fn pulled_after<'p>(pool: &'p NumberPool, note: PoolNote<usize>) -> Option<NumberItem<'p>>
+pub fn pulled_after<'p>(pool: &'p NumberPool, note: PoolNote<usize>) -> Option<NumberItem<'p>>
     requires { note_page note ≡ pool_identity pool.now }
     ensures pool { IfSome result (λ item. (reusable_item item).page ≡ pool_identity pool.now) }
     ensures after { IfSome result (λ item. IsBeginningOf (note_history note) (reusable_item item).history) }
@@ -32,7 +32,7 @@ fn pulled_after<'p>(pool: &'p NumberPool, note: PoolNote<usize>) -> Option<Numbe
 }
 
 /// Writes a number to an item near a page and returns it: the return of that number is the last operation that the note knows.
-fn returned_near(pool: &NumberPool, page: usize, number: usize) -> Option<PoolNote<usize>>
+pub fn returned_near(pool: &NumberPool, page: usize, number: usize) -> Option<PoolNote<usize>>
     ensures pool { IfSome result (λ note. note_page note ≡ pool_identity pool.now) }
     ensures last { IfSome result (λ note. EndsWithReturn number (note_history note)) }
 {
@@ -115,7 +115,7 @@ fn handed_on<'p, R: Threads + Sync>(rt: &R, pool: &'p NumberPool) -> Option<Numb
 }
 
 /// A pull after all that two notes knew.
-fn pulled_after_both<'p>(
+pub fn pulled_after_both<'p>(
     pool: &'p NumberPool,
     first: PoolNote<usize>,
     second: PoolNote<usize>,

@@ -6,6 +6,8 @@ mod callers;
 #[cfg(test)]
 mod drops;
 #[cfg(test)]
+mod messages;
+#[cfg(test)]
 mod near;
 #[cfg(test)]
 mod sizes;

@@ -1,0 +1,86 @@
+//! Notes of a pool that go from thread to thread as messages. Each wait has a limit.
+ghost use Rattle.std.specs.Prelude.{◌≡◌, IfSome};
+ghost use Rattle.std.specs.Arc.{arc_value};
+ghost use Rattle.lockfree_object_pool.specs.FixedPool.{pool_identity};
+ghost use Rattle.lockfree_object_pool.specs.Note.{note_page, note_history};
+ghost use Rattle.lockfree_object_pool.specs.OneProof.{same_page};
+ghost use Rattle.lockfree_object_pool.specs.PageHistory.{IsBeginningOf};
+
+use crate::callers::{pulled_after, returned_near};
+use crate::values::{NumberPool, new_calls, new_pool};
+use crossbeam_channel::{Receiver, Sender, unbounded};
+use lockfree_object_pool::fixed_object_pool::PoolNote;
+use std::sync::{Arc, Wait};
+use std::test::Fail;
+use std::thread;
+
+/// A thread that still waits after so many turns gives up, and its test fails.
+const MOST_TURNS: u32 = 10_000_000;
+
+/// What the sender knows of its pool's history, after a return of its own.
+#[derive(Drop)]
+struct Message {
+    pool: Arc<NumberPool>,
+    note: PoolNote<usize>,
+    ghost of_pool: { note_page note ≡ pool_identity (arc_value pool) } by { same_page _ _ },
+}
+
+/// The next message, where it comes within so many turns.
+fn receive<W: Wait>(rt: &W, from: &Receiver<Message>) -> Option<Message> {
+    for _ in 0..MOST_TURNS {
+        if let Ok(message) = from.try_recv(rt) {
+            return Some(message);
+        }
+        thread::yield_now();
+    }
+    None
+}
+
+/// Pulls after all that the sender of a message knew, writes a number, returns it, and tells so by a message of its own.
+fn answered(message: Message, number: usize) -> Option<Message>
+    ensures pool { IfSome result (λ answer. pool_identity (arc_value answer.pool) ≡ pool_identity (arc_value message.pool)) }
+    ensures after { IfSome result (λ answer. IsBeginningOf (note_history message.note) (note_history answer.note)) }
+{
+    let Message { pool, note } = message;
+    let Some(mut item) = pulled_after(&pool, note) else {
+        return None;
+    };
+    *item = number;
+    let note = item.give_back();
+    Some(Message { pool, note })
+}
+
+/// Answers one message. Whether it came and its answer went.
+fn answer_once<W: Wait>(rt: &W, from: &Receiver<Message>, to: &Sender<Message>) -> bool {
+    let Some(message) = receive(rt, from) else {
+        return false;
+    };
+    match answered(message, 6) {
+        Some(answer) => to.send(rt, answer).is_ok(),
+        None => false,
+    }
+}
+
+#[test]
+fn a_pull_stands_after_what_messages_told(rt: HostRuntime) -> Result<(), Fail> {
+    let pool = Arc::new(
+        rt.alloc(),
+        new_pool(rt.alloc(), &new_calls(rt.alloc())?, 70)?,
+    )?;
+    let (to_other, from_main) = unbounded(rt.alloc())?;
+    let (to_main, from_other) = unbounded(rt.alloc())?;
+    let other = thread::spawn(&rt, move || answer_once(&rt, &from_main, &to_main))?;
+    let Some(note) = returned_near(&pool, 2, 5) else {
+        panic!(rt; "an item is free")
+    };
+    let pool = Arc::try_clone(&pool)?;
+    to_other.send(&rt, Message { pool, note })?;
+    let answer = receive(&rt, &from_other).ok_or("an answer comes")?;
+    assert!(rt; other.join(&rt));
+    let Message { pool, note } = answer;
+    let Some(item) = pulled_after(&pool, note) else {
+        panic!(rt; "an item is free")
+    };
+    assert_eq!(rt; (item.number(), *item), (0, 6));
+    Ok(())
+}
