@@ -1,4 +1,5 @@
-//! Callers that need a pool and its reusables to be sent and shared, each under the least that its parts have to allow.
+//! Callers that need a pool and its reusables to be sent and shared, each under the least that its parts have to allow: the
+//! pool keeps no `init`, so nothing is asked of it.
 use super::*;
 use std::thread;
 use std::thread::Threads;
@@ -7,34 +8,29 @@ fn sent<X: Send>(_value: &X) {}
 
 fn shared<X: Sync>(_value: &X) {}
 
-fn pool_sent<T: Send + Drop, I: Init<T, K> + Send, R: Reset<T, K> + Send, K: Clean<T>>(
+fn pool_sent<T: Send + Drop, I: Init<T, K>, R: Reset<T, K> + Send, K: Clean<T>>(
     pool: &FixedObjectPool<T, I, R, K>,
 ) {
     sent(pool);
 }
 
-fn pool_shared<
-    T: Send + Drop,
-    I: Init<T, K> + Send + Sync,
-    R: Reset<T, K> + Send + Sync,
-    K: Clean<T>,
->(pool: &FixedObjectPool<T, I, R, K>) {
+fn pool_shared<T: Send + Drop, I: Init<T, K>, R: Reset<T, K> + Send + Sync, K: Clean<T>>(
+    pool: &FixedObjectPool<T, I, R, K>,
+) {
     shared(pool);
 }
 
-fn reusables_sent<
-    T: Send + Drop,
-    I: Init<T, K> + Send + Sync,
-    R: Reset<T, K> + Send + Sync,
-    K: Clean<T>,
->(item: &FixedReusable<'_, T, I, R, K>, owned: &FixedOwnedReusable<T, I, R, K>) {
+fn reusables_sent<T: Send + Drop, I: Init<T, K>, R: Reset<T, K> + Send + Sync, K: Clean<T>>(
+    item: &FixedReusable<'_, T, I, R, K>,
+    owned: &FixedOwnedReusable<T, I, R, K>,
+) {
     sent(item);
     sent(owned);
 }
 
 fn reusables_shared<
     T: Send + Sync + Drop,
-    I: Init<T, K> + Send + Sync,
+    I: Init<T, K>,
     R: Reset<T, K> + Send + Sync,
     K: Clean<T>,
 >(item: &FixedReusable<'_, T, I, R, K>, owned: &FixedOwnedReusable<T, I, R, K>) {
