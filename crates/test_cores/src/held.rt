@@ -3,6 +3,7 @@ use crate::value::Value;
 use lockfree_object_pool::clean::{AnyValue, Clean};
 use lockfree_object_pool::closures::{Init, Reset};
 use lockfree_object_pool::free_list::FreeList;
+use lockfree_object_pool::made_or_reset::MadeOrReset;
 use lockfree_object_pool::page::PageId;
 use lockfree_object_pool::stack_owned_reusable::StackOwnedReusable;
 use lockfree_object_pool::stack_reusable::StackReusable;
@@ -74,7 +75,7 @@ impl<
     T: Value,
     I: Init<T, AnyValue>,
     R: Reset<T, AnyValue>,
-    F: FreeList<T, AnyValue>,
+    F: FreeList<T, MadeOrReset<I, R, AnyValue>>,
     W: Wait + Copy,
 > Pulled for StackReusable<'_, T, I, R, AnyValue, F, W> {
     fn shown(&self) -> u64 {
@@ -94,7 +95,7 @@ impl<
     T: Value,
     I: Init<T, AnyValue>,
     R: Reset<T, AnyValue>,
-    F: FreeList<T, AnyValue>,
+    F: FreeList<T, MadeOrReset<I, R, AnyValue>>,
     W: Wait + Copy,
 > Pulled for StackOwnedReusable<T, I, R, AnyValue, F, W> {
     fn shown(&self) -> u64 {

@@ -49,8 +49,12 @@ impl<T: Value> Slot<'_, T> {
     /// The value goes home.
     fn free(self) {
         match self {
-            Slot::Borrowed(slot) => Page::free(slot),
-            Slot::Owned(slot) => slot.free(),
+            Slot::Borrowed(slot) => {
+                Page::free(slot);
+            }
+            Slot::Owned(slot) => {
+                slot.free();
+            }
         }
     }
 }

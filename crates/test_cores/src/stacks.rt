@@ -9,6 +9,7 @@ use crate::tallies::Tallies;
 use crate::value::Value;
 use lockfree_object_pool::clean::AnyValue;
 use lockfree_object_pool::free_list::FreeList;
+use lockfree_object_pool::made_or_reset::MadeOrReset;
 use lockfree_object_pool::stack_object_pool::StackObjectPool;
 use lockfree_object_pool::stack_owned_reusable::StackOwnedReusable;
 use lockfree_object_pool::stack_reusable::StackReusable;
@@ -16,6 +17,9 @@ use lockfree_object_pool::{MutexObjectPool, PullError, SpinLockObjectPool};
 use object_pool_cores::sequential::StackCore;
 use std::alloc::Global;
 use std::sync::{Arc, Wait};
+
+/// What is so of each kept value.
+type Kept = MadeOrReset<Maker, Traces, AnyValue>;
 
 type Pool<T, F> = StackObjectPool<T, Maker, Traces, AnyValue, F>;
 
@@ -56,7 +60,7 @@ pub fn compare_spin_lock<T: Value, W: Wait + Copy>(
 }
 
 /// The session's calls. A pull gives the value that was returned last, as the core's does.
-fn compare_stack<T: Value, F: FreeList<T, AnyValue>, W: Wait + Copy>(
+fn compare_stack<T: Value, F: FreeList<T, Kept>, W: Wait + Copy>(
     rt: &W,
     alloc: Global,
     session: Session,
@@ -76,7 +80,7 @@ fn compare_stack<T: Value, F: FreeList<T, AnyValue>, W: Wait + Copy>(
 }
 
 /// What is left behind the session's calls.
-fn played<'p, T: Value, F: FreeList<T, AnyValue>, W: Wait + Copy>(
+fn played<'p, T: Value, F: FreeList<T, Kept>, W: Wait + Copy>(
     alloc: Global,
     giver: &Stacked<'p, T, F, W>,
     core: Core<T>,
@@ -88,12 +92,12 @@ fn played<'p, T: Value, F: FreeList<T, AnyValue>, W: Wait + Copy>(
 
 /// A mutex pool or a spin lock pool.
 #[derive(Drop)]
-struct Stacked<'p, T: Value, F: FreeList<T, AnyValue>, W> {
+struct Stacked<'p, T: Value, F: FreeList<T, Kept>, W> {
     rt: &'p W,
     pool: &'p Arc<Pool<T, F>>,
 }
 
-impl<'p, T: Value, F: FreeList<T, AnyValue>, W: Wait + Copy> Gives<
+impl<'p, T: Value, F: FreeList<T, Kept>, W: Wait + Copy> Gives<
     T,
     Held<Borrowed<'p, T, F, W>, Owned<T, F, W>>,
 > for Stacked<'p, T, F, W> {

@@ -36,16 +36,15 @@ fn receive<W: Wait>(rt: &W, from: &Receiver<Message>) -> Option<Message> {
     None
 }
 
-/// Pulls after all that the sender of a message knew, writes a number, returns it, and tells so by a message of its own.
-fn answered(message: Message, number: usize) -> Option<Message>
+/// Pulls after all that the sender of a message knew, returns the item, and tells so by a message of its own.
+fn answered(message: Message) -> Option<Message>
     ensures pool { IfSome result (λ answer. pool_identity (arc_value answer.pool) ≡ pool_identity (arc_value message.pool)) }
     ensures after { IfSome result (λ answer. IsBeginningOf (note_history message.note) (note_history answer.note)) }
 {
     let Message { pool, note } = message;
-    let Some(mut item) = pulled_after(&pool, note) else {
+    let Some(item) = pulled_after(&pool, note) else {
         return None;
     };
-    *item = number;
     let note = item.give_back();
     Some(Message { pool, note })
 }
@@ -55,7 +54,7 @@ fn answer_once<W: Wait>(rt: &W, from: &Receiver<Message>, to: &Sender<Message>) 
     let Some(message) = receive(rt, from) else {
         return false;
     };
-    match answered(message, 6) {
+    match answered(message) {
         Some(answer) => to.send(rt, answer).is_ok(),
         None => false,
     }
@@ -81,6 +80,6 @@ fn a_pull_stands_after_what_messages_told(rt: HostRuntime) -> Result<(), Fail> {
     let Some(item) = pulled_after(&pool, note) else {
         panic!(rt; "an item is free")
     };
-    assert_eq!(rt; (item.number(), *item), (0, 6));
+    assert_eq!(rt; (item.number(), *item), (0, 0));
     Ok(())
 }
