@@ -168,3 +168,17 @@ fn bare_closures(rt: HostRuntime) {
     assert_eq!(rt; both, Some((zero, zero)));
     assert_eq!(rt; (made.get(), reset.get()), (1, 1));
 }
+
+fn is_shared<X: Sync>(_value: &X) {}
+
+/// A maker by a closure may be shared where its values may only be sent.
+fn maker_is_shared<T: Send + Drop, F: InitBy<T> + Sync, K: Clean<T> + Send>(
+    maker: &Makes<T, F, K>,
+) {
+    is_shared(maker);
+}
+
+/// A reset that changes nothing may be shared where its values may only be sent.
+fn kept_is_shared<T: Send + Drop, K: Clean<T> + Send>(kept: &Kept<T, K>) {
+    is_shared(kept);
+}

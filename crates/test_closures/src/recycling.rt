@@ -1,5 +1,5 @@
 //! A pool of a type that says itself how its values are made and reset.
-ghost use Rattle.std.specs.Prelude.{◌≡◌, [], IfSome};
+ghost use Rattle.std.specs.Prelude.{◌≡◌, ⊤, [], IfSome};
 
 use lockfree_object_pool::recycling::{
     FixedPool, OwnedReusable, Pool, Recyclable, Recycler, Reusable,
@@ -126,4 +126,24 @@ fn each_use_of_a_fixed_pool_finds_the_scratch_clean(rt: HostRuntime) -> Result<(
         assert_eq!(rt; use_fixed_once(&pool), Some((0, 0)));
     }
     Ok(())
+}
+
+/// A value that is never made.
+#[derive(Drop)]
+struct Never;
+
+impl Recyclable for Never {
+    ghost is_clean = { λ _. ⊤ };
+
+    fn make(_alloc: Global) -> Option<Never> {
+        None
+    }
+
+    fn reset(&mut self) {}
+}
+
+#[test]
+fn a_recyclable_type_that_refuses_has_no_pool(rt: HostRuntime) {
+    let refused = Pool::<Never>::with_recycler(rt.alloc()).err();
+    assert_eq!(rt; refused, Some(PullError::Init));
 }

@@ -1,6 +1,7 @@
 //! The words and the numbers of the refusals, and what becomes of a value that memory was refused for.
 use lockfree_object_pool::PullError;
 use std::alloc::AllocFailed;
+use std::collections::HashSet;
 use std::test::Fail;
 use test_values::counted::Counts;
 
@@ -26,4 +27,19 @@ fn a_value_that_memory_was_refused_for_is_dropped(rt: HostRuntime) {
     };
     assert_eq!(rt; PullError::from(refused), PullError::Memory);
     assert_eq!(rt; counts.now(), (1, 1));
+}
+
+#[test]
+fn each_cause_has_a_hash_of_its_own(rt: HostRuntime) -> Result<(), Fail> {
+    let mut causes = HashSet::new(rt.alloc());
+    for cause in [
+        PullError::Memory,
+        PullError::Init,
+        PullError::Limit,
+        PullError::Init,
+    ] {
+        causes.insert(cause)?;
+    }
+    assert_eq!(rt; causes.len(), 3);
+    Ok(())
 }

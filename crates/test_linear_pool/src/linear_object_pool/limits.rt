@@ -94,3 +94,23 @@ fn three_pages_are_filled_and_no_fourth_is_made(rt: HostRuntime) {
     assert_eq!(rt; (again.page_number(), again.page_id()), (1, 8));
     assert_eq!(rt; calls.load(SeqCst), 96);
 }
+
+/// The text of a pool with this limit.
+fn shown(alloc: Global, calls: &Arc<AtomicUsize>, pages: usize) -> Option<String>
+    requires { 1 ≤ pages }
+{
+    let pool = bounded(alloc, calls, pages).ok()?;
+    format!(in alloc; "{pool:?}").ok()
+}
+
+#[test]
+fn each_limit_is_shown(rt: HostRuntime) {
+    let calls = new_calls(rt.alloc()).expect(&rt, "calls are counted");
+    let text = shown(rt.alloc(), &calls, 1).expect(&rt, "a pool is shown");
+    assert_eq!(rt; text.as_str(), "LinearObjectPool { limit: Some(1), .. }");
+    let text = shown(rt.alloc(), &calls, usize::MAX).expect(&rt, "a pool is shown");
+    assert_eq!(rt;
+        text.as_str(),
+        "LinearObjectPool { limit: Some(18446744073709551615), .. }"
+    );
+}

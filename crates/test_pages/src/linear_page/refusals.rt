@@ -47,3 +47,22 @@ fn a_chain_goes_on_where_memory_was_refused(rt: HostRuntime) {
     let next = behind_full(&first, &|| Some(0)).expect(&rt, "a page is linked");
     assert_eq!(rt; (next.number(), first_id(&next)), (1, Some(0)));
 }
+
+/// Why no page is linked behind a full one whose `init` refuses.
+fn refusal_behind(first: ZeroPage<'_>) -> Option<PullError> {
+    let pass = PullPass::new();
+    match first.page().try_alloc(&pass).ok()? {
+        Allocated::Slot(_) => None,
+        Allocated::Full(seen) => first.get_or_create_next(seen, &|| None).err(),
+    }
+}
+
+#[test]
+fn a_link_tells_that_init_refused(rt: HostRuntime) {
+    let chain = Zeros::new(rt.alloc(), &|| Some(0)).expect(&rt, "a chain is made");
+    for _ in 0..32 {
+        mem::forget(chain.first().alloc(&|| Some(0)));
+    }
+    assert_eq!(rt; refusal_behind(chain.first()), Some(PullError::Init));
+    assert!(rt; chain.first().next().is_none());
+}

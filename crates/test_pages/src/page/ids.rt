@@ -4,8 +4,8 @@ use lockfree_object_pool::clean::AnyValue;
 use lockfree_object_pool::page::{Allocated, Page, PageSlot, PullPass, with_bit};
 use std::alloc::{AllocError, Global};
 use std::sync::atomic::{AtomicUsize, Ordering};
-use std::thread;
 use std::thread::Threads;
+use std::{mem, thread};
 
 /// How often a test's thread looks for the other one before the test fails.
 const TURNS: usize = 10_000_000;
@@ -191,4 +191,16 @@ fn a_dropped_slot_leaves_its_id_out(rt: HostRuntime) {
     drop(page.alloc());
     assert_eq!(rt; page.get_mask(), 4294967294);
     assert_eq!(rt; id_of(&page.alloc()), 1);
+}
+
+#[test]
+fn each_item_that_is_taken_clears_its_bit_alone(rt: HostRuntime) {
+    let page = zeros(rt.alloc()).expect(&rt, "a page is made");
+    let mut word = u32::MAX;
+    for _ in 0..32 {
+        assert_eq!(rt; page.get_mask(), word);
+        word = word.wrapping_shl(1);
+        mem::forget(page.alloc());
+    }
+    assert_eq!(rt; (page.get_mask(), page.is_full()), (0, true));
 }

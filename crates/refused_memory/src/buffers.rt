@@ -1,0 +1,84 @@
+//! Buffer pools: an append that is refused leaves the buffer as it was, and can be asked for again.
+use crate::refusals::Refusals;
+use lockfree_object_pool::PullError;
+use object_pool_cores::buffers::{Buffer, BufferPool, Clear, WithCapacity, clear, fresh};
+use std::alloc::Global;
+use std::process::Abort;
+use std::test::Fail;
+
+type Buffers = BufferPool<WithCapacity, Clear>;
+
+/// A pool of two pages of buffers without room.
+fn new_pool(alloc: Global) -> Result<Buffers, PullError> {
+    BufferPool::new(alloc, WithCapacity::new(alloc, 0), Clear, 2)
+}
+
+/// Appends bytes. Where memory was refused, the buffer is as it was, and they are appended by a second try.
+fn append(
+    rt: &impl Abort,
+    refusals: &Refusals,
+    buffer: &mut Buffer<'_, WithCapacity, Clear>,
+    bytes: &[u8],
+) -> Result<(), PullError> {
+    let before = buffer.as_slice().len();
+    match buffer.append(bytes) {
+        Ok(()) => Ok(()),
+        Err(cause) => {
+            refusals.note();
+            assert_eq!(rt;
+                (cause, buffer.as_slice().len()),
+                (PullError::Memory, before)
+            );
+            buffer.append(bytes)
+        }
+    }
+}
+
+#[test]
+fn an_append_that_was_refused_is_asked_again(rt: HostRuntime) -> Result<(), Fail> {
+    let refusals = Refusals::new();
+    let pool = refusals.again(&|| new_pool(rt.alloc()))?;
+    let mut buffer = pool.pull()?;
+    append(&rt, &refusals, &mut buffer, b"")?;
+    append(&rt, &refusals, &mut buffer, b"first")?;
+    append(&rt, &refusals, &mut buffer, &[b'x'; 5000])?;
+    assert_eq!(rt;
+        (buffer.as_slice().get(..5), buffer.as_slice().len()),
+        (Some(b"first".as_slice()), 5005)
+    );
+    drop(buffer);
+    let again = pool.pull()?;
+    assert_eq!(rt;
+        (again.page_number(), again.page_id(), again.as_slice().len()),
+        (0, 0, 0)
+    );
+    Ok(refusals.tell(&rt)?)
+}
+
+#[test]
+fn a_second_page_that_was_refused_is_asked_again(rt: HostRuntime) -> Result<(), Fail> {
+    let refusals = Refusals::new();
+    let pool = refusals.again(&|| new_pool(rt.alloc()))?;
+    let mut first_page = refusals.again(&|| Ok(Vec::with_capacity(rt.alloc(), 32)?))?;
+    for _ in 0..32 {
+        first_page.push(pool.pull()?)?;
+    }
+    if let Some(refusal) = pool.pull().err() {
+        refusals.note();
+        assert_eq!(rt; refusal, PullError::Memory);
+    }
+    let buffer = pool.pull()?;
+    assert_eq!(rt; (buffer.page_number(), buffer.page_id()), (1, 0));
+    Ok(refusals.tell(&rt)?)
+}
+
+#[test]
+fn a_fresh_buffer_that_was_refused_is_asked_again(rt: HostRuntime) -> Result<(), Fail> {
+    let refusals = Refusals::new();
+    let mut bytes = refusals.again(&|| fresh(rt.alloc(), 4096).ok_or(PullError::Memory))?;
+    bytes.extend_from_slice(&[b'x'; 4096])?;
+    clear(&mut bytes);
+    bytes.extend_from_slice(&[b'y'; 4096])?;
+    assert_eq!(rt; bytes.len(), 4096);
+    Ok(refusals.tell(&rt)?)
+}
