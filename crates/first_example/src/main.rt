@@ -17,8 +17,6 @@ fn length_of_a_used_one(alloc: Global) -> Result<usize, PullError>
 }
 
 fn main(rt: HostRuntime) -> io::Result<()> {
-    println!(rt;
-        "bytes in a used buffer: {:?}",
-        length_of_a_used_one(rt.alloc())
-    )
+    let length = length_of_a_used_one(rt.alloc());
+    println!(rt; "bytes in a used buffer: {length:?}")
 }
