@@ -117,14 +117,13 @@ fn five_threads_send_what_they_wrote(rt: HostRuntime) -> Result<(), Fail> {
     five_send(&rt, rt.alloc(), &spin_lock_zeros(rt.alloc(), &calls)?)
 }
 
-/// An owned item of each pool goes to another thread, by the pools' own names.
+/// An owned item of the mutex pool goes to another thread, by the pool's own name. One of the spin lock pool does so above, in
+/// code that is generic in the free list.
 #[test]
 fn an_owned_item_is_dropped_elsewhere(rt: HostRuntime) -> Result<(), Fail> {
     let calls = new_calls(rt.alloc())?;
     let item = mutex_zeros(rt.alloc(), &calls)?.pull_owned(&rt)?;
     thread::spawn(&rt, move || drop(item))?.join(&rt);
-    let item = spin_lock_zeros(rt.alloc(), &calls)?.pull_owned(&rt)?;
-    thread::spawn(&rt, move || drop(item))?.join(&rt);
-    assert_eq!(rt; calls.load(SeqCst), 2);
+    assert_eq!(rt; calls.load(SeqCst), 1);
     Ok(())
 }
