@@ -56,7 +56,6 @@ fn use_all<R: Print + AllocGlobal + Threads + Wait + Copy + Send + 'static>(
             "linear, counted",
             pools::linear::<Tallied, R>(rt, alloc, rounds),
         ),
-        ("mutex, counted", pools::mutex_of_counted(rt, alloc, rounds)),
         (
             "spin lock, numbers",
             pools::spin_lock::<Number, R>(rt, alloc, rounds),

@@ -27,8 +27,6 @@ type Linear<T> = LinearObjectPool<T, Maker, Clears, AnyValue>;
 
 type LinearOwned<T> = LinearOwnedReusable<T, Maker, Clears, AnyValue>;
 
-type Mutexed<T> = MutexObjectPool<T, Maker, Clears, AnyValue>;
-
 type SpinLocked<T> = SpinLockObjectPool<T, Maker, Clears, AnyValue>;
 
 /// What a stack pool keeps.
@@ -137,20 +135,6 @@ fn use_stack<T: Item, F: FreeList<T, StackedItems>, W: Wait + Copy>(
         }
     }
     worker.end()
-}
-
-/// Eight threads on a mutex pool of counted items. At any item the check finds no proof that such a pool may be sent.
-pub fn mutex_of_counted<R: Threads + Wait + Copy + Send + 'static>(
-    rt: &R,
-    alloc: Global,
-    rounds: u32,
-) -> Result<Report, PullError> {
-    let tally = Tally::new(alloc)?;
-    let pool: Mutexed<Tallied> = MutexObjectPool::new(alloc, maker(alloc, &tally)?, Clears);
-    let pool = Arc::new(alloc, pool)?;
-    let report = on_eight_threads!(use_stack, rt, alloc, &pool, rounds);
-    drop(pool);
-    Ok(end_of::<Tallied>(report, &tally))
 }
 
 /// Eight threads on a spin lock pool.
