@@ -9,9 +9,7 @@ use lockfree_object_pool::free_list::FreeList;
 use lockfree_object_pool::made_or_reset::MadeOrReset;
 use lockfree_object_pool::stack_object_pool::StackObjectPool;
 use lockfree_object_pool::stack_owned_reusable::StackOwnedReusable;
-use lockfree_object_pool::{
-    LinearObjectPool, LinearOwnedReusable, MutexObjectPool, PullError, SpinLockObjectPool,
-};
+use lockfree_object_pool::{LinearObjectPool, LinearOwnedReusable, PullError, SpinLockObjectPool};
 use std::alloc::Global;
 use std::sync::{Arc, Wait};
 use std::thread;
