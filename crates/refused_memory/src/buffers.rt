@@ -56,23 +56,6 @@ fn an_append_that_was_refused_is_asked_again(rt: HostRuntime) -> Result<(), Fail
 }
 
 #[test]
-fn a_second_page_that_was_refused_is_asked_again(rt: HostRuntime) -> Result<(), Fail> {
-    let refusals = Refusals::new();
-    let pool = refusals.again(&|| new_pool(rt.alloc()))?;
-    let mut first_page = refusals.again(&|| Ok(Vec::with_capacity(rt.alloc(), 32)?))?;
-    for _ in 0..32 {
-        first_page.push(pool.pull()?)?;
-    }
-    if let Some(refusal) = pool.pull().err() {
-        refusals.note();
-        assert_eq!(rt; refusal, PullError::Memory);
-    }
-    let buffer = pool.pull()?;
-    assert_eq!(rt; (buffer.page_number(), buffer.page_id()), (1, 0));
-    Ok(refusals.tell(&rt)?)
-}
-
-#[test]
 fn a_fresh_buffer_that_was_refused_is_asked_again(rt: HostRuntime) -> Result<(), Fail> {
     let refusals = Refusals::new();
     let mut bytes = refusals.again(&|| fresh(rt.alloc(), 4096).ok_or(PullError::Memory))?;
