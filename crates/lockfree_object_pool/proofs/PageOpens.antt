@@ -43,7 +43,7 @@ module _ {T : Type 0} (meets : T → Type 0) where
     -- a page at its start: each item is free and at home, and nothing was done
     opens_page : IsPage meets (opening words items (first_view items))
     opens_page = record {
-      all_places = let places = same_count in let all = free.all_items in omega arith;
+      all_places = let places = same_count in let all = free.one_for_32 in omega arith;
       words_fit = free.words_fit;
       free_is_home = λ id one. let found = filled_at items id (set_inside id one) each in (found.0, at_map some items id (Some found.0) found.1, found.2);
       held_is_out = λ user id holds. absurd (first_holds_none items holds.0 user id holds.1 holds.2);

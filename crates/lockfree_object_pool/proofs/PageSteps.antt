@@ -501,12 +501,3 @@ module _ {T : Type 0} (meets : T → Type 0) (opening : List (Option T)) where
               subst (λ (act : PageAct T). GoesOn (act ∷ []) me.0 known) (λ k. Gave me.0.user (same_id k) (same_value k)) history.1;
         },
       )
-
-  -- the same on the first word
-  pub gives_back_first : (slots user operand id : ℕ) (out me : User T) (value : T) → id < 32 → 32 ≤ slots → operand < 2 ^ 32 → SetsBit 0 id operand → out.0.held ≡ Some id → out.0.gone ≡ false → out.1 ≡ (id, None) ∷ [] → me ≡ (out.0, (id, Some value) ∷ rest out.1) → meets value
-      → Allows (IsKept meets opening) slots user me 0 (λ word. bit_or word operand) (λ _. Gives me)
-  gives_back_first slots user operand id out me value first all small sets holds here carries moved met =
-      let place : id / 32 ≡ 0 = omega arith in
-      let bit : id ≡ id % 32 = omega arith in
-      subst (λ place. Allows (IsKept meets opening) slots user me place (λ word. bit_or word operand) (λ _. Gives me)) place
-      (gives_back slots user operand id out me value (omega arith) small (subst (λ bit. SetsBit 0 bit operand) bit sets) holds here carries moved met)

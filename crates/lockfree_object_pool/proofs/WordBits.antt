@@ -117,7 +117,7 @@ fits_after words place new inside fit small p = dite (ℕ_discrete p place)
     (λ other. let was = fit p in let same = get_or-set_other words place p new 0 other in omega arith)
 
 -- words that are all set but the last, of which only the lowest bits are
-module _ (full low : ℕ) (within : low ≤ 32) where
+module _ (full low : ℕ) (some : 0 < low) (within : low ≤ 32) where
   abbrev pub free_words : List ℕ
   free_words = set (replicate (full + 1) all_bits) full (2 ^ low - 1)
 
@@ -150,7 +150,7 @@ module _ (full low : ℕ) (within : low ≤ 32) where
 
   pub all_free : IsAllFree (32 * full + low) free_words
   all_free = record {
-    all_items = let long = words_long in let same = length-set (replicate (full + 1) all_bits) full (2 ^ low - 1) in omega arith;
+    one_for_32 = let long = words_long in let same = length-set (replicate (full + 1) all_bits) full (2 ^ low - 1) in omega arith;
     words_fit = word_fits;
     set = λ id inside. elim (cases_lt (id / 32) full) [
       | inl before ↦ ap (λ w. bit_at w (id % 32)) (full_word (id / 32) before) ∙ bit_at_ones 32 (id % 32) (omega arith)

@@ -1,27 +1,23 @@
 -- What a fixed pool shows.
-use Rattle.std.specs.Prelude.{◌≡◌, ℕ, List, length, Option, All, IsSomeAnd}
+use Rattle.std.specs.Prelude.{ℕ, List, Option}
 use Rattle.atomic_table.specs.Seated.{TableId}
 use Rattle.lockfree_object_pool.specs.declared.fixed_object_pool.FixedObjectPool.{FixedObjectPool}
 use Rattle.lockfree_object_pool.specs.declared.fixed_object_pool.items.FixedItems.{FixedItems}
-
--- so many values, by number, each of which meets the condition
-pub record IsFilled {T : Type 0} (count : ℕ) (meets : T → Type 0) (items : List (Option T)) : Type 0 where
-  pub all : length items ≡ count
-  pub each : All (λ item. IsSomeAnd item meets) items
+use Rattle.lockfree_object_pool.specs.Items.{items_identity, items_opening}
 
 module _ {T K : Type 0} where
-  -- which items they are
-  abbrev pub items_identity : FixedItems T K → TableId
-  items_identity items = items.table.shared.table_id
+  -- which items a pool has
+  abbrev pub fixed_identity : FixedItems T K → TableId
+  fixed_identity fixed = items_identity fixed.shared
 
   -- the values that they opened with, by number
-  abbrev pub items_opening : FixedItems T K → List (Option T)
-  items_opening items = items.table.shared.key.value.items
+  abbrev pub fixed_opening : FixedItems T K → List (Option T)
+  fixed_opening fixed = items_opening fixed.shared
 
 module _ {T I R K : Type 0} where
   -- which pool it is
   abbrev pub pool_identity : FixedObjectPool T I R K → TableId
-  pool_identity pool = items_identity pool.items
+  pool_identity pool = fixed_identity pool.items
 
   -- how many items it has
   abbrev pub pool_items : FixedObjectPool T I R K → ℕ
@@ -33,7 +29,7 @@ module _ {T I R K : Type 0} where
 
   -- the values that the pool opened with, by number
   abbrev pub pool_opening : FixedObjectPool T I R K → List (Option T)
-  pool_opening pool = items_opening pool.items
+  pool_opening pool = fixed_opening pool.items
 
   -- what resets the pool's values
   abbrev pub pool_reset : FixedObjectPool T I R K → R

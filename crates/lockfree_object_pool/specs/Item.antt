@@ -2,7 +2,7 @@
 use Rattle.std.specs.Prelude.{◌≡◌, ℕ, ◌<◌, List, [], ◌∷◌, Option}
 use Rattle.atomic_table.specs.Seated.{TableId}
 use Rattle.lockfree_object_pool.specs.declared.page.history.PageAct.TheVariants.{Took}
-use Rattle.lockfree_object_pool.specs.Page.{IsFilled}
+use Rattle.lockfree_object_pool.specs.Items.{IsFilled}
 use Rattle.lockfree_object_pool.specs.PageHistory.{History, acts_of, IsLawful, CameFrom}
 use Rattle.lockfree_object_pool.specs.declared.page.TheConstants.{PAGE_ITEMS}
 
@@ -48,6 +48,6 @@ module _ {T : Type 0} where
   -- where a pulled item comes from
   pub record HasOrigin (may_open : T → Type 0) (item : Item T) : Type 0 where
     -- its page opened with 32 values of this kind
-    pub opened : IsFilled may_open item.opening
+    pub opened : IsFilled PAGE_ITEMS may_open item.opening
     -- it was pulled as the page's history tells, which begins with them
     pub pulled : IsPulled item

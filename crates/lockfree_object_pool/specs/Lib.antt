@@ -7,6 +7,7 @@ pub mod FixedRule
 pub mod FullSeen
 pub mod Guard
 pub mod Item
+pub mod Items
 pub mod Kept
 pub mod LastIn
 pub mod Lends

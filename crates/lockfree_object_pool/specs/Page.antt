@@ -1,18 +1,19 @@
 -- What a page shows.
-use Rattle.std.specs.Prelude.{◌≡◌, List, length, Option, All, IsSomeAnd}
+use Rattle.std.specs.Prelude.{List, Option}
 use Rattle.atomic_table.specs.Seated.{TableId}
 use Rattle.lockfree_object_pool.specs.declared.page.Page.{Page}
 use Rattle.lockfree_object_pool.specs.declared.page.TheConstants.{PAGE_ITEMS}
+use Rattle.lockfree_object_pool.specs.Items.{items_identity, items_opening, IsFilled}
 
--- which page it is
-abbrev pub page_identity : {T K : Type 0} → Page T K → TableId
-page_identity page = page.table.shared.table_id
+module _ {T K : Type 0} where
+  -- which page it is
+  abbrev pub page_identity : Page T K → TableId
+  page_identity page = items_identity page.items
 
--- 32 values, by id, each of which meets the condition
-pub record IsFilled {T : Type 0} (meets : T → Type 0) (items : List (Option T)) : Type 0 where
-  pub all : length items ≡ PAGE_ITEMS
-  pub each : All (λ item. IsSomeAnd item meets) items
+  -- the values that the page opened with, by id
+  abbrev pub page_opening : Page T K → List (Option T)
+  page_opening page = items_opening page.items
 
--- the values that the page opened with, by id
-abbrev pub page_opening : {T K : Type 0} → Page T K → List (Option T)
-page_opening page = page.table.shared.key.value.items
+  -- the page opened with 32 values, each of which meets the condition
+  abbrev pub OpensWith : (T → Type 0) → Page T K → Type 0
+  OpensWith meets page = IsFilled PAGE_ITEMS meets (page_opening page)

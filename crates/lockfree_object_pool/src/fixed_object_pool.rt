@@ -42,7 +42,8 @@ pub struct FixedObjectPool<T, I: Init<T, K>, R: Reset<T, K>, K: Clean<T> = AnyVa
 impl<T: Drop, I: Init<T, K>, R: Reset<T, K>, K: Clean<T>> FixedObjectPool<T, I, R, K> {
     ghost use Rattle.lockfree_object_pool.specs.Answers.{IsMadeOrReset};
     ghost use Rattle.lockfree_object_pool.specs.FixedAnswer.{IsPulledOf, IsPulledWith, IsBusyOf, IsBusyAfter, busy_steps, note_steps};
-    ghost use Rattle.lockfree_object_pool.specs.FixedPool.{pool_identity, pool_items, pool_pages, pool_opening, pool_reset, IsFilled};
+    ghost use Rattle.lockfree_object_pool.specs.FixedPool.{pool_identity, pool_items, pool_pages, pool_opening, pool_reset};
+    ghost use Rattle.lockfree_object_pool.specs.Items.{IsFilled};
     ghost use Rattle.lockfree_object_pool.specs.FixedReusable.{reusable_pool, reusable_item, reusable_steps, owned_pool, owned_item, owned_steps};
     ghost use Rattle.lockfree_object_pool.specs.FixedRule.{IsWithin, no_steps};
     ghost use Rattle.lockfree_object_pool.specs.Note.{note_page, witness_page, IsNoteOf, HasLearned};
@@ -178,7 +179,7 @@ impl<T: Drop, I: Init<T, K>, R: Reset<T, K>, K: Clean<T>> FixedObjectPool<T, I, 
     pub fn note(&self) -> PoolNote<T>
         ensures { IsNoteOf (pool_identity self.now) (pool_opening self.now) result }
     {
-        self.items.note()
+        self.items.shared.note()
     }
 
     /// Tells a note what a witness knows. The histories of both are prefixes of one.
@@ -187,7 +188,7 @@ impl<T: Drop, I: Init<T, K>, R: Reset<T, K>, K: Clean<T>> FixedObjectPool<T, I, 
         requires other { witness_page other ≡ pool_identity self.now }
         ensures { HasLearned note.old other note.new }
     {
-        self.items.tell(note, other);
+        self.items.shared.tell(note, other);
     }
 
     /// As `pull`, with a reusable that owns the pool with others. The pool's owners grow by one before an item is taken.

@@ -93,7 +93,7 @@ impl<T: Drop, I: Init<T, K>, R: Reset<T, K>, K: Clean<T>> FixedOwnedReusable<T, 
         ensures same_pool { owned_pool self.new ≡ owned_pool self.old }
     {
         let taken = &mut self.taken;
-        taken.pool.items.witness(&mut taken.seat)
+        taken.pool.items.shared.witness(&mut taken.seat)
     }
 
     /// Resets the value and brings it back, as the end does. The note knows the pool's history up to this return.

@@ -94,7 +94,7 @@ impl<'p, T: Drop, I: Init<T, K>, R: Reset<T, K>, K: Clean<T>> FixedReusable<'p, 
         ensures same_pool { reusable_pool self.new ≡ reusable_pool self.old }
     {
         let taken = &mut self.taken;
-        taken.pool.items.witness(&mut taken.seat)
+        taken.pool.items.shared.witness(&mut taken.seat)
     }
 
     /// Resets the value and brings it back, as the end does. The note knows the pool's history up to this return.

@@ -10,7 +10,7 @@ ghost use Rattle.std.specs.Prelude.{◌≡◌, ◌+◌, ◌^◌, ◌<◌, Option
 ghost use Rattle.std.specs.Arc.{arc_value};
 ghost use Rattle.lockfree_object_pool.specs.Answers.{MayOpen};
 ghost use Rattle.lockfree_object_pool.specs.LinkRow.{IsLinkTo, link_at};
-ghost use Rattle.lockfree_object_pool.specs.Page.{page_identity, page_opening, IsFilled};
+ghost use Rattle.lockfree_object_pool.specs.Page.{page_identity, OpensWith};
 ghost use Rattle.lockfree_object_pool.specs.Refusal.{RefusesMaking};
 
 use crate::PullError;
@@ -117,7 +117,7 @@ impl<'c, T: Drop, K: Clean<T>, O: Clean<T>> LinearPage<'c, T, K, O> {
     /// The page's items.
     pub fn page(&self) -> &'c Page<T, K>
         ensures page { page_identity result.now ≡ shown_page self.now }
-        ensures opened { IsFilled O.meets (page_opening result.now) }
+        ensures opened { OpensWith O.meets result.now }
     {
         self.page.owner()
     }

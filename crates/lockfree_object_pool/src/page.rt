@@ -2,25 +2,26 @@
 //!
 //! This file has the pure steps of a word, and a page with its calls. Below it: what users do with a page's items
 //! (`history`), what holds of a page between any two steps and the kinds of step (`rule`), the steps themselves
-//! (`steps`), what a user knows (`user_view`), an item that is out, under a borrow or an owner of its page (`slot`,
-//! `owned_slot`), the answer of a full page (`full_seen`), and what is known of a page while no item is held (`note`).
+//! (`steps`) on the words and places that a page and a fixed pool have (`items`), what a user knows (`user_view`), an item
+//! that is out, under a borrow or an owner of its page (`slot`, `owned_slot`), the answer of a full page (`full_seen`), and
+//! what is known of a page while no item is held (`note`).
 //!
 //! No call waits for another thread or tries again: a page reads its word once, and then clears single bits.
 ghost use Rattle.std.specs.Prelude.{◌≡◌, ◌+◌, ◌-◌, ◌^◌, ◌<◌, ◌≤◌, ◌↔◌, ℕ, [], false, Option, None, Some, IsTrue, IsNone, IfSome, IsOk, IfOk, IfErr, bit_and, bit_or};
 ghost use Rattle.std.specs.Int.{w32, bit_at, bit_not};
+ghost use Rattle.lockfree_object_pool.specs.Items.{items_identity};
 ghost use Rattle.lockfree_object_pool.specs.Word.{IsLeastBit, SetsBit, ClearsBit};
 ghost use Rattle.lockfree_object_pool.specs.declared.page.TheConstants.{PAGE_ITEMS};
 
 use crate::PullError;
 use crate::clean::Clean;
-use atomic_table::Table;
-use rule::{PageRule, Tells};
+use items::{Items, TakenValue};
 use std::alloc::Global;
-use std::snapshot::Snapshot;
-use user_view::{UserSeat, UserView};
+use user_view::UserSeat;
 
 mod full_seen;
 pub mod history;
+pub(crate) mod items;
 mod note;
 mod owned_slot;
 pub(crate) mod rule;
@@ -92,8 +93,8 @@ fn is_none_free(word: u32) -> bool
 /// 32 items that threads share.
 #[derive(Drop)]
 pub struct Page<T, K: Clean<T>> {
-    table: Table<Option<T>, UserView<T>, Snapshot<Vec<Option<T>>>, PageRule<K>, Global>,
-    ghost sized: { (table.shared.table_id.words ≡ 1) × (table.shared.table_id.slots ≡ PAGE_ITEMS) },
+    items: Items<T, K>,
+    ghost sized: { (items_identity items).slots ≡ PAGE_ITEMS },
 }
 
 impl<T, K: Clean<T>> Page<T, K> {
@@ -101,7 +102,7 @@ impl<T, K: Clean<T>> Page<T, K> {
     ghost use Rattle.lockfree_object_pool.specs.FullSeen.{IsAnswerOf, IsAnswerFrom, IsAnswerAfter, IsBrief, answer_view};
     ghost use Rattle.lockfree_object_pool.specs.Item.{IsPulledOf};
     ghost use Rattle.lockfree_object_pool.specs.Note.{note_page, witness_page, IsReturned, IsNoteOf, HasLearned};
-    ghost use Rattle.lockfree_object_pool.specs.Page.{page_identity, page_opening, IsFilled};
+    ghost use Rattle.lockfree_object_pool.specs.Page.{page_identity, page_opening, OpensWith};
     ghost use Rattle.lockfree_object_pool.specs.PageRule.{IsSound, KnowsOut, item_of};
     ghost use Rattle.lockfree_object_pool.specs.Refusal.{RefusesMaking};
     ghost use Rattle.lockfree_object_pool.specs.Slot.{slot_item, slot_view};
@@ -114,35 +115,10 @@ impl<T, K: Clean<T>> Page<T, K> {
         T: Drop,
         requires { MayMake (I.pre init.now) (λ answer. I.post init.now answer) K.meets }
         ensures refused { IfErr result (RefusesMaking (I.post init.now None)) }
-        ensures opened { IfOk result (λ page. IsFilled (λ made. I.post init.now (Some made)) (page_opening page)) }
+        ensures opened { IfOk result (OpensWith (λ made. I.post init.now (Some made))) }
     {
-        let items = Page::<T, K>::make_items(alloc, init)?;
-        let opening = Snapshot::of(&items);
-        match Table::new(alloc, &[u32::MAX as u64], items, &opening) {
-            Ok((table, _)) => Ok(Page { table }),
-            Err(_) => Err(PullError::Memory),
-        }
-    }
-
-    fn make_items<I: Fn() -> Option<T>>(
-        alloc: Global,
-        init: &I,
-    ) -> Result<Vec<Option<T>>, PullError>
-    where
-        T: Drop,
-        requires { MayMake (I.pre init.now) (λ answer. I.post init.now answer) K.meets }
-        ensures all { IfOk result (λ items. IsFilled K.meets items.items) }
-        ensures answers { IfOk result (λ items. IsFilled (λ made. I.post init.now (Some made)) items.items) }
-        ensures refused { IfErr result (RefusesMaking (I.post init.now None)) }
-    {
-        let mut items = Vec::with_capacity(alloc, PAGE_ITEMS)?;
-        for _ in 0..PAGE_ITEMS {
-            let Some(item) = init() else {
-                return Err(PullError::Init);
-            };
-            items.push(Some(item))?;
-        }
-        Ok(items)
+        let items = Items::new(alloc, PAGE_ITEMS, &[u32::MAX as u64], init)?;
+        Ok(Page { items })
     }
 
     /// A slot, or `None` after each of the 32 ids was found out during the call.
@@ -177,7 +153,7 @@ impl<T, K: Clean<T>> Page<T, K> {
         ensures answer { IsAnswerOf K.meets (page_identity self.now) (page_opening self.now) result.answer }
         ensures brief { IsBrief (answer_view result.answer) }
     {
-        let (word, seat) = self.look();
+        let (word, seat) = self.items.look(0);
         self.take_lowest(pass, word, seat)
     }
 
@@ -192,7 +168,7 @@ impl<T, K: Clean<T>> Page<T, K> {
         ensures answer { IfOk result (IsAnswerAfter K.meets (page_identity self.now) note) }
     {
         let PageNote { mut seat } = note;
-        let word = self.look_as(&mut seat);
+        let word = self.items.look_again(&mut seat, 0);
         Ok(self.take_lowest(pass, word, seat).answer)
     }
 
@@ -202,9 +178,7 @@ impl<T, K: Clean<T>> Page<T, K> {
     pub fn note(&self) -> PageNote<T>
         ensures { IsNoteOf (page_identity self.now) (page_opening self.now) result }
     {
-        PageNote {
-            seat: self.look().1,
-        }
+        self.items.note()
     }
 
     /// Tells a note what a witness knows. The histories of both are beginnings of one.
@@ -213,9 +187,7 @@ impl<T, K: Clean<T>> Page<T, K> {
         requires other { witness_page other ≡ page_identity self.now }
         ensures { HasLearned note.old other note.new }
     {
-        let Witness { seat: other } = other;
-        self.table.shared.join_seat::<Tells>(&mut note.seat, other);
-        self.look_as(&mut note.seat);
+        self.items.tell(note, other);
     }
 
     /// Clears the bits that were set in the word, lowest first, until one was still set.
@@ -235,24 +207,28 @@ impl<T, K: Clean<T>> Page<T, K> {
         ensures looks { (answer_view result.answer).looks ≡ seat.me.0.looks }
         ensures tries { (answer_view result.answer).tries ≤ seat.me.0.tries + PAGE_ITEMS }
     {
-        let mut untried = word;
-        while let Some((rest, id)) = take_least(untried) {
-            if let Some((value, left_full)) = self.clear(&mut seat, id) {
+        match self.items.take_lowest(&mut seat, 0, word) {
+            Some(
+                TakenValue {
+                    number: id,
+                    value,
+                    left_full,
+                },
+            ) => {
                 let taken = TakenId {
                     page: self,
                     seat,
-                    id: id as usize,
+                    id,
                 };
-                return Taken {
+                Taken {
                     answer: Allocated::Slot(PageSlot::new(taken, value)),
                     left_full,
-                };
+                }
             }
-            untried = rest;
-        }
-        Taken {
-            answer: Allocated::Full(FullSeen { seat, pass }),
-            left_full: true,
+            None => Taken {
+                answer: Allocated::Full(FullSeen { seat, pass }),
+                left_full: true,
+            },
         }
     }
 
@@ -272,7 +248,7 @@ impl<T, K: Clean<T>> Page<T, K> {
 
     /// The word at this moment.
     pub fn get_mask(&self) -> u32 {
-        self.look().0
+        self.items.look(0).0
     }
 }
 

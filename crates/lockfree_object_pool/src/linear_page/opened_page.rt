@@ -1,7 +1,7 @@
 //! A page of a chain, which opened with values of one kind.
 ghost use Rattle.std.specs.Prelude.{◌≡◌};
 ghost use Rattle.std.specs.Arc.{arc_value};
-ghost use Rattle.lockfree_object_pool.specs.Page.{page_identity, page_opening, IsFilled};
+ghost use Rattle.lockfree_object_pool.specs.Page.{page_identity, OpensWith};
 ghost use Rattle.lockfree_object_pool.specs.Walk.{IsAnsweredBy};
 
 use crate::clean::Clean;
@@ -23,19 +23,19 @@ impl<T, K: Clean<T>, O: Clean<T>> Model for OpenedPage<T, K, O> {
     ghost use Rattle.std.specs.Arc.{arc_value};
     ghost use Rattle.std.specs.declared.alloc.Global.{Global};
     ghost use Rattle.std.specs.declared.sync.Arc.{Arc};
-    ghost use Rattle.lockfree_object_pool.specs.Page.{page_opening, IsFilled};
+    ghost use Rattle.lockfree_object_pool.specs.Page.{OpensWith};
     ghost use Rattle.lockfree_object_pool.specs.declared.page.Page.{Page};
 
     ghost Value = { Arc (Page T K) Global };
 
     ghost view = { λ opened. opened.page };
 
-    ghost invariant = { λ opened. IsFilled O.meets (page_opening (arc_value opened.page)) };
+    ghost invariant = { λ opened. OpensWith O.meets (arc_value opened.page) };
 }
 
 impl<T, K: Clean<T>, O: Clean<T>> OpenedPage<T, K, O> {
     pub(super) fn new(page: Arc<Page<T, K>>) -> OpenedPage<T, K, O>
-        requires { IsFilled O.meets (page_opening (arc_value page)) }
+        requires { OpensWith O.meets (arc_value page) }
         ensures { result ≡ page }
     {
         OpenedPage {
@@ -47,7 +47,7 @@ impl<T, K: Clean<T>, O: Clean<T>> OpenedPage<T, K, O> {
     /// The page, with its owners.
     pub(super) fn owner(&self) -> &Arc<Page<T, K>>
         ensures page { result.now ≡ self.now }
-        ensures opened { IsFilled O.meets (page_opening (arc_value result.now)) }
+        ensures opened { OpensWith O.meets (arc_value result.now) }
     {
         &self.page
     }

@@ -44,7 +44,7 @@ impl<T, K: Clean<T>> OwnedTakenId<T, K> {
         ensures { IsReturned (owned_taken_item self value) result.note }
     {
         let OwnedTakenId { page, seat, id } = self;
-        let (seat, was_full) = page.give(seat, id, value);
+        let (seat, was_full) = page.items.give(seat, id, value);
         Returned {
             note: PageNote { seat },
             was_full,

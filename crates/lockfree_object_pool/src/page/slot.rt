@@ -5,7 +5,6 @@ ghost use Rattle.lockfree_object_pool.specs.OneProof.{same_page, same_holding, s
 ghost use Rattle.lockfree_object_pool.specs.Page.{page_identity};
 ghost use Rattle.lockfree_object_pool.specs.declared.page.TheConstants.{PAGE_ITEMS};
 
-use super::rule::Witnesses;
 use super::user_view::UserSeat;
 use super::{OwnedSlot, OwnedTakenId, Page, PageId, PageNote, Returned, Witness};
 use crate::clean::Clean;
@@ -44,7 +43,7 @@ impl<'s, T, K: Clean<T>> TakenId<'s, T, K> {
         ensures { IsReturned (taken_item self.entry value) result.note }
     {
         let TakenId { page, seat, id } = self;
-        let (seat, was_full) = page.give(seat, id, value);
+        let (seat, was_full) = page.items.give(seat, id, value);
         Returned {
             note: PageNote { seat },
             was_full,
@@ -94,9 +93,7 @@ impl<'s, T, K: Clean<T>> PageSlot<'s, T, K> {
     {
         let taken = &mut self.taken;
         let page = taken.page;
-        Witness {
-            seat: page.table.shared.split_seat::<Witnesses>(&mut taken.seat),
-        }
+        page.items.witness(&mut taken.seat)
     }
 
     /// The id and the value by themselves.

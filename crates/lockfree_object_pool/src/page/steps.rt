@@ -1,77 +1,97 @@
-//! The steps on a page's word, and the move of a value out and home.
+//! The steps on the words of a page or of a fixed pool, and the move of a value out and home.
 ghost use Rattle.std.specs.Prelude.{◌≡◌, ◌<◌, [], ◌∷◌, Some, None, MatchOption, false};
 ghost use Rattle.lockfree_object_pool.specs.declared.page.history.PageAct.TheVariants.{Gave};
-ghost use Rattle.lockfree_object_pool.specs.declared.page.TheConstants.{PAGE_ITEMS};
 
-use super::rule::{ClearBit, Look, LookAgain, SetBit};
+use super::items::Items;
+use super::rule::{ClearBit, Look, LookAgain, LookOn, SetBit};
 use super::user_view::UserSeat;
-use super::{Page, PageId, has_bit, with_bit, without_bit};
+use super::{PAGE_ITEMS, PageId, has_bit, with_bit, without_bit};
 use crate::clean::Clean;
 
-impl<T, K: Clean<T>> Page<T, K> {
-    ghost use Rattle.lockfree_object_pool.specs.PageRule.{Looks, LooksAgain, Misses, MovesOut, GoesOn, first_view};
-    ghost use Rattle.lockfree_object_pool.specs.Page.{page_identity, page_opening};
+impl<T, K: Clean<T>> Items<T, K> {
+    ghost use Rattle.lockfree_object_pool.specs.Items.{items_identity, items_opening};
+    ghost use Rattle.lockfree_object_pool.specs.PageRule.{Looks, LooksAgain, LooksOn, Misses, MovesOut, GoesOn, first_view, item_of};
 
-    /// The word at this moment, and a new user that knows of the ids that are clear in it.
-    pub(super) fn look(&self) -> (u32, UserSeat<T>)
-        ensures page { result.1.table_id ≡ page_identity self.now }
-        ensures found { Looks (first_view (page_opening self.now)) 0 result.0 result.1.me }
+    /// A word at this moment, and a new user that knows of the items that are out in it.
+    pub(crate) fn look(&self, page: usize) -> (u32, UserSeat<T>)
+        requires { page < (items_identity self.now).words }
+        ensures items { result.1.table_id ≡ items_identity self.now }
+        ensures found { Looks (first_view (items_opening self.now)) page result.0 result.1.me }
         ensures carries_none { result.1.me.1 ≡ [] }
     {
-        let (word, seat) = self.table.shared.load_new_seat::<Look>(0);
+        let (word, seat) = self.table.shared.load_new_seat::<Look>(page);
         (word as u32, seat)
     }
 
-    /// The word at this moment, for a user that knows something of the page already.
-    pub(super) fn look_as(&self, seat: &mut UserSeat<T>) -> u32
-        requires page { seat.old.table_id ≡ page_identity self.now }
+    /// A further word at this moment, for the same user.
+    pub(crate) fn look_on(&self, seat: &mut UserSeat<T>, page: usize) -> u32
+        requires items { seat.old.table_id ≡ items_identity self.now }
+        requires in_items { page < (items_identity self.now).words }
         requires here { seat.old.me.0.gone ≡ false }
-        ensures page { seat.new.table_id ≡ seat.old.table_id }
-        ensures found { LooksAgain 0 seat.old.me result seat.new.me }
+        ensures items { seat.new.table_id ≡ seat.old.table_id }
+        ensures found { LooksOn page seat.old.me result seat.new.me }
     {
-        self.table.shared.load::<LookAgain>(seat, 0) as u32
+        self.table.shared.load::<LookOn>(seat, page) as u32
     }
 
-    /// Clears one bit. The value of that item, where it was free, and whether no other bit was set then.
-    pub(super) fn clear(&self, seat: &mut UserSeat<T>, id: PageId) -> Option<(T, bool)>
-        requires page { seat.old.table_id ≡ page_identity self.now }
-        requires in_page { id < PAGE_ITEMS }
+    /// A word at this moment, for a user that knows something of the items already.
+    pub(crate) fn look_again(&self, seat: &mut UserSeat<T>, page: usize) -> u32
+        requires items { seat.old.table_id ≡ items_identity self.now }
+        requires in_items { page < (items_identity self.now).words }
+        requires here { seat.old.me.0.gone ≡ false }
+        ensures items { seat.new.table_id ≡ seat.old.table_id }
+        ensures found { LooksAgain page seat.old.me result seat.new.me }
+    {
+        self.table.shared.load::<LookAgain>(seat, page) as u32
+    }
+
+    /// Clears one bit. The value of that item, where it was free, and whether no other bit of its word was set then.
+    pub(super) fn clear(
+        &self,
+        seat: &mut UserSeat<T>,
+        page: usize,
+        bit: PageId,
+    ) -> Option<(T, bool)>
+        requires items { seat.old.table_id ≡ items_identity self.now }
+        requires in_items { page < (items_identity self.now).words }
+        requires in_word { bit < 32 }
         requires holds_none { seat.old.me.0.held ≡ None }
         requires here { seat.old.me.0.gone ≡ false }
-        ensures page { seat.new.table_id ≡ seat.old.table_id }
-        ensures outcome { MatchOption result (Misses id seat.old.me seat.new.me) (λ taken. K.meets taken.0 × MovesOut id taken.0 seat.old.me seat.new.me) }
+        ensures items { seat.new.table_id ≡ seat.old.table_id }
+        ensures outcome { MatchOption result (Misses (item_of page bit) seat.old.me seat.new.me) (λ taken. (item_of page bit < (items_identity self.now).slots) × K.meets taken.0 × MovesOut (item_of page bit) taken.0 seat.old.me seat.new.me) }
     {
         let words = &self.table.shared;
-        let word = words.fetch_and::<ClearBit<K>>(seat, 0, without_bit(u32::MAX, id) as u64);
-        if !has_bit(word as u32, id) {
+        let word = words.fetch_and::<ClearBit<K>>(seat, page, without_bit(u32::MAX, bit) as u64);
+        if !has_bit(word as u32, bit) {
             return None;
         }
-        match words.exchange(seat, id as usize, None) {
-            Some(value) => Some((value, without_bit(word as u32, id) == 0)),
+        match words.exchange(seat, PAGE_ITEMS * page + bit as usize, None) {
+            Some(value) => Some((value, without_bit(word as u32, bit) == 0)),
             None => unreachable!(),
         }
     }
 
-    /// Moves the value home, then sets its bit. Whether no other bit was set then.
-    pub(super) fn give(&self, mut seat: UserSeat<T>, id: usize, value: T) -> (UserSeat<T>, bool)
-        requires page { seat.table_id ≡ page_identity self.now }
-        requires in_page { id < PAGE_ITEMS }
-        requires holds { seat.me.0.held ≡ Some id }
+    /// Moves the value home, then sets its bit. Whether no other bit of its word was set then.
+    pub(crate) fn give(&self, mut seat: UserSeat<T>, number: usize, value: T) -> (UserSeat<T>, bool)
+        requires items { seat.table_id ≡ items_identity self.now }
+        requires in_items { number < (items_identity self.now).slots }
+        requires holds { seat.me.0.held ≡ Some number }
         requires here { seat.me.0.gone ≡ false }
-        requires carries { seat.me.1 ≡ (id, None) ∷ [] }
+        requires carries { seat.me.1 ≡ (number, None) ∷ [] }
         requires meets { K.meets value }
-        ensures page { result.0.table_id ≡ seat.table_id }
+        ensures items { result.0.table_id ≡ seat.table_id }
         ensures carries_none { result.0.me.1 ≡ [] }
         ensures holds_none { result.0.me.0.held ≡ None }
         ensures here { result.0.me.0.gone ≡ false }
-        ensures returned { GoesOn (Gave result.0.me.0.user id value ∷ []) seat.me.0 result.0.me.0 }
+        ensures returned { GoesOn (Gave result.0.me.0.user number value ∷ []) seat.me.0 result.0.me.0 }
     {
         let words = &self.table.shared;
-        match words.exchange(&mut seat, id, Some(value)) {
+        match words.exchange(&mut seat, number, Some(value)) {
             None => {}
             Some(_) => unreachable!(),
         }
-        let word = words.fetch_or::<SetBit>(&mut seat, 0, with_bit(0, id as PageId) as u64);
+        let bit = with_bit(0, (number % PAGE_ITEMS) as PageId);
+        let word = words.fetch_or::<SetBit>(&mut seat, number / PAGE_ITEMS, bit as u64);
         (seat, word == 0)
     }
 }

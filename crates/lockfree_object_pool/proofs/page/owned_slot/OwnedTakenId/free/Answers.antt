@@ -3,4 +3,4 @@ use Rattle.lockfree_object_pool.proofs.PageAnswers.{returned}
 use Rattle.lockfree_object_pool.proofs.page.owned_slot.OwnedTakenId.free.Goals as goal
 
 pub returns : goal.returns
-returns g c = returned _ _ _ _ _ _ refl c.give-seat.ensures.page c.give-seat.ensures.returned
+returns g c = returned _ _ _ _ _ _ refl c.give-seat.ensures.items c.give-seat.ensures.returned

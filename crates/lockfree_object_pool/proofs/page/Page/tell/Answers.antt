@@ -1,6 +1,0 @@
-use Rattle.std.proofs.Common.{arith}
-use Rattle.lockfree_object_pool.proofs.PageSteps.{tells}
-use Rattle.lockfree_object_pool.proofs.page.Page.tell.Goals as goal
-
-pub join_seat-requires : goal.join_seat-requires
-join_seat-requires g c = (c.requires.note, c.requires.other, c.args.other.carries_none, omega (arith, c.args.self.now.sized.0), tells _ _ _ _ _ _ c.args.note.now.here)

@@ -1,0 +1,10 @@
+use Rattle.std.proofs.Common.{arith}
+use Rattle.lockfree_object_pool.proofs.PageSteps.{tells}
+use Rattle.lockfree_object_pool.proofs.page.items.Items.tell.Goals as goal
+
+pub join_seat-requires : goal.join_seat-requires
+join_seat-requires g c =
+    let items = c.args.self.now in
+    let covered = items.covered in
+    let some_item = items.some_item in
+    (c.requires.note, c.requires.other, c.args.other.carries_none, omega arith, tells _ _ _ _ _ _ c.args.note.now.here)
