@@ -21,18 +21,10 @@ use Rattle.lockfree_object_pool.proofs.PageActs.{lawful_of, beginning_further, s
 use Rattle.lockfree_object_pool.proofs.PageHolders.{came_from_lawful, spared_return}
 
 module _ {T : Type 0} where
-  -- one more bit of the first word was tried in vain
-  pub out_or_untried : (untried bit left : ℕ) (old new : User T) → ClearsBit untried bit left → Misses bit old new
-      → ((i : ℕ) → i < 32 → bit_at untried i ≡ 0 → KnowsOut old.0 (item_of 0 i)) → (i : ℕ) → i < 32 → bit_at left i ≡ 0 → KnowsOut new.0 (item_of 0 i)
-  out_or_untried untried bit left old new clears missed before i within none = dite (ℕ_discrete i bit)
-      (λ same. let whole : bit ≡ 32 * 0 + i = omega arith in subst (KnowsOut new.0) whole missed.was_out)
-      (λ differ. still_out old.0 new.0 (item_of 0 i) missed.goes_on (before i within (sym (clears.others i differ) ∙ none)))
-
   -- what was found out since a load, told of the user as it was then
-  pub was_out_from : (start known : UserView T) (id : ℕ) → GoesOn [] start known → KnowsOut known (item_of 0 id) → WasOutBetween start.opening start.since known.acts id
+  pub was_out_from : (start known : UserView T) (id : ℕ) → GoesOn [] start known → KnowsOut known id → WasOutBetween start.opening start.since known.acts id
   was_out_from start known id goes was =
-      let whole : 32 * 0 + id ≡ id = omega arith in
-      subst (λ (p : List (Option T) × History T). WasOutBetween p.0 p.1 known.acts id) (λ i. (goes.same_opening i, goes.same_since i)) (subst (KnowsOut known) whole was)
+      subst (λ (p : List (Option T) × History T). WasOutBetween p.0 p.1 known.acts id) (λ i. (goes.same_opening i, goes.same_since i)) was
 
   -- the user of a pull has acted since it began: the pull is the one act more
   module _ (page : TableId) (start known : UserView T) (id : ℕ) (value : T) (goes : GoesOn (Took known.user id value ∷ []) start known) where

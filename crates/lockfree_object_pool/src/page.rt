@@ -15,7 +15,7 @@ ghost use Rattle.lockfree_object_pool.specs.declared.page.TheConstants.{PAGE_ITE
 
 use crate::PullError;
 use crate::clean::Clean;
-use items::{Items, TakenValue};
+use items::Items;
 use std::alloc::Global;
 use user_view::UserSeat;
 
@@ -208,21 +208,15 @@ impl<T, K: Clean<T>> Page<T, K> {
         ensures tries { (answer_view result.answer).tries ≤ seat.me.0.tries + PAGE_ITEMS }
     {
         match self.items.take_lowest(&mut seat, 0, word) {
-            Some(
-                TakenValue {
-                    number: id,
-                    value,
-                    left_full,
-                },
-            ) => {
-                let taken = TakenId {
+            Some(taken) => {
+                let id = TakenId {
                     page: self,
                     seat,
-                    id,
+                    id: taken.number,
                 };
                 Taken {
-                    answer: Allocated::Slot(PageSlot::new(taken, value)),
-                    left_full,
+                    answer: Allocated::Slot(PageSlot::new(id, taken.value)),
+                    left_full: taken.left_full,
                 }
             }
             None => Taken {

@@ -138,10 +138,10 @@ impl<T, K: Clean<T>> FixedItems<T, K> {
     {
         let (word, mut seat) = self.shared.look(start);
         match self.take(&mut seat, start, word) {
-            Some(TakenValue { number, value, .. }) => Ok(PulledItem {
+            Some(taken) => Ok(PulledItem {
                 seat,
-                number,
-                value,
+                number: taken.number,
+                value: taken.value,
             }),
             None => Err(BusySeen { seat, pass }),
         }
@@ -179,14 +179,14 @@ impl<T, K: Clean<T>> FixedItems<T, K> {
         let PageNote { mut seat } = note;
         let start = self.hinted();
         let word = self.shared.look_again(&mut seat, start);
-        let Some(TakenValue { number, value, .. }) = self.take(&mut seat, start, word) else {
+        let Some(taken) = self.take(&mut seat, start, word) else {
             return Err(BusySeen { seat, pass });
         };
-        self.set_hint(number / PAGE_ITEMS);
+        self.set_hint(taken.number / PAGE_ITEMS);
         Ok(PulledItem {
             seat,
-            number,
-            value,
+            number: taken.number,
+            value: taken.value,
         })
     }
 

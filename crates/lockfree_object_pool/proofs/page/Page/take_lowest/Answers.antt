@@ -11,7 +11,7 @@ use Rattle.lockfree_object_pool.proofs.page.Page.take_lowest.Goals as goal
 pub returns-in-Some-clause-answer : goal.returns-in-Some-clause-answer
 returns-in-Some-clause-answer g c =
     let took = c.in-Some.ensures.outcome in
-    let item = item_known c.take_lowest.new.seat.table_id c.take_lowest.new.seat.me.0 c.in-Some.id c.in-Some.value in
+    let item = item_known c.take_lowest.new.seat.table_id c.take_lowest.new.seat.me.0 c.in-Some.taken.number c.in-Some.taken.value in
     let sized = c.args.self.now.sized in
     let inside = took.in_pool in
     let here : IsItemOf g.K.Clean.meets (page_identity c.args.self.now) item = record {

@@ -26,7 +26,7 @@ loop-page-preserved g c =
     let test = c.loop-page-test.true in
     record {
       steps = record { loads = omega arith; tries = omega arith };
-      same_pool = c.take_lowest.ensures.pool ∙ c.look_on-word.ensures.pool ∙ before.same_pool;
+      same_pool = c.take_lowest.ensures.items ∙ c.look_on-word.ensures.items ∙ before.same_pool;
       carries_none = own.carries_same ∙ c.look_on-word.ensures.found.carries_same ∙ before.carries_none;
       holds_none = own.holds_same ∙ c.look_on-word.ensures.found.holds_same ∙ before.holds_none;
       missed = subst (λ to. MissesAll (32 * c.args.from) to c.args.seat.now.me c.take_lowest.new.seat.me) next all;

@@ -14,5 +14,6 @@ pub returns-clause-outcome : goal.returns-clause-outcome
 returns-clause-outcome g c =
     let items = c.args.self.now in
     let counted = items.counted in
-    let covered = items.covered in
+    let paged = items.paged in
+    let covered = items.shared.covered in
     missed_round c.args.start items.pages _ _ _ _ _ (omega arith) c.in_default.ensures.outcome c.in_default-scan.ensures.outcome c.in_default-scan-2.ensures.outcome
