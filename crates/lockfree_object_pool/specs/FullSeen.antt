@@ -1,5 +1,5 @@
 -- What the answer of a page to a pull shows.
-use Rattle.std.specs.Prelude.{◌≡◌, ℕ, ◌<◌, ◌≤◌, ◌∷◌, [], List, Option}
+use Rattle.std.specs.Prelude.{◌≡◌, ℕ, ◌+◌, ◌<◌, ◌≤◌, ◌∷◌, [], List, Option}
 use Rattle.atomic_table.specs.Seated.{TableId}
 use Rattle.lockfree_object_pool.specs.declared.page.history.PageAct.TheVariants.{Took}
 use Rattle.lockfree_object_pool.specs.declared.page.user_view.UserView.{UserView}
@@ -8,7 +8,7 @@ use Rattle.lockfree_object_pool.specs.declared.page.full_seen.FullSeen.{FullSeen
 use Rattle.lockfree_object_pool.specs.declared.page.full_seen.Allocated.{Allocated}
 use Rattle.lockfree_object_pool.specs.declared.page.full_seen.Allocated.TheVariants.{Slot, Full}
 use Rattle.lockfree_object_pool.specs.Item.{IsItemOf, IsPulledOf}
-use Rattle.lockfree_object_pool.specs.Note.{note_opening, note_history, IsPulledAfter}
+use Rattle.lockfree_object_pool.specs.Note.{note_view, note_opening, note_history, IsPulledAfter}
 use Rattle.lockfree_object_pool.specs.PageHistory.{History, IsLawful, IsBeginningOf, WasOutBetween}
 use Rattle.lockfree_object_pool.specs.PageRule.{GoesOn}
 use Rattle.lockfree_object_pool.specs.Slot.{slot_item, slot_view}
@@ -46,6 +46,11 @@ module _ {T : Type 0} where
   pub record IsBrief (known : UserView T) : Type 0 where
     pub one_look : known.looks ≡ 1
     pub tries : known.tries ≤ PAGE_ITEMS
+
+  -- the same of a call that goes on from a note: it read the word once more, and tried so many bits more at most
+  pub record IsBriefAfter (note : PageNote T) (known : UserView T) : Type 0 where
+    pub one_look_more : known.looks ≡ (note_view note).looks + 1
+    pub tries : known.tries ≤ (note_view note).tries + PAGE_ITEMS
 
   -- the same of a call that goes on from a note: its load stands after all that the note knew
   pub record IsFullAfter (page : TableId) (note : PageNote T) (seen : FullSeen T) : Type 0 where

@@ -99,7 +99,7 @@ pub struct Page<T, K: Clean<T>> {
 
 impl<T, K: Clean<T>> Page<T, K> {
     ghost use Rattle.lockfree_object_pool.specs.Answers.{MayMake};
-    ghost use Rattle.lockfree_object_pool.specs.FullSeen.{IsAnswerOf, IsAnswerFrom, IsAnswerAfter, IsBrief, answer_view};
+    ghost use Rattle.lockfree_object_pool.specs.FullSeen.{IsAnswerOf, IsAnswerFrom, IsAnswerAfter, IsBrief, IsBriefAfter, answer_view};
     ghost use Rattle.lockfree_object_pool.specs.Item.{IsPulledOf};
     ghost use Rattle.lockfree_object_pool.specs.Note.{note_page, witness_page, IsReturned, IsNoteOf, HasLearned};
     ghost use Rattle.lockfree_object_pool.specs.Page.{page_identity, page_opening, OpensWith};
@@ -166,6 +166,7 @@ impl<T, K: Clean<T>> Page<T, K> {
         requires page { note_page note ≡ page_identity self.now }
         ensures succeeds { IsOk result }
         ensures answer { IfOk result (IsAnswerAfter K.meets (page_identity self.now) note) }
+        ensures brief { IfOk result (λ answer. IsBriefAfter note (answer_view answer)) }
     {
         let PageNote { mut seat } = note;
         let word = self.items.look_again(&mut seat, 0);
