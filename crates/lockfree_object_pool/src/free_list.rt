@@ -4,6 +4,7 @@ ghost use Rattle.std.specs.Prelude.{IfSome};
 use crate::clean::Clean;
 use crate::spin_lock::SpinLock;
 use crate::stack::{Room, Stack};
+use std::mem;
 use std::sync::{Mutex, Wait};
 
 /// A list of kept values, each of which meets `K`, in the room that came with it. Its calls may
@@ -16,6 +17,12 @@ pub trait FreeList<T, K: Clean<T>>: Drop {
     /// Keeps a value in an empty room. The two lists of this crate take no memory for it.
     fn put<W: Wait>(&self, rt: &W, room: Room<T>, value: T)
         requires { K.meets value };
+
+    /// How many values are kept at this moment, `usize::MAX` where there are more.
+    fn count<W: Wait>(&self, rt: &W) -> usize;
+
+    /// Drops all values that are kept, with their rooms. The two lists of this crate drop them without the lock.
+    fn clear<W: Wait>(&self, rt: &W);
 }
 
 impl<T: Drop, K: Clean<T>> FreeList<T, K> for Mutex<Stack<T, K>> {
@@ -28,6 +35,15 @@ impl<T: Drop, K: Clean<T>> FreeList<T, K> for Mutex<Stack<T, K>> {
     {
         self.lock(rt).put(room, value);
     }
+
+    fn count<W: Wait>(&self, rt: &W) -> usize {
+        self.lock(rt).kept()
+    }
+
+    fn clear<W: Wait>(&self, rt: &W) {
+        let kept = mem::replace(&mut *self.lock(rt), Stack::new());
+        drop(kept);
+    }
 }
 
 impl<T: Drop, K: Clean<T>> FreeList<T, K> for SpinLock<Stack<T, K>> {
@@ -39,5 +55,14 @@ impl<T: Drop, K: Clean<T>> FreeList<T, K> for SpinLock<Stack<T, K>> {
         requires { K.meets value }
     {
         self.lock(rt).put(room, value);
+    }
+
+    fn count<W: Wait>(&self, rt: &W) -> usize {
+        self.lock(rt).kept()
+    }
+
+    fn clear<W: Wait>(&self, rt: &W) {
+        let kept = mem::replace(&mut *self.lock(rt), Stack::new());
+        drop(kept);
     }
 }

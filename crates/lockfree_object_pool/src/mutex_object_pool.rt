@@ -7,6 +7,7 @@ use crate::made_or_reset::MadeOrReset;
 use crate::stack::Stack;
 use crate::stack_object_pool::StackObjectPool;
 use std::alloc::Global;
+use std::fmt::{self, Debug, Formatter, Write};
 use std::sync::Mutex;
 
 /// A pool whose kept values lie in a stack under a mutex.
@@ -27,5 +28,11 @@ impl<T: Drop, I: Init<T, K>, R: Reset<T, K>, K: Clean<T>> MutexObjectPool<T, I, 
         ensures reset { stack_reset result ≡ reset }
     {
         StackObjectPool::over(alloc, init, reset, Mutex::new(Stack::new()))
+    }
+}
+
+impl<T: Drop, I: Init<T, K>, R: Reset<T, K>, K: Clean<T>> Debug for MutexObjectPool<T, I, R, K> {
+    fn fmt<W: Write>(&self, f: &mut Formatter<W>) -> fmt::Result {
+        f.debug_struct("MutexObjectPool").finish_non_exhaustive()
     }
 }

@@ -1,7 +1,8 @@
-//! Values that say themselves how they are made and reset, and the linear and the fixed pool of them.
+//! Values that say themselves how they are made and reset, and the pools of them.
 //!
-//! One impl of [`Recyclable`] is all that a type needs, and [`Pool`] and [`FixedPool`] name its pools.
-ghost use Rattle.std.specs.Prelude.{◌≡◌, ◌≤◌, ⊤, [], None, IfSome, IfOk, IfErr};
+//! One impl of [`Recyclable`] is all that a type needs, and [`Pool`], [`FixedPool`], [`MutexPool`] and [`SpinLockPool`] name its
+//! pools.
+ghost use Rattle.std.specs.Prelude.{◌≡◌, ◌≤◌, ⊤, [], None, Some, IfSome, IfOk, IfErr};
 
 use crate::PullError;
 use crate::clean::Clean;
@@ -12,6 +13,12 @@ use crate::fixed_reusable::FixedReusable;
 use crate::linear_object_pool::LinearObjectPool;
 use crate::linear_owned_reusable::LinearOwnedReusable;
 use crate::linear_reusable::LinearReusable;
+use crate::mutex_object_pool::MutexObjectPool;
+use crate::mutex_owned_reusable::MutexOwnedReusable;
+use crate::mutex_reusable::MutexReusable;
+use crate::spin_lock_object_pool::SpinLockObjectPool;
+use crate::spin_lock_owned_reusable::SpinLockOwnedReusable;
+use crate::spin_lock_reusable::SpinLockReusable;
 use std::alloc::Global;
 
 /// A value that can be used again once it is reset.
@@ -104,6 +111,16 @@ impl<T: Recyclable> Pool<T> {
         let recycler = Recycler::new(alloc);
         LinearObjectPool::new(alloc, recycler, recycler)
     }
+
+    /// A pool of one page, which grows to so many pages of 32 values.
+    pub fn with_recycler_within(alloc: Global, pages: usize) -> Result<Pool<T>, PullError>
+        requires { 1 ≤ pages }
+        ensures limit { IfOk result (λ pool. pool_limit pool ≡ Some pages) }
+        ensures refused { IfErr result (RefusesMaking ⊤) }
+    {
+        let recycler = Recycler::new(alloc);
+        LinearObjectPool::with_limit(alloc, recycler, recycler, pages)
+    }
 }
 
 /// The fixed pool of a [`Recyclable`] type: all its values are made at first.
@@ -131,5 +148,49 @@ impl<T: Recyclable> FixedPool<T> {
     {
         let recycler = Recycler::new(alloc);
         FixedObjectPool::new(alloc, recycler, recycler, items)
+    }
+}
+
+/// The mutex pool of a [`Recyclable`] type.
+pub type MutexPool<T> = MutexObjectPool<T, Recycler, Recycler, Recycler>;
+
+/// A value that was pulled from a [`MutexPool`] or attached to it, under a borrow of it.
+pub type MutexPoolReusable<'p, T, W> = MutexReusable<'p, T, Recycler, Recycler, Recycler, W>;
+
+/// A value that was pulled from a [`MutexPool`] or attached to it, with an owner of it.
+pub type MutexPoolOwnedReusable<T, W> = MutexOwnedReusable<T, Recycler, Recycler, Recycler, W>;
+
+impl<T: Recyclable> MutexPool<T> {
+    /// A pool that keeps nothing yet. It takes no memory.
+    pub fn with_recycler(alloc: Global) -> MutexPool<T> {
+        let recycler = Recycler::new(alloc);
+        MutexObjectPool::new(alloc, recycler, recycler)
+    }
+}
+
+/// The spin lock pool of a [`Recyclable`] type.
+pub type SpinLockPool<T> = SpinLockObjectPool<T, Recycler, Recycler, Recycler>;
+
+/// A value that was pulled from a [`SpinLockPool`] or attached to it, under a borrow of it.
+pub type SpinLockPoolReusable<'p, T, W> = SpinLockReusable<'p, T, Recycler, Recycler, Recycler, W>;
+
+/// A value that was pulled from a [`SpinLockPool`] or attached to it, with an owner of it.
+pub type SpinLockPoolOwnedReusable<T, W> = SpinLockOwnedReusable<
+    T,
+    Recycler,
+    Recycler,
+    Recycler,
+    W,
+>;
+
+impl<T: Recyclable> SpinLockPool<T> {
+    ghost use Rattle.lockfree_object_pool.specs.Refusal.{RefusesMaking};
+
+    /// A pool that keeps nothing yet.
+    pub fn with_recycler(alloc: Global) -> Result<SpinLockPool<T>, PullError>
+        ensures refused { IfErr result (RefusesMaking ⊥) }
+    {
+        let recycler = Recycler::new(alloc);
+        SpinLockObjectPool::new(alloc, recycler, recycler)
     }
 }

@@ -11,6 +11,7 @@ use crate::spin_lock::SpinLock;
 use crate::stack::Stack;
 use crate::stack_object_pool::StackObjectPool;
 use std::alloc::Global;
+use std::fmt::{self, Debug, Formatter, Write};
 
 /// A pool whose kept values lie in a stack under a spin lock.
 pub type SpinLockObjectPool<T, I, R, K = AnyValue> = StackObjectPool<
@@ -39,5 +40,11 @@ impl<T: Drop, I: Init<T, K>, R: Reset<T, K>, K: Clean<T>> SpinLockObjectPool<T, 
             Ok(kept) => Ok(StackObjectPool::over(alloc, init, reset, kept)),
             Err(_) => Err(PullError::Memory),
         }
+    }
+}
+
+impl<T: Drop, I: Init<T, K>, R: Reset<T, K>, K: Clean<T>> Debug for SpinLockObjectPool<T, I, R, K> {
+    fn fmt<W: Write>(&self, f: &mut Formatter<W>) -> fmt::Result {
+        f.debug_struct("SpinLockObjectPool").finish_non_exhaustive()
     }
 }

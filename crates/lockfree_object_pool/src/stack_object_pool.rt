@@ -14,7 +14,6 @@ use crate::stack::Room;
 use crate::stack_owned_reusable::StackOwnedReusable;
 use crate::stack_reusable::StackReusable;
 use std::alloc::Global;
-use std::fmt::{self, Debug, Formatter, Write};
 use std::marker::PhantomData;
 use std::sync::{Arc, Mutex, Wait};
 
@@ -99,14 +98,48 @@ impl<
         ensures made_or_reset { IfOk result (λ item. IsMadeOrReset I.answers R.leaves item.0) }
         ensures refused { IfErr result (RefusesMaking (I.answers (stack_init self.now) None)) }
     {
-        if let Some(item) = self.kept.take(rt) {
-            return Ok(item);
+        match self.kept.take(rt) {
+            Some(item) => Ok(item),
+            None => self.made(),
         }
+    }
+
+    /// A new value, with a room for its return.
+    fn made(&self) -> Result<(T, Room<T>), PullError>
+        ensures meets { IfOk result (λ item. K.meets item.0) }
+        ensures made_or_reset { IfOk result (λ item. IsMadeOrReset I.answers R.leaves item.0) }
+        ensures refused { IfErr result (RefusesMaking (I.answers (stack_init self.now) None)) }
+    {
         let room = self.room()?;
         match self.init.make() {
             Some(value) => Ok((value, room)),
             None => Err(PullError::Init),
         }
+    }
+
+    /// Makes so many values and keeps them, so that as many pulls take no memory. `init` runs without the lock.
+    ///
+    /// # Errors
+    ///
+    /// `Memory`, or `Init` at the first `None`. What was made before is kept.
+    pub fn fill<W: Wait>(&self, rt: &W, count: usize) -> Result<(), PullError>
+        ensures refused { IfErr result (RefusesMaking (I.answers (stack_init self.now) None)) }
+    {
+        for _ in 0..count {
+            let (value, room) = self.made()?;
+            self.kept.put(rt, room, value);
+        }
+        Ok(())
+    }
+
+    /// How many values are kept at this moment, `usize::MAX` where there are more. Other threads may change it meanwhile.
+    pub fn kept<W: Wait>(&self, rt: &W) -> usize {
+        self.kept.count(rt)
+    }
+
+    /// Drops all values that are kept, and their rooms, without the lock. What is out comes back as ever.
+    pub fn clear<W: Wait>(&self, rt: &W) {
+        self.kept.clear(rt);
     }
 
     /// A room for a return.
@@ -120,13 +153,6 @@ impl<
     pub(crate) fn give<W: Wait>(&self, rt: &W, room: Room<T>, mut value: T) {
         self.reset.reset(&mut value);
         self.kept.put(rt, room, value);
-    }
-}
-
-impl<T, I: Init<T, K>, R: Reset<T, K>, K: Clean<T>, F: FreeList<T, MadeOrReset<I, R, K>>> Debug
-    for StackObjectPool<T, I, R, K, F> {
-    fn fmt<W: Write>(&self, f: &mut Formatter<W>) -> fmt::Result {
-        f.debug_struct("StackObjectPool").finish_non_exhaustive()
     }
 }
 

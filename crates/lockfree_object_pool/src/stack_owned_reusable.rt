@@ -54,6 +54,19 @@ impl<
         }
     }
 
+    /// The value, which leaves its pool for good: no reset runs, its room is dropped, and so is its owner of the pool.
+    pub fn detach(self) -> T
+        ensures { result ≡ stack_owned_value self.entry }
+    {
+        let StackOwnedReusable {
+            pool: _,
+            rt: _,
+            room: _,
+            value,
+        } = self;
+        value
+    }
+
     pub(crate) fn in_room(
         pool: Arc<StackObjectPool<T, I, R, K, F>>,
         rt: W,

@@ -57,6 +57,20 @@ impl<
         }
     }
 
+    /// The value, which leaves its pool for good: no reset runs, and its room is dropped.
+    pub fn detach(self) -> T
+        ensures { result ≡ stack_value self.entry }
+    {
+        let StackReusable {
+            pool: _,
+            lender: _,
+            rt: _,
+            room: _,
+            value,
+        } = self;
+        value
+    }
+
     pub(crate) fn in_room(
         pool: &'p StackObjectPool<T, I, R, K, F>,
         rt: W,

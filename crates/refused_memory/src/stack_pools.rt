@@ -95,6 +95,35 @@ fn a_pull_that_was_refused_is_asked_again(rt: HostRuntime) -> Result<(), Fail> {
     Ok(refusals.tell(&rt)?)
 }
 
+/// A filling that was refused keeps what it made before, and goes on where it is asked again.
+fn fills<F: FreeList<Tallied, TrackedValues>, W: Abort + Wait + Copy>(
+    rt: &W,
+    refusals: &Refusals,
+    pool: &Tracked<F>,
+    tally: &Tally,
+) -> Result<(), PullError> {
+    if pool.fill(rt, 3) == Err(PullError::Memory) {
+        refusals.note();
+        pool.fill(rt, 3usize.saturating_sub(tally.made()))?;
+    }
+    assert_eq!(rt; (pool.kept(rt), tally.made(), tally.living()), (3, 3, 3));
+    pool.clear(rt);
+    assert_eq!(rt; (pool.kept(rt), tally.living()), (0, 0));
+    Ok(())
+}
+
+#[test]
+fn a_filling_that_was_refused_goes_on(rt: HostRuntime) -> Result<(), Fail> {
+    let refusals = Refusals::new();
+    let tally = refusals.again(&|| new_tally(rt.alloc()))?;
+    let pool = refusals.again(&|| tracked_by_mutex(rt.alloc(), &tally))?;
+    fills(&rt, &refusals, &pool, &tally)?;
+    let tally = refusals.again(&|| new_tally(rt.alloc()))?;
+    let pool = refusals.again(&|| tracked_by_spin_lock(rt.alloc(), &tally))?;
+    fills(&rt, &refusals, &pool, &tally)?;
+    Ok(refusals.tell(&rt)?)
+}
+
 /// An owned pull and its drop, and an owned pull of what is kept.
 fn owned_pulls<F: FreeList<Tallied, TrackedValues>, W: Abort + Wait + Copy>(
     rt: &W,

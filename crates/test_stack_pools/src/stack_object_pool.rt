@@ -27,6 +27,7 @@ mod one_thread;
 mod owners;
 mod refusals;
 mod resets;
+mod stock;
 mod tallied;
 mod threads;
 mod waits;

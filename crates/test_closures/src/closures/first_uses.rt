@@ -53,7 +53,7 @@ fn a_struct_that_keeps_pools_and_items_is_shown(rt: HostRuntime) -> Result<(), F
     let server = new_server(rt.alloc())?;
     let shown = format!(in rt.alloc(); "{server:?}")?;
     let expected = "Server { sessions: LinearObjectPool { limit: Some(2), .. }, \
-                    jobs: StackObjectPool { .. }, names: StackObjectPool { .. } }";
+                    jobs: MutexObjectPool { .. }, names: SpinLockObjectPool { .. } }";
     assert_eq!(rt; shown.as_str(), expected);
     let job = Job {
         item: server.jobs.pull(&rt)?,
