@@ -2,15 +2,21 @@
 //!
 //! - [`scratch`]: a type that makes and resets itself.
 //! - [`basket`]: closures that fill a pool.
+//! - [`emptied`]: closures whose values meet a condition.
 //! - [`tickets`]: a condition of one's own, and a maker that refuses.
 //! - [`letters`]: a limit, and owned items in threads.
 //! - [`attached`]: an item that was made elsewhere.
+//! - [`handed_on`]: a function that hands a pulled item on.
+//! - [`stores`]: types that keep a pool.
 //! - [`shared`]: two threads that read one item.
 #![tactic(auto)]
 
 mod attached;
 mod basket;
+mod emptied;
+mod handed_on;
 mod letters;
 mod scratch;
 mod shared;
+mod stores;
 mod tickets;

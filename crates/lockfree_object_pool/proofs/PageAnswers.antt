@@ -1,5 +1,5 @@
 -- What a page answers, told by what the answer shows and no longer by its user's view.
-use Rattle.std.proofs.Common.{◌≡◌, List, [], ◌∷◌, ◌++◌, ℕ, ◌+◌, ◌*◌, ◌<◌, Option, refl, ap, sym, ◌∙◌, subst, arith}
+use Rattle.std.proofs.Common.{◌≡◌, List, [], ◌∷◌, ◌++◌, ℕ, ◌<◌, Option, refl, ap, sym, ◌∙◌, subst}
 use Rattle.atomic_table.specs.Seated.{TableId}
 use Rattle.lockfree_object_pool.specs.declared.page.history.PageAct.TheVariants.{Took, Gave}
 use Rattle.lockfree_object_pool.specs.declared.page.user_view.UserView.{UserView}
@@ -10,14 +10,10 @@ use Rattle.lockfree_object_pool.specs.declared.page.full_seen.Allocated.TheVaria
 use Rattle.lockfree_object_pool.specs.Item.{IsPulled}
 use Rattle.lockfree_object_pool.specs.Note.{note_page, note_view, note_opening, note_history, IsReturned, IsPulledAfter}
 use Rattle.lockfree_object_pool.specs.PageHistory.{History, acts_of, IsBeginningOf, WasOutBetween}
-use Rattle.lockfree_object_pool.specs.PageRule.{User, GoesOn, StartsFrom, Misses, KnowsOut, item_of}
-use Rattle.lockfree_object_pool.specs.Word.{ClearsBit}
-use Rattle.std.specs.Int.{bit_at}
-use native.Mathlib.Decide.{ℕ_discrete}
-use mathlib.Core.Logic.{dite}
+use Rattle.lockfree_object_pool.specs.PageRule.{GoesOn, StartsFrom, KnowsOut}
 use Rattle.lockfree_object_pool.specs.Slot.{item_known}
 use Rattle.lockfree_object_pool.specs.FullSeen.{full_page, full_view, full_history, IsFullOf, IsAnswerFrom, IsAnswerOf, IsAnswerAfter}
-use Rattle.lockfree_object_pool.proofs.PageActs.{lawful_of, beginning_further, still_out}
+use Rattle.lockfree_object_pool.proofs.PageActs.{lawful_of, beginning_further}
 use Rattle.lockfree_object_pool.proofs.PageHolders.{came_from_lawful, spared_return}
 
 module _ {T : Type 0} where

@@ -56,7 +56,7 @@ impl<
 
     /// The value, which leaves its pool for good: no reset runs, its room is dropped, and so is its owner of the pool.
     pub fn detach(self) -> T
-        ensures { result ≡ stack_owned_value self.entry }
+        ensures { result ≡ stack_owned_value self }
     {
         let StackOwnedReusable {
             pool: _,

@@ -5,4 +5,4 @@ use Rattle.lockfree_object_pool.proofs.linear_page.made_page.Goals as goal
 
 pub new-requires-3 : goal.new-requires-3
 new-requires-3 g c = subst (OpensWith g.O.Clean.meets) (sym c.in_ok-page.ensures.ok)
-    (filled_as _ _ (λ value made. c.requires.each_opens (Some value) made) _ c.in_ok-new.ensures.opened)
+    (filled_as _ _ (λ value made. c.requires.each_opens (Some value) made) _ _ c.in_ok-new.ensures.opened)

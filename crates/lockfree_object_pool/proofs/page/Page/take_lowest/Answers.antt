@@ -1,4 +1,4 @@
-use Rattle.std.proofs.Common.{◌≡◌, ◌*◌, ◌∙◌, ◌∷◌, [], sym, subst, arith}
+use Rattle.std.proofs.Common.{◌∙◌, ◌∷◌, [], sym, subst, arith}
 use Rattle.lockfree_object_pool.specs.Item.{Item, IsItemOf}
 use Rattle.lockfree_object_pool.specs.Page.{page_identity}
 use Rattle.lockfree_object_pool.specs.PageRule.{GoesOn}

@@ -10,5 +10,5 @@ returns-in-Ok g c =
     let is = c.in-Ok.ensures.history in
     elim is.pulled.origin [
       | inl was ↦ inr (is.pulled.before, is.pulled.last, was)
-      | inr first ↦ inl (seven _ (filled_at _ _ _ _ is.opened first.opened).1)
+      | inr first ↦ inl (seven _ (filled_at _ _ _ _ _ is.opened first.opened).1)
     ]
