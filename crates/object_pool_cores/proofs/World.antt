@@ -1,4 +1,6 @@
 pub mod Alone
+pub mod AloneByHint
+pub mod AloneSteps
 pub mod Bits
 pub mod Headline
 pub mod InOrder

@@ -14,9 +14,9 @@ use Rattle.object_pool_cores.specs.World.Headline.{Ran}
 use Rattle.object_pool_cores.specs.World.Reached.{IsReached}
 use Rattle.object_pool_cores.specs.World.Rows.{HasRow, IsExact}
 use Rattle.object_pool_cores.specs.World.OwnSteps.{own_steps, is_idle}
-use Rattle.object_pool_cores.specs.World.Alone.{BringsPage, BringsPages, IsStepAlone, IsAlone, IsFirstFree, AllFull, StepsInOrder, passing, taking, linking, events_of}
-use Rattle.object_pool_cores.proofs.World.Alone.{Walk, AtWord, AtChain, AtBits, HasTaken, HasMoved, Chain, FullWord, FullLink, FullMake, FullMade, FullLinked, FullRefused, Stands, idle-not_enabled, own_steps-busy, stands-alone}
-use Rattle.object_pool_cores.proofs.World.Reached.{ran-stands}
+use Rattle.object_pool_cores.specs.World.Alone.{BringsPage, BringsPages, IsStepAlone, AsksNoHint, IsFirstFree, AllFull, StepsInOrder, passing, taking, linking, events_of}
+use Rattle.object_pool_cores.proofs.World.Alone.{Walk, AtWord, AtChain, AtBits, HasTaken, HasMoved, Chain, FullWord, FullLink, FullMake, FullMade, FullLinked, FullRefused, IsUnhinted, Stands, ran-stands, stands-alone}
+use Rattle.object_pool_cores.proofs.World.AloneSteps.{idle-not_enabled, own_steps-busy}
 
 module _ {T : Type 0} where
   -- where an agent is by the count of its steps
@@ -106,18 +106,18 @@ module _ {T : Type 0} where
   chain-walk pages limit a log n world lookup free now (FullRefused limited past told) = absurd (free limited)
 
   -- an event for which the table has a row is a step
-  row-counts : (a : ℕ) (e : Event T) (answer : Seen) (log : Log T) (old new : State T) → IsStepAlone a e answer
+  row-counts : (a : ℕ) (e : Event T) (answer : Seen) (log : Log T) (old new : State T) → IsStepAlone a e answer × AsksNoHint e answer
       → IsExact old e answer new → HasRow old e (point_of old e) → own_steps ((e, answer) ∷ log) a ≡ own_steps log a + 1
   row-counts a e answer log old new alone exact row =
       let busy : is_idle answer ≡ false = elim (cases_Bool (is_idle answer)) [
-        | inl idle ↦ absurd (exact.enabled.0 (idle-not_enabled answer idle alone.memory) row)
+        | inl idle ↦ absurd (exact.enabled.0 (idle-not_enabled answer idle alone.0.memory) row)
         | inr busy ↦ busy
       ] in
-      own_steps-busy log a e answer (record { own = alone.own; busy = busy; unhinted = alone.unhinted })
+      own_steps-busy log a e answer alone.0.own busy
 
   -- the same for an event that is known, at a point that is known
   known-counts : (a : ℕ) (e is : Event T) (answer : Seen) (log : Log T) (old new : State T) (point : Option (Point T))
-      → IsStepAlone a e answer → IsExact old e answer new → e ≡ is → point_of old is ≡ point → HasRow old is point
+      → IsStepAlone a e answer × AsksNoHint e answer → IsExact old e answer new → e ≡ is → point_of old is ≡ point → HasRow old is point
       → own_steps ((e, answer) ∷ log) a ≡ own_steps log a + 1
   known-counts a e is answer log old new point alone exact same at row =
       let P : Event T → Type 0 = λ x. HasRow old x (point_of old x) in
@@ -139,7 +139,7 @@ module _ {T : Type 0} (Leaves : T → T → Type 0) (old : State T) (reached : I
       subst P (sym same) brings
 
   passed : (bound : ℕ) → Passes bound → (j : ℕ) → j ≤ bound → (log : Log T) (new : State T) → Ran Leaves old log new
-      → IsAlone a log → events_of log ≡ passing a j → (own_steps log a ≡ 2 * j) × BringsPages log
+      → IsUnhinted a log → events_of log ≡ passing a j → (own_steps log a ≡ 2 * j) × BringsPages log
   passed bound passes zero less [] new ran alone events = (omega arith, tt)
   passed bound passes zero less (entry ∷ log) new ran alone events = absurd (cc)
   passed bound passes (suc i) less [] new ran alone events = absurd (cc)
@@ -178,11 +178,11 @@ module _ {T : Type 0} (Leaves : T → T → Type 0) (old : State T) (reached : I
 
   -- the three steps with which an item is taken, on page k after c steps for its link
   taken-counts : (k c : ℕ) (before : List (Event T))
-      → ((log : Log T) (new : State T) → Ran Leaves old log new → IsAlone a log → events_of log ≡ before
+      → ((log : Log T) (new : State T) → Ran Leaves old log new → IsUnhinted a log → events_of log ≡ before
       → (own_steps log a ≡ c + 2 * k) × BringsPages log)
       → ((log : Log T) (new : State T) → BringsPages log → Stands old log new a → c + 2 * k ≤ own_steps log a
       → (pages : List (PageState T)) × Walk pages k c (own_steps log a) a log new (slice_get new.agents a))
-      → (log : Log T) (new : State T) → Ran Leaves old log new → IsAlone a log → events_of log ≡ taking a before
+      → (log : Log T) (new : State T) → Ran Leaves old log new → IsUnhinted a log → events_of log ≡ taking a before
       → (own_steps log a ≡ c + 2 * k + 3) × BringsPages log
   taken-counts k c before counts walks [] new ran alone events = absurd (cc)
   taken-counts k c before counts walks (entry ∷ []) new ran alone events = absurd (cc)
@@ -217,7 +217,7 @@ module _ {T : Type 0} (Leaves : T → T → Type 0) (old : State T) (reached : I
 
   -- the two steps with which a page is linked
   linked-counts : AllFull old.pages → old.limit ≢ Some (length old.pages) → (values : List T) (log : Log T) (new : State T)
-      → Ran Leaves old log new → IsAlone a log → events_of log ≡ linking a values (passing a (length old.pages))
+      → Ran Leaves old log new → IsUnhinted a log → events_of log ≡ linking a values (passing a (length old.pages))
       → (own_steps log a ≡ 2 + 2 * length old.pages) × BringsPages log
   linked-counts all free values [] new ran alone events = absurd (cc)
   linked-counts all free values (entry ∷ []) new ran alone events = absurd (cc)
@@ -239,7 +239,7 @@ module _ {T : Type 0} (Leaves : T → T → Type 0) (old : State T) (reached : I
       (event.ExchangeNext a) answer log1 second new (Some (Linking j kept)) own2 exact2 links at1 tt in
       (omega arith, (brings-as e (event.ExchangeNext a) answer links tt, brings1))
 
-  pub ran-in_order : (log : Log T) (new : State T) → Ran Leaves old log new → IsAlone a log → StepsInOrder old log new a
+  pub ran-in_order : (log : Log T) (new : State T) → Ran Leaves old log new → IsUnhinted a log → StepsInOrder old log new a
   ran-in_order log new ran alone =
       let stands = ran-stands Leaves old reached a at log new ran alone in
       let leads = stands-alone old log new a stands in

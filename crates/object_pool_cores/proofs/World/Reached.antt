@@ -1,16 +1,13 @@
 -- Steps one after another, from a world that can be reached.
 use Rattle.std.specs.Bool.{⊤}
-use Rattle.std.proofs.Common.{◌≡◌, ℕ, Option, Some, None, [], ◌∷◌, ◌++◌, slice_get, sym, subst}
+use Rattle.std.proofs.Common.{ℕ, Option, [], ◌∷◌, ◌++◌, slice_get, sym, subst}
 use Rattle.object_pool_cores.specs.declared.interleave.point.Point.{Point}
-use Rattle.object_pool_cores.specs.declared.interleave.point.Point.TheVariants.{Reading}
 use Rattle.object_pool_cores.specs.World.State.{State}
 use Rattle.object_pool_cores.specs.World.Visible.{Log}
 use Rattle.object_pool_cores.specs.World.Headline.{Ran}
 use Rattle.object_pool_cores.specs.World.Reached.{IsReached}
 use Rattle.object_pool_cores.specs.World.OwnSteps.{own_steps, is_step_of}
-use Rattle.object_pool_cores.specs.World.Alone.{IsAlone}
 use Rattle.object_pool_cores.proofs.World.Rows.{any-step, reached-step, reached-agrees}
-use Rattle.object_pool_cores.proofs.World.Alone.{Stands, stands-first, stands-next}
 use Rattle.object_pool_cores.proofs.World.Progress.{Advances, Rises}
 use Rattle.object_pool_cores.proofs.World.OwnSteps.{AdvancedTo, effect-advances, none-advanced, step-does}
 
@@ -46,16 +43,3 @@ module _ {T : Type 0} (Leaves : T → T → Type 0) where
       (own_steps log a) (is_step_of e answer a)
       (step-does (λ before kept. ⊤) there.is_new.first there.log agreed.acts between agreed.agrees answer new e (any-step Leaves between e answer new step) a)
       (ran-advances measure counts old reached a log between ran)
-
-  -- an agent that steps alone
-  pub ran-stands : (old : State T) → IsReached old → (a : ℕ) → slice_get old.agents a ≡ Some (Reading 0 None)
-      → (log : Log T) (new : State T) → Ran Leaves old log new → IsAlone a log → Stands old log new a
-  ran-stands old reached a at [] new same alone =
-      let P : State T → Type 0 = λ world. Stands old [] world a in
-      subst P (sym same) (stands-first old a at)
-  ran-stands old reached a at ((e, answer) ∷ log) new (between, ran, step, exact) alone =
-      let there = ran-reached old reached log between ran in
-      let agreed = reached-agrees between there in
-      stands-next (λ before kept. ⊤) there.is_new.first there.log agreed.acts old between agreed.agrees log a e answer new alone.0
-      (any-step Leaves between e answer new step) exact
-      (ran-stands old reached a at log between ran alone.1)

@@ -17,7 +17,7 @@ use Rattle.object_pool_cores.specs.World.Visible.{Log}
 use Rattle.object_pool_cores.specs.World.Rows.{HasRow, IsExact}
 use Rattle.object_pool_cores.specs.World.Reached.{IsReached}
 use Rattle.object_pool_cores.specs.World.Headline.{IsNew, Ran}
-use Rattle.object_pool_cores.specs.World.Invariant.{IsPast, IsAtEnd, TriesBits, TriesHinted, Agrees}
+use Rattle.object_pool_cores.specs.World.Invariant.{IsPast, IsAtEnd, TriesBits, TriesHinted, Knows, Agrees}
 use Rattle.object_pool_cores.proofs.World.WordSteps.{known, may_name-is}
 use Rattle.object_pool_cores.proofs.World.Headline.{ran-agrees, Agreement}
 
@@ -231,6 +231,13 @@ module _ {T : Type 0} where
       let start = reached.is_new in
       let P : State T → Type 0 = λ old. Ran (λ before kept. ⊤) old reached.log world in
       ran-agrees (λ before kept. ⊤) start.first start.full reached.start.limit start.allowed reached.log world (subst P start.same reached.ran)
+
+  -- what is known of an agent in a world that can be reached
+  pub known-reached : (new : State T) (reached : IsReached new) (a : ℕ) (point : Point T) → slice_get new.agents a ≡ Some point
+      → Knows (λ before kept. ⊤) reached.is_new.first reached.log (reached-agrees new reached).acts new a point
+  known-reached new reached a point at =
+      let agreed = reached-agrees new reached in
+      known (λ before kept. ⊤) reached.is_new.first reached.log agreed.acts new agreed.agrees a point at
 
   pub reached-exact : (Leaves : T → T → Type 0) (old : State T) (e : Event T) (answer : Seen) (new : State T) → IsReached old
       → Steps Leaves old e answer new → IsExact old e answer new

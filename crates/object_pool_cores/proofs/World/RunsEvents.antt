@@ -1,5 +1,4 @@
 -- Events that are done one after another.
-use Rattle.std.specs.Bool.{⊤}
 use Rattle.std.proofs.Common.{◌≡◌, ◌⊎◌, inl, inr, ℕ, ◌+◌, ◌-◌, ◌*◌, ◌<◌, ◌≤◌, Option, Some, None, slice_get, List, [], ◌∷◌, ◌++◌, length, map, reverse, Result, Ok, Err, IsErr, OnOk, arith, refl, ap, sym, ◌∙◌, subst, append_assoc}
 use Rattle.std.proofs.lemmas.List.{map-append, reverse-append, append-nil}
 use Rattle.object_pool_cores.specs.declared.interleave.event.Event.{Event}
@@ -12,18 +11,18 @@ use Rattle.object_pool_cores.specs.World.Headline.{IsNew, Ran, Stretch, Advances
 use Rattle.object_pool_cores.specs.World.Reached.{IsReached}
 use Rattle.object_pool_cores.specs.World.Rows.{IsExact}
 use Rattle.object_pool_cores.specs.World.OwnSteps.{own_steps, IsOnPage, IsOnHinted, IsLooking}
-use Rattle.object_pool_cores.specs.World.Invariant.{FoundAsked, Knows}
+use Rattle.object_pool_cores.specs.World.Invariant.{FoundAsked}
 use Rattle.object_pool_cores.specs.declared.interleave.point.Point.{Point}
 use Rattle.object_pool_cores.specs.declared.interleave.point.Point.TheVariants.{Reading, Clearing, AtLink, ClearingHinted, Making, Linking}
 use Rattle.object_pool_cores.specs.Pool.{AllowsPages}
 use Rattle.object_pool_cores.specs.Run.{Act}
 use Rattle.std.proofs.lemmas.Bool.{cases_lt}
 use Rattle.object_pool_cores.proofs.World.Bits.{lowest-lt}
-use Rattle.object_pool_cores.proofs.World.WordSteps.{known}
 use Rattle.object_pool_cores.proofs.World.Headline.{ran-is_run}
-use Rattle.object_pool_cores.proofs.World.Rows.{reached-new, reached-agrees}
-use Rattle.object_pool_cores.proofs.World.Alone.{stands-alone}
-use Rattle.object_pool_cores.proofs.World.Reached.{ran-append, ran-reached, ran-advances, ran-stands}
+use Rattle.object_pool_cores.proofs.World.Rows.{reached-new, reached-agrees, known-reached}
+use Rattle.object_pool_cores.proofs.World.Alone.{unhinted-is, ran-stands, stands-alone}
+use Rattle.object_pool_cores.proofs.World.AloneByHint.{ran-alone_by_hint}
+use Rattle.object_pool_cores.proofs.World.Reached.{ran-append, ran-reached, ran-advances}
 use Rattle.object_pool_cores.proofs.World.InOrder.{ran-in_order, none-in_order}
 use Rattle.object_pool_cores.proofs.World.OwnSteps.{start_of, AdvancedTo}
 use Rattle.object_pool_cores.proofs.World.Progress.{progress, position, taken_early, early-most, early-past}
@@ -47,13 +46,6 @@ module _ {T : Type 0} where
 
   no-steps : (later part earlier : Log T) (a : ℕ) → later ++ part ++ earlier ≡ [] → own_steps part a ≡ 0
   no-steps later part earlier a none = ap (λ log. own_steps log a) (no-events later part earlier none)
-
-  -- what is known of an agent in a world that can be reached
-  known-reached : (new : State T) (reached : IsReached new) (a : ℕ) (point : Point T) → slice_get new.agents a ≡ Some point
-      → Knows (λ before kept. ⊤) reached.is_new.first reached.log (reached-agrees new reached).acts new a point
-  known-reached new reached a point at =
-      let agreed = reached-agrees new reached in
-      known (λ before kept. ⊤) reached.is_new.first reached.log agreed.acts new agreed.agrees a point at
 
   allowed-under : (new : State T) → IsReached new → (limit : ℕ) → new.limit ≡ Some limit → length new.pages ≤ limit
   allowed-under new reached limit is =
@@ -184,12 +176,15 @@ module _ {T : Type 0} (Leaves : T → T → Type 0) where
         let end = ran-reached Leaves part.from there part.log part.to is.steps in
         limit-steps-at (slice_get part.from.agents a) part.to part.log a limit end limited none (slice_get part.to.agents a) refl
         (ran-advances Leaves progress (λ from point further. further.steps) part.from there a part.log part.to is.steps) looks;
-    alone = λ part is a at only.
+    alone = λ part is a at only unhinted.
         let there = ran-reached Leaves whole.from reached is.earlier part.from is.before in
-        stands-alone part.from part.log part.to a (ran-stands Leaves part.from there a at part.log part.to is.steps only);
-    in_order = λ part is a at only.
+        stands-alone part.from part.log part.to a (ran-stands Leaves part.from there a at part.log part.to is.steps (unhinted-is a part.log only unhinted));
+    in_order = λ part is a at only unhinted.
         let there = ran-reached Leaves whole.from reached is.earlier part.from is.before in
-        ran-in_order Leaves part.from there a at part.log part.to is.steps only;
+        ran-in_order Leaves part.from there a at part.log part.to is.steps (unhinted-is a part.log only unhinted);
+    alone_by_hint = λ part is a at only.
+        let there = ran-reached Leaves whole.from reached is.earlier part.from is.before in
+        ran-alone_by_hint Leaves part.from there a at part.log part.to is.steps only;
   }
 
   -- where no steps were done there is none on any part
@@ -200,14 +195,21 @@ module _ {T : Type 0} (Leaves : T → T → Type 0) where
     bounded = λ part is a limit begins limited looks.
         let P : Option (Point T) → Type 0 = IsLooking in
         absurd (subst P (none-goes part.from part.to a part.log (no-events is.later part.log is.earlier (is.logs ∙ empty)) is.steps ∙ begins) looks);
-    alone = λ part is a at only.
+    alone = λ part is a at only unhinted.
         let none = no-steps is.later part.log is.earlier a (is.logs ∙ empty) in
         record {
           takes = λ k free. record { answered = λ many. absurd (omega arith); held = λ now. absurd (omega arith) };
           links = λ all unlimited brings. record { answered = λ many. absurd (omega arith); held = λ now. absurd (omega arith) };
           refused = λ all limited many. let some = all.some in absurd (omega arith);
         };
-    in_order = λ part is a at only. none-in_order part.from part.log part.to a (no-events is.later part.log is.earlier (is.logs ∙ empty));
+    in_order = λ part is a at only unhinted. none-in_order part.from part.log part.to a (no-events is.later part.log is.earlier (is.logs ∙ empty));
+    alone_by_hint = λ part is a at only.
+        let none = no-steps is.later part.log is.earlier a (is.logs ∙ empty) in
+        record {
+          takes = λ k free many. absurd (omega arith);
+          links = λ all unlimited brings many. absurd (omega arith);
+          refused = λ all limited many. absurd (omega arith);
+        };
   }
 
   -- an agent that hadn't begun

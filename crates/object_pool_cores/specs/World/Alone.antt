@@ -14,21 +14,25 @@ use Rattle.object_pool_cores.specs.World.Visible.{Log}
 use Rattle.object_pool_cores.specs.World.OwnSteps.{own_steps}
 
 module _ {T : Type 0} where
-  -- no page was asked by a hint
-  abbrev pub AsksNoHint : Event T → Seen → Type 0
-  AsksNoHint (event.ReadHinted a hint) answer = answer ≡ seen.NotEnabled
-  AsksNoHint _ answer = ⊤
-
-  -- the event is this agent's, no memory was missing, and no page was asked by a hint
+  -- the event is this agent's, and no memory was missing
   pub record IsStepAlone (a : ℕ) (e : Event T) (answer : Seen) : Type 0 where
     pub own : agent_of e ≡ Some a
     pub memory : answer ≢ seen.NoMemory
-    pub unhinted : AsksNoHint e answer
 
   -- each of the events is this agent's, those too that weren't enabled
   abbrev pub IsAlone : ℕ → Log T → Type 0
   IsAlone a [] = ⊤
   IsAlone a ((e, answer) ∷ log) = IsStepAlone a e answer × IsAlone a log
+
+  -- the event asks no page by a hint
+  abbrev pub AsksNoHint : Event T → Seen → Type 0
+  AsksNoHint (event.ReadHinted a hint) answer = answer ≡ seen.NotEnabled
+  AsksNoHint _ answer = ⊤
+
+  -- no page was asked by a hint
+  abbrev pub AsksNoHints : Log T → Type 0
+  AsksNoHints [] = ⊤
+  AsksNoHints ((e, answer) ∷ log) = AsksNoHint e answer × AsksNoHints log
 
   -- a page that the event doesn't bring wasn't asked for
   abbrev pub BringsPage : Event T → Seen → Type 0
@@ -95,7 +99,18 @@ pub record StepsAlone {T : Type 0} (old : State T) (log : Log T) (new : State T)
       AllFull old.pages → old.limit ≡ Some (length old.pages)
       → 2 * length old.pages ≤ own_steps log a → IsAnswered log (seen.Refused a Limit)
 
--- so it is of an agent whose events come in the order of the table
+-- the same where it may ask one page by a hint, which takes one step more at most
+pub record StepsAloneByHint {T : Type 0} (old : State T) (log : Log T) (a : ℕ) : Type 0 where
+  pub takes :
+      (k : ℕ) → IsFirstFree old.pages k → 2 * k + 4 ≤ own_steps log a → IsAnswered log (seen.MovedOut a)
+  pub links :
+      AllFull old.pages → old.limit ≢ Some (length old.pages) → BringsPages log
+      → 2 * length old.pages + 6 ≤ own_steps log a → IsAnswered log (seen.MovedOut a)
+  pub refused :
+      AllFull old.pages → old.limit ≡ Some (length old.pages)
+      → 2 * length old.pages + 1 ≤ own_steps log a → IsAnswered log (seen.Refused a Limit)
+
+-- so it is without a hint of an agent whose events come in the order of the table
 pub record StepsInOrder {T : Type 0} (old : State T) (log : Log T) (new : State T) (a : ℕ) : Type 0 where
   pub takes :
       (k : ℕ) → IsFirstFree old.pages k

@@ -11,7 +11,7 @@ use Rattle.object_pool_cores.specs.World.Machine.{Steps, item_of, number_out, op
 use Rattle.object_pool_cores.specs.World.Rows.{IsExact}
 use Rattle.object_pool_cores.specs.World.Reading.{reading}
 use Rattle.object_pool_cores.specs.World.Visible.{Log, Reads}
-use Rattle.object_pool_cores.specs.World.Alone.{IsAlone, StepsAlone, StepsInOrder}
+use Rattle.object_pool_cores.specs.World.Alone.{IsAlone, AsksNoHints, StepsAlone, StepsAloneByHint, StepsInOrder}
 use Rattle.object_pool_cores.specs.World.OwnSteps.{own_steps, IsOnPage, IsOnHinted, IsLooking}
 use Rattle.lockfree_object_pool.specs.declared.page.TheConstants.{PAGE_ITEMS}
 
@@ -113,13 +113,18 @@ module _ {T : Type 0} (Leaves : T → T → Type 0) where
     -- an agent that has begun, and alone steps, without a hint, has an item or is refused after so many steps
     pub alone :
         (part : Stretch T) → IsPart part whole → (a : ℕ)
-        → slice_get part.from.agents a ≡ Some (Reading 0 None) → IsAlone a part.log
+        → slice_get part.from.agents a ≡ Some (Reading 0 None) → IsAlone a part.log → AsksNoHints part.log
         → StepsAlone part.from part.log part.to a
     -- so it is where its events come in the order of the table
     pub in_order :
         (part : Stretch T) → IsPart part whole → (a : ℕ)
-        → slice_get part.from.agents a ≡ Some (Reading 0 None) → IsAlone a part.log
+        → slice_get part.from.agents a ≡ Some (Reading 0 None) → IsAlone a part.log → AsksNoHints part.log
         → StepsInOrder part.from part.log part.to a
+    -- an agent that alone steps, and may ask a page by a hint, has an item or is refused by one step more
+    pub alone_by_hint :
+        (part : Stretch T) → IsPart part whole → (a : ℕ)
+        → slice_get part.from.agents a ≡ Some (Reading 0 None) → IsAlone a part.log
+        → StepsAloneByHint part.from part.log a
 
   -- all that was done since the world was new
   pub record SinceNew (first : List T) (whole : Stretch T) : Type 0 where

@@ -63,6 +63,10 @@ impl<T: Drop, P: SequentialPool<T>> Player<T, P> {
 
     /// Does the commands in order, and puts each reply behind those that are there. After an error
     /// the commands that were done stay done, with their replies, and the others are dropped.
+    ///
+    /// # Errors
+    ///
+    /// `Memory`, where the player's table or `replies` can't grow; that a pool refuses is a reply and no error.
     pub fn run(
         &mut self,
         commands: Vec<Command<T>>,
