@@ -46,8 +46,8 @@ WORKS = [
     Work("1,024 held", "pull 1024", 200_000, 1_000_000),
     Work("32,768 held", "pull 32768", 10_000, 1_000_000),
     Work("1,024 owned held", "pull_owned 1024", 200_000, 1_000_000),
-    Work("2 threads", "share 2 0", 300_000, 300_000, threads=2),
-    Work("4 threads", "share 4 0", 200_000, 200_000, threads=4),
+    Work("2 threads", "share 2 0", 1_000_000, 1_000_000, threads=2),
+    Work("4 threads", "share 4 0", 1_000_000, 1_000_000, threads=4),
     Work("1,000 full pages, 4 threads", "share 4 32000", 5_000, 200_000, threads=4),
 ]
 HOLD = Work("262,144 pulled and held", "hold", 262_144, 262_144)

@@ -57,17 +57,17 @@ fn clears<F: Kind<Tallied, TalliedValues, Keep, AnyValue>, W: Abort + Wait + Cop
 ) -> Result<(), PullError> {
     let tally = new_tally(alloc)?;
     let pool = tracked::<F>(alloc, &tally, NEVER)?;
-    pool.fill(rt, 70)?;
+    pool.fill(rt, 5_000)?;
     let item = pool.pull(rt)?;
     pool.clear(rt);
-    assert_eq!(rt; (pool.kept(rt), tally.now()), (0, (70, 69)));
+    assert_eq!(rt; (pool.kept(rt), tally.now()), (0, (5_000, 4_999)));
     drop(item);
-    assert_eq!(rt; (pool.kept(rt), tally.now()), (1, (70, 69)));
+    assert_eq!(rt; (pool.kept(rt), tally.now()), (1, (5_000, 4_999)));
     let item = pool.pull(rt)?;
-    assert_eq!(rt; (item.call, pool.pull(rt)?.call), (69, 70));
+    assert_eq!(rt; (item.call, pool.pull(rt)?.call), (4_999, 5_000));
     pool.clear(rt);
     pool.clear(rt);
-    assert_eq!(rt; (pool.kept(rt), tally.now()), (0, (71, 70)));
+    assert_eq!(rt; (pool.kept(rt), tally.now()), (0, (5_001, 5_000)));
     Ok(())
 }
 
