@@ -8,7 +8,13 @@ fn stores_lend_what_their_pools_have(rt: HostRuntime) -> Result<(), Fail> {
         pool: Pool::with_recycler(rt.alloc())?,
     };
     let lent = store.lend(&|bytes: &mut Vec<u8>| bytes.push(1).is_ok() && bytes.len() == 1);
-    assert_eq!(rt; (lent, format!(in rt.alloc(); "{store:?}")?.as_str()), (Ok(true), "Store { pool: LinearObjectPool { limit: None, .. } }"));
+    assert_eq!(rt;
+        (lent, format!(in rt.alloc(); "{store:?}")?.as_str()),
+        (
+            Ok(true),
+            "Store { pool: LinearObjectPool { limit: None, .. } }"
+        )
+    );
     Ok(())
 }
 
