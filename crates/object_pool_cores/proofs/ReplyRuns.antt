@@ -1,5 +1,5 @@
 -- A run of commands with their replies goes on by one.
-use Rattle.std.proofs.Common.{◌≡◌, List, [], ◌∷◌, ◌++◌, Result, IsErr, Ok, Err, OnOk, OnErr, refl, ap, subst, ◌∙◌, append_assoc}
+use Rattle.std.proofs.Common.{◌≡◌, ◌≢◌, List, [], ◌∷◌, ◌++◌, length, Result, IsErr, Ok, Err, OnOk, OnErr, refl, sym, ap, subst, ◌∙◌, append_assoc, arith}
 use Rattle.lockfree_object_pool.specs.declared.pull_error.PullError.{PullError}
 use Rattle.object_pool_cores.specs.declared.sequential.item.Item.{Item}
 use Rattle.object_pool_cores.specs.declared.sequential.attach_error.AttachError.{AttachError}
@@ -21,6 +21,10 @@ taken_front first (x ∷ taken) last yields = yields.1.0 ∙ ap (λ rest. x ∷ 
 -- a list that goes on from another does so with one element more
 pub appended : {X : Type 0} (old more middle new : List X) (x : X) → middle ≡ old ++ more → new ≡ middle ++ x ∷ [] → new ≡ old ++ (more ++ x ∷ [])
 appended old more middle new x so_far last = last ∙ ap (λ items. items ++ x ∷ []) so_far ∙ append_assoc old more (x ∷ [])
+
+-- where there is a next element, some are left
+pub some_left : {X : Type 0} (left rest : List X) (next : X) → left ≡ next ∷ rest → left ≢ []
+some_left left rest next split none = let count = ap length (sym split ∙ none) in absurd (omega arith)
 
 -- nothing is said of an Ok where there is an error
 pub no_Ok : {V E : Type 0} (result : Result V E) (P : Type 0) → IsErr result → OnOk result P

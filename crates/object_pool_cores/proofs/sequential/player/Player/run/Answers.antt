@@ -1,7 +1,7 @@
 use Rattle.std.proofs.Common.{◌++◌, ◌∷◌, [], refl, sym, ◌∙◌, append-nil}
 use Rattle.std.proofs.lemmas.List.{nil_from_length}
 use Rattle.std.specs.Vec.Iter.{into_iter_items}
-use Rattle.object_pool_cores.proofs.ReplyRuns.{Replies-append, appended, taken_front, no_Ok}
+use Rattle.object_pool_cores.proofs.ReplyRuns.{Replies-append, appended, taken_front, some_left, no_Ok, OnErr-always}
 use Rattle.object_pool_cores.proofs.sequential.player.Player.run.Goals as goal
 
 pub loop-command-init : goal.loop-command-init
@@ -18,6 +18,7 @@ returns-in_err-reserve g c =
       answers = c.in_err-reserve.ensures.items ∙ so_far.1;
       replied = so_far.2;
       whole = no_Ok _ _ c.from_residual.ensures.0;
+      stopped = OnErr-always _ (some_left _ _ _ c.in-Some.ensures.steps.0);
     }
 
 pub returns-in_err-reply : goal.returns-in_err-reply
@@ -31,6 +32,7 @@ returns-in_err-reply g c =
       answers = c.in_ok-reserve.ensures.items ∙ so_far.1;
       replied = rw c.in_err-reply.ensures.err so_far.2;
       whole = no_Ok _ _ c.from_residual-in_err-reply.ensures.0;
+      stopped = OnErr-always _ (some_left _ _ _ c.in-Some.ensures.steps.0);
     }
 
 pub loop-command-preserved : goal.loop-command-preserved
@@ -52,4 +54,5 @@ returns g c =
       answers = so_far.1;
       replied = so_far.2;
       whole = nil_from_length _ (sym c.loop-command.command-iterator.rest.ok.0 ∙ c.in-None.ensures.steps.0);
+      stopped = tt;
     }
