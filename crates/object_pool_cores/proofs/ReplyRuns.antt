@@ -1,11 +1,13 @@
 -- A run of commands with their replies goes on by one.
-use Rattle.std.proofs.Common.{◌≡◌, List, [], ◌∷◌, ◌++◌, Result, IsErr, Ok, Err, OnOk, OnErr, refl, ap, subst, ◌∙◌, append_assoc}
+use Rattle.std.proofs.Common.{◌≡◌, ◌≢◌, List, [], ◌∷◌, ◌++◌, length, Result, IsErr, Ok, Err, OnOk, OnErr, refl, sym, ap, subst, ◌∙◌, append_assoc, arith, ℕ, ◌+◌, ◌≤◌, length-append}
 use Rattle.lockfree_object_pool.specs.declared.pull_error.PullError.{PullError}
 use Rattle.object_pool_cores.specs.declared.sequential.item.Item.{Item}
 use Rattle.object_pool_cores.specs.declared.sequential.attach_error.AttachError.{AttachError}
 use Rattle.object_pool_cores.specs.declared.sequential.command.Command.{Command}
 use Rattle.object_pool_cores.specs.declared.sequential.reply.Reply.{Reply}
 use Rattle.std.proofs.lemmas.Bool.{false≢true}
+use Rattle.std.proofs.lemmas.List.Elements.{All-head, All-rest, All-same}
+use Rattle.std.specs.List.{All}
 use Rattle.std.specs.Iterator.{Yields}
 use Rattle.std.specs.Vec.Iter.{into_iter_items, into_iter_steps}
 use Rattle.std.specs.declared.vec.IntoIter.{IntoIter}
@@ -21,6 +23,27 @@ taken_front first (x ∷ taken) last yields = yields.1.0 ∙ ap (λ rest. x ∷ 
 -- a list that goes on from another does so with one element more
 pub appended : {X : Type 0} (old more middle new : List X) (x : X) → middle ≡ old ++ more → new ≡ middle ++ x ∷ [] → new ≡ old ++ (more ++ x ∷ [])
 appended old more middle new x so_far last = last ∙ ap (λ items. items ++ x ∷ []) so_far ∙ append_assoc old more (x ∷ [])
+
+-- where there is a next element, some are left
+pub some_left : {X : Type 0} (left rest : List X) (next : X) → left ≡ next ∷ rest → left ≢ []
+some_left left rest next split none = let count = ap length (sym split ∙ none) in absurd (omega arith)
+
+-- where all elements meet a condition, so does the next
+pub next_meets : {X : Type 0} (P : X → Type 0) (all taken left rest : List X) (next : X) → all ≡ taken ++ left
+    → left ≡ next ∷ rest → All P all → P next
+next_meets P all [] left rest next begins split meet =
+    All-head P next rest (All-same P (next ∷ rest) all (sym (begins ∙ split)) meet)
+next_meets P all (x ∷ taken) left rest next begins split meet =
+    next_meets P (taken ++ left) taken left rest next refl split (All-rest P x (taken ++ left) all begins meet)
+
+-- where there is room for a reply to each command, there is room for the next one
+pub room_for_next : {C R : Type 0} (all taken left rest : List C) (next : C) (before replies gathered : List R) (room : ℕ)
+    → all ≡ taken ++ left → left ≡ next ∷ rest → gathered ≡ before ++ replies → length replies ≡ length taken
+    → length before + length all ≤ room → length gathered + 1 ≤ room
+room_for_next all taken left rest next before replies gathered room begins split goes_on each enough =
+    let commands = ap length begins ∙ length-append taken left in
+    let more = ap length split in
+    let so_far = ap length goes_on ∙ length-append before replies in omega arith
 
 -- nothing is said of an Ok where there is an error
 pub no_Ok : {V E : Type 0} (result : Result V E) (P : Type 0) → IsErr result → OnOk result P
@@ -40,6 +63,15 @@ module _ {P T : Type 0} (pulls : P → Result (Item T) PullError → P → Type 
       (done.0, done.1, Replies-append done.0 middle new commands replies command reply done.2 next)
   Replies-append old middle new [] (r ∷ replies) command reply done next = absurd done
   Replies-append old middle new (c ∷ commands) [] command reply done next = absurd done
+
+  -- each command that was done has one reply
+  pub length-replies : (old new : Playing P T) (commands : List (Command T)) (replies : List (Reply T))
+      → Replies pulls gives attaches old commands replies new → length replies ≡ length commands
+  length-replies old new [] [] done = refl
+  length-replies old new (c ∷ commands) (r ∷ replies) done =
+      let fewer = length-replies done.0 new commands replies done.2 in omega arith
+  length-replies old new [] (r ∷ replies) done = absurd done
+  length-replies old new (c ∷ commands) [] done = absurd done
 
 -- a fact of an Ok leads to another
 pub OnOk-map : {V E : Type 0} {P Q : Type 0} (result : Result V E) → (P → Q) → OnOk result P → OnOk result Q

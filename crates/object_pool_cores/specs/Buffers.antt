@@ -1,5 +1,5 @@
 -- What a buffer pool and its buffers show.
-use Rattle.std.specs.Prelude.{ℕ, List, Option}
+use Rattle.std.specs.Prelude.{ℕ, List, Option, vec_capacity}
 use Rattle.std.specs.Global.{Vec}
 use Rattle.lockfree_object_pool.specs.LinearPool.{pool_init, pool_limit, reusable_item, reusable_page, reusable_number, IsOnPage}
 use Rattle.lockfree_object_pool.specs.declared.linear_reusable.LinearReusable.{LinearReusable}
@@ -26,6 +26,10 @@ module _ {I R K : Type 0} where
   -- the bytes in the buffer
   abbrev pub bytes_of : Buffer I R (Vec ℕ) K → List ℕ
   bytes_of buffer = (reusable_item buffer.item).value.items
+
+  -- how many bytes the buffer has room for, those in it counted too
+  abbrev pub room_of : Buffer I R (Vec ℕ) K → ℕ
+  room_of buffer = vec_capacity (reusable_item buffer.item).value
 
   -- the number of the buffer's page in the pool
   abbrev pub page_of : Buffer I R (Vec ℕ) K → ℕ

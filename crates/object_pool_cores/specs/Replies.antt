@@ -1,6 +1,6 @@
 -- The replies of commands: the fold of a pool's steps over
 -- a list of commands, with the table of what is held.
-use Rattle.std.specs.Prelude.{◌≡◌, ℕ, Option, Some, None, List, [], ◌∷◌, ◌++◌, length, slice_set, Result, Ok, Err, OnOk, ⊤}
+use Rattle.std.specs.Prelude.{◌≡◌, ◌≢◌, ℕ, Option, Some, None, List, [], ◌∷◌, ◌++◌, length, slice_set, Result, Ok, Err, OnOk, OnErr, ⊤}
 use Rattle.lockfree_object_pool.specs.declared.pull_error.PullError.{PullError}
 use Rattle.object_pool_cores.specs.declared.sequential.item.Item.{Item}
 use Rattle.object_pool_cores.specs.declared.sequential.attach_error.AttachError.{AttachError}
@@ -75,8 +75,8 @@ module _ {P T : Type 0} (pulls : P → Result (Item T) PullError → P → Type 
   Replies old [] (reply ∷ replies) new = ⊥
   Replies old (command ∷ commands) [] new = ⊥
 
-  -- the commands that were done are a beginning of all, their
-  -- replies come after those before, and after Ok all are done
+  -- the commands that were done are a beginning of all, their replies come
+  -- after those before; after Ok all are done, and after an error not all
   pub record Ran (old : Playing P T) (commands : List (Command T)) (before : List (Reply T))
       (result : Result (Unit {0}) RunError) (after : List (Reply T)) (new : Playing P T) : Type 0 where
     pub done : List (Command T)
@@ -86,3 +86,4 @@ module _ {P T : Type 0} (pulls : P → Result (Item T) PullError → P → Type 
     pub answers : after ≡ before ++ replies
     pub replied : Replies old done replies new
     pub whole : OnOk result (rest ≡ [])
+    pub stopped : OnErr result (rest ≢ [])

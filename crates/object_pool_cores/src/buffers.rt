@@ -1,7 +1,7 @@
 //! A pool of byte buffers of so many pages at most, which threads share without a lock.
 //!
 //! A pulled buffer is empty, whatever was done with it before, and it returns to its pool by itself.
-ghost use Rattle.std.specs.Prelude.{◌≡◌, ◌≤◌, ◌<◌, ⊤, [], None, Some, IfOk, IfErr, IfSome, vec_capacity};
+ghost use Rattle.std.specs.Prelude.{◌≡◌, ◌≤◌, ◌<◌, [], None, Some, IfOk, IfErr, IsSome, IfSome, vec_capacity};
 
 use lockfree_object_pool::clean::Clean;
 use lockfree_object_pool::closures::{Init, Reset};
@@ -67,7 +67,7 @@ impl<I: Init<Vec<u8>, Empty>, R: Reset<Vec<u8>, Empty>> BufferPool<I, R> {
         ensures within { IfOk result (λ buffer. IfSome (limit_of_pages self.now)
             (λ pages. page_of buffer < pages)) }
         ensures refused { IfErr result (RefusesPull (record {
-          limited = ⊤;
+          limited = IsSome (limit_of_pages self.now);
           init_refuses = I.answers (maker_of self.now) None;
         })) }
     {

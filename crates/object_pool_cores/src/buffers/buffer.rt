@@ -1,5 +1,5 @@
 //! A buffer that was pulled from a pool.
-ghost use Rattle.std.specs.Prelude.{◌≡◌, ◌<◌, ◌++◌, OnOk, OnErr, IfErr};
+ghost use Rattle.std.specs.Prelude.{◌≡◌, ◌<◌, ◌≤◌, ◌+◌, ◌++◌, [], length, IsOk, OnOk, OnErr, IfErr};
 
 use crate::buffers::Empty;
 use lockfree_object_pool::clean::Clean;
@@ -18,7 +18,7 @@ pub struct Buffer<'p, I: Init<T, K>, R: Reset<T, K>, T: Drop = Vec<u8>, K: Clean
 
 impl<'p, I: Init<Vec<u8>, Empty>, R: Reset<Vec<u8>, Empty>> Buffer<'p, I, R> {
     ghost use Rattle.lockfree_object_pool.specs.declared.pull_error.PullError.TheVariants.{Memory};
-    ghost use Rattle.object_pool_cores.specs.Buffers.{item_of, bytes_of, page_of, id_of};
+    ghost use Rattle.object_pool_cores.specs.Buffers.{item_of, bytes_of, room_of, page_of, id_of};
 
     pub(super) fn new(item: LinearReusable<'p, Vec<u8>, I, R, Empty>) -> Buffer<'p, I, R>
         ensures { item_of result ≡ item.entry }
@@ -33,10 +33,17 @@ impl<'p, I: Init<Vec<u8>, Empty>, R: Reset<Vec<u8>, Empty>> Buffer<'p, I, R> {
     }
 
     /// Puts bytes behind those that are there.
+    ///
+    /// # Errors
+    ///
+    /// `Memory`, where the buffer has too little room for them and can't grow. It stays as it was.
     pub fn append(&mut self, bytes: &[u8]) -> Result<(), PullError>
         ensures ok { OnOk result (bytes_of self.new ≡ bytes_of self.old ++ bytes.now) }
         ensures err { OnErr result (bytes_of self.new ≡ bytes_of self.old) }
         ensures refused { IfErr result (λ error. error ≡ Memory) }
+        ensures room_is_there { length (bytes_of self.old) + length bytes.now ≤ room_of self.old → IsOk result }
+        ensures nothing { bytes.now ≡ [] → IsOk result }
+        ensures room { room_of self.old ≤ room_of self.new }
         ensures page { page_of self.new ≡ page_of self.old }
         ensures id { id_of self.new ≡ id_of self.old }
     {

@@ -1,5 +1,5 @@
 //! A player of commands on a pool of one owner.
-ghost use Rattle.std.specs.Prelude.{◌≡◌, ◌≢◌, ◌↔◌, ◌<◌, Option, Some, None, List, IfOk, OnErr, OnOk, IsOk, IsTrue, IsSome, IsErr, OnSome, IfNone, length, slice_set, vec_len, vec_capacity, [], ◌∷◌, ◌++◌};
+ghost use Rattle.std.specs.Prelude.{◌≡◌, ◌≢◌, ◌↔◌, ◌<◌, ◌≤◌, ◌+◌, All, Option, Some, None, List, IfOk, OnErr, OnOk, IsOk, IsTrue, IsSome, IsErr, OnSome, IfNone, length, slice_set, vec_len, vec_capacity, [], ◌∷◌, ◌++◌};
 ghost use Rattle.std.specs.Option.{option_copied};
 ghost use Rattle.object_pool_cores.specs.Held.{held_at, value_of, IsReplaced};
 ghost use Rattle.object_pool_cores.specs.Replies.{Plays, Ran, NeedsRoom, AfterWrite, AfterReturn, AfterForget};
@@ -72,8 +72,10 @@ impl<T: Drop, P: SequentialPool<T>> Player<T, P> {
         commands: Vec<Command<T>>,
         replies: &mut Vec<Reply<T>>,
     ) -> Result<(), RunError>
-        ensures { Ran P.pulls P.gives P.attaches self.old commands.items replies.old.items result
+        ensures ran { Ran P.pulls P.gives P.attaches self.old commands.items replies.old.items result
             replies.new.items self.new }
+        ensures room_is_there { All (λ command. NeedsRoom command → ⊥) commands.items
+            → length replies.old.items + length commands.items ≤ vec_capacity replies.old → IsOk result }
     {
         for command in commands {
             replies.reserve(1)?;

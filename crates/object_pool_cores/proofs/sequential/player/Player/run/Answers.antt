@@ -1,14 +1,16 @@
-use Rattle.std.proofs.Common.{◌++◌, ◌∷◌, [], refl, sym, ◌∙◌, append-nil}
+use Rattle.std.proofs.Common.{◌++◌, ◌∷◌, [], refl, sym, ◌∙◌, append-nil, arith}
 use Rattle.std.proofs.lemmas.List.{nil_from_length}
+use Rattle.std.proofs.lemmas.Bool.{false≢true}
+use Rattle.object_pool_cores.specs.Replies.{NeedsRoom}
 use Rattle.std.specs.Vec.Iter.{into_iter_items}
-use Rattle.object_pool_cores.proofs.ReplyRuns.{Replies-append, appended, taken_front, no_Ok}
+use Rattle.object_pool_cores.proofs.ReplyRuns.{Replies-append, length-replies, next_meets, room_for_next, appended, taken_front, some_left, no_Ok, OnErr-always}
 use Rattle.object_pool_cores.proofs.sequential.player.Player.run.Goals as goal
 
 pub loop-command-init : goal.loop-command-init
-loop-command-init g c = ([], sym (append-nil _), refl)
+loop-command-init g c = ([], sym (append-nil _), refl, omega arith)
 
-pub returns-in_err-reserve : goal.returns-in_err-reserve
-returns-in_err-reserve g c =
+pub returns-in_err-reserve-clause-ran : goal.returns-in_err-reserve-clause-ran
+returns-in_err-reserve-clause-ran g c =
     let so_far = c.loop-command.invariant in
     record {
       done = c.loop-command.yielded;
@@ -18,10 +20,11 @@ returns-in_err-reserve g c =
       answers = c.in_err-reserve.ensures.items ∙ so_far.1;
       replied = so_far.2;
       whole = no_Ok _ _ c.from_residual.ensures.0;
+      stopped = OnErr-always _ (some_left _ _ _ c.in-Some.ensures.steps.0);
     }
 
-pub returns-in_err-reply : goal.returns-in_err-reply
-returns-in_err-reply g c =
+pub returns-in_err-reply-clause-ran : goal.returns-in_err-reply-clause-ran
+returns-in_err-reply-clause-ran g c =
     let so_far = c.loop-command.invariant in
     record {
       done = c.loop-command.yielded;
@@ -31,6 +34,7 @@ returns-in_err-reply g c =
       answers = c.in_ok-reserve.ensures.items ∙ so_far.1;
       replied = rw c.in_err-reply.ensures.err so_far.2;
       whole = no_Ok _ _ c.from_residual-in_err-reply.ensures.0;
+      stopped = OnErr-always _ (some_left _ _ _ c.in-Some.ensures.steps.0);
     }
 
 pub loop-command-preserved : goal.loop-command-preserved
@@ -39,10 +43,11 @@ loop-command-preserved g c =
       so_far.0 ++ c.in_ok-reply.reply ∷ [],
       appended _ _ _ _ _ (c.in_ok-reserve.ensures.items ∙ so_far.1) (rw c.if-is_err.ensures.negation at c.push.ensures.items),
       Replies-append _ _ _ _ _ _ _ _ _ _ so_far.2 c.in_ok-reply.ensures.ok,
+      omega (arith, so_far.3, c.in_ok-reserve.ensures.capacity, c.push.ensures.capacity),
     )
 
-pub returns : goal.returns
-returns g c =
+pub returns-clause-ran : goal.returns-clause-ran
+returns-clause-ran g c =
     let so_far = c.loop-command.invariant in
     record {
       done = c.loop-command.yielded;
@@ -52,4 +57,17 @@ returns g c =
       answers = so_far.1;
       replied = so_far.2;
       whole = nil_from_length _ (sym c.loop-command.command-iterator.rest.ok.0 ∙ c.in-None.ensures.steps.0);
+      stopped = tt;
     }
+
+pub returns-in_err-reserve-clause-room_is_there : goal.returns-in_err-reserve-clause-room_is_there
+returns-in_err-reserve-clause-room_is_there g c = λ plain room.
+    let so_far = c.loop-command.invariant in
+    let begins = sym c.into_iter-command-iterator.ensures.into_iter_gives.0 ∙ taken_front _ _ _ c.loop-command.yielded_by in
+    let next = room_for_next _ _ _ _ _ _ _ _ _ begins c.in-Some.ensures.steps.0 so_far.1 (length-replies _ _ _ _ _ _ _ so_far.2) room in
+    absurd (false≢true (c.in_err-reserve.ensures.succeeds (omega (arith, next, so_far.3, c.loop-command.replies.ok.0))))
+
+pub returns-in_err-reply-clause-room_is_there : goal.returns-in_err-reply-clause-room_is_there
+returns-in_err-reply-clause-room_is_there g c = λ plain room.
+    let begins = sym c.into_iter-command-iterator.ensures.into_iter_gives.0 ∙ taken_front _ _ _ c.loop-command.yielded_by in
+    absurd (next_meets (λ command. NeedsRoom command → ⊥) _ _ _ _ _ begins c.in-Some.ensures.steps.0 plain (c.in_err-reply.ensures.needs_room refl))
