@@ -118,7 +118,7 @@ impl<T: Drop, I: Init<T, K>, R: Reset<T, K>, K: Clean<T>> LinearObjectPool<T, I,
     }
 
     /// As `pull`, where the first page was found full in this pull.
-    #[inline(never)]
+    #[inline]
     fn pull_further(
         &self,
         seen: FullSeen<'_, T>,

@@ -68,7 +68,8 @@ impl<T: Drop, K: Clean<T>, O: Clean<T>> Chain<T, K, O> {
         PageNumber::of_start(self.directory.allocator(), 0)
     }
 
-    /// As `pull`, where the first page was found full in this pull.
+    /// As `pull`, where the first page was found full in this pull. Apart, so that a pull of the first page is short.
+    #[inline(never)]
     pub(crate) fn pull_further<I: Fn() -> Option<T>>(
         &self,
         seen: FullSeen<'_, T>,
@@ -87,28 +88,30 @@ impl<T: Drop, K: Clean<T>, O: Clean<T>> Chain<T, K, O> {
           init_refuses = I.post init.now None;
         })) }
     {
-        let Some((number, page, note)) = self.hinted_page(limit) else {
-            return self.first().walk_on(seen, None, limit, init);
-        };
-        let taken = page.take(seen.pass);
-        if taken.left_full {
-            self.left_full(number, page.owner());
-        }
-        match taken.answer {
-            Allocated::Slot(slot) => Ok(Reached {
-                slot,
-                page: page.owner(),
-                number: PageNumber::of_link(number, note),
-            }),
-            Allocated::Full(full) => {
-                let known = KnownFull {
-                    number,
-                    note,
-                    seen: full,
-                };
-                self.first().walk_on(seen, Some(known), limit, init)
+        let mut known = None;
+        if let Some((number, page, note)) = self.hinted_page(limit) {
+            let taken = page.take(seen.pass);
+            if taken.left_full {
+                self.left_full(number, page.owner());
+            }
+            match taken.answer {
+                Allocated::Slot(slot) => {
+                    return Ok(Reached {
+                        slot,
+                        page: page.owner(),
+                        number: PageNumber::of_link(number, note),
+                    });
+                }
+                Allocated::Full(full) => {
+                    known = Some(KnownFull {
+                        number,
+                        note,
+                        seen: full,
+                    });
+                }
             }
         }
+        self.first().walk_on(seen, known, limit, init)
     }
 
     /// The first page that a hint names within the limit, its number, and a note of the link to it.
