@@ -8,7 +8,7 @@ use Rattle.std.proofs.lemmas.List.{set-get_or}
 use native.Mathlib.Decide.{ℕ_discrete}
 use mathlib.Core.Logic.{dite}
 use Rattle.std.proofs.lemmas.Nat.{and_le_l, or_lt}
-use Rattle.std.proofs.lemmas.Nat.Bits.{bit_at-lt, bit_at_ones}
+use Rattle.std.proofs.lemmas.Nat.Bits.{bit_at-lt}
 use Rattle.std.specs.Int.{bit_at}
 use Rattle.atomic_table.specs.Table.{keeps, takes, gives, homes_after, rest, Allows, Enters, Joins, Splits}
 use Rattle.atomic_table.proofs.Lists.{at_set, at_snoc, set_here, set_else, set_again}
@@ -19,12 +19,7 @@ use Rattle.lockfree_object_pool.specs.PageHistory.{History, user_of, acts_of, he
 use Rattle.lockfree_object_pool.specs.Word.{all_bits, SetsBit, ClearsBit, item_bit}
 use Rattle.lockfree_object_pool.specs.PageRule.{PageState, User, first_view, item_of, IsFree, IsOut, IsHome, Holds, IsPage, HasHistory, IsKept, IsSound, Knows, GoesOn, KnowsOut, Takes, Misses, Looks, LooksAgain, LooksOn, Clears, Gives, told_of, gone_view, witness_of}
 use Rattle.lockfree_object_pool.proofs.PageActs.{beginning_same, acts_of_other, value_at-took_here, value_at-took_elsewhere, value_at-gave_here, value_at-gave_elsewhere, acted, has_seen, after_act, after_look, is_out_now, informed_later, informed_set, knows_of, at_below, own_now}
-use Rattle.lockfree_object_pool.proofs.WordBits.{and_clears, or_sets, item_bit_of, Turns, turns, fits_after}
-
--- a word that lacks one bit alone tells which
-lacks_one : (operand bit other : ℕ) → other < 32 → ClearsBit all_bits bit operand → ClearsBit all_bits other operand → bit ≡ other
-lacks_one operand bit other within one two = dite (ℕ_discrete bit other) (λ same. same)
-    (λ differ. let set = one.others other (λ same. differ (sym same)) in let clear = two.clear in let all = bit_at_ones 32 other within in absurd (omega arith))
+use Rattle.lockfree_object_pool.proofs.WordBits.{lacks_one, and_clears, or_sets, item_bit_of, Turns, turns, fits_after}
 
 some_same : (id other : ℕ) → Some id ≡ Some other → id ≡ other
 some_same id other same = cc

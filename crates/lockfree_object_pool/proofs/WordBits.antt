@@ -117,6 +117,11 @@ fits_after words place new inside fit small p = dite (ℕ_discrete p place)
     (λ other. let was = fit p in let same = get_or-set_other words place p new 0 other in omega arith)
 
 -- words that are all set but the last, of which only the lowest bits are
+-- a word that lacks one bit alone tells which
+pub lacks_one : (operand bit other : ℕ) → other < 32 → ClearsBit all_bits bit operand → ClearsBit all_bits other operand → bit ≡ other
+lacks_one operand bit other within one two = dite (ℕ_discrete bit other) (λ same. same)
+    (λ differ. let set = one.others other (λ same. differ (sym same)) in let clear = two.clear in let all = bit_at_ones 32 other within in absurd (omega arith))
+
 module _ (full low : ℕ) (some : 0 < low) (within : low ≤ 32) where
   abbrev pub free_words : List ℕ
   free_words = set (replicate (full + 1) all_bits) full (2 ^ low - 1)
