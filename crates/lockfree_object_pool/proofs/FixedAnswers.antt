@@ -9,8 +9,8 @@ use Rattle.lockfree_object_pool.specs.declared.page.history.PageAct.TheVariants.
 use Rattle.lockfree_object_pool.specs.declared.page.user_view.UserView.{UserView}
 use Rattle.lockfree_object_pool.specs.declared.page.note.PageNote.{PageNote}
 use Rattle.lockfree_object_pool.specs.declared.fixed_object_pool.busy_seen.BusySeen.{BusySeen}
-use Rattle.lockfree_object_pool.specs.FixedAnswer.{IsPulledOf, IsPulledWith, IsBusyOf, IsBusyAfter}
-use Rattle.lockfree_object_pool.specs.Note.{note_view, note_opening, note_history}
+use Rattle.lockfree_object_pool.specs.FixedAnswer.{IsPulledOf, IsPulledWith, IsBusyOf, IsBusyAfter, IsBusyNote}
+use Rattle.lockfree_object_pool.specs.Note.{note_view, note_opening, note_user, note_history}
 use Rattle.lockfree_object_pool.specs.Slot.{item_known}
 use Rattle.lockfree_object_pool.specs.PageHistory.{IsBeginningOf, WasOutBetween}
 use Rattle.lockfree_object_pool.specs.Word.{ClearsBit, IsLeastBit}
@@ -132,3 +132,21 @@ module _ {T : Type 0} where
     is_busy = all_busy pool (note_opening note) start busy starts.same_opening missed same;
     after_note = subst (IsBeginningOf (note_history note)) (sym (missed.goes_on.same_since ∙ starts.from_now)) starts.after_known;
   }
+
+  -- and of the note that such a pull hands on
+  pub busy_note : (pool : TableId) (old : PageNote T) (start : User T) (new : PageNote T) → StartsFrom (note_view old) start.0
+      → MissesAll 0 pool.slots start new.seat.me → new.seat.table_id ≡ pool → IsBusyNote pool old new
+  busy_note pool old start new starts missed same =
+      let known : UserView T = note_view new in
+      let opened : known.opening ≡ note_opening old = missed.goes_on.same_opening ∙ starts.same_opening in
+      let same_user : known.user ≡ note_user old = missed.goes_on.same_user ∙ starts.same_user in
+      record {
+        of_pool = same;
+        same_user = same_user;
+        same_opening = opened;
+        lawful = lawful_of (note_opening old) known opened missed.goes_on.sound;
+        after_note = subst (IsBeginningOf (note_history old)) (sym (missed.goes_on.same_since ∙ starts.from_now)) starts.after_known;
+        goes_on = missed.goes_on.sound.since_load;
+        each_was_out = λ id within. subst (λ o. WasOutBetween o known.since known.acts id) opened (missed.each_was_out id (omega arith) within);
+        same_acts = missed.goes_on.sound.own_acts ∙ missed.goes_on.own ∙ starts.own_same ∙ sym starts.own_before;
+      }

@@ -7,8 +7,8 @@ use Rattle.lockfree_object_pool.specs.declared.fixed_object_pool.busy_seen.BusyS
 use Rattle.lockfree_object_pool.specs.FixedReusable.{item_with}
 use Rattle.lockfree_object_pool.specs.FixedRule.{StepCount, steps_of}
 use Rattle.lockfree_object_pool.specs.Item.{Item, IsPulled}
-use Rattle.lockfree_object_pool.specs.Note.{note_view, note_opening, note_history, IsReturned, IsPulledAfter}
-use Rattle.lockfree_object_pool.specs.PageHistory.{History, IsLawful, IsBeginningOf, WasOutBetween}
+use Rattle.lockfree_object_pool.specs.Note.{note_page, note_view, note_opening, note_user, note_history, IsReturned, IsPulledAfter}
+use Rattle.lockfree_object_pool.specs.PageHistory.{History, acts_of, IsLawful, IsBeginningOf, WasOutBetween}
 
 module _ {T : Type 0} where
   -- an item of this pool
@@ -55,6 +55,22 @@ module _ {T : Type 0} where
   pub record IsBusyAfter (pool : TableId) (note : PageNote T) (busy : BusySeen T) : Type 0 where
     pub is_busy : IsBusyOf pool (note_opening note) busy
     pub after_note : IsBeginningOf (note_history note) (busy_since busy)
+
+  -- the pool's history up to the first load of the last operation of the note
+  abbrev pub note_since : PageNote T → History T
+  note_since note = (note_view note).since
+
+  -- the same evidence, where the note of a refused pull keeps it: the pull's first load stands after all that the note knew
+  pub record IsBusyNote (pool : TableId) (old new : PageNote T) : Type 0 where
+    pub of_pool : note_page new ≡ pool
+    pub same_user : note_user new ≡ note_user old
+    pub same_opening : note_opening new ≡ note_opening old
+    pub lawful : IsLawful (note_opening old) (note_history new)
+    pub after_note : IsBeginningOf (note_history old) (note_since new)
+    pub goes_on : IsBeginningOf (note_since new) (note_history new)
+    pub each_was_out : (id : ℕ) → id < pool.slots → WasOutBetween (note_opening old) (note_since new) (note_history new) id
+    -- its user did nothing
+    pub same_acts : acts_of (note_user new) (note_history new) ≡ acts_of (note_user old) (note_history old)
 
   -- what the operations of a note have read and tried
   abbrev pub note_steps : PageNote T → StepCount

@@ -41,7 +41,7 @@ pub struct FixedObjectPool<T, I: Init<T, K>, R: Reset<T, K>, K: Clean<T> = AnyVa
 
 impl<T: Drop, I: Init<T, K>, R: Reset<T, K>, K: Clean<T>> FixedObjectPool<T, I, R, K> {
     ghost use Rattle.lockfree_object_pool.specs.Answers.{IsMadeOrReset};
-    ghost use Rattle.lockfree_object_pool.specs.FixedAnswer.{IsPulledOf, IsPulledWith, IsBusyOf, IsBusyAfter, busy_steps, note_steps};
+    ghost use Rattle.lockfree_object_pool.specs.FixedAnswer.{IsPulledOf, IsPulledWith, IsBusyOf, IsBusyAfter, IsBusyNote, busy_steps, note_steps};
     ghost use Rattle.lockfree_object_pool.specs.FixedPool.{pool_identity, pool_items, pool_pages, pool_opening, pool_reset};
     ghost use Rattle.lockfree_object_pool.specs.Items.{IsFilled};
     ghost use Rattle.lockfree_object_pool.specs.FixedReusable.{reusable_pool, reusable_item, reusable_steps, owned_pool, owned_item, owned_steps};
@@ -213,6 +213,39 @@ impl<T: Drop, I: Init<T, K>, R: Reset<T, K>, K: Clean<T>> FixedObjectPool<T, I, 
         match self.items.pull_hinted(&pass) {
             Ok(pulled) => Ok(FixedOwnedReusable::new(owner, pulled)),
             Err(_) => Err(PullError::Limit),
+        }
+    }
+
+    /// As `pull_near`, by an owner of the pool that has a note of it. The reusable takes over both, so the owners stay as many as they
+    /// are and nothing is counted, and its pull stands after all that the note knew. `give_back_with_owner` hands both out again.
+    ///
+    /// # Errors
+    ///
+    /// The owner and the note, with the evidence that each item was out during this call.
+    pub fn pull_by_owner(
+        self: Arc<Self>,
+        page: usize,
+        note: PoolNote<T>,
+    ) -> Result<FixedOwnedReusable<T, I, R, K>, (Arc<Self>, PoolNote<T>)>
+        requires { note_page note ≡ pool_identity (arc_value self) }
+        ensures pool { IfOk result (λ item. owned_pool item ≡ arc_value self) }
+        ensures pulled { IfOk result (λ item.
+            IsPulledWith (pool_identity (arc_value self)) note (owned_item item)) }
+        ensures meets { IfOk result (λ item. K.meets (owned_item item).value) }
+        ensures made_or_reset { IfOk result (λ item.
+            IsMadeOrReset I.answers R.leaves (owned_item item).value) }
+        ensures brief { IfOk result (λ item.
+            IsWithin (pool_pages (arc_value self)) (note_steps note) (owned_steps item)) }
+        ensures same_owner { IfErr result (λ kept. arc_value kept.0 ≡ arc_value self) }
+        ensures busy { IfErr result (λ kept.
+            IsBusyNote (pool_identity (arc_value self)) note kept.1) }
+        ensures busy_brief { IfErr result (λ kept.
+            IsWithin (pool_pages (arc_value self)) (note_steps note) (note_steps kept.1)) }
+    {
+        let start = self.items.page_round(page);
+        match self.items.pull_onward(start, note) {
+            Ok(pulled) => Ok(FixedOwnedReusable::new(self, pulled)),
+            Err(note) => Err((self, note)),
         }
     }
 

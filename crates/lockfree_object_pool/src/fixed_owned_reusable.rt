@@ -107,6 +107,18 @@ impl<T: Drop, I: Init<T, K>, R: Reset<T, K>, K: Clean<T>> FixedOwnedReusable<T, 
             seat: pool.items.give(seat, number, value),
         }
     }
+    /// As `give_back`, which hands out the owner of the pool too.
+    pub fn give_back_with_owner(self) -> (Arc<FixedObjectPool<T, I, R, K>>, PoolNote<T>)
+        ensures owner { arc_value result.0 ≡ owned_pool self }
+        ensures given_back { IsGivenBack (R.leaves (pool_reset (owned_pool self))) (owned_item self) result.1 }
+    {
+        let FixedOwnedReusable { taken, value } = self;
+        let OwnedTakenItem { pool, seat, number } = taken;
+        let mut left = value;
+        pool.reset(&mut left);
+        let seat = pool.items.give(seat, number, left);
+        (pool, PageNote { seat })
+    }
 }
 
 impl<T: Drop, I: Init<T, K>, R: Reset<T, K>, K: Clean<T>> Deref for FixedOwnedReusable<T, I, R, K> {

@@ -51,7 +51,7 @@ pub(crate) struct FixedItems<T, K: Clean<T>> {
 
 impl<T, K: Clean<T>> FixedItems<T, K> {
     ghost use Rattle.lockfree_object_pool.specs.Answers.{MayMake};
-    ghost use Rattle.lockfree_object_pool.specs.FixedAnswer.{IsPulledOf, IsPulledWith, IsBusyOf, IsBusyAfter, busy_steps, note_steps};
+    ghost use Rattle.lockfree_object_pool.specs.FixedAnswer.{IsPulledOf, IsPulledWith, IsBusyOf, IsBusyAfter, IsBusyNote, busy_steps, note_steps};
     ghost use Rattle.lockfree_object_pool.specs.FixedPool.{fixed_identity, fixed_opening};
     ghost use Rattle.lockfree_object_pool.specs.FixedReusable.{pulled_item, pulled_view};
     ghost use Rattle.lockfree_object_pool.specs.FixedRule.{MissesAll, TakesOne, IsWithin, no_steps, steps_of};
@@ -188,6 +188,33 @@ impl<T, K: Clean<T>> FixedItems<T, K> {
             number: taken.number,
             value: taken.value,
         })
+    }
+
+    /// As `pull`, by a user that knows something of the pool: its pull stands after all that it knew. A refused pull hands the note
+    /// on, which knows what was found.
+    pub(super) fn pull_onward(
+        &self,
+        page: usize,
+        note: PoolNote<T>,
+    ) -> Result<PulledItem<T>, PoolNote<T>>
+        requires page { page < (fixed_identity self.now).words }
+        requires note { note_page note ≡ fixed_identity self.now }
+        ensures pulled { IfOk result (λ pulled. IsPulledWith (fixed_identity self.now) note (pulled_item pulled)) }
+        ensures meets { IfOk result (λ pulled. K.meets pulled.value) }
+        ensures brief { IfOk result (λ pulled. IsWithin (fixed_identity self.now).words (note_steps note) (steps_of (pulled_view pulled))) }
+        ensures busy { IfErr result (IsBusyNote (fixed_identity self.now) note) }
+        ensures busy_brief { IfErr result (λ later. IsWithin (fixed_identity self.now).words (note_steps note) (note_steps later)) }
+    {
+        let PageNote { mut seat } = note;
+        let word = self.shared.look_again(&mut seat, page);
+        match self.take(&mut seat, page, word) {
+            Some(taken) => Ok(PulledItem {
+                seat,
+                number: taken.number,
+                value: taken.value,
+            }),
+            None => Err(PageNote { seat }),
+        }
     }
 
     /// Moves the value home and sets its bit, by the user that has the item. It hints at a page that was full.
