@@ -96,6 +96,13 @@ impl<T: Drop, I: Init<T, K>, R: Reset<T, K>, K: Clean<T>> FixedOwnedReusable<T, 
         taken.pool.items.shared.witness(&mut taken.seat)
     }
 
+    /// The owner of the pool that the reusable keeps.
+    pub fn owner(&self) -> &Arc<FixedObjectPool<T, I, R, K>>
+        ensures { arc_value result.now ≡ owned_pool self.now }
+    {
+        &self.taken.pool
+    }
+
     /// Resets the value and brings it back, as the end does. The note knows the pool's history up to this return.
     pub fn give_back(self) -> PoolNote<T>
         ensures { IsGivenBack (R.leaves (pool_reset (owned_pool self))) (owned_item self) result }

@@ -1,0 +1,59 @@
+use Rattle.std.proofs.Common.{Some, refl, sym, ap, ◌∙◌, inl, inr}
+use Rattle.fixed_pool_c.specs.declared.held.Held.{Held}
+use Rattle.fixed_pool_c.proofs.exports.pull_at.Goals as goal
+
+pub returns-in-Some-Full : goal.returns-in-Some-Full
+returns-in-Some-Full c =
+    let had = ap (λ (held : Held). held.hand) (sym c.deref_mut.ensures.value) ∙ sym c.take.ensures.value ∙ c.in-Some-Full.is ∙ ap Some c.in-Some-Full.field-0-is in
+    let kept = c.hold.ensures in
+    inr (inr (inl (refl, refl, (c.args.held.value, kept.0, refl, kept.1, record { out = c.in-Some-Full.out; held_one = had; holds_same = kept.2 }))))
+
+pub returns-in-Ok : goal.returns-in-Ok
+returns-in-Ok c =
+    let had = ap (λ (held : Held). held.hand) (sym c.deref_mut.ensures.value) ∙ sym c.take.ensures.value ∙ c.in-Some-Empty.is ∙ ap Some c.in-Some-Empty.field-0-is in
+    let kept = c.hold-in-Ok.ensures in
+    let pulled = c.in-Ok.ensures in
+    inl (
+      refl,
+      (
+        c.args.held.value,
+        kept.0,
+        refl,
+        kept.1,
+        record {
+          idle = c.in-Some-Empty.field-0-0;
+          held_none = had;
+          out = c.in-Ok.out;
+          holds = kept.2;
+          same_pool = pulled.pool;
+          pulled = pulled.pulled;
+          number = c.number.ensures.value;
+          brief = pulled.brief;
+        },
+      ),
+    )
+
+pub returns-in-Err : goal.returns-in-Err
+returns-in-Err c =
+    let had = ap (λ (held : Held). held.hand) (sym c.deref_mut.ensures.value) ∙ sym c.take.ensures.value ∙ c.in-Some-Empty.is ∙ ap Some c.in-Some-Empty.field-0-is in
+    let kept = c.hold-in-Err.ensures in
+    let refused = c.in-Err.ensures in
+    inr (inl (
+      refl,
+      refl,
+      (
+        c.args.held.value,
+        kept.0,
+        refl,
+        kept.1,
+        record {
+          idle = c.in-Some-Empty.field-0-0;
+          held_none = had;
+          later = _;
+          holds_none = kept.2;
+          same_pool = refused.same_owner;
+          busy = refused.busy;
+          brief = refused.busy_brief;
+        },
+      ),
+    ))

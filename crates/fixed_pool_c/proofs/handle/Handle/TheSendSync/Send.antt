@@ -1,0 +1,27 @@
+use mir.Raw.{raw}
+use base.Shift.{Keyless}
+use denote.Memory.{lone}
+use denote.Param.Send.{IsSend, owning_send, struct_send, sendable}
+use denote.RawPtr.{Ptr}
+use denote.Builtin.{RawPtr}
+use denote.Struct.Struct.{exits_of}
+use denote.Struct.Owning.{shape, fields, to}
+use Rattle.std.specs.Prelude.{Option, Some, None}
+use Rattle.std_alloc.proofs.SendSync.{quiet, lies}
+use Rattle.std.proofs.Crossing.{frees}
+use Rattle.std_heap.specs.contracts.Global as heap
+use Rattle.std_heap.specs.declared.Global.{Global}
+use Rattle.fixed_pool_c.specs.HandleOwns.{handle_owns}
+use Rattle.fixed_pool_c.specs.contracts.held.Held as held
+use Rattle.fixed_pool_c.proofs.held.Held.TheSendSync.{the_send}
+use Rattle.fixed_pool_c.specs.declared.held.Held.{Held}
+use Rattle.fixed_pool_c.specs.contracts.handle.Handle.{the_row, the_type}
+
+owned : IsSend held.the_row → (a : Global) (p : Ptr) (x : Option Held) → Keyless (handle_owns a p x)
+owned s a p None = λ _. tt
+owned s a p (Some x) = (lies held.the_row s p x, frees.frees a (raw (lone held.the_row.mir)) p)
+
+pub send : IsSend the_row
+send = let ps : IsSend RawPtr = search sendable in let gs : IsSend heap.the_field.row = search sendable in
+    owning_send the_type (ps, (gs, tt)) (λ d. owned the_send d.alloc d.at d.held)
+    (λ k. quiet (to the_type) (exits_of k (fields the_type)) ((struct_send (shape the_type) (ps, (gs, tt))).leaving k))

@@ -1,0 +1,14 @@
+use Rattle.std.proofs.Common.{refl, ap, subst}
+use Rattle.lockfree_object_pool.specs.FixedPool.{pool_identity, pool_opening}
+use Rattle.lockfree_object_pool.specs.Note.{IsNoteOf}
+use Rattle.fixed_pool_c.specs.Shows.{PlacePool}
+use Rattle.fixed_pool_c.specs.declared.held.Held.{Held}
+use Rattle.fixed_pool_c.proofs.held.Held.open.Goals as goal
+
+pub returns-in-Ok : goal.returns-in-Ok
+returns-in-Ok c = record {
+  idle = _;
+  holds_none = ap (λ (held : Held). held.hand) c.in-Ok.ensures.ok;
+  same_pool = refl;
+  note = subst (λ (pool : PlacePool). IsNoteOf (pool_identity pool) (pool_opening pool) c.note-note.result) c.deref-3.ensures c.note-note.ensures;
+}

@@ -1,0 +1,13 @@
+use Rattle.std.proofs.Common.{◌∙◌, subst}
+use Rattle.fixed_pool_c.specs.Answers.{OpensOf}
+use Rattle.fixed_pool_c.specs.Shows.{PlacePool}
+use Rattle.fixed_pool_c.proofs.held.Held.share.Goals as goal
+
+pub returns-in-Some-open-clause-shares : goal.returns-in-Some-open-clause-shares
+returns-in-Some-open-clause-shares c =
+    let owner = c.in-Some.ensures in
+    record {
+      hand = owner.0;
+      has = owner.1;
+      opens = subst (λ (pool : PlacePool). OpensOf pool c.in-Some-open.other.value) (c.in-Ok.ensures ∙ owner.2) c.in-Some-open.ensures;
+    }

@@ -1,0 +1,150 @@
+-- What the exported calls answer, told by what a handle shows before and after: nothing, where it is empty, or its pool and its hand.
+use Rattle.std.specs.Prelude.{◌≡◌, ℕ, ◌+◌, ◌/◌, ◌⊎◌, ⊤, Option, Some, None}
+use Rattle.std.specs.Arc.{arc_value}
+use Rattle.lockfree_object_pool.specs.FixedAnswer.{IsPulledWith, IsBusyNote, IsGivenBack, note_steps}
+use Rattle.lockfree_object_pool.specs.FixedPool.{pool_identity, pool_items, pool_opening, pool_pages}
+use Rattle.lockfree_object_pool.specs.FixedReusable.{owned_pool, owned_item, owned_steps}
+use Rattle.lockfree_object_pool.specs.FixedRule.{IsWithin}
+use Rattle.lockfree_object_pool.specs.Items.{IsFilled}
+use Rattle.lockfree_object_pool.specs.Note.{IsNoteOf}
+use Rattle.lockfree_object_pool.specs.declared.page.note.PageNote.{PageNote}
+use Rattle.fixed_pool_c.specs.Shows.{PlacePool, OutPlace, hand_pool}
+use Rattle.fixed_pool_c.specs.declared.answer.TheConstants.{DONE, ALL_OUT, HOLDS_ONE, HOLDS_NONE, NO_POOL, IN_USE, NO_PLACES, NO_MEMORY}
+use Rattle.fixed_pool_c.specs.declared.held.Hand.{Hand}
+use Rattle.fixed_pool_c.specs.declared.held.Hand.TheVariants.{Empty, Full}
+use Rattle.fixed_pool_c.specs.declared.held.Held.{Held}
+use Rattle.fixed_pool_c.specs.declared.held.Idle.{Idle}
+
+-- the handle held no place, and holds this one: the last operation of a legal sequential history of the whole pool is this pull of
+-- this number, after all that the handle knew
+pub record Pulls (old new : Held) (place : ℕ) : Type 0 where
+  pub idle : Idle
+  pub held_none : old.hand ≡ Some (Empty idle)
+  pub out : OutPlace
+  pub holds : new.hand ≡ Some (Full out)
+  pub same_pool : owned_pool out ≡ arc_value idle.pool
+  pub pulled : IsPulledWith (pool_identity (arc_value idle.pool)) idle.note (owned_item out)
+  pub number : place ≡ (owned_item out).id
+  -- so many loads and tries at most
+  pub brief : IsWithin (pool_pages (arc_value idle.pool)) (note_steps idle.note) (owned_steps out)
+
+-- the handle held no place, and holds none: each place was out at some time of the call
+pub record FindsAllOut (old new : Held) : Type 0 where
+  pub idle : Idle
+  pub held_none : old.hand ≡ Some (Empty idle)
+  pub later : Idle
+  pub holds_none : new.hand ≡ Some (Empty later)
+  pub same_pool : arc_value later.pool ≡ arc_value idle.pool
+  pub busy : IsBusyNote (pool_identity (arc_value idle.pool)) idle.note later.note
+  pub brief : IsWithin (pool_pages (arc_value idle.pool)) (note_steps idle.note) (note_steps later.note)
+
+-- the handle held a place, and holds none: the place was returned, and the handle's history ends with its return
+pub record Returns (old new : Held) : Type 0 where
+  pub out : OutPlace
+  pub held_one : old.hand ≡ Some (Full out)
+  pub idle : Idle
+  pub holds_none : new.hand ≡ Some (Empty idle)
+  pub same_pool : arc_value idle.pool ≡ owned_pool out
+  pub given_back : IsGivenBack (λ old new. new ≡ old) (owned_item out) idle.note
+
+-- a new handle of this pool: it holds no place, and knows the pool's history as it was then
+pub record OpensOf (pool : PlacePool) (new : Held) : Type 0 where
+  pub idle : Idle
+  pub holds_none : new.hand ≡ Some (Empty idle)
+  pub same_pool : arc_value idle.pool ≡ pool
+  pub note : IsNoteOf (pool_identity pool) (pool_opening pool) idle.note
+
+-- the first handle of a new pool of so many free places
+pub record OpensNew (items : ℕ) (new : Held) : Type 0 where
+  pub pool : PlacePool
+  pub opens : OpensOf pool new
+  pub count : pool_items pool ≡ items
+  pub pages : pool_pages pool ≡ (items + 31) / 32
+  pub free : IsFilled items (λ value. Some value ≡ Some tt) (pool_opening pool)
+
+-- a further handle of the pool that the other has
+pub record Shares (held other : Held) : Type 0 where
+  pub hand : Hand
+  pub has : held.hand ≡ Some hand
+  pub opens : OpensOf (hand_pool hand) other
+
+-- a call that did nothing: the handle has the place that it had
+pub record KeepsPlace (old new : Held) : Type 0 where
+  pub out : OutPlace
+  pub held_one : old.hand ≡ Some (Full out)
+  pub holds_same : new.hand ≡ Some (Full out)
+
+-- the same of a handle that holds no place
+pub record KeepsNone (old new : Held) : Type 0 where
+  pub idle : Idle
+  pub held_none : old.hand ≡ Some (Empty idle)
+  pub holds_none : new.hand ≡ Some (Empty idle)
+
+-- both are open, and this holds of what they have
+abbrev pub Open : Option Held → Option Held → (Held → Held → Type 0) → Type 0
+Open old new holds = (held : Held) × (later : Held) × (old ≡ Some held) × (new ≡ Some later) × holds held later
+
+-- the handle is empty (or is taken apart, as within a call)
+abbrev pub HasNoPool : Option Held → Type 0
+HasNoPool None = ⊤
+HasNoPool (Some held) = held.hand ≡ None
+
+-- what a pull answers, by its number
+abbrev pub IsPullAnswer : ℕ → Option Held → Option Held → ℕ → ℕ → Type 0
+IsPullAnswer number old new before after =
+    ((number ≡ DONE) × Open old new (λ held later. Pulls held later after))
+    ⊎ (((number ≡ ALL_OUT) × (after ≡ before) × Open old new FindsAllOut)
+    ⊎ (((number ≡ HOLDS_ONE) × (after ≡ before) × Open old new KeepsPlace)
+    ⊎ ((number ≡ NO_POOL) × (after ≡ before) × HasNoPool old × HasNoPool new)))
+
+-- what a return answers, by its number
+abbrev pub IsReturnAnswer : ℕ → Option Held → Option Held → Type 0
+IsReturnAnswer number old new =
+    ((number ≡ DONE) × Open old new Returns)
+    ⊎ (((number ≡ HOLDS_NONE) × Open old new KeepsNone)
+    ⊎ ((number ≡ NO_POOL) × HasNoPool old × HasNoPool new))
+
+-- the handle that was to be made is open already, and stays as it was
+abbrev pub IsInUse : Option Held → Option Held → Type 0
+IsInUse old new = (held : Held) × (old ≡ Some held) × (new ≡ Some held)
+
+-- no handle was made
+abbrev pub StaysEmpty : Option Held → Option Held → Type 0
+StaysEmpty old new = (old ≡ None) × (new ≡ None)
+
+-- what the making of a pool of so many places answers
+abbrev pub IsNewAnswer : ℕ → ℕ → Option Held → Option Held → Type 0
+IsNewAnswer number items old new =
+    ((number ≡ DONE) × (old ≡ None) × ((held : Held) × (new ≡ Some held) × OpensNew items held))
+    ⊎ (((number ≡ NO_MEMORY) × StaysEmpty old new)
+    ⊎ (((number ≡ NO_PLACES) × (items ≡ 0) × StaysEmpty old new)
+    ⊎ ((number ≡ IN_USE) × IsInUse old new)))
+
+-- what the making of a further handle answers; the handle that it is made from stays as it was
+abbrev pub IsShareAnswer : ℕ → Option Held → Option Held → Option Held → Type 0
+IsShareAnswer number handle old new =
+    ((number ≡ DONE) × (old ≡ None) × ((held : Held) × (other : Held) × (handle ≡ Some held) × (new ≡ Some other) × Shares held other))
+    ⊎ (((number ≡ NO_MEMORY) × StaysEmpty old new)
+    ⊎ (((number ≡ NO_POOL) × HasNoPool handle × StaysEmpty old new)
+    ⊎ ((number ≡ IN_USE) × IsInUse old new)))
+
+-- how many places a handle's pool has, and 0 where it has none
+abbrev pub hand_items : Option Hand → ℕ
+hand_items None = 0
+hand_items (Some hand) = pool_items (hand_pool hand)
+
+abbrev pub handle_items : Option Held → ℕ
+handle_items None = 0
+handle_items (Some held) = hand_items held.hand
+
+-- a place that was held was returned, as a note of that return tells
+abbrev pub LeavesNone : Option Hand → Type 0
+LeavesNone None = ⊤
+LeavesNone (Some (Empty idle)) = ⊤
+LeavesNone (Some (Full out)) = (note : PageNote ⊤) × IsGivenBack (λ old new. new ≡ old) (owned_item out) note
+
+-- what the end of a handle answers
+abbrev pub IsDropAnswer : ℕ → Option Held → Option Held → Type 0
+IsDropAnswer number old new =
+    ((number ≡ DONE) × (new ≡ None) × ((held : Held) × (old ≡ Some held) × LeavesNone held.hand))
+    ⊎ ((number ≡ NO_POOL) × (old ≡ None) × (new ≡ None))

@@ -1,0 +1,3 @@
+pub mod HandleOwns
+pub mod Shows
+pub mod Answers

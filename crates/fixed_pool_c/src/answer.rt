@@ -1,0 +1,25 @@
+//! What the exported calls answer, as numbers. The header has them as an enumeration of C.
+
+/// It was done.
+pub const DONE: u32 = 0;
+
+/// Each place was found out.
+pub const ALL_OUT: u32 = 1;
+
+/// The handle holds a place already.
+pub const HOLDS_ONE: u32 = 2;
+
+/// The handle holds no place.
+pub const HOLDS_NONE: u32 = 3;
+
+/// The handle has no pool.
+pub const NO_POOL: u32 = 4;
+
+/// The handle that was to be made has a pool already.
+pub const IN_USE: u32 = 5;
+
+/// A pool of no places was asked for.
+pub const NO_PLACES: u32 = 6;
+
+/// Memory was refused, or the pool can have no more handles.
+pub const NO_MEMORY: u32 = 7;

@@ -1,0 +1,168 @@
+//! What C calls.
+ghost use Rattle.std.specs.Prelude.{◌≡◌, Some, None};
+ghost use Rattle.fixed_pool_c.specs.Answers.{IsNewAnswer, IsShareAnswer, IsPullAnswer, IsReturnAnswer, IsDropAnswer, handle_items};
+
+use crate::answer::{ALL_OUT, DONE, HOLDS_NONE, HOLDS_ONE, IN_USE, NO_MEMORY, NO_PLACES, NO_POOL};
+use crate::handle::Handle;
+use crate::held::{Hand, Held, Idle};
+use std::alloc::Global;
+
+/// Makes a pool of so many free places. Its first handle goes to `out`, which was empty.
+#[unsafe(no_mangle)]
+pub extern "C" fn kdr_pool_new(alloc: Global, items: usize, out: &mut Handle) -> u32
+    ensures { IsNewAnswer result items out.old.held out.new.held }
+{
+    if let Some(before) = out.take(alloc) {
+        out.put(before);
+        return IN_USE;
+    }
+    if items == 0 {
+        return NO_PLACES;
+    }
+    let Some(held) = Held::first(alloc, items) else {
+        return NO_MEMORY;
+    };
+    out.put(held);
+    DONE
+}
+
+/// Makes a further handle of the same pool, which holds no place. It goes to `out`, which was empty.
+#[unsafe(no_mangle)]
+pub extern "C" fn kdr_pool_share(alloc: Global, handle: &mut Handle, out: &mut Handle) -> u32
+    ensures answer { IsShareAnswer result handle.old.held out.old.held out.new.held }
+    ensures same { handle.new.held ≡ handle.old.held }
+{
+    if let Some(before) = out.take(alloc) {
+        out.put(before);
+        return IN_USE;
+    }
+    let Some(held) = handle.take(alloc) else {
+        return NO_POOL;
+    };
+    let other = held.share(alloc);
+    handle.put(held);
+    match other {
+        Ok(other) => {
+            out.put(other);
+            DONE
+        }
+        Err(answer) => answer,
+    }
+}
+
+/// How many places the handle's pool has, or 0 where the handle has no pool.
+#[unsafe(no_mangle)]
+pub extern "C" fn kdr_pool_items(alloc: Global, handle: &mut Handle) -> usize
+    ensures items { result ≡ handle_items handle.old.held }
+    ensures same { handle.new.held ≡ handle.old.held }
+{
+    let Some(held) = handle.take(alloc) else {
+        return 0;
+    };
+    let items = held.items();
+    handle.put(held);
+    items
+}
+
+/// Takes a place. The pull begins at the handle's own page.
+#[unsafe(no_mangle)]
+pub extern "C" fn kdr_pool_pull(alloc: Global, handle: &mut Handle, place: &mut usize) -> u32
+    ensures { IsPullAnswer result handle.old.held handle.new.held place.old place.new }
+{
+    let Some(held) = handle.take(alloc) else {
+        return NO_POOL;
+    };
+    let page = held.page;
+    pull_at(handle, held, page, place)
+}
+
+/// Takes a place. The pull begins at this page of 32 places, counted round and round.
+#[unsafe(no_mangle)]
+pub extern "C" fn kdr_pool_pull_near(
+    alloc: Global,
+    handle: &mut Handle,
+    page: usize,
+    place: &mut usize,
+) -> u32
+    ensures { IsPullAnswer result handle.old.held handle.new.held place.old place.new }
+{
+    let Some(held) = handle.take(alloc) else {
+        return NO_POOL;
+    };
+    pull_at(handle, held, page, place)
+}
+
+/// Takes a place for a handle that was taken apart.
+fn pull_at(handle: &mut Handle, mut held: Box<Held>, page: usize, place: &mut usize) -> u32
+    ensures { IsPullAnswer result (Some held.value) handle.new.held place.old place.new }
+{
+    match held.hand.take() {
+        None => {
+            handle.put(held);
+            NO_POOL
+        }
+        Some(Hand::Full(out)) => {
+            handle.hold(held, Hand::Full(out));
+            HOLDS_ONE
+        }
+        Some(Hand::Empty(Idle { pool, note })) => match pool.pull_by_owner(page, note) {
+            Ok(out) => {
+                *place = out.number();
+                handle.hold(held, Hand::Full(out));
+                DONE
+            }
+            Err((pool, note)) => {
+                handle.hold(held, Hand::Empty(Idle { pool, note }));
+                ALL_OUT
+            }
+        },
+    }
+}
+
+/// Returns the handle's place.
+#[unsafe(no_mangle)]
+pub extern "C" fn kdr_pool_return(alloc: Global, handle: &mut Handle) -> u32
+    ensures { IsReturnAnswer result handle.old.held handle.new.held }
+{
+    let Some(mut held) = handle.take(alloc) else {
+        return NO_POOL;
+    };
+    match held.hand.take() {
+        None => {
+            handle.put(held);
+            NO_POOL
+        }
+        Some(Hand::Empty(idle)) => {
+            handle.hold(held, Hand::Empty(idle));
+            HOLDS_NONE
+        }
+        Some(Hand::Full(out)) => {
+            let (pool, note) = out.give_back_with_owner();
+            handle.hold(held, Hand::Empty(Idle { pool, note }));
+            DONE
+        }
+    }
+}
+
+/// Closes the handle, which is empty from then on. A place that it holds is returned. The pool ends with its last handle.
+#[unsafe(no_mangle)]
+pub extern "C" fn kdr_pool_drop(alloc: Global, handle: &mut Handle) -> u32
+    ensures { IsDropAnswer result handle.old.held handle.new.held }
+{
+    let Some(held) = handle.take(alloc) else {
+        return NO_POOL;
+    };
+    let Held {
+        page: _page,
+        handles: _handles,
+        hand,
+    } = Box::into_inner(held);
+    match hand {
+        Some(Hand::Full(out)) => {
+            let _note = out.give_back();
+        }
+        Some(Hand::Empty(_idle)) => {}
+        None => {}
+    }
+    DONE
+}

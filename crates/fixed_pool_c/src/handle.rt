@@ -1,0 +1,90 @@
+//! A handle as C has it.
+ghost use Rattle.std.specs.Prelude.{◌≡◌, Option, Some, None, MatchOption};
+ghost use Rattle.fixed_pool_c.specs.HandleOwns.{handle_owns};
+ghost use Rattle.fixed_pool_c.specs.declared.held.Held.{Held};
+
+use crate::held::{Hand, Held};
+use crate::loose::Loose;
+use std::alloc::Global;
+use std::marker::Model;
+use std::mem::replace;
+use std::ptr::null_mut;
+
+/// An open handle, which is a pointer to what it has, or an empty one, which is null.
+///
+/// Nothing lets go of one silently: it isn't `Drop`, so each is closed by `take`.
+#[repr(C)]
+pub struct Handle {
+    at: *mut u8,
+    alloc: Global,
+    pub ghost held: { Option Held },
+}
+
+impl Model for Handle {
+    ghost also_owns = { λ handle. handle_owns handle.alloc handle.at handle.held };
+}
+
+impl Handle {
+    fn empty(alloc: Global) -> Handle
+        ensures { result.held ≡ None }
+    {
+        Handle {
+            at: null_mut(),
+            alloc,
+        }
+    }
+
+    fn of(loose: Loose<Held, Global>) -> Handle
+        ensures { result.held ≡ Some loose.value }
+    {
+        let Loose { at, alloc } = loose;
+        Handle {
+            at: at as *mut u8,
+            alloc,
+        }
+    }
+
+    fn into_loose(self) -> Option<Loose<Held, Global>>
+        ensures { MatchOption result (self.held ≡ None) (λ loose. self.held ≡ Some loose.value) }
+    {
+        let Handle { at, alloc } = self;
+        if at.is_null() {
+            None
+        } else {
+            Some(Loose {
+                at: at as *mut Held,
+                alloc,
+            })
+        }
+    }
+
+    /// What an open handle has, which is empty from then on.
+    pub(crate) fn take(&mut self, alloc: Global) -> Option<Box<Held>>
+        ensures taken { MatchOption result (self.old.held ≡ None) (λ held. self.old.held ≡ Some held.value) }
+        ensures empty { self.new.held ≡ None }
+    {
+        match replace(self, Handle::empty(alloc)).into_loose() {
+            Some(loose) => Some(loose.into_box()),
+            None => None,
+        }
+    }
+
+    /// Opens the handle. What it had before is dropped.
+    pub(crate) fn put(&mut self, held: Box<Held>)
+        ensures { self.new.held ≡ Some held.value }
+    {
+        if let Some(before) = replace(self, Handle::of(Loose::of(held))).into_loose() {
+            let _ = before.into_box();
+        }
+    }
+
+    /// Opens the handle with this in its hand.
+    pub(crate) fn hold(&mut self, mut held: Box<Held>, hand: Hand)
+        ensures { (later : Held) × (self.new.held ≡ Some later) × (later.hand ≡ Some hand) }
+    {
+        held.hand = Some(hand);
+        self.put(held);
+    }
+}
+
+unsafe impl Send for Handle {}

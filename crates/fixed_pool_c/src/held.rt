@@ -1,0 +1,45 @@
+//! What an open handle has: its pool, and a place of it or none.
+ghost use Rattle.std.specs.Prelude.{◌≡◌};
+ghost use Rattle.std.specs.Arc.{arc_value};
+ghost use Rattle.lockfree_object_pool.specs.FixedPool.{pool_identity};
+ghost use Rattle.lockfree_object_pool.specs.Note.{note_page};
+ghost use Rattle.lockfree_object_pool.specs.OneProof.{same_page};
+
+use lockfree_object_pool::clean::AnyValue;
+use lockfree_object_pool::closures::{Copied, Keep};
+use lockfree_object_pool::fixed_object_pool::PoolNote;
+use lockfree_object_pool::{FixedObjectPool, FixedOwnedReusable};
+use std::sync::Arc;
+use std::sync::atomic::AtomicUsize;
+
+/// A pool of places alone.
+pub type PlacePool = FixedObjectPool<(), Copied<(), AnyValue>, Keep>;
+
+/// A place that is out, with an owner of its pool.
+pub type OutPlace = FixedOwnedReusable<(), Copied<(), AnyValue>, Keep>;
+
+/// An owner of a pool that holds no place, and what it knows of the pool's history.
+#[derive(Drop)]
+pub struct Idle {
+    pub pool: Arc<PlacePool>,
+    pub note: PoolNote<()>,
+    pub ghost of_pool: { note_page note ≡ pool_identity (arc_value pool) } by { same_page _ _ },
+}
+
+/// A place, or none.
+#[derive(Drop)]
+pub enum Hand {
+    Empty(Idle),
+    Full(OutPlace),
+}
+
+/// What an open handle has.
+#[derive(Drop)]
+pub struct Held {
+    /// At which page its pulls begin, counted round and round.
+    pub page: usize,
+    /// How many handles the pool has had. It promises nothing but that the pages at which handles begin differ.
+    pub handles: Arc<AtomicUsize>,
+    /// `None` only within a call.
+    pub hand: Option<Hand>,
+}

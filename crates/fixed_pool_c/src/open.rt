@@ -1,0 +1,123 @@
+//! How handles are made, and what an open one tells of its pool.
+ghost use Rattle.std.specs.Prelude.{◌≡◌, ◌≤◌, ◌⊎◌, Some, None, MatchOption, IfSome, IfOk, IfErr};
+ghost use Rattle.std.specs.Arc.{arc_value};
+ghost use Rattle.fixed_pool_c.specs.Answers.{OpensOf, OpensNew, Shares, hand_items};
+ghost use Rattle.fixed_pool_c.specs.Shows.{hand_pool};
+ghost use Rattle.fixed_pool_c.specs.declared.answer.TheConstants.{NO_POOL, NO_MEMORY};
+ghost use Rattle.fixed_pool_c.specs.declared.held.Hand.{Hand as HandShown};
+
+use crate::answer::{NO_MEMORY, NO_POOL};
+use crate::held::{Hand, Held, Idle, PlacePool};
+use lockfree_object_pool::closures::{Copied, Keep};
+use lockfree_object_pool::page::PAGE_ITEMS;
+use std::alloc::Global;
+use std::sync::Arc;
+use std::sync::atomic::AtomicUsize;
+use std::sync::atomic::Ordering::SeqCst;
+
+/// How many pages apart handles begin, so that their words lie on cache lines of their own.
+const PAGES_APART: usize = 17;
+
+impl Hand {
+    /// The pool's owner, whether a place is held or not.
+    fn pool(&self) -> &Arc<PlacePool>
+        ensures { arc_value result.now ≡ hand_pool self.now }
+    {
+        match self {
+            Hand::Empty(idle) => &idle.pool,
+            Hand::Full(out) => out.owner(),
+        }
+    }
+}
+
+impl Held {
+    /// The first handle of a new pool of so many free places. `None` where memory is refused.
+    pub(crate) fn first(alloc: Global, items: usize) -> Option<Box<Held>>
+        requires { 1 ≤ items }
+        ensures { IfSome result (λ held. OpensNew items held.value) }
+    {
+        let Ok(pool) = PlacePool::new(alloc, Copied::new(()), Keep, items) else {
+            return None;
+        };
+        let Ok(pool) = Arc::new(alloc, pool) else {
+            return None;
+        };
+        let Ok(handles) = Arc::new(alloc, AtomicUsize::new(0)) else {
+            return None;
+        };
+        match Held::open(alloc, pool, handles) {
+            Some(held) => Some(held),
+            None => None,
+        }
+    }
+
+    /// A further handle of the pool, which holds no place: or the answer why there is none.
+    pub(crate) fn share(&self, alloc: Global) -> Result<Box<Held>, u32>
+        ensures shares { IfOk result (λ other. Shares self.now other.value) }
+        ensures refused { IfErr result (λ answer. ((answer ≡ NO_POOL) × (self.now.hand ≡ None)) ⊎ (answer ≡ NO_MEMORY)) }
+    {
+        let Some(pool) = self.pool() else {
+            return Err(NO_POOL);
+        };
+        let Ok(pool) = Arc::try_clone(pool) else {
+            return Err(NO_MEMORY);
+        };
+        let Ok(handles) = Arc::try_clone(&self.handles) else {
+            return Err(NO_MEMORY);
+        };
+        match Held::open(alloc, pool, handles) {
+            Some(other) => Ok(other),
+            None => Err(NO_MEMORY),
+        }
+    }
+
+    /// How many places the pool has.
+    pub(crate) fn items(&self) -> usize
+        ensures { result ≡ hand_items self.now.hand }
+    {
+        match self.pool() {
+            Some(pool) => pool.items(),
+            None => 0,
+        }
+    }
+
+    /// The pool's owner.
+    fn pool(&self) -> Option<&Arc<PlacePool>>
+        ensures { MatchOption result (self.now.hand ≡ None) (λ pool. (hand : HandShown) × (self.now.hand ≡ Some hand) × (arc_value pool.now ≡ hand_pool hand)) }
+    {
+        match &self.hand {
+            None => None,
+            Some(hand) => Some(hand.pool()),
+        }
+    }
+
+    /// A handle of this pool. `None` where memory is refused.
+    fn open(alloc: Global, pool: Arc<PlacePool>, handles: Arc<AtomicUsize>) -> Option<Box<Held>>
+        ensures { IfSome result (λ held. OpensOf (arc_value pool) held.value) }
+    {
+        let page = start_page(handles.fetch_add(1, SeqCst), pool.items());
+        let note = pool.note();
+        let hand = Some(Hand::Empty(Idle { pool, note }));
+        match Box::new(
+            alloc,
+            Held {
+                page,
+                handles,
+                hand,
+            },
+        ) {
+            Ok(held) => Some(held),
+            Err(_) => None,
+        }
+    }
+}
+
+/// At which page the handle of this number begins, in a pool of so many items: no two handles at one, while there are pages.
+fn start_page(handle: usize, items: usize) -> usize {
+    let step = if items.div_ceil(PAGE_ITEMS) % PAGES_APART == 0 {
+        1
+    } else {
+        PAGES_APART
+    };
+    handle.wrapping_mul(step)
+}
