@@ -1,0 +1,118 @@
+/* What the calls ask of malloc, realloc and free: each refusal is answered by its name and leaves nothing behind, nothing is asked
+   for between the making of handles and their end, and all is given back then. Linked with --wrap for the three. */
+#include "kundratu_pool.h"
+#include <stdio.h>
+#include <stdlib.h>
+
+void *__real_malloc(size_t bytes);
+void *__real_realloc(void *block, size_t bytes);
+void __real_free(void *block);
+
+static long asked, held, refuse_at = -1;
+
+static int is_refused(void) {
+    return asked++ == refuse_at;
+}
+
+void *__wrap_malloc(size_t bytes) {
+    if (is_refused()) {
+        return NULL;
+    }
+    void *block = __real_malloc(bytes);
+    held += block != NULL;
+    return block;
+}
+
+void *__wrap_realloc(void *block, size_t bytes) {
+    if (is_refused()) {
+        return NULL;
+    }
+    void *moved = __real_realloc(block, bytes);
+    held += !block && moved;
+    return moved;
+}
+
+void __wrap_free(void *block) {
+    held -= block != NULL;
+    __real_free(block);
+}
+
+enum { ITEMS = 100 };
+
+static int faults;
+
+static void check(int holds, const char *what) {
+    if (!holds) {
+        printf("%s\n", what);
+        faults++;
+    }
+}
+
+static long requests_of_new(void) {
+    kdr_handle one = KDR_HANDLE_EMPTY;
+    asked = 0;
+    check(kdr_pool_new(ITEMS, &one) == KDR_DONE, "no pool");
+    long requests = asked;
+    check(kdr_pool_drop(&one) == KDR_DONE && held == 0, "a pool left memory behind");
+    return requests;
+}
+
+static void refuse_new(long requests) {
+    for (refuse_at = 0; refuse_at < requests; refuse_at++) {
+        kdr_handle one = KDR_HANDLE_EMPTY;
+        asked = 0;
+        check(kdr_pool_new(ITEMS, &one) == KDR_NO_MEMORY, "a refusal wasn't answered by its name");
+        check(one.at == NULL && held == 0, "a refused pool left something behind");
+    }
+    refuse_at = -1;
+}
+
+static void refuse_share(void) {
+    kdr_handle one = KDR_HANDLE_EMPTY, other = KDR_HANDLE_EMPTY;
+    check(kdr_pool_new(ITEMS, &one) == KDR_DONE, "no pool");
+    long before = held;
+    asked = refuse_at = 0;
+    check(kdr_pool_share(&one, &other) == KDR_NO_MEMORY, "a refused handle wasn't answered by its name");
+    check(other.at == NULL && held == before, "a refused handle left something behind");
+    refuse_at = -1;
+    check(kdr_pool_share(&one, &other) == KDR_DONE, "no further handle");
+    check(kdr_pool_drop(&one) == KDR_DONE, "the first handle");
+    check(kdr_pool_items(&other) == ITEMS, "the pool ended before its last handle");
+    check(kdr_pool_drop(&other) == KDR_DONE && held == 0, "handles left memory behind");
+}
+
+static void take_none_between(void) {
+    kdr_handle all[ITEMS + 1] = {KDR_HANDLE_EMPTY};
+    check(kdr_pool_new(ITEMS, &all[0]) == KDR_DONE, "no pool");
+    for (size_t at = 1; at <= ITEMS; at++) {
+        check(kdr_pool_share(&all[0], &all[at]) == KDR_DONE, "no handle");
+    }
+    asked = 0;
+    for (int turn = 0; turn < 3; turn++) {
+        size_t place;
+        for (size_t at = 0; at < ITEMS; at++) {
+            check(kdr_pool_pull(&all[at], &place) == KDR_DONE, "no place");
+        }
+        check(kdr_pool_pull(&all[ITEMS], &place) == KDR_ALL_OUT, "a place too many");
+        check(kdr_pool_pull(&all[0], &place) == KDR_HOLDS_ONE, "a second place");
+        for (size_t at = 0; at < ITEMS; at++) {
+            check(kdr_pool_return(&all[at]) == KDR_DONE, "no return");
+        }
+        check(kdr_pool_return(&all[0]) == KDR_HOLDS_NONE, "a second return");
+    }
+    check(asked == 0, "a pull or a return asked for memory");
+    for (size_t at = 0; at <= ITEMS; at++) {
+        check(kdr_pool_drop(&all[at]) == KDR_DONE, "no end");
+    }
+    check(kdr_pool_drop(&all[0]) == KDR_NO_POOL, "a second end");
+    check(held == 0, "a pool left memory behind");
+}
+
+int main(void) {
+    long requests = requests_of_new();
+    refuse_new(requests);
+    refuse_share();
+    take_none_between();
+    printf("%d faults\n", faults);
+    return faults != 0;
+}
