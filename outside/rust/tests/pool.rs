@@ -1,0 +1,249 @@
+//! What a user of the pool sees.
+use kundratu_pool::{NewError, OwnedReusable, Pool, Reusable};
+use std::collections::HashSet;
+use std::panic::{catch_unwind, AssertUnwindSafe};
+use std::sync::atomic::{AtomicUsize, Ordering};
+use std::sync::{mpsc, Arc};
+use std::thread;
+
+fn zeros(items: usize) -> Pool<u32> {
+    Pool::new(items, || 0, |number| *number = 0).expect("there is memory")
+}
+
+/// A pool whose items keep what was written to them.
+fn kept(items: usize) -> Pool<u32> {
+    Pool::new(items, || 0, |_| ()).expect("there is memory")
+}
+
+#[test]
+fn an_item_is_reset_before_it_comes_again() {
+    let pool = zeros(1);
+    for _ in 0..2 {
+        let mut item = pool.pull().expect("it is free");
+        assert_eq!(*item, 0);
+        *item += 1;
+    }
+}
+
+#[test]
+fn an_item_comes_as_its_reset_left_it() {
+    let pool = kept(1);
+    let mut item = pool.pull().expect("it is free");
+    *item = 5;
+    drop(item);
+    assert_eq!(*pool.pull().expect("it came back"), 5);
+}
+
+#[test]
+fn what_was_written_is_read_through_the_guard() {
+    let pool = zeros(4);
+    let mut item = pool.pull().expect("one is free");
+    *item += 1;
+    let borrowed = &mut *item;
+    *borrowed += 1;
+    assert_eq!(*item, 2);
+    assert_eq!(format!("{item:?}"), "2");
+}
+
+#[test]
+fn one_at_a_time_is_one_place() {
+    let pool = zeros(64);
+    let addresses: HashSet<_> = (0..10)
+        .map(|_| {
+            let item = pool.pull().expect("one is free");
+            (item.number(), &*item as *const u32 as usize)
+        })
+        .collect();
+    assert_eq!(addresses.len(), 1);
+}
+
+#[test]
+fn two_at_a_time_are_two_places() {
+    let pool = zeros(64);
+    let mut addresses = HashSet::new();
+    for _ in 0..10 {
+        let first = pool.pull().expect("one is free");
+        let second = pool.pull().expect("one is free");
+        assert_ne!(first.number(), second.number());
+        addresses.extend([
+            &*first as *const u32 as usize,
+            &*second as *const u32 as usize,
+        ]);
+    }
+    assert_eq!(addresses.len(), 2);
+}
+
+#[test]
+fn each_item_comes_once_and_then_none() {
+    for items in [1, 31, 32, 33, 100] {
+        let pool = zeros(items);
+        let held: Vec<Reusable<'_, u32>> = std::iter::from_fn(|| pool.pull()).collect();
+        let numbers: HashSet<usize> = held.iter().map(Reusable::number).collect();
+        assert_eq!(numbers, (0..items).collect());
+        drop(held);
+        assert!(pool.pull().is_some());
+    }
+}
+
+#[test]
+fn items_are_made_in_their_order() {
+    let mut next = 0;
+    let make = || {
+        next += 1;
+        next - 1
+    };
+    let pool = Pool::<usize>::new(40, make, |_| ()).expect("there is memory");
+    let held: Vec<_> = std::iter::from_fn(|| pool.pull()).collect();
+    assert!(held.iter().all(|item| **item == item.number()));
+}
+
+#[test]
+fn a_pool_of_nothing_is_refused() {
+    let refused = Pool::<u32>::new(0, || 0, |_| ()).err();
+    assert_eq!(refused, Some(NewError::NoItems));
+    assert_eq!(
+        NewError::NoItems.to_string(),
+        "a pool has one item at least"
+    );
+}
+
+#[test]
+fn a_pool_past_all_memory_is_refused() {
+    let refused = Pool::<u32>::new(usize::MAX, || 0, |_| ()).err();
+    assert_eq!(refused, Some(NewError::Memory));
+}
+
+#[test]
+fn threads_hold_different_items() {
+    let pool = Arc::new(zeros(8));
+    let (sender, receiver) = mpsc::channel();
+    let threads: Vec<_> = (0..5)
+        .map(|number| {
+            let (pool, sender) = (Arc::clone(&pool), sender.clone());
+            thread::spawn(move || {
+                let mut item = pool.pull().expect("one is free");
+                *item = number;
+                sender.send(*item).expect("it is read");
+            })
+        })
+        .collect();
+    let told: HashSet<u32> = (0..5)
+        .map(|_| receiver.recv().expect("one a thread"))
+        .collect();
+    assert_eq!(told, (0..5).collect());
+    for thread in threads {
+        thread.join().expect("it ends");
+    }
+}
+
+#[test]
+fn an_owned_item_keeps_its_pool() {
+    let pool = Arc::new(zeros(2));
+    let weak = Arc::downgrade(&pool);
+    let item: OwnedReusable<u32> = pool.pull_owned().expect("one is free");
+    drop(pool);
+    assert!(weak.upgrade().is_some());
+    drop(item);
+    assert!(weak.upgrade().is_none());
+}
+
+#[test]
+fn items_go_from_thread_to_thread() {
+    let pool = Arc::new(Pool::<Vec<u8>>::new(4, Vec::new, Vec::clear).expect("there is memory"));
+    let (sender, receiver) = mpsc::channel::<OwnedReusable<Vec<u8>>>();
+    let writer = thread::spawn(move || {
+        for number in 0..200_u8 {
+            let mut buffer = loop {
+                match pool.pull_owned() {
+                    Some(buffer) => break buffer,
+                    None => thread::yield_now(),
+                }
+            };
+            assert!(buffer.is_empty());
+            buffer.push(number);
+            sender.send(buffer).expect("it is read");
+        }
+    });
+    let told: Vec<u8> = receiver.iter().map(|buffer| buffer[0]).collect();
+    writer.join().expect("it ends");
+    assert_eq!(told, (0..200).collect::<Vec<u8>>());
+}
+
+/// Says how often it was dropped.
+struct Counted(Arc<AtomicUsize>);
+
+impl Drop for Counted {
+    fn drop(&mut self) {
+        self.0.fetch_add(1, Ordering::SeqCst);
+    }
+}
+
+#[test]
+fn each_item_is_dropped_once_with_its_pool() {
+    let dropped = Arc::new(AtomicUsize::new(0));
+    let made = Arc::clone(&dropped);
+    let pool = Pool::new(10, move || Counted(Arc::clone(&made)), |_| ()).expect("there is memory");
+    drop(pool.pull());
+    assert_eq!(dropped.load(Ordering::SeqCst), 0);
+    drop(pool);
+    assert_eq!(dropped.load(Ordering::SeqCst), 10);
+}
+
+#[test]
+fn an_item_whose_reset_panics_never_comes_again() {
+    let reset = |number: &mut u32| assert_eq!(*number, 0, "it was written to");
+    let pool = Pool::<u32>::new(2, || 0, reset).expect("there is memory");
+    let mut item = pool.pull().expect("one is free");
+    let number = item.number();
+    *item = 1;
+    assert!(catch_unwind(AssertUnwindSafe(|| drop(item))).is_err());
+    let others: Vec<usize> = std::iter::from_fn(|| pool.pull())
+        .map(|item| {
+            let number = item.number();
+            std::mem::forget(item);
+            number
+        })
+        .collect();
+    assert_eq!(others, [1 - number]);
+}
+
+#[test]
+fn a_forgotten_item_stays_out() {
+    let pool = zeros(2);
+    std::mem::forget(pool.pull());
+    assert!(pool.pull().is_some());
+    let one = pool.pull();
+    assert!(one.is_some() && pool.pull().is_none());
+}
+
+/// Eight threads, one item fewer than they want: what each wrote is there as long as it holds the item, and all come back.
+#[test]
+fn nobody_else_is_at_an_item_that_is_held() {
+    const THREADS: u32 = 8;
+    let pool = kept(THREADS as usize * 2 - 1);
+    let faults = AtomicUsize::new(0);
+    thread::scope(|scope| {
+        for thread in 0..THREADS {
+            let (pool, faults) = (&pool, &faults);
+            scope.spawn(move || {
+                for turn in 0..5_000 {
+                    let mine = thread << 16 | turn;
+                    let mut items = [pool.pull(), pool.pull()];
+                    items.iter_mut().flatten().for_each(|item| **item = mine);
+                    thread::yield_now();
+                    let wrong = items
+                        .iter()
+                        .flatten()
+                        .filter(|item| ***item != mine)
+                        .count();
+                    faults.fetch_add(wrong, Ordering::SeqCst);
+                }
+            });
+        }
+    });
+    assert_eq!(faults.load(Ordering::SeqCst), 0);
+    assert_eq!(
+        std::iter::from_fn(|| pool.pull().map(std::mem::forget)).count(),
+        pool.items()
+    );
+}
