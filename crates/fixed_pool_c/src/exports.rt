@@ -64,7 +64,7 @@ pub extern "C" fn kdr_pool_items(alloc: Global, handle: &mut Handle) -> usize
     items
 }
 
-/// Takes a place. The pull begins at the handle's own page.
+/// Takes a place. The pull begins at the page of the handle's last place, and at first at a page of its own.
 #[unsafe(no_mangle)]
 pub extern "C" fn kdr_pool_pull(alloc: Global, handle: &mut Handle, place: &mut usize) -> u32
     ensures { IsPullAnswer result handle.old.held handle.new.held place.old place.new }
@@ -108,6 +108,7 @@ fn pull_at(handle: &mut Handle, mut held: Box<Held>, page: usize, place: &mut us
         Some(Hand::Empty(Idle { pool, note })) => match pool.pull_by_owner(page, note) {
             Ok(out) => {
                 *place = out.number();
+                held.page = out.page_number();
                 handle.hold(held, Hand::Full(out));
                 DONE
             }

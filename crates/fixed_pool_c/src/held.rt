@@ -36,7 +36,7 @@ pub enum Hand {
 /// What an open handle has.
 #[derive(Drop)]
 pub struct Held {
-    /// At which page its pulls begin, counted round and round.
+    /// At which page its next pull begins, counted round and round. It promises nothing.
     pub page: usize,
     /// How many handles the pool has had. It promises nothing but that the pages at which handles begin differ.
     pub handles: Arc<AtomicUsize>,

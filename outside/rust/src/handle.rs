@@ -17,7 +17,7 @@ struct RawHandle {
 extern "C" {
     fn kdr_pool_new(items: usize, out: &mut RawHandle) -> u32;
     fn kdr_pool_share(handle: &mut RawHandle, out: &mut RawHandle) -> u32;
-    fn kdr_pool_pull_near(handle: &mut RawHandle, page: usize, place: &mut usize) -> u32;
+    fn kdr_pool_pull(handle: &mut RawHandle, place: &mut usize) -> u32;
     fn kdr_pool_return(handle: &mut RawHandle) -> u32;
     fn kdr_pool_drop(handle: &mut RawHandle) -> u32;
 }
@@ -71,10 +71,10 @@ impl Handle {
     }
 
     /// Takes a place, or none where each is out. The handle held none.
-    pub(crate) fn pull_near(&mut self, page: usize) -> Option<usize> {
+    pub(crate) fn pull(&mut self) -> Option<usize> {
         let mut place = 0;
         // SAFETY: this is a handle that nobody else has, and `place` is a number of this function's own.
-        let answer = unsafe { kdr_pool_pull_near(&mut self.raw, page, &mut place) };
+        let answer = unsafe { kdr_pool_pull(&mut self.raw, &mut place) };
         debug_assert!(answer == DONE || answer == ALL_OUT);
         (answer == DONE).then_some(place)
     }

@@ -1,4 +1,7 @@
 //! The handles that hold no place, in lanes: each thread keeps to one, so that threads seldom meet.
+//!
+//! A pull begins where its handle's last one found a place, and the handle that was kept last is taken first. So a thread comes back to
+//! the pages where it was, and threads have pages of their own.
 use crate::handle::Handle;
 use std::cell::Cell;
 use std::sync::atomic::{AtomicUsize, Ordering};
@@ -6,9 +9,6 @@ use std::sync::{Mutex, MutexGuard, PoisonError};
 
 /// How many lanes a pool has. A power of two.
 const LANES: usize = 16;
-
-/// How many pages apart lanes begin their pulls: the words of that many pages fill two cache lines.
-const PAGES_APART: usize = 17;
 
 /// The idle handles of one lane, on cache lines of their own.
 #[repr(align(128))]
@@ -47,11 +47,6 @@ impl Lanes {
             Some(mut idle) => idle.push(handle),
             None => lock(&self.lanes[own_lane()].idle).push(handle),
         }
-    }
-
-    /// The page at which this thread's pulls begin.
-    pub(crate) fn page(&self) -> usize {
-        own_lane() * PAGES_APART
     }
 
     /// The lanes, from this thread's own on.

@@ -68,7 +68,7 @@ impl<T> Pool<T> {
     /// A handle that holds a place, with the place.
     pub(crate) fn take(&self) -> Option<(Handle, usize)> {
         let mut handle = self.lanes.take()?;
-        match handle.pull_near(self.lanes.page()) {
+        match handle.pull() {
             Some(place) => Some((handle, place)),
             None => {
                 self.lanes.keep(handle);
