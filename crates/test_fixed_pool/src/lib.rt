@@ -10,6 +10,8 @@ mod messages;
 #[cfg(test)]
 mod near;
 #[cfg(test)]
+mod owners;
+#[cfg(test)]
 mod sizes;
 #[cfg(test)]
 mod threads;

@@ -4,7 +4,7 @@ ghost use Rattle.lockfree_object_pool.specs.FixedPool.{pool_items};
 
 use lockfree_object_pool::clean::AnyValue;
 use lockfree_object_pool::closures::{Init, Keep};
-use lockfree_object_pool::{FixedObjectPool, FixedReusable, PullError};
+use lockfree_object_pool::{FixedObjectPool, FixedOwnedReusable, FixedReusable, PullError};
 use std::alloc::{AllocError, Global};
 use std::sync::Arc;
 use std::sync::atomic::AtomicUsize;
@@ -27,6 +27,9 @@ pub type NumberPool = FixedObjectPool<usize, Numbers, Keep, AnyValue>;
 
 /// A pulled number.
 pub type NumberItem<'p> = FixedReusable<'p, usize, Numbers, Keep, AnyValue>;
+
+/// A pulled number that keeps an owner of its pool.
+pub type NumberOwnedItem = FixedOwnedReusable<usize, Numbers, Keep, AnyValue>;
 
 /// A count of calls that begins at 0.
 pub fn new_calls(alloc: Global) -> Result<Arc<AtomicUsize>, AllocError> {
