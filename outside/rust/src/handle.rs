@@ -2,7 +2,9 @@
 use std::error::Error;
 use std::ffi::c_void;
 use std::fmt::{self, Display, Formatter};
+use std::mem::ManuallyDrop;
 use std::ptr::null_mut;
+use std::sync::atomic::{AtomicPtr, Ordering::SeqCst};
 
 const DONE: u32 = 0;
 const ALL_OUT: u32 = 1;
@@ -67,7 +69,7 @@ impl Handle {
         let mut raw = RawHandle { at: null_mut() };
         // SAFETY: both are handles that nobody else has, and `raw` is another one than this.
         let answer = unsafe { kdr_pool_share(&mut self.raw, &mut raw) };
-        (answer == DONE).then_some(Handle { raw })
+        (answer == DONE).then(|| Handle { raw })
     }
 
     /// Takes a place, or none where each is out. The handle held none.
@@ -91,5 +93,42 @@ impl Drop for Handle {
     fn drop(&mut self) {
         // SAFETY: this is a handle that nobody else has, and nobody uses it afterwards.
         let _ = unsafe { kdr_pool_drop(&mut self.raw) };
+    }
+}
+
+/// Room for one idle handle, which threads put there and take without a lock.
+pub(crate) struct Slot {
+    at: AtomicPtr<c_void>,
+}
+
+impl Slot {
+    pub(crate) fn new() -> Slot {
+        Slot {
+            at: AtomicPtr::new(null_mut()),
+        }
+    }
+
+    /// The handle that was there.
+    pub(crate) fn take(&self) -> Option<Handle> {
+        let at = self.at.swap(null_mut(), SeqCst);
+        (!at.is_null()).then(|| Handle {
+            raw: RawHandle { at },
+        })
+    }
+
+    /// Puts a handle there, or hands it back where there is one.
+    pub(crate) fn put(&self, handle: Handle) -> Option<Handle> {
+        let handle = ManuallyDrop::new(handle);
+        let at = handle.raw.at;
+        match self.at.compare_exchange(null_mut(), at, SeqCst, SeqCst) {
+            Ok(_) => None,
+            Err(_) => Some(ManuallyDrop::into_inner(handle)),
+        }
+    }
+}
+
+impl Drop for Slot {
+    fn drop(&mut self) {
+        drop(self.take());
     }
 }

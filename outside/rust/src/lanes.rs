@@ -2,7 +2,7 @@
 //!
 //! A pull begins where its handle's last one found a place, and the handle that was kept last is taken first. So a thread comes back to
 //! the pages where it was, and threads have pages of their own.
-use crate::handle::Handle;
+use crate::handle::{Handle, Slot};
 use std::cell::Cell;
 use std::sync::atomic::{AtomicUsize, Ordering};
 use std::sync::{Mutex, MutexGuard, PoisonError};
@@ -13,7 +13,17 @@ const LANES: usize = 16;
 /// The idle handles of one lane, on cache lines of their own.
 #[repr(align(128))]
 struct Lane {
+    /// The handle that was kept last, mostly.
+    last: Slot,
     idle: Mutex<Vec<Handle>>,
+}
+
+impl Lane {
+    fn take(&self) -> Option<Handle> {
+        self.last
+            .take()
+            .or_else(|| self.idle.try_lock().ok()?.pop())
+    }
 }
 
 /// A pool's handles that hold no place.
@@ -27,6 +37,7 @@ impl Lanes {
     pub(crate) fn new(first: Handle) -> Lanes {
         Lanes {
             lanes: std::array::from_fn(|_| Lane {
+                last: Slot::new(),
                 idle: Mutex::new(Vec::new()),
             }),
             first: Mutex::new(first),
@@ -35,14 +46,15 @@ impl Lanes {
 
     /// A handle that holds no place, or `None` where memory for a further one is refused.
     pub(crate) fn take(&self) -> Option<Handle> {
-        let idle = self
-            .round()
-            .find_map(|lane| lane.idle.try_lock().ok()?.pop());
+        let idle = self.round().find_map(Lane::take);
         idle.or_else(|| lock(&self.first).share())
     }
 
     /// Keeps a handle that holds no place.
     pub(crate) fn keep(&self, handle: Handle) {
+        let Some(handle) = self.lanes[own_lane()].last.put(handle) else {
+            return;
+        };
         match self.round().find_map(|lane| lane.idle.try_lock().ok()) {
             Some(mut idle) => idle.push(handle),
             None => lock(&self.lanes[own_lane()].idle).push(handle),
