@@ -1,5 +1,5 @@
 #!/usr/bin/env python3
-"""Measures these pools and the original's at the same work, and prints a table of ratios.
+"""Measures these pools and the original's at the same work, prints a table of ratios, and draws `docs/speed.svg`.
 
 usage: compare.py ORIGINAL [ROUNDS]
 
@@ -13,6 +13,8 @@ import subprocess
 import sys
 from pathlib import Path
 from typing import NamedTuple, Optional
+
+import picture
 
 HERE = Path(__file__).resolve().parent
 OURS = HERE.parent / "crates" / "bench"
@@ -52,6 +54,8 @@ WORKS = [
 ]
 HOLD = Work("262,144 pulled and held", "hold", 262_144, 262_144)
 HOLD_NOTHING = Work("nothing held", "hold", 0, 0)
+# What the picture shows: a pull and drop while so many items are held.
+HELD = [0, 1, 8, 32, 128, 1_024, 8_192, 32_768]
 # What the original can't do: a pull that is refused, of a fixed pool whose 65,536 items are all held.
 REFUSE = Work("refused pull of 65,536 items", "refuse", 10_000, 10_000)
 
@@ -127,6 +131,25 @@ def measure(programs: list[Path], tasks: dict[str, int], rounds: int) -> dict[st
     return bests
 
 
+def drawn(held: int) -> Work:
+    """A pull and drop while so many items are held."""
+    return Work(f"{held:,} held", f"pull {held}", 10_000 if held > 2_000 else 200_000, 1_000_000)
+
+
+def curves(bests: dict[str, list[Best]]) -> list[picture.Curve]:
+    """What is drawn: the linear and the fixed pool, and the original's linear pool, measured in the same rounds."""
+    works = [drawn(held) for held in HELD]
+
+    def of(kind: str, program: int) -> list[float]:
+        return [bests[work.task(kind)][program].nanoseconds / work.turns(kind) for work in works]
+
+    return [
+        picture.Curve("the Rust crate's linear pool", of("linear", 1)),
+        picture.Curve("linear pool", of("linear", 0)),
+        picture.Curve("fixed pool", of("fixed", 0)),
+    ]
+
+
 def row(cells: list[str]) -> None:
     print(f"| {' | '.join(cells)} |")
 
@@ -168,11 +191,13 @@ def main() -> None:
         raise SystemExit(__doc__)
     works = [*WORKS, HOLD, HOLD_NOTHING]
     tasks = {work.task(kind): work.threads for work in works for kind in KINDS}
+    tasks |= {drawn(held).task(kind): 1 for held in HELD for kind in ("linear", "fixed")}
     programs = build(Path(sys.argv[1]))
     bests = measure(programs, tasks, rounds)
     times(bests)
     memory(bests)
     refusals(programs[0], rounds)
+    picture.draw(HELD, curves(bests))
 
 
 if __name__ == "__main__":
