@@ -33,6 +33,13 @@ pub type FixedPulled<'s, 'p, T, I, R, K = AnyValue> = Result<
 >;
 
 /// A pool of a fixed number of items.
+///
+/// ```rust
+/// let pool: FixedObjectPool<u32, _, _> = FixedObjectPool::new(alloc, Copied::new(0), Copied::new(0), 1_000)?;
+/// let mut item = pool.pull()?; // takes no memory
+/// *item = 5;
+/// drop(item); // the value is 0 again, and in the pool
+/// ```
 #[derive(Drop)]
 pub struct FixedObjectPool<T, I: Init<T, K>, R: Reset<T, K>, K: Clean<T> = AnyValue> {
     reset: R,

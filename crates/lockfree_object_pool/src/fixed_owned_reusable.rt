@@ -114,6 +114,7 @@ impl<T: Drop, I: Init<T, K>, R: Reset<T, K>, K: Clean<T>> FixedOwnedReusable<T, 
             seat: pool.items.give(seat, number, value),
         }
     }
+
     /// As `give_back`, which hands out the owner of the pool too.
     pub fn give_back_with_owner(self) -> (Arc<FixedObjectPool<T, I, R, K>>, PoolNote<T>)
         ensures owner { arc_value result.0 ≡ owned_pool self }

@@ -2,7 +2,7 @@
 //!
 //! A pull takes a free item of the first page, or of a page that a hint names, or of the first page that has one, and makes a
 //! page where each one was full. No pull and no return waits for another thread.
-ghost use Rattle.std.specs.Prelude.{◌≡◌, ◌≤◌, ◌<◌, Option, None, Some, IfSome, IsSome, IfOk, IfErr};
+ghost use Rattle.std.specs.Prelude.{◌≡◌, ◌≤◌, ◌<◌, Option, None, Some, IfSome, IfNone, IsSome, IfOk, IfErr};
 ghost use Rattle.std.specs.Arc.{arc_value};
 
 use crate::PullError;
@@ -12,7 +12,7 @@ use crate::linear_owned_reusable::LinearOwnedReusable;
 use crate::linear_page::{Chain, Reached};
 use crate::linear_reusable::LinearReusable;
 use crate::made_or_reset::MadeOrReset;
-use crate::page::{Allocated, FullSeen, PullPass};
+use crate::page::{Allocated, FullSeen, Page, PullPass};
 pub(crate) use answer_of::AnswerOf;
 use page_limit::PageLimit;
 use std::alloc::Global;
@@ -22,7 +22,14 @@ use std::sync::Arc;
 mod answer_of;
 mod page_limit;
 
-/// A pool whose items lie in pages of 32.
+/// A pool whose items lie in pages of 32: a page is made at first, and one more where each is full.
+///
+/// ```rust
+/// let pool: LinearObjectPool<u32, _, _> = LinearObjectPool::new(alloc, Copied::new(0), Copied::new(0))?;
+/// let mut item = pool.pull()?;
+/// *item = 5;
+/// drop(item); // the value is 0 again, and in the pool
+/// ```
 #[derive(Drop)]
 pub struct LinearObjectPool<T, I: Init<T, K>, R: Reset<T, K>, K: Clean<T> = AnyValue> {
     init: I,
@@ -36,12 +43,16 @@ impl<T: Drop, I: Init<T, K>, R: Reset<T, K>, K: Clean<T>> LinearObjectPool<T, I,
     ghost use Rattle.lockfree_object_pool.specs.FullSeen.{full_page};
     ghost use Rattle.lockfree_object_pool.specs.Item.{HasOrigin};
     ghost use Rattle.lockfree_object_pool.specs.LinearPool.{pool_init, pool_reset, pool_limit, pages_of, pool_first_page, reusable_pool, reusable_item, reusable_page, reusable_number, owned_pool, owned_item, owned_page, owned_number, IsOnPage, IsPulledFrom};
-    ghost use Rattle.lockfree_object_pool.specs.Page.{page_identity};
+    ghost use Rattle.lockfree_object_pool.specs.Page.{page_identity, OpensWith};
     ghost use Rattle.lockfree_object_pool.specs.Refusal.{RefusesMaking, RefusesPull};
     ghost use Rattle.lockfree_object_pool.specs.Slot.{slot_item};
     ghost use Rattle.lockfree_object_pool.specs.Walk.{number_of};
 
     /// A pool of one page, which grows by a page where each is full.
+    ///
+    /// # Errors
+    ///
+    /// `Memory`, or `Init` at the first `None`. The items that were made are dropped.
     pub fn new(alloc: Global, init: I, reset: R) -> Result<LinearObjectPool<T, I, R, K>, PullError>
         ensures init { IfOk result (λ pool. pool_init pool ≡ init) }
         ensures reset { IfOk result (λ pool. pool_reset pool ≡ reset) }
@@ -52,6 +63,10 @@ impl<T: Drop, I: Init<T, K>, R: Reset<T, K>, K: Clean<T>> LinearObjectPool<T, I,
     }
 
     /// A pool of one page, which grows to `pages` pages at most.
+    ///
+    /// # Errors
+    ///
+    /// As `new`.
     pub fn with_limit(
         alloc: Global,
         init: I,
@@ -96,7 +111,25 @@ impl<T: Drop, I: Init<T, K>, R: Reset<T, K>, K: Clean<T>> LinearObjectPool<T, I,
         Some(*pages)
     }
 
-    /// An item of the first page, or of one that a hint names, or of the first page that has one.
+    /// The page with this number, where one is linked: it shows which of its items are out.
+    ///
+    /// An item that is taken from the page itself comes back without a hint, so pulls may find it later than others.
+    pub fn page(&self, number: usize) -> Option<&Page<T, MadeOrReset<I, R, K>>>
+        ensures first { IfSome result (λ page. number ≡ 0 → page_identity page.now ≡ pool_first_page self.now) }
+        ensures none { IfNone result (0 < number) }
+        ensures opened { IfSome result (λ page. OpensWith (IsAnswer I.answers) page.now) }
+    {
+        self.chain.page(number)
+    }
+
+    /// A free item, which no one else has until it is dropped. No call waits for another thread.
+    ///
+    /// The first page is asked, then one that a hint names, then each page in turn; of a page the lowest free item comes.
+    ///
+    /// # Errors
+    ///
+    /// `Limit`, where each item of as many pages as the limit allows was found out in this call. Where a page is made: `Memory`, or
+    /// `Init` at the first `None`; no page is linked in part then.
     pub fn pull(&self) -> Result<LinearReusable<'_, T, I, R, K>, PullError>
         ensures pool { IfOk result (λ item. reusable_pool item ≡ self.now) }
         ensures pulled { IfOk result (λ item. IsPulledFrom K.meets self.now (reusable_item item) (reusable_number item)) }
@@ -144,6 +177,10 @@ impl<T: Drop, I: Init<T, K>, R: Reset<T, K>, K: Clean<T>> LinearObjectPool<T, I,
     }
 
     /// As `pull`, with a reusable that owns the pool with others. The pool's owners grow by one before an item is taken.
+    ///
+    /// # Errors
+    ///
+    /// As `pull`; `Memory` too where the pool or the page can have no more owners, and then the item is free again.
     pub fn pull_owned(self: &Arc<Self>) -> Result<LinearOwnedReusable<T, I, R, K>, PullError>
         ensures pool { IfOk result (λ item. owned_pool item ≡ arc_value self.now) }
         ensures pulled { IfOk result (λ item. IsPulledFrom K.meets (arc_value self.now) (owned_item item) (owned_number item)) }

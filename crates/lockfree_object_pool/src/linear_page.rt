@@ -48,6 +48,10 @@ impl<T: Drop, K: Clean<T>, O: Clean<T>> Chain<T, K, O> {
     ghost use Rattle.lockfree_object_pool.specs.Walk.{start_at, start_of};
 
     /// A chain of one page, made as by [`Page::new`].
+    ///
+    /// # Errors
+    ///
+    /// `Memory`, or `Init` at the first `None`. The items that were made are dropped.
     pub fn new<I: Fn() -> Option<T>>(alloc: Global, init: &I) -> Result<Chain<T, K, O>, PullError>
         requires { MayOpen (I.pre init.now) (λ answer. I.post init.now answer) K.meets O.meets }
         ensures refused { IfErr result (RefusesMaking (I.post init.now None)) }
@@ -64,6 +68,19 @@ impl<T: Drop, K: Clean<T>, O: Clean<T>> Chain<T, K, O> {
         ensures start { start_at result ≡ start_of self.now }
     {
         LinearPage::new(&self.directory, &self.first, 0)
+    }
+
+    /// The page with this number, where one is linked.
+    pub(crate) fn page(&self, number: usize) -> Option<&Page<T, K>>
+        ensures first { IfSome result (λ page. number ≡ 0 → page_identity page.now ≡ first_page self.now) }
+        ensures none { IfNone result (0 < number) }
+        ensures opened { IfSome result (λ page. OpensWith O.meets page.now) }
+    {
+        if number == 0 {
+            return Some(self.first.owner());
+        }
+        let (linked, _note) = self.directory.linked(number)?;
+        Some(linked.owner())
     }
 }
 
@@ -138,6 +155,10 @@ impl<'c, T: Drop, K: Clean<T>, O: Clean<T>> LinearPage<'c, T, K, O> {
     }
 
     /// A note of the link to the next page, which knows no page yet. It takes memory where the link has no place yet.
+    ///
+    /// # Errors
+    ///
+    /// `Memory`, where the link has no place yet.
     pub fn next_note(&self) -> Result<LinkNote<T, K, O>, PullError>
         ensures note { IfOk result (IsNewNoteOf (next_link self.now)) }
         ensures refused { IfErr result (RefusesMaking ⊥) }
@@ -161,6 +182,10 @@ impl<'c, T: Drop, K: Clean<T>, O: Clean<T>> LinearPage<'c, T, K, O> {
     /// The page behind this one; where none is linked, one is made and linked, if no other thread was first.
     ///
     /// A page that another thread's came before is dropped, with its items.
+    ///
+    /// # Errors
+    ///
+    /// `Memory`, or `Init` at the first `None`. No page is linked then.
     pub fn get_or_create_next<I: Fn() -> Option<T>>(
         &self,
         seen: FullSeen<'_, T>,
@@ -175,7 +200,12 @@ impl<'c, T: Drop, K: Clean<T>, O: Clean<T>> LinearPage<'c, T, K, O> {
         self.get_or_create_next_as(seen, init, &mut note)
     }
 
-    /// As `get_or_create_next`, by one read of the link, and one exchange where a page was made: where the note knows a page that is linked here, the answer is that page, and the note knows each answer.
+    /// As `get_or_create_next`, for a caller with a note of the link: where the note knows the page that is linked here, that page
+    /// comes; the note knows the page that comes. The link is read once, and one exchange sets it where a page was made.
+    ///
+    /// # Errors
+    ///
+    /// As `get_or_create_next`.
     pub fn get_or_create_next_as<I: Fn() -> Option<T>>(
         &self,
         _seen: FullSeen<'_, T>,

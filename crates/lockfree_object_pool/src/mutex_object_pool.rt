@@ -11,6 +11,12 @@ use std::fmt::{self, Debug, Formatter, Write};
 use std::sync::Mutex;
 
 /// A pool whose kept values lie in a stack under a mutex.
+///
+/// ```rust
+/// let pool: MutexObjectPool<u32, _, _> = MutexObjectPool::new(alloc, Copied::new(0), Keep);
+/// *pool.pull(&rt)? = 5; // its drop keeps it
+/// assert_eq!(rt; *pool.pull(&rt)?, 5);
+/// ```
 pub type MutexObjectPool<T, I, R, K = AnyValue> = StackObjectPool<
     T,
     I,

@@ -10,6 +10,11 @@ use std::fmt::{self, Debug, Formatter, Write};
 use std::sync::Arc;
 
 /// A pool to compare other pools with. A closure makes its items, and nothing is asked of what a return leaves.
+///
+/// ```rust
+/// let pool = NoneObjectPool::new(|| Some(0u32));
+/// let item = pool.pull()?; // its drop ends it
+/// ```
 #[derive(Drop)]
 pub struct NoneObjectPool<T, I: Fn() -> Option<T>> {
     init: I,
@@ -23,6 +28,10 @@ impl<T, I: Fn() -> Option<T>> NoneObjectPool<T, I> {
     }
 
     /// An item that was made now.
+    ///
+    /// # Errors
+    ///
+    /// `Init`, where `init` answers `None`.
     pub fn pull(&self) -> Result<NoneReusable<T>, PullError>
         requires callable { I.pre (none_init self.now) }
         ensures made { IfOk result (λ item. I.post (none_init self.now) (Some (none_value item))) }
@@ -35,6 +44,10 @@ impl<T, I: Fn() -> Option<T>> NoneObjectPool<T, I> {
     }
 
     /// As `pull`, for a pool in an `Arc`. An item needs no owner of the pool, since it doesn't come back.
+    ///
+    /// # Errors
+    ///
+    /// As `pull`.
     pub fn pull_owned(self: &Arc<Self>) -> Result<NoneReusable<T>, PullError>
         requires callable { I.pre (none_init (arc_value self.now)) }
         ensures made { IfOk result (λ item. I.post (none_init (arc_value self.now)) (Some (none_value item))) }

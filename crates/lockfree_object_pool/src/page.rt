@@ -109,7 +109,9 @@ impl<T, K: Clean<T>> Page<T, K> {
 
     /// A page of 32 free items: item `i` is the answer of call `i` of `init`, counted from 0.
     ///
-    /// It stops at the first `None`. Where it is refused, the items that were made are dropped.
+    /// # Errors
+    ///
+    /// `Memory`, or `Init` at the first `None`. The items that were made are dropped.
     pub fn new<I: Fn() -> Option<T>>(alloc: Global, init: &I) -> Result<Page<T, K>, PullError>
     where
         T: Drop,
@@ -124,6 +126,10 @@ impl<T, K: Clean<T>> Page<T, K> {
     /// A slot, or `None` after each of the 32 ids was found out during the call.
     ///
     /// The word is read once. Then the bits that were set in it are cleared, lowest first, until one was still set.
+    ///
+    /// # Errors
+    ///
+    /// None comes: a page counts no users, and the clause `succeeds` says so.
     pub fn alloc(&self) -> Result<Option<PageSlot<'_, T, K>>, PullError>
         ensures succeeds { IsOk result }
         ensures pulled { IfOk result (λ found. IfSome found (λ slot. IsPulledOf K.meets (page_identity self.now) (page_opening self.now) (slot_item slot))) }
@@ -137,6 +143,10 @@ impl<T, K: Clean<T>> Page<T, K> {
     }
 
     /// As `alloc`, for a pull that may go on to another page: a page that is full says so for this pull.
+    ///
+    /// # Errors
+    ///
+    /// None comes, as of `alloc`.
     pub fn try_alloc<'s, 'p>(
         &'s self,
         pass: &'p PullPass,
@@ -158,6 +168,10 @@ impl<T, K: Clean<T>> Page<T, K> {
     }
 
     /// As `try_alloc`, by a user that knows something of the page: its pull stands after all that it knew.
+    ///
+    /// # Errors
+    ///
+    /// None comes, as of `alloc`.
     pub fn try_alloc_from<'s, 'p>(
         &'s self,
         pass: &'p PullPass,
@@ -182,7 +196,8 @@ impl<T, K: Clean<T>> Page<T, K> {
         self.items.note()
     }
 
-    /// Tells a note what a witness knows. The histories of both are beginnings of one.
+    /// Joins what a witness knows to a note: the note then knows the longer of their two histories, of which the other is a
+    /// prefix. A witness is what another thread leaves of a slot or a note of the same page.
     pub fn tell(&self, note: &mut PageNote<T>, other: Witness<T>)
         requires note { note_page note.old ≡ page_identity self.now }
         requires other { witness_page other ≡ page_identity self.now }

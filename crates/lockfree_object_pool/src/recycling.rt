@@ -104,6 +104,10 @@ impl<T: Recyclable> Pool<T> {
     ghost use Rattle.lockfree_object_pool.specs.Refusal.{RefusesMaking};
 
     /// A pool of one page, which grows by a page where each is full.
+    ///
+    /// # Errors
+    ///
+    /// As [`LinearObjectPool::new`].
     pub fn with_recycler(alloc: Global) -> Result<Pool<T>, PullError>
         ensures limit { IfOk result (λ pool. pool_limit pool ≡ None) }
         ensures refused { IfErr result (RefusesMaking ⊤) }
@@ -113,6 +117,10 @@ impl<T: Recyclable> Pool<T> {
     }
 
     /// A pool of one page, which grows to so many pages of 32 values.
+    ///
+    /// # Errors
+    ///
+    /// As [`LinearObjectPool::new`].
     pub fn with_recycler_within(alloc: Global, pages: usize) -> Result<Pool<T>, PullError>
         requires { 1 ≤ pages }
         ensures limit { IfOk result (λ pool. pool_limit pool ≡ Some pages) }
@@ -187,6 +195,10 @@ impl<T: Recyclable> SpinLockPool<T> {
     ghost use Rattle.lockfree_object_pool.specs.Refusal.{RefusesMaking};
 
     /// A pool that keeps nothing yet.
+    ///
+    /// # Errors
+    ///
+    /// `Memory`.
     pub fn with_recycler(alloc: Global) -> Result<SpinLockPool<T>, PullError>
         ensures refused { IfErr result (RefusesMaking ⊥) }
     {

@@ -47,7 +47,11 @@ impl<T> Model for SpinLock<T> {
 }
 
 impl<T: Drop> SpinLock<T> {
-    /// The value comes back where there is no memory.
+    /// A lock with this value in it.
+    ///
+    /// # Errors
+    ///
+    /// The value, where there is no memory for the lock.
     pub fn new(alloc: Global, value: T) -> Result<SpinLock<T>, T>
         ensures refused { IfErr result (λ back. back ≡ value) }
     {
@@ -74,7 +78,8 @@ impl<T: Drop> SpinLock<T> {
         unreachable!()
     }
 
-    fn try_lock(&self) -> Option<SpinLockGuard<'_, T>>
+    /// A guard, where the lock is free at this moment.
+    pub fn try_lock(&self) -> Option<SpinLockGuard<'_, T>>
         ensures { IfSome result (λ guard. lock_of guard ≡ self.now) }
     {
         let mut seat = self.take()?;

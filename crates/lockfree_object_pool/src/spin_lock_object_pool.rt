@@ -14,6 +14,12 @@ use std::alloc::Global;
 use std::fmt::{self, Debug, Formatter, Write};
 
 /// A pool whose kept values lie in a stack under a spin lock.
+///
+/// ```rust
+/// let pool: SpinLockObjectPool<u32, _, _> = SpinLockObjectPool::new(alloc, Copied::new(0), Keep)?;
+/// *pool.pull(&rt)? = 5; // its drop keeps it
+/// assert_eq!(rt; *pool.pull(&rt)?, 5);
+/// ```
 pub type SpinLockObjectPool<T, I, R, K = AnyValue> = StackObjectPool<
     T,
     I,
@@ -27,6 +33,10 @@ impl<T: Drop, I: Init<T, K>, R: Reset<T, K>, K: Clean<T>> SpinLockObjectPool<T, 
     ghost use Rattle.lockfree_object_pool.specs.Refusal.{RefusesMaking};
 
     /// A pool that keeps nothing yet.
+    ///
+    /// # Errors
+    ///
+    /// `Memory`.
     pub fn new(
         alloc: Global,
         init: I,

@@ -33,6 +33,11 @@ impl<T> Model for Room<T> {
 }
 
 impl<T: Drop> Room<T> {
+    /// An empty place.
+    ///
+    /// # Errors
+    ///
+    /// `Memory`.
     pub fn new(alloc: Global) -> Result<Room<T>, PullError>
         ensures refused { IfErr result (λ error. error ≡ Memory) }
     {

@@ -61,6 +61,10 @@ impl<
     }
 
     /// The value that was returned last, or one that is made now. `init` runs without the lock.
+    ///
+    /// # Errors
+    ///
+    /// Where none is kept: `Memory`, and `init` isn't called; or `Init`, where it answers `None`.
     pub fn pull<W: Wait + Copy>(
         &self,
         rt: &W,
@@ -77,6 +81,10 @@ impl<
 
     /// As `pull`, with a reusable that owns the pool with others. The pool's owners grow by one
     /// before an item is taken.
+    ///
+    /// # Errors
+    ///
+    /// As `pull`; `Memory` too where the pool can have no more owners.
     pub fn pull_owned<W: Wait + Copy>(
         self: &Arc<Self>,
         rt: &W,

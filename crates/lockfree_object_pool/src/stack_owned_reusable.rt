@@ -39,7 +39,11 @@ impl<
     ghost use Rattle.std.specs.Prelude.{MatchResult};
     ghost use Rattle.lockfree_object_pool.specs.StackPool.{stack_owned_pool, stack_owned_value};
 
-    /// An item that `init` never made. Where there is no memory for its room, the value comes back.
+    /// An item that `init` never made.
+    ///
+    /// # Errors
+    ///
+    /// The value, where there is no memory for the room of its return.
     pub fn new(
         rt: &W,
         pool: Arc<StackObjectPool<T, I, R, K, F>>,

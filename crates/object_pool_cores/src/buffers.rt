@@ -12,6 +12,7 @@ use std::fmt::{self, Debug, Formatter, Write};
 mod buffer;
 
 pub use buffer::Buffer;
+/// The condition of a buffer that nobody has: no bytes.
 pub use lockfree_object_pool::clean::Empty;
 pub use lockfree_object_pool::closures::{Clear, WithCapacity};
 
@@ -45,6 +46,10 @@ impl<I: Init<Vec<u8>, Empty>, R: Reset<Vec<u8>, Empty>> BufferPool<I, R> {
     ghost use Rattle.object_pool_cores.specs.Buffers.{maker_of, limit_of_pages, bytes_of, page_of, IsOnItsPage};
 
     /// A pool of one page, which grows to `pages` pages at most. A page has 32 buffers.
+    ///
+    /// # Errors
+    ///
+    /// As `LinearObjectPool::new`.
     pub fn new(
         alloc: Global,
         init: I,
@@ -61,6 +66,10 @@ impl<I: Init<Vec<u8>, Empty>, R: Reset<Vec<u8>, Empty>> BufferPool<I, R> {
     }
 
     /// An empty buffer.
+    ///
+    /// # Errors
+    ///
+    /// As `LinearObjectPool::pull`, with its cause.
     pub fn pull(&self) -> Result<Buffer<'_, I, R>, PullError>
         ensures empty { IfOk result (λ buffer. bytes_of buffer ≡ []) }
         ensures on_page { IfOk result (IsOnItsPage self.now) }

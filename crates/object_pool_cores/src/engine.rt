@@ -26,6 +26,10 @@ use std::sync::Wait;
 /// Plays the lines of `input` on a new pool whose items are made as 0, and writes
 /// a reply for each line to `output`. The replies to the lines of one read go out
 /// before the next read. It reads until there is no more, so it may wait.
+///
+/// # Errors
+///
+/// `Read` or `Write`, where a device fails; `Memory`, where the pool or its player has none. What was written till then stands.
 pub fn run<H: Wait, R: Read, W: Write>(
     rt: &H,
     alloc: Global,

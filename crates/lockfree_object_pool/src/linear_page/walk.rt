@@ -41,6 +41,10 @@ impl<'c, T: Drop, K: Clean<T>, O: Clean<T>> LinearPage<'c, T, K, O> {
     /// An item of the first page from this one on that has one, and that page's number, counted from this one.
     ///
     /// It goes on only from a page that said in this call that each of its ids was found out. Behind the last page it links a new one.
+    ///
+    /// # Errors
+    ///
+    /// `Memory`, or `Init` at the first `None`, where a page is made; it isn't linked then.
     pub fn alloc<I: Fn() -> Option<T>>(
         &self,
         init: &I,
@@ -59,6 +63,10 @@ impl<'c, T: Drop, K: Clean<T>, O: Clean<T>> LinearPage<'c, T, K, O> {
     }
 
     /// As `alloc`, over the first `pages` pages from this one on alone. It links no page past them.
+    ///
+    /// # Errors
+    ///
+    /// As `alloc`; `Limit`, where each item of these pages was found out in this call.
     pub fn alloc_within<I: Fn() -> Option<T>>(
         &self,
         pages: usize,
@@ -80,6 +88,10 @@ impl<'c, T: Drop, K: Clean<T>, O: Clean<T>> LinearPage<'c, T, K, O> {
     }
 
     /// As `alloc`, with an item that owns its page with others. The page's owners grow by one once the item is taken.
+    ///
+    /// # Errors
+    ///
+    /// As `alloc`; `Memory` too where the page can have no more owners, and then the item is free again.
     pub fn alloc_owned<I: Fn() -> Option<T>>(
         &self,
         init: &I,
@@ -97,6 +109,10 @@ impl<'c, T: Drop, K: Clean<T>, O: Clean<T>> LinearPage<'c, T, K, O> {
     }
 
     /// As `alloc_owned`, over the first `pages` pages from this one on alone. It links no page past them.
+    ///
+    /// # Errors
+    ///
+    /// As `alloc_owned`; `Limit`, where each item of these pages was found out in this call.
     pub fn alloc_owned_within<I: Fn() -> Option<T>>(
         &self,
         pages: usize,

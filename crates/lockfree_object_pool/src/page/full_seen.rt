@@ -8,7 +8,7 @@ use crate::clean::Clean;
 pub struct PullPass;
 
 impl PullPass {
-    /// Opens a pull.
+    /// Opens a pull. What its pages answer borrows it, so no evidence of an earlier pull can be used in this one.
     pub fn new() -> PullPass {
         PullPass
     }

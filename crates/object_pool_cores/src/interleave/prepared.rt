@@ -28,6 +28,10 @@ impl<T: Drop> Prepared<T> {
     /// The values that `init` gives, in order.
     ///
     /// It stops at the first `None`. Where it is refused, the values that were made are dropped.
+    ///
+    /// # Errors
+    ///
+    /// `Memory`, or `Init` at the first `None`. The values that were made are dropped.
     pub fn make<I: Fn() -> Option<T>>(alloc: Global, init: &I) -> Result<Prepared<T>, PullError>
         requires { I.pre init.now }
         ensures values { IfOk result (All (λ value. I.post init.now (Some value))) }

@@ -25,6 +25,10 @@ pub struct World<T, R: Reset<T, AnyValue>> {
 
 impl<T: Drop, R: Reset<T, AnyValue>> World<T, R> {
     /// A world of one page, in which no agent has begun.
+    ///
+    /// # Errors
+    ///
+    /// `Memory`.
     pub fn new(alloc: Global, first: Prepared<T>, reset: R) -> Result<World<T, R>, PullError>
         ensures world { IfOk result (λ world. world_state world ≡ opening_world first None) }
         ensures is_new { IfOk result (λ world. IsNew (world_state world)) }
@@ -38,6 +42,10 @@ impl<T: Drop, R: Reset<T, AnyValue>> World<T, R> {
     }
 
     /// The same with a limit on its pages.
+    ///
+    /// # Errors
+    ///
+    /// `Memory`.
     pub fn with_limit(
         alloc: Global,
         first: Prepared<T>,
@@ -105,6 +113,10 @@ impl<T: Drop, R: Reset<T, AnyValue>> World<T, R> {
     /// The events, one after another, each with its answer at the end of `seen`. An error leaves the answers
     /// of the events that were done, and the world after them; the others are dropped. What was done before,
     /// by other runs or by steps, and this list together are one run, so it may go on after an error.
+    ///
+    /// # Errors
+    ///
+    /// `Memory`, where there is none for what the next event adds.
     pub fn run(&mut self, mut events: Vec<Event<T>>, seen: &mut Vec<Seen>) -> Result<(), RunError>
         ensures run { RunsEvents (R.leaves (world_reset self.old))
             (record { world = world_state self.old; events = events.items; seen = seen.old.items })

@@ -35,6 +35,10 @@ impl<T: Drop, K: Clean<T>> CorePage<T, K> {
     /// A page of 32 free items: item `i` is the answer of call `i` of `init`, counted from 0.
     ///
     /// It stops at the first `None`. Where it is refused, the items that were made are dropped.
+    ///
+    /// # Errors
+    ///
+    /// `Memory`, or `Init` at the first `None`. The items that were made are dropped.
     pub fn new<I: Fn() -> Option<T>>(alloc: Global, init: &I) -> Result<CorePage<T, K>, PullError>
         requires { MayMake (I.pre init.now) (λ answer. I.post init.now answer) K.meets }
         ensures made { IfOk result (IsMadePage (λ answer. I.post init.now answer) K.meets) }

@@ -22,6 +22,10 @@ pub struct LinearCore<T, I: Init<T, K>, R: Reset<T, K>, K: Clean<T>> {
 
 impl<T: Drop, I: Init<T, K>, R: Reset<T, K>, K: Clean<T>> LinearCore<T, I, R, K> {
     /// A pool of one page. It may have any number of pages.
+    ///
+    /// # Errors
+    ///
+    /// `Memory`, or `Init` at the first `None`.
     pub fn new(alloc: Global, init: I, reset: R) -> Result<LinearCore<T, I, R, K>, PullError>
         ensures opening { IfOk result (λ core. IsOpening (I.answers init) None core) }
         ensures init { IfOk result (λ core. init_of core ≡ init) }
@@ -34,6 +38,10 @@ impl<T: Drop, I: Init<T, K>, R: Reset<T, K>, K: Clean<T>> LinearCore<T, I, R, K>
     }
 
     /// A pool of one page, which never has more pages than this.
+    ///
+    /// # Errors
+    ///
+    /// As `new`.
     pub fn with_limit(
         alloc: Global,
         init: I,

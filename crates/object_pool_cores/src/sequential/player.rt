@@ -47,6 +47,10 @@ impl<T: Drop, P: SequentialPool<T>> Player<T, P> {
     }
 
     /// Does one command.
+    ///
+    /// # Errors
+    ///
+    /// `Memory`, where a pull or an attaching has no room. Nothing changes then.
     pub fn play(&mut self, command: Command<T>) -> Result<Reply<T>, RunError>
         ensures ok { IfOk result (λ reply. Plays P.pulls P.gives P.attaches self.old command reply self.new) }
         ensures err { OnErr result (self.new ≡ self.old) }
