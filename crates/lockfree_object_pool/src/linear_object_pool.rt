@@ -2,7 +2,7 @@
 //!
 //! A pull takes a free item of the first page, or of a page that a hint names, or of the first page that has one, and makes a
 //! page where each one was full. No pull and no return waits for another thread.
-ghost use Rattle.std.specs.Prelude.{◌≡◌, ◌≤◌, ◌<◌, Option, None, Some, IfSome, IfNone, IsSome, IfOk, IfErr};
+ghost use Rattle.std.specs.Prelude.{◌≡◌, ◌≤◌, ◌<◌, Option, None, Some, IfSome, IsSome, IfOk, IfErr};
 ghost use Rattle.std.specs.Arc.{arc_value};
 
 use crate::PullError;
@@ -12,7 +12,7 @@ use crate::linear_owned_reusable::LinearOwnedReusable;
 use crate::linear_page::{Chain, Reached};
 use crate::linear_reusable::LinearReusable;
 use crate::made_or_reset::MadeOrReset;
-use crate::page::{Allocated, FullSeen, Page, PullPass};
+use crate::page::{Allocated, FullSeen, PullPass};
 pub(crate) use answer_of::AnswerOf;
 use page_limit::PageLimit;
 use std::alloc::Global;
@@ -43,7 +43,7 @@ impl<T: Drop, I: Init<T, K>, R: Reset<T, K>, K: Clean<T>> LinearObjectPool<T, I,
     ghost use Rattle.lockfree_object_pool.specs.FullSeen.{full_page};
     ghost use Rattle.lockfree_object_pool.specs.Item.{HasOrigin};
     ghost use Rattle.lockfree_object_pool.specs.LinearPool.{pool_init, pool_reset, pool_limit, pages_of, pool_first_page, reusable_pool, reusable_item, reusable_page, reusable_number, owned_pool, owned_item, owned_page, owned_number, IsOnPage, IsPulledFrom};
-    ghost use Rattle.lockfree_object_pool.specs.Page.{page_identity, OpensWith};
+    ghost use Rattle.lockfree_object_pool.specs.Page.{page_identity};
     ghost use Rattle.lockfree_object_pool.specs.Refusal.{RefusesMaking, RefusesPull};
     ghost use Rattle.lockfree_object_pool.specs.Slot.{slot_item};
     ghost use Rattle.lockfree_object_pool.specs.Walk.{number_of};
@@ -109,17 +109,6 @@ impl<T: Drop, I: Init<T, K>, R: Reset<T, K>, K: Clean<T>> LinearObjectPool<T, I,
     {
         let PageLimit { pages } = self.limit.as_ref()?;
         Some(*pages)
-    }
-
-    /// The page with this number, where one is linked: it shows which of its items are out.
-    ///
-    /// An item that is taken from the page itself comes back without a hint, so pulls may find it later than others.
-    pub fn page(&self, number: usize) -> Option<&Page<T, MadeOrReset<I, R, K>>>
-        ensures first { IfSome result (λ page. number ≡ 0 → page_identity page.now ≡ pool_first_page self.now) }
-        ensures none { IfNone result (0 < number) }
-        ensures opened { IfSome result (λ page. OpensWith (IsAnswer I.answers) page.now) }
-    {
-        self.chain.page(number)
     }
 
     /// A free item, which no one else has until it is dropped. No call waits for another thread.

@@ -69,19 +69,6 @@ impl<T: Drop, K: Clean<T>, O: Clean<T>> Chain<T, K, O> {
     {
         LinearPage::new(&self.directory, &self.first, 0)
     }
-
-    /// The page with this number, where one is linked.
-    pub(crate) fn page(&self, number: usize) -> Option<&Page<T, K>>
-        ensures first { IfSome result (λ page. number ≡ 0 → page_identity page.now ≡ first_page self.now) }
-        ensures none { IfNone result (0 < number) }
-        ensures opened { IfSome result (λ page. OpensWith O.meets page.now) }
-    {
-        if number == 0 {
-            return Some(self.first.owner());
-        }
-        let (linked, _note) = self.directory.linked(number)?;
-        Some(linked.owner())
-    }
 }
 
 /// One page of a chain.

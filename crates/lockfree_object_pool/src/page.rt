@@ -196,8 +196,8 @@ impl<T, K: Clean<T>> Page<T, K> {
         self.items.note()
     }
 
-    /// Joins what a witness knows to a note: the note then knows the longer of their two histories, of which the other is a
-    /// prefix. A witness is what another thread leaves of a slot or a note of the same page.
+    /// Tells a note what a witness of the same page knows, as another thread leaves one of its slot or note. Both histories are
+    /// prefixes of what the note knows then.
     pub fn tell(&self, note: &mut PageNote<T>, other: Witness<T>)
         requires note { note_page note.old ≡ page_identity self.now }
         requires other { witness_page other ≡ page_identity self.now }

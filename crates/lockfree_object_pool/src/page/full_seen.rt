@@ -8,7 +8,7 @@ use crate::clean::Clean;
 pub struct PullPass;
 
 impl PullPass {
-    /// Opens a pull. What its pages answer borrows it, so no evidence of an earlier pull can be used in this one.
+    /// Opens a pull. The evidence that a page was full borrows it, so it can't be kept past the pull.
     pub fn new() -> PullPass {
         PullPass
     }
