@@ -58,6 +58,7 @@ fn clears<F: Kind<Tallied, TalliedValues, Keep, AnyValue>, W: Abort + Wait + Cop
     let tally = new_tally(alloc)?;
     let pool = tracked::<F>(alloc, &tally, NEVER)?;
     pool.fill(rt, 5_000)?;
+    assert_eq!(rt; pool.kept(rt), 5_000);
     let item = pool.pull(rt)?;
     pool.clear(rt);
     assert_eq!(rt; (pool.kept(rt), tally.now()), (0, (5_000, 4_999)));
