@@ -1,9 +1,11 @@
 //! The pools that are measured.
 use crate::use_item;
 use crossbeam_queue::ArrayQueue;
+use kundratu_pool::sys::{
+    kdr_pool_drop, kdr_pool_new, kdr_pool_pull, kdr_pool_return, kdr_pool_share, RawHandle,
+};
 use kundratu_pool::Pool;
 use lockfree_object_pool::LinearObjectPool;
-use std::ffi::c_void;
 use std::ptr::null_mut;
 use std::sync::atomic::AtomicU64;
 use std::sync::Mutex;
@@ -23,19 +25,6 @@ pub trait Contender: Sync {
     /// Pulls an item, adds one to it, sets it to 0 and returns it.
     fn turn(&self, user: &mut Self::User);
     fn hold(&self) -> Self::Held<'_>;
-}
-
-#[repr(C)]
-pub struct RawHandle {
-    at: *mut c_void,
-}
-
-extern "C" {
-    fn kdr_pool_new(items: usize, out: &mut RawHandle) -> u32;
-    fn kdr_pool_share(handle: &mut RawHandle, out: &mut RawHandle) -> u32;
-    fn kdr_pool_pull(handle: &mut RawHandle, place: &mut usize) -> u32;
-    fn kdr_pool_return(handle: &mut RawHandle) -> u32;
-    fn kdr_pool_drop(handle: &mut RawHandle) -> u32;
 }
 
 /// A handle of the C library, as a C program has it.

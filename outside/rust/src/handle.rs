@@ -1,4 +1,7 @@
 //! A handle of the C library, whose rules the types here keep.
+use crate::sys::{
+    kdr_pool_drop, kdr_pool_new, kdr_pool_pull, kdr_pool_return, kdr_pool_share, RawHandle,
+};
 use std::error::Error;
 use std::ffi::c_void;
 use std::fmt::{self, Display, Formatter};
@@ -9,20 +12,6 @@ use std::sync::atomic::{AtomicPtr, Ordering::SeqCst};
 const DONE: u32 = 0;
 const ALL_OUT: u32 = 1;
 const NO_PLACES: u32 = 6;
-
-/// What C has of a handle.
-#[repr(C)]
-struct RawHandle {
-    at: *mut c_void,
-}
-
-extern "C" {
-    fn kdr_pool_new(items: usize, out: &mut RawHandle) -> u32;
-    fn kdr_pool_share(handle: &mut RawHandle, out: &mut RawHandle) -> u32;
-    fn kdr_pool_pull(handle: &mut RawHandle, place: &mut usize) -> u32;
-    fn kdr_pool_return(handle: &mut RawHandle) -> u32;
-    fn kdr_pool_drop(handle: &mut RawHandle) -> u32;
-}
 
 /// Why a pool wasn't made.
 #[derive(Clone, Copy, Debug, PartialEq, Eq)]

@@ -34,6 +34,7 @@ mod guards;
 mod handle;
 mod lanes;
 mod pool;
+pub mod sys;
 
 pub use guards::{OwnedReusable, Reusable};
 pub use handle::NewError;
