@@ -1,11 +1,12 @@
 -- What callers conclude from a pool's history.
-use Rattle.std.proofs.Common.{◌≡◌, ℕ, [], ◌∷◌, ◌++◌, sym, ap, ◌∙◌, subst, append_assoc, inl, inr}
-use Rattle.lockfree_object_pool.specs.declared.page.history.PageAct.TheVariants.{Took}
+use Rattle.std.proofs.Common.{◌≡◌, ◌⊎◌, ℕ, [], ◌∷◌, ◌++◌, sym, refl, ap, ◌∙◌, subst, append_assoc, inl, inr}
+use Rattle.lockfree_object_pool.specs.declared.page.history.PageAct.TheVariants.{Took, Gave}
 use Rattle.lockfree_object_pool.specs.declared.page.note.PageNote.{PageNote}
 use Rattle.lockfree_object_pool.specs.Item.{Item}
 use Rattle.lockfree_object_pool.specs.Note.{note_history, IsPulledAfter}
-use Rattle.lockfree_object_pool.specs.PageHistory.{History, NoActOn, IsBeginningOf}
-use Rattle.test_fixed_pool.specs.Returned.{EndsWithReturnOf, WasReturnedBefore}
+use Rattle.lockfree_object_pool.specs.PageHistory.{History, id_of, NoActOn, IsBeginningOf}
+use Rattle.lockfree_object_pool.proofs.PageActs.{behind}
+use Rattle.test_fixed_pool.specs.Returned.{EndsWithReturnOf, HasOperationOn, WasReturnedBefore, WasUsedSince}
 
 -- a pull by a note stands after all that the note knew
 pub pull_is_later : (note : PageNote ℕ) (item : Item ℕ) → IsPulledAfter note item → IsBeginningOf (note_history note) item.history
@@ -20,16 +21,51 @@ none_before : (id : ℕ) (later before : History ℕ) → NoActOn id (later ++ b
 none_before id [] before none = none
 none_before id (act ∷ later) before none = none_before id later before none.1
 
--- a pull of item 0, by a note that knows of a return of it, takes what a return left
-pub pulled_what_returned : (note : PageNote ℕ) (item : Item ℕ) → item.id ≡ 0 → IsPulledAfter note item → EndsWithReturnOf 0 (note_history note) → WasReturnedBefore item
-pulled_what_returned note item first is returned = (
-  is.others ++ note_history note,
-  is.last,
-  elim is.origin [
-    | inl was ↦ was
-    | inr opened ↦
-        let none = none_before item.id is.others (note_history note) opened.untouched in
-        let here = subst (NoActOn item.id) returned.3 none in
-        absurd (here.0 (sym first))
-  ],
-)
+-- the number of a history's last operation
+abbrev last_number : History ℕ → ℕ
+last_number [] = 0
+last_number (act ∷ before) = id_of act
+
+-- the last return of a number stands in the later part of a history, or it is the one with which the earlier part ends
+last_return : (id : ℕ) (between later rest before : History ℕ) (user other number last : ℕ)
+    → between ++ (Gave user id number ∷ rest) ≡ later ++ (Gave other id last ∷ before) → NoActOn id later
+    → (last ≡ number) ⊎ HasOperationOn id between
+last_return id [] [] rest before user other number last same none = let here : last ≡ number = cc in inl here
+last_return id [] (act ∷ later) rest before user other number last same none =
+    absurd (none.0 (ap last_number (sym same)))
+last_return id (act ∷ between) [] rest before user other number last same none = inr (inl (ap last_number same))
+last_return id (act ∷ between) (one ∷ later) rest before user other number last same none =
+    elim (last_return id between later rest before user other number last (ap behind same) none.1) [
+      | inl here ↦ inl here
+      | inr used ↦ inr (inr used)
+    ]
+
+module _ (number : ℕ) (note : PageNote ℕ) (item : Item ℕ) (first : item.id ≡ 0) (is : IsPulledAfter note item)
+    (known : EndsWithReturnOf 0 number (note_history note)) where
+  returned : EndsWithReturnOf item.id number (note_history note)
+  returned = subst (λ id. EndsWithReturnOf id number (note_history note)) (sym first) known
+
+  -- a pull of item 0, by a note that knows of a return of it, takes what a return left
+  pub pulled_what_returned : WasReturnedBefore item
+  pulled_what_returned = (
+    is.others ++ note_history note,
+    is.last,
+    elim is.origin [
+      | inl was ↦ was
+      | inr opened ↦
+          let none = none_before item.id is.others (note_history note) opened.untouched in
+          let here = subst (NoActOn item.id) returned.2 none in
+          absurd (here.0 refl)
+    ],
+  )
+
+  -- it takes what that return left, unless somebody had the item in between
+  pub pulled_same_or_used : (item.value ≡ number) ⊎ WasUsedSince (note_history note) item
+  unfolding pulled_what_returned
+  pulled_same_or_used =
+      let was = pulled_what_returned.2 in
+      let same = ap (λ l. is.others ++ l) (sym returned.2) ∙ was.here in
+      elim (last_return item.id is.others was.later returned.1 was.before returned.0 was.user number item.value same was.untouched) [
+        | inl same ↦ inl same
+        | inr used ↦ inr (is.others, is.last, used)
+      ]

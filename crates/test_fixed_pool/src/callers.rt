@@ -1,5 +1,5 @@
 //! Callers that rest on a pool's history: what stands before what, what a refusal shows, and which refusals may come.
-ghost use Rattle.std.specs.Prelude.{◌≡◌, ◌<◌, ℕ, ◌∷◌, IfSome, IfErr};
+ghost use Rattle.std.specs.Prelude.{◌≡◌, ◌<◌, ◌⊎◌, ◌↔◌, ℕ, ◌∷◌, IfSome, IfErr, IsTrue};
 ghost use Rattle.lockfree_object_pool.specs.FixedAnswer.{busy_since, busy_history};
 ghost use Rattle.lockfree_object_pool.specs.FixedPool.{pool_identity, pool_items, pool_opening};
 ghost use Rattle.lockfree_object_pool.specs.FixedReusable.{reusable_item};
@@ -7,7 +7,7 @@ ghost use Rattle.lockfree_object_pool.specs.Note.{note_page, note_history};
 ghost use Rattle.lockfree_object_pool.specs.PageHistory.{History, IsBeginningOf, WasOutBetween};
 ghost use Rattle.lockfree_object_pool.specs.declared.page.history.PageAct.TheVariants.{Gave};
 ghost use Rattle.lockfree_object_pool.specs.declared.pull_error.PullError.TheVariants.{Limit};
-ghost use Rattle.test_fixed_pool.specs.Returned.{EndsWithReturn, EndsWithReturnOf, WasReturnedBefore};
+ghost use Rattle.test_fixed_pool.specs.Returned.{EndsWithReturn, EndsWithReturnOf, WasReturnedBefore, WasUsedSince};
 
 use crate::values::{NumberItem, NumberPool, held, new_calls, new_pool};
 use lockfree_object_pool::PullError;
@@ -41,27 +41,38 @@ pub fn returned_near(pool: &NumberPool, page: usize, number: usize) -> Option<Po
     Some(item.give_back())
 }
 
-/// Writes a number to an item of a pool of one and returns it: the return of item 0 is the last operation that the note knows.
+/// Writes a number to the item of a pool of one and returns it: this return is the last operation that the note knows.
 fn returned_alone(pool: &NumberPool, number: usize) -> Option<PoolNote<usize>>
     requires { pool_items pool.now ≡ 1 }
     ensures pool { IfSome result (λ note. note_page note ≡ pool_identity pool.now) }
-    ensures last { IfSome result (λ note. EndsWithReturnOf 0 (note_history note)) }
+    ensures last { IfSome result (λ note. EndsWithReturnOf 0 number (note_history note)) }
 {
     let mut item = pool.pull().ok()?;
     *item = number;
     Some(item.give_back())
 }
 
-/// An item of a pool of one, pulled after a return of it: its value isn't the one that the pool opened with.
-fn pulled_again<'p>(pool: &'p NumberPool, note: PoolNote<usize>) -> Option<NumberItem<'p>>
+/// The item of a pool of one, pulled after a return of it, and whether it has the number that was returned then. It has that
+/// number, unless somebody had the item in between; what it has was returned in either case.
+fn pulled_again<'p>(
+    pool: &'p NumberPool,
+    note: PoolNote<usize>,
+    number: usize,
+) -> Option<(NumberItem<'p>, bool)>
     requires of_pool { note_page note ≡ pool_identity pool.now }
     requires one_item { pool_items pool.now ≡ 1 }
-    requires returned { EndsWithReturnOf 0 (note_history note) }
-    ensures { IfSome result (λ item. WasReturnedBefore (reusable_item item)) }
+    requires returned { EndsWithReturnOf 0 number (note_history note) }
+    ensures returned { IfSome result (λ pulled. WasReturnedBefore (reusable_item pulled.0)) }
+    ensures same { IfSome result (λ pulled. IsTrue pulled.1 ↔ ((reusable_item pulled.0).value ≡ number)) }
+    ensures unless_used { IfSome result (λ pulled.
+        ((reusable_item pulled.0).value ≡ number) ⊎ WasUsedSince (note_history note) (reusable_item pulled.0)) }
 {
     let pass = PullPass::new();
     match pool.try_pull_from(&pass, note) {
-        Ok(item) => Some(item),
+        Ok(item) => {
+            let is_same = *item == number;
+            Some((item, is_same))
+        }
         Err(_) => None,
     }
 }
@@ -151,10 +162,24 @@ fn a_value_that_was_returned_is_pulled_again(rt: HostRuntime) -> Result<(), Fail
     let Some(note) = returned_alone(&pool, 8) else {
         panic!(rt; "an item is free")
     };
-    let Some(item) = pulled_again(&pool, note) else {
+    let Some((item, is_same)) = pulled_again(&pool, note, 8) else {
         panic!(rt; "an item is free")
     };
-    assert_eq!(rt; *item, 8);
+    assert_eq!(rt; (*item, is_same), (8, true));
+    Ok(())
+}
+
+#[test]
+fn another_value_comes_where_the_item_was_used_in_between(rt: HostRuntime) -> Result<(), Fail> {
+    let pool = new_pool(rt.alloc(), &new_calls(rt.alloc())?, 1)?;
+    let Some(note) = returned_alone(&pool, 8) else {
+        panic!(rt; "an item is free")
+    };
+    *pool.pull()? = 9;
+    let Some((item, is_same)) = pulled_again(&pool, note, 8) else {
+        panic!(rt; "an item is free")
+    };
+    assert_eq!(rt; (*item, is_same), (9, false));
     Ok(())
 }
 
