@@ -18,6 +18,7 @@ import picture
 
 HERE = Path(__file__).resolve().parent
 OURS = HERE.parent / "crates" / "bench"
+PICTURE = HERE.parent / "docs" / "speed.svg"
 LINE = re.compile(r"(.*): (\d+) in (\d+) ns, (\d+) kB\n")
 
 # The original has no fixed pool: its linear pool does the same work beside both.
@@ -197,7 +198,7 @@ def main() -> None:
     times(bests)
     memory(bests)
     refusals(programs[0], rounds)
-    picture.draw(HELD, curves(bests))
+    picture.draw(PICTURE, HELD, curves(bests))
 
 
 if __name__ == "__main__":

@@ -1,8 +1,12 @@
-"""Draws the time of a pull and drop against how many items are held, as `docs/speed.svg`.
+"""Draws the time of a pull and drop against how many items are held.
 
-It needs matplotlib (Debian's package python3-matplotlib).
+usage: picture.py FILE < TABLE
+
+FILE is the picture, and TABLE what `in_one_process` prints. It needs matplotlib (Debian's package python3-matplotlib).
 """
 
+import sys
+from collections.abc import Iterable
 from datetime import date
 from pathlib import Path
 from typing import NamedTuple
@@ -12,8 +16,6 @@ import matplotlib
 matplotlib.use("svg")
 
 from matplotlib import pyplot  # noqa: E402 (the backend is chosen first)
-
-FILE = Path(__file__).resolve().parent.parent / "docs" / "speed.svg"
 
 
 class Curve(NamedTuple):
@@ -31,7 +33,7 @@ def processor() -> str:
     return "a processor without a name"
 
 
-def draw(held: list[int], curves: list[Curve]) -> None:
+def draw(file: Path, held: list[int], curves: list[Curve]) -> None:
     """Writes the picture: both axes are logarithmic, with a place for 0 held items."""
     matplotlib.rcParams["svg.hashsalt"] = "speed"
     figure, axes = pyplot.subplots(figsize=(8, 4.5), layout="constrained")
@@ -45,5 +47,25 @@ def draw(held: list[int], curves: list[Curve]) -> None:
     axes.grid(visible=True, alpha=0.3)
     axes.legend()
     axes.set_title(f"One thread, {processor()}, {date.today().isoformat()}", fontsize=10)
-    figure.savefig(FILE, metadata={"Date": None})
+    figure.savefig(file, metadata={"Date": None})
     pyplot.close(figure)
+
+
+def cells(line: str) -> list[str]:
+    """The cells of a table's row."""
+    return [cell.strip() for cell in line.strip().strip("|").split("|")]
+
+
+def read(lines: Iterable[str]) -> tuple[list[int], list[Curve]]:
+    """How many items are held in each column of a table, and a curve for each of its rows. Columns of threads are left out."""
+    header, _, *rows = [cells(line) for line in lines]
+    counts = [name.removesuffix(" held").replace(",", "") for name in header[1:] if "threads" not in name]
+    held = [int(count) for count in counts]
+    curves = [Curve(name.replace("`", ""), [float(cell) for cell in row[: len(held)]]) for name, *row in rows]
+    return held, curves
+
+
+if __name__ == "__main__":
+    if len(sys.argv) != 2:
+        raise SystemExit(__doc__)
+    draw(Path(sys.argv[1]), *read(sys.stdin))
