@@ -11,12 +11,21 @@
 //! - [`shared`]: two threads that read one item.
 #![tactic(auto)]
 
+#[cfg(test)]
 mod attached;
+#[cfg(test)]
 mod basket;
+#[cfg(test)]
 mod emptied;
+#[cfg(test)]
 mod handed_on;
+#[cfg(test)]
 mod letters;
+#[cfg(test)]
 mod scratch;
+#[cfg(test)]
 mod shared;
+#[cfg(test)]
 mod stores;
+#[cfg(test)]
 mod tickets;
