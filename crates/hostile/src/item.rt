@@ -126,7 +126,7 @@ impl Item for Tallied {
     }
 }
 
-/// How many calls there are to each that is refused. The first page of a pool is made by fewer.
+/// How many calls there are to each that is refused. The first page of a pool is made by fewer, and so is a fixed pool.
 const CALLS_TO_A_REFUSAL: usize = 50;
 
 /// Makes items, and refuses now and then.
@@ -139,6 +139,7 @@ pub struct Maker {
 impl<T: Item> Init<T, AnyValue> for Maker {
     fn make(&self) -> Option<T> {
         if self.tally.call() % CALLS_TO_A_REFUSAL == CALLS_TO_A_REFUSAL - 1 {
+            self.tally.count_refused();
             return None;
         }
         T::new(self)

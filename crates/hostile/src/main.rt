@@ -3,6 +3,9 @@
 //!
 //! The argument is how many rounds each thread has. A line for each pool and kind of item tells what was seen that may not
 //! be, which is the same in each schedule: nothing. Else the status is 1.
+//!
+//! Behind the threads each pool is asked for all its items: those that were not forgotten come, and of a pool that has a
+//! limit no more.
 #![tactic(auto)]
 
 mod item;
@@ -55,6 +58,18 @@ fn use_all<R: Print + AllocGlobal + Threads + Wait + Copy + Send + 'static>(
         (
             "linear, counted",
             pools::linear::<Tallied, R>(rt, alloc, rounds),
+        ),
+        (
+            "fixed, numbers",
+            pools::fixed::<Number, R>(rt, alloc, rounds),
+        ),
+        (
+            "fixed, lists",
+            pools::fixed::<Numbers, R>(rt, alloc, rounds),
+        ),
+        (
+            "fixed, counted",
+            pools::fixed::<Tallied, R>(rt, alloc, rounds),
         ),
         (
             "spin lock, numbers",

@@ -11,10 +11,16 @@ pub struct Report {
     unclear: u32,
     /// Calls for which there was no memory.
     without_memory: u32,
+    /// Pulls that `init` refused, as it was meant.
+    refused: usize,
+    /// Refusals of `init` that no pull told, or that were told twice.
+    untold: usize,
     /// Items that were forgotten, as it was meant.
     pub forgotten: usize,
     /// Items that neither were forgotten nor dropped, or that were dropped twice.
     lost: usize,
+    /// Items that neither were forgotten nor could be pulled behind the threads, or that there were too many of.
+    missing: usize,
 }
 
 impl Report {
@@ -30,14 +36,21 @@ impl Report {
         self.without_memory = self.without_memory.saturating_add(1);
     }
 
+    pub fn count_refused(&mut self) {
+        self.refused = self.refused.saturating_add(1);
+    }
+
     /// What two threads saw.
     pub fn with(self, other: Report) -> Report {
         Report {
             shared: self.shared.saturating_add(other.shared),
             unclear: self.unclear.saturating_add(other.unclear),
             without_memory: self.without_memory.saturating_add(other.without_memory),
+            refused: self.refused.saturating_add(other.refused),
+            untold: self.untold.saturating_add(other.untold),
             forgotten: self.forgotten.saturating_add(other.forgotten),
             lost: self.lost.saturating_add(other.lost),
+            missing: self.missing.saturating_add(other.missing),
         }
     }
 
@@ -49,9 +62,30 @@ impl Report {
         }
     }
 
+    /// The same at the end, where a pool has so many items, and so many could be pulled.
+    pub fn with_pulled(self, items: usize, pulled: usize) -> Report {
+        Report {
+            missing: items.abs_diff(pulled.saturating_add(self.forgotten)),
+            ..self
+        }
+    }
+
+    /// The same at the end, where `init` refused so often.
+    pub fn with_refusals(self, refusals: usize) -> Report {
+        Report {
+            untold: refusals.abs_diff(self.refused),
+            ..self
+        }
+    }
+
     /// Whether nothing was seen that may not be.
     pub fn is_good(&self) -> bool {
-        self.shared == 0 && self.unclear == 0 && self.without_memory == 0 && self.lost == 0
+        self.shared == 0
+            && self.unclear == 0
+            && self.without_memory == 0
+            && self.untold == 0
+            && self.lost == 0
+            && self.missing == 0
     }
 }
 
@@ -59,8 +93,8 @@ impl Display for Report {
     fn fmt<W: Write>(&self, f: &mut Formatter<W>) -> fmt::Result {
         write!(
             f,
-            "{} items shared, {} unclear, {} lost, {} calls without memory",
-            self.shared, self.unclear, self.lost, self.without_memory
+            "{} items shared, {} unclear, {} lost, {} missing, {} calls without memory, {} refusals untold",
+            self.shared, self.unclear, self.lost, self.missing, self.without_memory, self.untold
         )
     }
 }

@@ -4,10 +4,11 @@ use std::sync::Arc;
 use std::sync::atomic::AtomicUsize;
 use std::sync::atomic::Ordering::SeqCst;
 
-/// Counts of calls that make an item, and of items that were made and dropped.
+/// Counts of calls that make an item, of those that were refused, and of items that were made and dropped.
 #[derive(Drop)]
 pub struct Tally {
     calls: AtomicUsize,
+    refused: AtomicUsize,
     made: AtomicUsize,
     dropped: AtomicUsize,
 }
@@ -16,6 +17,7 @@ impl Tally {
     pub fn new(alloc: Global) -> Result<Arc<Tally>, AllocError> {
         let tally = Tally {
             calls: AtomicUsize::new(0),
+            refused: AtomicUsize::new(0),
             made: AtomicUsize::new(0),
             dropped: AtomicUsize::new(0),
         };
@@ -25,6 +27,19 @@ impl Tally {
     /// The number of this call, counted from 0.
     pub fn call(&self) -> usize {
         self.calls.fetch_add(1, SeqCst)
+    }
+
+    pub fn count_refused(&self) {
+        self.refused.fetch_add(1, SeqCst);
+    }
+
+    pub fn refused(&self) -> usize {
+        self.refused.load(SeqCst)
+    }
+
+    /// How many calls were answered with an item.
+    pub fn answered(&self) -> usize {
+        self.calls.load(SeqCst).wrapping_sub(self.refused())
     }
 
     pub fn count_made(&self) {

@@ -85,10 +85,13 @@ impl<T: Item, A: DerefMut<Target = T> + Drop> Worker<A> {
 
     /// The item, where it wasn't refused by `init` or for the limit.
     fn pulled<B: Drop>(&mut self, pulled: Result<B, PullError>) -> Option<B> {
-        if let Err(PullError::Memory) = pulled {
-            self.report.count_without_memory();
+        match pulled {
+            Ok(item) => return Some(item),
+            Err(PullError::Memory) => self.report.count_without_memory(),
+            Err(PullError::Init) => self.report.count_refused(),
+            Err(PullError::Limit) => {}
         }
-        pulled.ok()
+        None
     }
 
     /// Writes to an item that was pulled now, and lets other threads run before it looks again.

@@ -2,12 +2,18 @@
 //!
 //! No clause tells of a box that is forgotten, and no test sees one. Here one that is forgotten in each turn adds up to
 //! megabytes. A line for each kind of turn says that nothing is kept, or how much is; then the status is 1.
+//!
+//! Before the turns it looks at what openings and pages take, while the process has little: memory that is taken at an
+//! opening and let go again, or never written to, counts too.
 #![tactic(auto)]
 
 mod cores;
+mod fixed_pools;
 mod linear_pools;
 mod observer;
+mod openings;
 mod others;
+mod pages;
 mod peak_memory;
 mod stack_pools;
 mod supply;
@@ -19,7 +25,10 @@ use std::process::ExitCode;
 
 fn main(rt: HostRuntime) -> Result<ExitCode> {
     let mut observer = Observer::new(rt);
+    openings::observe(rt.alloc(), &mut observer)?;
+    pages::observe(rt.alloc(), &mut observer)?;
     linear_pools::observe(rt.alloc(), &mut observer)?;
+    fixed_pools::observe(rt.alloc(), &mut observer)?;
     stack_pools::observe(&rt, rt.alloc(), &mut observer)?;
     others::observe(&rt, rt.alloc(), &mut observer)?;
     cores::observe(rt.alloc(), &mut observer)?;

@@ -1,5 +1,5 @@
-//! Whether turns of some kind keep memory.
-use crate::peak_memory::peak_kilobytes;
+//! Whether turns of some kind keep memory, and whether work of some kind takes much.
+use crate::peak_memory::{peak_kilobytes, peak_virtual_kilobytes};
 use anyhow::Result;
 use std::rt::Files;
 
@@ -27,7 +27,7 @@ impl<R: Files + AllocGlobal + Print> Observer<R> {
         }
     }
 
-    /// Whether nothing was kept until now, and each call answered as it should.
+    /// Whether nothing was kept or taken in excess until now, and each call answered as it should.
     pub fn saw_nothing_kept(&self) -> bool {
         self.saw_nothing_kept
     }
@@ -49,6 +49,31 @@ impl<R: Files + AllocGlobal + Print> Observer<R> {
             println!(self.rt; "{name}: {kept} kB are kept")?;
         } else {
             println!(self.rt; "{name}: nothing is kept")?;
+        }
+        Ok(())
+    }
+
+    /// Does some work once, and prints whether the process ever had so many kilobytes more for it, or for what it made.
+    /// The work answers `None` where a call answered what it should not.
+    pub fn observe_growth<X: Drop, F: FnOnce() -> Option<X> + Drop>(
+        &mut self,
+        name: &str,
+        kilobytes: u64,
+        work: F,
+    ) -> Result<()>
+        requires { F.pre work }
+    {
+        let before = peak_virtual_kilobytes(&self.rt)?;
+        let made = work();
+        let taken = peak_virtual_kilobytes(&self.rt)?.saturating_sub(before);
+        if made.is_none() {
+            self.saw_nothing_kept = false;
+            println!(self.rt; "{name}: a call answered what it should not")?;
+        } else if taken >= kilobytes {
+            self.saw_nothing_kept = false;
+            println!(self.rt; "{name}: {taken} kB")?;
+        } else {
+            println!(self.rt; "{name}: less than {kilobytes} kB")?;
         }
         Ok(())
     }

@@ -8,11 +8,21 @@ const STATUS: &str = "/proc/self/status";
 
 /// The most kilobytes that were resident at once.
 pub fn peak_kilobytes(rt: &(impl Files + Alloc)) -> Result<u64> {
+    kilobytes(rt, "VmHWM:")
+}
+
+/// The most kilobytes that the process had at once, those too that it never wrote to.
+pub fn peak_virtual_kilobytes(rt: &(impl Files + Alloc)) -> Result<u64> {
+    kilobytes(rt, "VmPeak:")
+}
+
+/// What the system tells under a name.
+fn kilobytes(rt: &(impl Files + Alloc), name: &str) -> Result<u64> {
     let status = fs::read_to_string(rt, STATUS)?;
-    let peak = status
+    let told = status
         .lines()
-        .find_map(|line| line.strip_prefix("VmHWM:"))
-        .context("no VmHWM")?;
-    let number = peak.split_whitespace().next().context("no number")?;
+        .find_map(|line| line.strip_prefix(name))
+        .context("a line is missing")?;
+    let number = told.split_whitespace().next().context("no number")?;
     Ok(number.parse()?)
 }

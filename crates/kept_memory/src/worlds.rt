@@ -38,7 +38,7 @@ fn page(supply: &Supply) -> Option<Prepared<Buffer>> {
 }
 
 /// A step that is enabled, and for which there is memory.
-fn done(world: &mut World<Buffer, Keep>, event: Event<Buffer>) -> Option<()> {
+pub fn done<T: Drop>(world: &mut World<T, Keep>, event: Event<T>) -> Option<()> {
     match world.step(event) {
         Seen::NotEnabled | Seen::NoMemory => None,
         _ => Some(()),

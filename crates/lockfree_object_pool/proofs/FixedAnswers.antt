@@ -6,12 +6,12 @@ use native.Mathlib.Decide.{ℕ_discrete}
 use mathlib.Core.Logic.{dite}
 use Rattle.atomic_table.specs.Seated.{TableId}
 use Rattle.lockfree_object_pool.specs.declared.page.history.PageAct.TheVariants.{Took}
-use Rattle.lockfree_object_pool.specs.declared.page.user_view.UserView.{UserView}
 use Rattle.lockfree_object_pool.specs.declared.page.note.PageNote.{PageNote}
-use Rattle.lockfree_object_pool.specs.declared.fixed_object_pool.busy_seen.BusySeen.{BusySeen}
+use Rattle.lockfree_object_pool.specs.declared.page.full_seen.FullSeen.{FullSeen}
 use Rattle.lockfree_object_pool.specs.FixedAnswer.{IsPulledOf, IsPulledWith, IsBusyOf, IsBusyAfter, IsBusyNote}
-use Rattle.lockfree_object_pool.specs.Note.{note_view, note_opening, note_user, note_history}
-use Rattle.lockfree_object_pool.specs.Slot.{item_known}
+use Rattle.lockfree_object_pool.specs.Note.{note_view, note_opening, note_history}
+use Rattle.lockfree_object_pool.specs.FullSeen.{FoundAllOut}
+use Rattle.lockfree_object_pool.specs.Holding.{item_known}
 use Rattle.lockfree_object_pool.specs.PageHistory.{IsBeginningOf, WasOutBetween}
 use Rattle.lockfree_object_pool.specs.Word.{ClearsBit, IsLeastBit}
 use Rattle.lockfree_object_pool.specs.PageRule.{User, item_of, GoesOn, KnowsOut, StartsFrom, LooksOn, Misses}
@@ -98,7 +98,7 @@ module _ {T : Type 0} where
   pub item_pulled : (meets : T → Type 0) (pool : TableId) (opening : List (Option T)) (start known : User T) (seated : TableId) (id : ℕ) (value : T)
       → start.0.opening ≡ opening → start.0.own ≡ [] → TakesOne meets pool.slots id value start known → seated ≡ pool → IsPulledOf pool opening (item_known seated known.0 id value)
   item_pulled meets pool opening start known seated id value opened none taken same = record {
-    is_item = record { of_pool = same; in_pool = taken.in_pool };
+    is_item = record { of_page = same; in_page = taken.in_pool };
     same_opening = taken.goes_on.same_opening ∙ opened;
     pulled = pulled seated start.0 known.0 id value taken.goes_on none;
   }
@@ -107,29 +107,31 @@ module _ {T : Type 0} where
   pub item_pulled_with : (meets : T → Type 0) (pool : TableId) (note : PageNote T) (start known : User T) (seated : TableId) (id : ℕ) (value : T)
       → StartsFrom (note_view note) start.0 → TakesOne meets pool.slots id value start known → seated ≡ pool → IsPulledWith pool note (item_known seated known.0 id value)
   item_pulled_with meets pool note start known seated id value starts taken same = record {
-    is_item = record { of_pool = same; in_pool = taken.in_pool };
+    is_item = record { of_page = same; in_page = taken.in_pool };
     pulled = pulled_after seated start.0 known.0 id value taken.goes_on note starts;
   }
 
-  -- a pool of which each item was found out
-  pub all_busy : (pool : TableId) (opening : List (Option T)) (start : User T) (busy : BusySeen T) → start.0.opening ≡ opening
-      → MissesAll 0 pool.slots start busy.seat.me → busy.seat.table_id ≡ pool → IsBusyOf pool opening busy
-  all_busy pool opening start busy opened missed same =
-      let known : UserView T = busy.seat.me.0 in
-      let opened_now : known.opening ≡ opening = missed.goes_on.same_opening ∙ opened in
+  -- what a user has found that found each item out
+  found_all_out : (count : ℕ) (opening : List (Option T)) (start known : User T) → start.0.opening ≡ opening → MissesAll 0 count start known → FoundAllOut count opening known.0
+  found_all_out count opening start known opened missed =
+      let opened_now : known.0.opening ≡ opening = missed.goes_on.same_opening ∙ opened in
       record {
-        of_pool = same;
         same_opening = opened_now;
-        lawful = lawful_of opening known opened_now missed.goes_on.sound;
+        lawful = lawful_of opening known.0 opened_now missed.goes_on.sound;
         goes_on = missed.goes_on.sound.since_load;
-        each_was_out = λ id within. subst (λ o. WasOutBetween o known.since known.acts id) opened_now (missed.each_was_out id (omega arith) within);
+        each_was_out = λ id within. subst (λ o. WasOutBetween o known.0.since known.0.acts id) opened_now (missed.each_was_out id (omega arith) within);
       }
 
+  -- a pool of which each item was found out
+  pub all_busy : (pool : TableId) (opening : List (Option T)) (start : User T) (busy : FullSeen T) → start.0.opening ≡ opening
+      → MissesAll 0 pool.slots start busy.seat.me → busy.seat.table_id ≡ pool → IsBusyOf pool opening busy
+  all_busy pool opening start busy opened missed same = record { of_page = same; found = found_all_out pool.slots opening start busy.seat.me opened missed }
+
   -- so it is of a pull by a note
-  pub all_busy_after : (pool : TableId) (note : PageNote T) (start : User T) (busy : BusySeen T) → StartsFrom (note_view note) start.0
+  pub all_busy_after : (pool : TableId) (note : PageNote T) (start : User T) (busy : FullSeen T) → StartsFrom (note_view note) start.0
       → MissesAll 0 pool.slots start busy.seat.me → busy.seat.table_id ≡ pool → IsBusyAfter pool note busy
   all_busy_after pool note start busy starts missed same = record {
-    is_busy = all_busy pool (note_opening note) start busy starts.same_opening missed same;
+    all_out = all_busy pool (note_opening note) start busy starts.same_opening missed same;
     after_note = subst (IsBeginningOf (note_history note)) (sym (missed.goes_on.same_since ∙ starts.from_now)) starts.after_known;
   }
 
@@ -137,16 +139,10 @@ module _ {T : Type 0} where
   pub busy_note : (pool : TableId) (old : PageNote T) (start : User T) (new : PageNote T) → StartsFrom (note_view old) start.0
       → MissesAll 0 pool.slots start new.seat.me → new.seat.table_id ≡ pool → IsBusyNote pool old new
   busy_note pool old start new starts missed same =
-      let known : UserView T = note_view new in
-      let opened : known.opening ≡ note_opening old = missed.goes_on.same_opening ∙ starts.same_opening in
-      let same_user : known.user ≡ note_user old = missed.goes_on.same_user ∙ starts.same_user in
       record {
         of_pool = same;
-        same_user = same_user;
-        same_opening = opened;
-        lawful = lawful_of (note_opening old) known opened missed.goes_on.sound;
+        same_user = missed.goes_on.same_user ∙ starts.same_user;
+        found = found_all_out pool.slots (note_opening old) start new.seat.me starts.same_opening missed;
         after_note = subst (IsBeginningOf (note_history old)) (sym (missed.goes_on.same_since ∙ starts.from_now)) starts.after_known;
-        goes_on = missed.goes_on.sound.since_load;
-        each_was_out = λ id within. subst (λ o. WasOutBetween o known.since known.acts id) opened (missed.each_was_out id (omega arith) within);
         same_acts = missed.goes_on.sound.own_acts ∙ missed.goes_on.own ∙ starts.own_same ∙ sym starts.own_before;
       }

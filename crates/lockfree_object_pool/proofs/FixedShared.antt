@@ -13,13 +13,13 @@ use Rattle.lockfree_object_pool.specs.contracts.fixed_reusable.FixedReusable as 
 use Rattle.lockfree_object_pool.specs.contracts.fixed_owned_reusable.OwnedTakenItem as OwnedTakenItem
 use Rattle.lockfree_object_pool.specs.contracts.fixed_owned_reusable.FixedOwnedReusable as FixedOwnedReusable
 use Rattle.lockfree_object_pool.proofs.fixed_object_pool.FixedObjectPool.TheSendSync as pool
-use Rattle.lockfree_object_pool.proofs.SlotShared.{seat_sync}
+use Rattle.lockfree_object_pool.proofs.SlotShared.{holding_sync}
 
 module _ (T I R K : RattleType) (answers : Init.Ghosts I.Denot T.Denot K.Denot) (leaves : Reset.Ghosts R.Denot T.Denot K.Denot) (clean : Ghosts K.Denot T.Denot) where
   taken_sync : (κ : NamedLft) → IsSend T → IsSync R → IsSync (TakenItem.the_field κ T I R K answers leaves clean).row
   taken_sync κ sent reset =
       let type = TakenItem.the_type κ T I R K answers leaves clean in
-      struct_sync (shape type) (shr_sync _ _ _ (pool.the_sync T I R K answers leaves clean sent reset), (record { shared = (seat_sync T sent).shared }, (search sendable, tt)))
+      struct_sync (shape type) (shr_sync _ _ _ (pool.the_sync T I R K answers leaves clean sent reset), (holding_sync T sent, tt))
 
   pub reusable_sync : (κ : NamedLft) → IsSend T → IsSync T → IsSync R → IsSync (FixedReusable.the_row κ T I R K answers leaves clean)
   reusable_sync κ sent shared reset =
@@ -29,7 +29,7 @@ module _ (T I R K : RattleType) (answers : Init.Ghosts I.Denot T.Denot K.Denot) 
   owned_taken_sync : IsSend T → IsSend R → IsSync R → IsSync (OwnedTakenItem.the_field T I R K answers leaves clean).row
   owned_taken_sync sent reset_sent reset_shared =
       let owner = Arc-sync (FixedObjectPool.the_row T I R K answers leaves clean) (pool.the_send T I R K answers leaves clean sent reset_sent) (pool.the_sync T I R K answers leaves clean sent reset_shared) in
-      struct_sync (shape (OwnedTakenItem.the_type T I R K answers leaves clean)) (record { shared = owner.shared }, (record { shared = (seat_sync T sent).shared }, (search sendable, tt)))
+      struct_sync (shape (OwnedTakenItem.the_type T I R K answers leaves clean)) (record { shared = owner.shared }, (holding_sync T sent, tt))
 
   pub owned_reusable_sync : IsSend T → IsSync T → IsSend R → IsSync R → IsSync (FixedOwnedReusable.the_row T I R K answers leaves clean)
   owned_reusable_sync sent shared reset_sent reset_shared =

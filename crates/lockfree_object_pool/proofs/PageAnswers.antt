@@ -11,7 +11,7 @@ use Rattle.lockfree_object_pool.specs.Item.{IsPulled}
 use Rattle.lockfree_object_pool.specs.Note.{note_page, note_view, note_opening, note_history, IsReturned, IsPulledAfter}
 use Rattle.lockfree_object_pool.specs.PageHistory.{History, acts_of, IsBeginningOf, WasOutBetween}
 use Rattle.lockfree_object_pool.specs.PageRule.{GoesOn, StartsFrom, KnowsOut}
-use Rattle.lockfree_object_pool.specs.Slot.{item_known}
+use Rattle.lockfree_object_pool.specs.Holding.{item_known}
 use Rattle.lockfree_object_pool.specs.FullSeen.{full_page, full_view, full_history, IsFullOf, IsAnswerFrom, IsAnswerOf, IsAnswerAfter}
 use Rattle.lockfree_object_pool.proofs.PageActs.{lawful_of, beginning_further}
 use Rattle.lockfree_object_pool.proofs.PageHolders.{came_from_lawful, spared_return}
@@ -53,11 +53,14 @@ module _ {T : Type 0} where
       → ((id : ℕ) → id < 32 → WasOutBetween start.opening start.since (full_history seen) id) → IsFullOf page opening seen
   full page opening start seen same of_page goes each = record {
     of_page = of_page;
-    same_opening = goes.same_opening ∙ same;
-    lawful = lawful_of opening (full_view seen) (goes.same_opening ∙ same) goes.sound;
-    each_was_out = λ id within.
-        subst (λ o. WasOutBetween o (full_view seen).since (full_history seen) id) same
-        (subst (λ s. WasOutBetween start.opening s (full_history seen) id) (sym goes.same_since) (each id within));
+    found = record {
+      same_opening = goes.same_opening ∙ same;
+      lawful = lawful_of opening (full_view seen) (goes.same_opening ∙ same) goes.sound;
+      goes_on = goes.sound.since_load;
+      each_was_out = λ id within.
+          subst (λ o. WasOutBetween o (full_view seen).since (full_history seen) id) same
+          (subst (λ s. WasOutBetween start.opening s (full_history seen) id) (sym goes.same_since) (each id within));
+    };
   }
 
   -- a return: nobody was at the item since its pull
@@ -82,14 +85,14 @@ module _ {T K : Type 0} where
   answer_fresh meets page opening start (Slot slot) same none is = record {
     is_item = is.0;
     same_opening = is.1.same_opening ∙ same;
-    pulled = pulled slot.taken.seat.table_id start slot.taken.seat.me.0 slot.taken.id slot.value is.1 none;
+    pulled = pulled slot.taken.holding.seat.table_id start slot.taken.holding.seat.me.0 slot.taken.holding.number slot.value is.1 none;
   }
   answer_fresh meets page opening start (Full seen) same none is = full page opening start seen same is.0 is.1 is.2
 
   -- the answer to a user that had a note
   pub answer_after : (meets : T → Type 0) (page : TableId) (note : PageNote T) (start : UserView T) (answer : Allocated T K) → StartsFrom (note_view note) start → IsAnswerFrom meets page start answer → IsAnswerAfter meets page note answer
-  answer_after meets page note start (Slot slot) starts is = (is.0, pulled_after slot.taken.seat.table_id start slot.taken.seat.me.0 slot.taken.id slot.value is.1 note starts)
+  answer_after meets page note start (Slot slot) starts is = (is.0, pulled_after slot.taken.holding.seat.table_id start slot.taken.holding.seat.me.0 slot.taken.holding.number slot.value is.1 note starts)
   answer_after meets page note start (Full seen) starts is = record {
-    is_full = full page (note_opening note) start seen starts.same_opening is.0 is.1 is.2;
+    all_out = full page (note_opening note) start seen starts.same_opening is.0 is.1 is.2;
     after_note = subst (IsBeginningOf (note_history note)) (sym (is.1.same_since ∙ starts.from_now)) starts.after_known;
   }

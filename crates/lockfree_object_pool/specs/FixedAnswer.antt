@@ -1,60 +1,40 @@
 -- What the answers of a fixed pool show: of a pull, of a refusal, of a return.
-use Rattle.std.specs.Prelude.{◌≡◌, ℕ, ◌<◌, List, Option}
+use Rattle.std.specs.Prelude.{◌≡◌, List, Option}
 use Rattle.atomic_table.specs.Seated.{TableId}
 use Rattle.lockfree_object_pool.specs.declared.page.note.PageNote.{PageNote}
-use Rattle.lockfree_object_pool.specs.declared.page.user_view.UserView.{UserView}
-use Rattle.lockfree_object_pool.specs.declared.fixed_object_pool.busy_seen.BusySeen.{BusySeen}
+use Rattle.lockfree_object_pool.specs.declared.page.full_seen.FullSeen.{FullSeen}
 use Rattle.lockfree_object_pool.specs.FixedReusable.{item_with}
 use Rattle.lockfree_object_pool.specs.FixedRule.{StepCount, steps_of}
-use Rattle.lockfree_object_pool.specs.Item.{Item, IsPulled}
+use Rattle.lockfree_object_pool.specs.FullSeen.{full_view, FoundAllOut, IsAllOut, IsAllOutAfter}
+use Rattle.lockfree_object_pool.specs.Item.{Item, IsItemIn, IsPulledAs}
 use Rattle.lockfree_object_pool.specs.Note.{note_page, note_view, note_opening, note_user, note_history, IsReturned, IsPulledAfter}
-use Rattle.lockfree_object_pool.specs.PageHistory.{History, acts_of, IsLawful, IsBeginningOf, WasOutBetween}
+use Rattle.lockfree_object_pool.specs.PageHistory.{History, acts_of, IsBeginningOf}
 
 module _ {T : Type 0} where
   -- an item of this pool
-  pub record IsItemOf (pool : TableId) (item : Item T) : Type 0 where
-    pub of_pool : item.page ≡ pool
-    pub in_pool : item.id < pool.slots
+  abbrev pub IsItemOf : TableId → Item T → Type 0
+  IsItemOf pool item = IsItemIn pool.slots pool item
 
   -- an item of this pool, pulled as the pool's one history tells, which begins with these values
-  pub record IsPulledOf (pool : TableId) (opening : List (Option T)) (item : Item T) : Type 0 where
-    pub is_item : IsItemOf pool item
-    pub same_opening : item.opening ≡ opening
-    pub pulled : IsPulled item
+  abbrev pub IsPulledOf : TableId → List (Option T) → Item T → Type 0
+  IsPulledOf pool opening item = IsPulledAs (IsItemOf pool) opening item
 
   -- the same of a pull by a note: it stands after all that the note knew
   pub record IsPulledWith (pool : TableId) (note : PageNote T) (item : Item T) : Type 0 where
     pub is_item : IsItemOf pool item
     pub pulled : IsPulledAfter note item
 
-  -- what the refused pull knows of the pool
-  abbrev pub busy_view : BusySeen T → UserView T
-  busy_view busy = busy.seat.me.0
-
-  -- the pool's history up to the refused pull's first load
-  abbrev pub busy_since : BusySeen T → History T
-  busy_since busy = (busy_view busy).since
-
-  -- the pool's history up to the refused pull's last step
-  abbrev pub busy_history : BusySeen T → History T
-  busy_history busy = (busy_view busy).acts
-
   -- what the refused pull has read and tried
-  abbrev pub busy_steps : BusySeen T → StepCount
-  busy_steps busy = steps_of (busy_view busy)
+  abbrev pub busy_steps : FullSeen T → StepCount
+  busy_steps busy = steps_of (full_view busy)
 
-  -- each item of this pool was out: at some place of a lawful history of the pool, since the call's own first load
-  pub record IsBusyOf (pool : TableId) (opening : List (Option T)) (busy : BusySeen T) : Type 0 where
-    pub of_pool : busy.seat.table_id ≡ pool
-    pub same_opening : (busy_view busy).opening ≡ opening
-    pub lawful : IsLawful opening (busy_history busy)
-    pub goes_on : IsBeginningOf (busy_since busy) (busy_history busy)
-    pub each_was_out : (id : ℕ) → id < pool.slots → WasOutBetween opening (busy_since busy) (busy_history busy) id
+  -- each item of this pool was found out by one call
+  abbrev pub IsBusyOf : TableId → List (Option T) → FullSeen T → Type 0
+  IsBusyOf pool opening busy = IsAllOut pool.slots pool opening busy
 
   -- the same of a pull by a note: its first load stands after all that the note knew
-  pub record IsBusyAfter (pool : TableId) (note : PageNote T) (busy : BusySeen T) : Type 0 where
-    pub is_busy : IsBusyOf pool (note_opening note) busy
-    pub after_note : IsBeginningOf (note_history note) (busy_since busy)
+  abbrev pub IsBusyAfter : TableId → PageNote T → FullSeen T → Type 0
+  IsBusyAfter pool note busy = IsAllOutAfter pool.slots pool note busy
 
   -- the pool's history up to the first load of the last operation of the note
   abbrev pub note_since : PageNote T → History T
@@ -64,11 +44,8 @@ module _ {T : Type 0} where
   pub record IsBusyNote (pool : TableId) (old new : PageNote T) : Type 0 where
     pub of_pool : note_page new ≡ pool
     pub same_user : note_user new ≡ note_user old
-    pub same_opening : note_opening new ≡ note_opening old
-    pub lawful : IsLawful (note_opening old) (note_history new)
+    pub found : FoundAllOut pool.slots (note_opening old) (note_view new)
     pub after_note : IsBeginningOf (note_history old) (note_since new)
-    pub goes_on : IsBeginningOf (note_since new) (note_history new)
-    pub each_was_out : (id : ℕ) → id < pool.slots → WasOutBetween (note_opening old) (note_since new) (note_history new) id
     -- its user did nothing
     pub same_acts : acts_of (note_user new) (note_history new) ≡ acts_of (note_user old) (note_history old)
 

@@ -8,8 +8,8 @@ use Rattle.lockfree_object_pool.specs.declared.fixed_reusable.FixedReusable.{Fix
 use Rattle.lockfree_object_pool.specs.declared.fixed_owned_reusable.OwnedTakenItem.{OwnedTakenItem}
 use Rattle.lockfree_object_pool.specs.declared.fixed_owned_reusable.FixedOwnedReusable.{FixedOwnedReusable}
 use Rattle.lockfree_object_pool.specs.FixedRule.{StepCount, steps_of}
+use Rattle.lockfree_object_pool.specs.Holding.{holding_view, held_item}
 use Rattle.lockfree_object_pool.specs.Item.{Item}
-use Rattle.lockfree_object_pool.specs.Slot.{item_known}
 
 -- the same item with another value
 abbrev pub item_with : {T : Type 0} → Item T → T → Item T
@@ -18,16 +18,16 @@ item_with item value = record item { value = value }
 module _ {T : Type 0} where
   -- what the holder of an item that was pulled knows of the pool
   abbrev pub pulled_view : PulledItem T → UserView T
-  pulled_view pulled = pulled.seat.me.0
+  pulled_view pulled = holding_view pulled.holding
 
   -- the item that was pulled
   abbrev pub pulled_item : PulledItem T → Item T
-  pulled_item pulled = item_known pulled.seat.table_id (pulled_view pulled) pulled.number pulled.value
+  pulled_item pulled = held_item pulled.holding pulled.value
 
 module _ {T I R K : Type 0} where
   -- the item that was taken, with a value
   abbrev pub taken_item : TakenItem T I R K → T → Item T
-  taken_item taken value = item_known taken.seat.table_id taken.seat.me.0 taken.number value
+  taken_item taken value = held_item taken.holding value
 
   -- which pool the value returns to
   abbrev pub reusable_pool : FixedReusable T I R K → FixedObjectPool T I R K
@@ -39,7 +39,7 @@ module _ {T I R K : Type 0} where
 
   -- what its pull has read and tried
   abbrev pub reusable_steps : FixedReusable T I R K → StepCount
-  reusable_steps reusable = steps_of reusable.taken.seat.me.0
+  reusable_steps reusable = steps_of (holding_view reusable.taken.holding)
 
   -- the same item with another value
   abbrev pub reusable_with : FixedReusable T I R K → T → FixedReusable T I R K
@@ -47,7 +47,7 @@ module _ {T I R K : Type 0} where
 
   -- the item that was taken by an owner of the pool, with a value
   abbrev pub owned_taken_item : OwnedTakenItem T I R K → T → Item T
-  owned_taken_item taken value = item_known taken.seat.table_id taken.seat.me.0 taken.number value
+  owned_taken_item taken value = held_item taken.holding value
 
   -- which pool the value of an owned reusable returns to
   abbrev pub owned_pool : FixedOwnedReusable T I R K → FixedObjectPool T I R K
@@ -59,7 +59,7 @@ module _ {T I R K : Type 0} where
 
   -- what its pull has read and tried
   abbrev pub owned_steps : FixedOwnedReusable T I R K → StepCount
-  owned_steps reusable = steps_of reusable.taken.seat.me.0
+  owned_steps reusable = steps_of (holding_view reusable.taken.holding)
 
   -- the same item with another value
   abbrev pub owned_with : FixedOwnedReusable T I R K → T → FixedOwnedReusable T I R K

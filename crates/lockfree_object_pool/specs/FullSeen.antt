@@ -23,10 +23,6 @@ module _ {T : Type 0} where
   abbrev pub full_view : FullSeen T → UserView T
   full_view seen = seen.seat.me.0
 
-  -- the values that the page opened with, by id
-  abbrev pub full_opening : FullSeen T → List (Option T)
-  full_opening seen = (full_view seen).opening
-
   -- the page's history up to the call's load
   abbrev pub full_since : FullSeen T → History T
   full_since seen = (full_view seen).since
@@ -35,12 +31,26 @@ module _ {T : Type 0} where
   abbrev pub full_history : FullSeen T → History T
   full_history seen = (full_view seen).acts
 
-  -- each id of this page was found out: at some place of a lawful history of the page, since the call's own load
-  pub record IsFullOf (page : TableId) (opening : List (Option T)) (seen : FullSeen T) : Type 0 where
+  -- a user found so many items out, each at some place of a lawful history, since its own first load
+  pub record FoundAllOut (count : ℕ) (opening : List (Option T)) (known : UserView T) : Type 0 where
+    pub same_opening : known.opening ≡ opening
+    pub lawful : IsLawful opening known.acts
+    pub goes_on : IsBeginningOf known.since known.acts
+    pub each_was_out : (id : ℕ) → id < count → WasOutBetween opening known.since known.acts id
+
+  -- each of the items of this page or fixed pool, which has so many, was found out by one call
+  pub record IsAllOut (count : ℕ) (page : TableId) (opening : List (Option T)) (seen : FullSeen T) : Type 0 where
     pub of_page : full_page seen ≡ page
-    pub same_opening : full_opening seen ≡ opening
-    pub lawful : IsLawful opening (full_history seen)
-    pub each_was_out : (id : ℕ) → id < PAGE_ITEMS → WasOutBetween opening (full_since seen) (full_history seen) id
+    pub found : FoundAllOut count opening (full_view seen)
+
+  -- the same of a call that goes on from a note: its first load stands after all that the note knew
+  pub record IsAllOutAfter (count : ℕ) (page : TableId) (note : PageNote T) (seen : FullSeen T) : Type 0 where
+    pub all_out : IsAllOut count page (note_opening note) seen
+    pub after_note : IsBeginningOf (note_history note) (full_since seen)
+
+  -- each id of this page was found out
+  abbrev pub IsFullOf : TableId → List (Option T) → FullSeen T → Type 0
+  IsFullOf page opening seen = IsAllOut PAGE_ITEMS page opening seen
 
   -- what one call did: it read the page's word once, and tried so many bits at most
   pub record IsBrief (known : UserView T) : Type 0 where
@@ -51,11 +61,6 @@ module _ {T : Type 0} where
   pub record IsBriefAfter (note : PageNote T) (known : UserView T) : Type 0 where
     pub one_look_more : known.looks ≡ (note_view note).looks + 1
     pub tries : known.tries ≤ (note_view note).tries + PAGE_ITEMS
-
-  -- the same of a call that goes on from a note: its load stands after all that the note knew
-  pub record IsFullAfter (page : TableId) (note : PageNote T) (seen : FullSeen T) : Type 0 where
-    pub is_full : IsFullOf page (note_opening note) seen
-    pub after_note : IsBeginningOf (note_history note) (full_since seen)
 
 module _ {T K : Type 0} where
   -- what the call knows of the page, whatever it answers
@@ -71,7 +76,7 @@ module _ {T K : Type 0} where
   -- the same, after all that a note knew
   abbrev pub IsAnswerAfter : (T → Type 0) → TableId → PageNote T → Allocated T K → Type 0
   IsAnswerAfter meets page note (Slot slot) = IsItemOf meets page (slot_item slot) × IsPulledAfter note (slot_item slot)
-  IsAnswerAfter meets page note (Full seen) = IsFullAfter page note seen
+  IsAnswerAfter meets page note (Full seen) = IsAllOutAfter PAGE_ITEMS page note seen
 
   -- what a user may be answered that stands here: a pull is its one act more; a full page was found so by it
   abbrev pub IsAnswerFrom : (T → Type 0) → TableId → UserView T → Allocated T K → Type 0

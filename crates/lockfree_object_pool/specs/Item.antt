@@ -21,10 +21,14 @@ pub record Item (T : Type 0) : Type 0 where
   pub history : History T
 
 module _ {T : Type 0} where
+  -- an item of this page or fixed pool, which has so many
+  pub record IsItemIn (count : ℕ) (page : TableId) (item : Item T) : Type 0 where
+    pub of_page : item.page ≡ page
+    pub in_page : item.id < count
+
   -- an item of this page, with a value that meets the condition
   pub record IsItemOf (meets : T → Type 0) (page : TableId) (item : Item T) : Type 0 where
-    pub of_page : item.page ≡ page
-    pub in_page : item.id < PAGE_ITEMS
+    pub is_in : IsItemIn PAGE_ITEMS page item
     pub meets_condition : meets item.value
 
   -- how an item was pulled: a lawful history of its page ends with the pull
@@ -39,11 +43,15 @@ module _ {T : Type 0} where
     -- its holder did nothing else
     pub only : acts_of item.holder item.history ≡ Took item.holder item.id item.value ∷ []
 
-  -- an item of this page, pulled from it as the page's history tells
-  pub record IsPulledOf (meets : T → Type 0) (page : TableId) (opening : List (Option T)) (item : Item T) : Type 0 where
-    pub is_item : IsItemOf meets page item
+  -- an item of this kind, pulled as its history tells, which begins with these values
+  pub record IsPulledAs (kind : Item T → Type 0) (opening : List (Option T)) (item : Item T) : Type 0 where
+    pub is_item : kind item
     pub same_opening : item.opening ≡ opening
     pub pulled : IsPulled item
+
+  -- an item of this page, pulled from it as the page's history tells
+  abbrev pub IsPulledOf : (T → Type 0) → TableId → List (Option T) → Item T → Type 0
+  IsPulledOf meets page opening item = IsPulledAs (IsItemOf meets page) opening item
 
   -- where a pulled item comes from
   pub record HasOrigin (may_open : T → Type 0) (item : Item T) : Type 0 where

@@ -6,6 +6,7 @@ pub mod FixedReusable
 pub mod FixedRule
 pub mod FullSeen
 pub mod Guard
+pub mod Holding
 pub mod Item
 pub mod Items
 pub mod Kept

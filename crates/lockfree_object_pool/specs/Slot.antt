@@ -1,34 +1,23 @@
 -- What an item that is out of its page shows, under a borrow of the page.
 use Rattle.std.specs.Prelude.{ℕ}
-use Rattle.atomic_table.specs.Seated.{TableId}
 use Rattle.lockfree_object_pool.specs.declared.page.user_view.UserView.{UserView}
 use Rattle.lockfree_object_pool.specs.declared.page.slot.TakenId.{TakenId}
 use Rattle.lockfree_object_pool.specs.declared.page.slot.PageSlot.{PageSlot}
+use Rattle.lockfree_object_pool.specs.Holding.{holding_view, held_item}
 use Rattle.lockfree_object_pool.specs.Item.{Item}
-
--- an item, as the user tells it that took it
-abbrev pub item_known : {T : Type 0} → TableId → UserView T → ℕ → T → Item T
-item_known page known id value = record {
-  page = page;
-  opening = known.opening;
-  id = id;
-  value = value;
-  holder = known.user;
-  history = known.acts;
-}
 
 module _ {T K : Type 0} where
   -- the id that was taken
   abbrev pub taken_id : TakenId T K → ℕ
-  taken_id taken = taken.id
+  taken_id taken = taken.holding.number
 
   -- what the holder of the id knows of the page
   abbrev pub taken_view : TakenId T K → UserView T
-  taken_view taken = taken.seat.me.0
+  taken_view taken = holding_view taken.holding
 
   -- the item that was taken, with a value
   abbrev pub taken_item : TakenId T K → T → Item T
-  taken_item taken value = item_known taken.seat.table_id (taken_view taken) taken.id value
+  taken_item taken value = held_item taken.holding value
 
   -- the item that the slot has
   abbrev pub slot_item : PageSlot T K → Item T

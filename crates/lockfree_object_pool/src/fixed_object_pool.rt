@@ -12,19 +12,20 @@ use crate::closures::{Init, Reset};
 use crate::fixed_owned_reusable::FixedOwnedReusable;
 use crate::fixed_reusable::FixedReusable;
 use crate::made_or_reset::MadeOrReset;
-use crate::page::{PageNote, PullPass, Witness};
+use crate::page::{FullSeen, PageNote, PullPass, Witness};
 use items::FixedItems;
 use std::alloc::Global;
 use std::fmt::{self, Debug, Formatter, Write};
 use std::sync::Arc;
 
-mod busy_seen;
 pub(crate) mod items;
-
-pub use busy_seen::BusySeen;
 
 /// What is known of a fixed pool's history while no item is held. It has no bytes.
 pub type PoolNote<T> = PageNote<T>;
+
+/// What a refused pull has: each item of the pool was found out since the pass was made, by a word that was read or by a try of its
+/// own.
+pub type BusySeen<'p, T> = FullSeen<'p, T>;
 
 /// What [`FixedObjectPool::try_pull`] answers: an item, or that each one was found out.
 pub type FixedPulled<'s, 'p, T, I, R, K = AnyValue> = Result<
@@ -272,6 +273,3 @@ impl<T: Drop, I: Init<T, K>, R: Reset<T, K>, K: Clean<T>> Debug for FixedObjectP
             .finish_non_exhaustive()
     }
 }
-
-#[cfg(test)]
-mod tests;

@@ -1,14 +1,15 @@
 //! A value that was pulled from a fixed pool, with an owner of the pool.
-ghost use Rattle.std.specs.Prelude.{◌≡◌, ◌<◌, ◌/◌, ◌%◌, [], ◌∷◌, Some, None, false};
+ghost use Rattle.std.specs.Prelude.{◌≡◌, ◌<◌, ◌/◌, ◌%◌};
 ghost use Rattle.std.specs.Arc.{arc_value};
-ghost use Rattle.lockfree_object_pool.specs.OneProof.{same_page, same_holding, same_carrying};
+ghost use Rattle.lockfree_object_pool.specs.OneProof.{same_page};
 ghost use Rattle.lockfree_object_pool.specs.FixedPool.{pool_identity, pool_items};
+ghost use Rattle.lockfree_object_pool.specs.Holding.{holding_page};
 
 use crate::clean::{AnyValue, Clean};
 use crate::closures::{Init, Reset};
 use crate::fixed_object_pool::items::pulled_item::PulledItem;
 use crate::fixed_object_pool::{FixedObjectPool, PoolNote};
-use crate::page::user_view::UserSeat;
+use crate::page::holding::Holding;
 use crate::page::{PAGE_ITEMS, PageId, PageNote, Witness};
 use std::fmt::{self, Debug, Formatter, Write};
 use std::ops::{Deref, DerefMut};
@@ -18,13 +19,9 @@ use std::sync::Arc;
 #[derive(Drop)]
 pub(crate) struct OwnedTakenItem<T: Drop, I: Init<T, K>, R: Reset<T, K>, K: Clean<T>> {
     pool: Arc<FixedObjectPool<T, I, R, K>>,
-    seat: UserSeat<T>,
-    number: usize,
-    ghost of_pool: { seat.table_id ≡ pool_identity (arc_value pool) } by { same_page _ _ },
-    ghost in_pool: { number < pool_items (arc_value pool) },
-    ghost here: { seat.me.0.gone ≡ false },
-    ghost holds: { seat.me.0.held ≡ Some number } by { same_holding _ _ },
-    ghost carries: { seat.me.1 ≡ (number, None) ∷ [] } by { same_carrying T.code _ _ },
+    holding: Holding<T>,
+    ghost of_pool: { holding_page holding ≡ pool_identity (arc_value pool) } by { same_page _ _ },
+    ghost in_pool: { holding.number < pool_items (arc_value pool) },
 }
 
 /// A pulled value. Its end resets it and brings it back to its pool.
@@ -45,19 +42,15 @@ impl<T: Drop, I: Init<T, K>, R: Reset<T, K>, K: Clean<T>> FixedOwnedReusable<T, 
         pool: Arc<FixedObjectPool<T, I, R, K>>,
         pulled: PulledItem<T>,
     ) -> FixedOwnedReusable<T, I, R, K>
-        requires of_pool { pulled.seat.table_id ≡ pool_identity (arc_value pool) }
-        requires in_pool { pulled.number < pool_items (arc_value pool) }
+        requires of_pool { holding_page pulled.holding ≡ pool_identity (arc_value pool) }
+        requires in_pool { pulled.holding.number < pool_items (arc_value pool) }
         ensures pool { owned_pool result ≡ arc_value pool }
         ensures item { owned_item result ≡ pulled_item pulled }
         ensures steps { owned_steps result ≡ steps_of (pulled_view pulled) }
     {
-        let PulledItem {
-            seat,
-            number,
-            value,
-        } = pulled;
+        let PulledItem { holding, value } = pulled;
         FixedOwnedReusable {
-            taken: OwnedTakenItem { pool, seat, number },
+            taken: OwnedTakenItem { pool, holding },
             value,
         }
     }
@@ -67,14 +60,14 @@ impl<T: Drop, I: Init<T, K>, R: Reset<T, K>, K: Clean<T>> FixedOwnedReusable<T, 
         ensures value { result ≡ (owned_item self.now).id }
         ensures in_pool { result < pool_items (owned_pool self.now) }
     {
-        self.taken.number
+        self.taken.holding.number
     }
 
     /// The number of the item's page in the pool, counted from 0.
     pub fn page_number(&self) -> usize
         ensures { result ≡ (owned_item self.now).id / 32 }
     {
-        self.taken.number / PAGE_ITEMS
+        self.taken.holding.number / PAGE_ITEMS
     }
 
     /// The number of the item in its page.
@@ -82,7 +75,7 @@ impl<T: Drop, I: Init<T, K>, R: Reset<T, K>, K: Clean<T>> FixedOwnedReusable<T, 
         ensures value { result ≡ (owned_item self.now).id % 32 }
         ensures in_page { result < PAGE_ITEMS }
     {
-        (self.taken.number % PAGE_ITEMS) as PageId
+        (self.taken.holding.number % PAGE_ITEMS) as PageId
     }
 
     /// What the holder knows of the pool, for another to be told. It costs one load.
@@ -93,7 +86,7 @@ impl<T: Drop, I: Init<T, K>, R: Reset<T, K>, K: Clean<T>> FixedOwnedReusable<T, 
         ensures same_pool { owned_pool self.new ≡ owned_pool self.old }
     {
         let taken = &mut self.taken;
-        taken.pool.items.shared.witness(&mut taken.seat)
+        taken.holding.witness(&taken.pool.items.shared)
     }
 
     /// The owner of the pool that the reusable keeps.
@@ -108,10 +101,10 @@ impl<T: Drop, I: Init<T, K>, R: Reset<T, K>, K: Clean<T>> FixedOwnedReusable<T, 
         ensures { IsGivenBack (R.leaves (pool_reset (owned_pool self))) (owned_item self) result }
     {
         let FixedOwnedReusable { taken, mut value } = self;
-        let OwnedTakenItem { pool, seat, number } = taken;
+        let OwnedTakenItem { pool, holding } = taken;
         pool.reset(&mut value);
         PageNote {
-            seat: pool.items.give(seat, number, value),
+            seat: pool.items.give(holding, value),
         }
     }
 
@@ -121,10 +114,10 @@ impl<T: Drop, I: Init<T, K>, R: Reset<T, K>, K: Clean<T>> FixedOwnedReusable<T, 
         ensures given_back { IsGivenBack (R.leaves (pool_reset (owned_pool self))) (owned_item self) result.1 }
     {
         let FixedOwnedReusable { taken, value } = self;
-        let OwnedTakenItem { pool, seat, number } = taken;
+        let OwnedTakenItem { pool, holding } = taken;
         let mut left = value;
         pool.reset(&mut left);
-        let seat = pool.items.give(seat, number, left);
+        let seat = pool.items.give(holding, left);
         (pool, PageNote { seat })
     }
 }

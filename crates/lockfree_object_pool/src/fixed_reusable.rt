@@ -1,14 +1,15 @@
 //! A value that was pulled from a fixed pool, under a borrow of the pool.
-ghost use Rattle.std.specs.Prelude.{◌≡◌, ◌<◌, ◌/◌, ◌%◌, [], ◌∷◌, Some, None, false};
-ghost use Rattle.lockfree_object_pool.specs.OneProof.{same_page, same_holding, same_carrying};
+ghost use Rattle.std.specs.Prelude.{◌≡◌, ◌<◌, ◌/◌, ◌%◌};
+ghost use Rattle.lockfree_object_pool.specs.OneProof.{same_page};
 ghost use Rattle.lockfree_object_pool.specs.FixedPool.{pool_identity, pool_items};
+ghost use Rattle.lockfree_object_pool.specs.Holding.{holding_page};
 
 use crate::clean::{AnyValue, Clean};
 use crate::closures::{Init, Reset};
 use crate::fixed_object_pool::items::pulled_item::PulledItem;
 use crate::fixed_object_pool::{FixedObjectPool, PoolNote};
 use crate::lender::Lender;
-use crate::page::user_view::UserSeat;
+use crate::page::holding::Holding;
 use crate::page::{PAGE_ITEMS, PageId, PageNote, Witness};
 use std::fmt::{self, Debug, Formatter, Write};
 use std::ops::{Deref, DerefMut};
@@ -17,13 +18,9 @@ use std::ops::{Deref, DerefMut};
 #[derive(Drop)]
 pub(crate) struct TakenItem<'p, T: Drop, I: Init<T, K>, R: Reset<T, K>, K: Clean<T>> {
     pool: &'p FixedObjectPool<T, I, R, K>,
-    seat: UserSeat<T>,
-    number: usize,
-    ghost of_pool: { seat.table_id ≡ pool_identity pool.now } by { same_page _ _ },
-    ghost in_pool: { number < pool_items pool.now },
-    ghost here: { seat.me.0.gone ≡ false },
-    ghost holds: { seat.me.0.held ≡ Some number } by { same_holding _ _ },
-    ghost carries: { seat.me.1 ≡ (number, None) ∷ [] } by { same_carrying T.code _ _ },
+    holding: Holding<T>,
+    ghost of_pool: { holding_page holding ≡ pool_identity pool.now } by { same_page _ _ },
+    ghost in_pool: { holding.number < pool_items pool.now },
 }
 
 /// A pulled value. Its end resets it and brings it back to its pool.
@@ -45,20 +42,16 @@ impl<'p, T: Drop, I: Init<T, K>, R: Reset<T, K>, K: Clean<T>> FixedReusable<'p, 
         pool: &'p FixedObjectPool<T, I, R, K>,
         pulled: PulledItem<T>,
     ) -> FixedReusable<'p, T, I, R, K>
-        requires of_pool { pulled.seat.table_id ≡ pool_identity pool.now }
-        requires in_pool { pulled.number < pool_items pool.now }
+        requires of_pool { holding_page pulled.holding ≡ pool_identity pool.now }
+        requires in_pool { pulled.holding.number < pool_items pool.now }
         ensures pool { reusable_pool result ≡ pool.now }
         ensures item { reusable_item result ≡ pulled_item pulled }
         ensures steps { reusable_steps result ≡ steps_of (pulled_view pulled) }
     {
-        let PulledItem {
-            seat,
-            number,
-            value,
-        } = pulled;
+        let PulledItem { holding, value } = pulled;
         FixedReusable {
             lender: Lender,
-            taken: TakenItem { pool, seat, number },
+            taken: TakenItem { pool, holding },
             value,
         }
     }
@@ -68,14 +61,14 @@ impl<'p, T: Drop, I: Init<T, K>, R: Reset<T, K>, K: Clean<T>> FixedReusable<'p, 
         ensures value { result ≡ (reusable_item self.now).id }
         ensures in_pool { result < pool_items (reusable_pool self.now) }
     {
-        self.taken.number
+        self.taken.holding.number
     }
 
     /// The number of the item's page in the pool, counted from 0.
     pub fn page_number(&self) -> usize
         ensures { result ≡ (reusable_item self.now).id / 32 }
     {
-        self.taken.number / PAGE_ITEMS
+        self.taken.holding.number / PAGE_ITEMS
     }
 
     /// The number of the item in its page.
@@ -83,7 +76,7 @@ impl<'p, T: Drop, I: Init<T, K>, R: Reset<T, K>, K: Clean<T>> FixedReusable<'p, 
         ensures value { result ≡ (reusable_item self.now).id % 32 }
         ensures in_page { result < PAGE_ITEMS }
     {
-        (self.taken.number % PAGE_ITEMS) as PageId
+        (self.taken.holding.number % PAGE_ITEMS) as PageId
     }
 
     /// What the holder knows of the pool, for another to be told. It costs one load.
@@ -94,7 +87,7 @@ impl<'p, T: Drop, I: Init<T, K>, R: Reset<T, K>, K: Clean<T>> FixedReusable<'p, 
         ensures same_pool { reusable_pool self.new ≡ reusable_pool self.old }
     {
         let taken = &mut self.taken;
-        taken.pool.items.shared.witness(&mut taken.seat)
+        taken.holding.witness(&taken.pool.items.shared)
     }
 
     /// Resets the value and brings it back, as the end does. The note knows the pool's history up to this return.
@@ -106,10 +99,10 @@ impl<'p, T: Drop, I: Init<T, K>, R: Reset<T, K>, K: Clean<T>> FixedReusable<'p, 
             taken,
             mut value,
         } = self;
-        let TakenItem { pool, seat, number } = taken;
+        let TakenItem { pool, holding } = taken;
         pool.reset(&mut value);
         PageNote {
-            seat: pool.items.give(seat, number, value),
+            seat: pool.items.give(holding, value),
         }
     }
 }

@@ -31,8 +31,6 @@ pub mod stack;
 pub mod stack_object_pool;
 pub mod stack_owned_reusable;
 pub mod stack_reusable;
-#[cfg(test)]
-mod testing;
 
 pub use fixed_object_pool::FixedObjectPool;
 pub use fixed_owned_reusable::FixedOwnedReusable;

@@ -236,6 +236,3 @@ impl<T: Drop, I: Init<T, K>, R: Reset<T, K>, K: Clean<T>> Debug for LinearObject
             .finish_non_exhaustive()
     }
 }
-
-#[cfg(test)]
-mod tests;

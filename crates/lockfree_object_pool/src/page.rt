@@ -15,12 +15,14 @@ ghost use Rattle.lockfree_object_pool.specs.declared.page.TheConstants.{PAGE_ITE
 
 use crate::PullError;
 use crate::clean::Clean;
+use holding::Holding;
 use items::Items;
 use std::alloc::Global;
 use user_view::UserSeat;
 
 mod full_seen;
 pub mod history;
+pub(crate) mod holding;
 pub(crate) mod items;
 mod note;
 mod owned_slot;
@@ -227,8 +229,10 @@ impl<T, K: Clean<T>> Page<T, K> {
             Some(taken) => {
                 let id = TakenId {
                     page: self,
-                    seat,
-                    id: taken.number,
+                    holding: Holding {
+                        seat,
+                        number: taken.number,
+                    },
                 };
                 Taken {
                     answer: Allocated::Slot(PageSlot::new(id, taken.value)),
@@ -261,6 +265,3 @@ impl<T, K: Clean<T>> Page<T, K> {
         self.items.look(0).0
     }
 }
-
-#[cfg(test)]
-mod tests;

@@ -162,6 +162,3 @@ impl<T: Debug> Debug for SpinLockGuard<'_, T> {
         Debug::fmt(&self.value, f)
     }
 }
-
-#[cfg(test)]
-mod tests;

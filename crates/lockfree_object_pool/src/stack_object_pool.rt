@@ -163,6 +163,3 @@ impl<
         self.kept.put(rt, room, value);
     }
 }
-
-#[cfg(test)]
-mod tests;

@@ -1,11 +1,12 @@
 -- The steps of the linear core: a pull by least choice, and a return.
-use Rattle.std.specs.Prelude.{◌≡◌, ℕ, Option, Some, List, Result, slice_get, length, All}
+use Rattle.std.specs.Prelude.{◌≡◌, ℕ, ◌+◌, ◌-◌, ◌/◌, ◌≤◌, min, Option, Some, IfSome, List, Result, slice_get, length, All}
 use Rattle.lockfree_object_pool.specs.declared.pull_error.PullError.{PullError}
 use Rattle.object_pool_cores.specs.declared.sequential.item.Item.{Item}
 use Rattle.object_pool_cores.specs.declared.sequential.linear_core.LinearCore.{LinearCore}
 use Rattle.object_pool_cores.specs.Item.{item_number}
 use Rattle.object_pool_cores.specs.Pool.{Pool, IsOut, IsPool, IsSame, opening}
 use Rattle.object_pool_cores.specs.LeastChoice.{PullsItem, ReturnsItem}
+use Rattle.object_pool_cores.specs.Looks.{LooksAtEach}
 use Rattle.object_pool_cores.specs.Numbered as numbered
 use Rattle.lockfree_object_pool.specs.declared.page.TheConstants.{PAGE_ITEMS}
 
@@ -21,6 +22,10 @@ module _ {T I R K : Type 0} where
   -- how many pages its pulls looked at
   abbrev pub looked_of : LinearCore T I R K → ℕ
   looked_of core = core.items.looked
+
+  -- the page at which its next pull starts to look
+  abbrev pub start_of : LinearCore T I R K → ℕ
+  start_of core = core.items.start
 
   -- what makes the values of a core
   abbrev pub init_of : LinearCore T I R K → I
@@ -53,6 +58,22 @@ module _ {T I R K : Type 0} where
       (new : LinearCore T I R K) : Type 0 where
     pub step : IsStep old new
     pub returned : ReturnsItem leaves (pool_of old) item (pool_of new)
+
+  -- a pull looked at each page from its start up to that of the item that it took, where the next pull starts
+  pub record LooksUpTo (old : LinearCore T I R K) (item : Item T) (new : LinearCore T I R K) : Type 0 where
+    pub onward : start_of old ≤ start_of new
+    pub stops : IfSome (item_number item) (λ n. start_of new ≡ n / PAGE_ITEMS)
+    pub each : LooksAtEach (start_of new - start_of old + 1) (looked_of old) (looked_of new)
+
+  -- a pull that took none looked at each page from its start on, and the next pull starts behind them
+  pub record LooksAtTheRest (old new : LinearCore T I R K) : Type 0 where
+    pub onward : start_of old ≤ start_of new
+    pub stops : start_of new ≡ (pool_of old).pages
+    pub each : LooksAtEach (start_of new - start_of old) (looked_of old) (looked_of new)
+
+  -- the next pull starts no further than at the page of an item that was returned
+  abbrev pub StartsNoFurther : LinearCore T I R K → Item T → LinearCore T I R K → Type 0
+  StartsNoFurther old item new = IfSome (item_number item) (λ n. start_of new ≡ min (start_of old) (n / PAGE_ITEMS))
 
   -- items that are held together are all out, and have different numbers
   pub record HeldTogether (core : LinearCore T I R K) (held : List (Option (Item T))) : Type 0 where

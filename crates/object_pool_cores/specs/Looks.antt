@@ -1,7 +1,11 @@
 -- How many pages a pull looks at.
-use Rattle.std.specs.Prelude.{ℕ, ◌+◌, ◌*◌, ◌/◌, ◌≤◌, zero, suc}
+use Rattle.std.specs.Prelude.{◌≡◌, ℕ, ◌+◌, ◌-◌, ◌*◌, ◌/◌, ◌^◌, ◌≤◌, min, zero, suc}
 use Rattle.object_pool_cores.specs.Pool.{Pool, Place, Absent, Free, Out}
 use Rattle.lockfree_object_pool.specs.declared.page.TheConstants.{PAGE_ITEMS}
+
+-- one look at each of so many pages: the count stays at the greatest number of 64 bits
+abbrev pub LooksAtEach : ℕ → ℕ → ℕ → Type 0
+LooksAtEach pages before after = after ≡ min (before + pages) (2 ^ 64 - 1)
 
 module _ {T : Type 0} where
   -- 1 for a number that is out, and 0 for each other

@@ -1,8 +1,9 @@
 -- The items of a linear pool of one owner, listed by their numbers.
-use Rattle.std.specs.Prelude.{◌≡◌, ℕ, ◌+◌, ◌*◌, ◌/◌, ◌%◌, ◌<◌, ◌≤◌, Option, Some, None, List, length, slice_get, All, [], ◌∷◌, ◌++◌}
+use Rattle.std.specs.Prelude.{◌≡◌, ℕ, ◌+◌, ◌-◌, ◌*◌, ◌/◌, ◌%◌, ◌<◌, ◌≤◌, Option, Some, None, List, length, slice_get, All, [], ◌∷◌, ◌++◌}
 use Rattle.object_pool_cores.specs.Pool.{Pool, Place, Absent, Free, Out, IsSame, AllowsPages}
 use Rattle.object_pool_cores.specs.Move.{Growth, IsLawful, after}
 use Rattle.object_pool_cores.specs.LeastChoice.{IsExhausted, TakesLeast}
+use Rattle.object_pool_cores.specs.Looks.{LooksAtEach}
 use Rattle.lockfree_object_pool.specs.declared.page.TheConstants.{PAGE_ITEMS}
 
 -- at each number the value of a free item, or none where it is out; how many pages there
@@ -60,8 +61,9 @@ module _ {T : Type 0} where
 
   -- one look at each page that was passed, and one at a page that wasn't full
   pub record Looks (old : Numbered T) (last : ℕ) (new : Numbered T) : Type 0 where
+    pub onward : old.start ≤ new.start
     pub more : old.looked ≤ new.looked
-    pub each : new.looked + old.start ≤ old.looked + new.start + last
+    pub each : LooksAtEach (new.start - old.start + last) old.looked new.looked
 
   -- the pool grew by a page of answers of init
   pub record Grows (limit : Option ℕ) (answers : Option T → Type 0) (old new : Pool T) : Type 0 where

@@ -65,3 +65,19 @@ fn a_fresh_buffer_that_was_refused_is_asked_again(rt: HostRuntime) -> Result<(),
     assert_eq!(rt; bytes.len(), 4096);
     Ok(refusals.tell(&rt)?)
 }
+
+/// A buffer that comes again has the room that it grew to. What fits there is appended, whichever request is refused.
+#[test]
+fn an_append_where_there_is_room_takes_no_memory(rt: HostRuntime) -> Result<(), Fail> {
+    let refusals = Refusals::new();
+    let pool = refusals.again(&|| new_pool(rt.alloc()))?;
+    let mut first = pool.pull()?;
+    append(&rt, &refusals, &mut first, &[b'x'; 64])?;
+    drop(first);
+    let mut again = pool.pull()?;
+    for _ in 0..64 {
+        again.append(b"y").expect(&rt, "there is room");
+    }
+    assert_eq!(rt; (again.page_id(), again.as_slice().len()), (0, 64));
+    Ok(refusals.tell(&rt)?)
+}

@@ -117,3 +117,39 @@ fn fresh_items_tell_of_refused_memory(rt: HostRuntime) -> Result<(), Fail> {
     plays(&rt, &refusals, rt.alloc(), Kind::None);
     Ok(refusals.tell(&rt)?)
 }
+
+/// A line that takes no memory, and pulls behind it in the same read.
+const BAD_LINE_AND_PULLS: &[u8] = b"?\npull\npull\n";
+
+/// The replies to these lines, with ample memory, where no items have numbers.
+const REPLIES: &[u8] = b"bad line\npulled 0 value 0\npulled 1 value 0\n";
+
+/// Plays these lines on a pool whose opening takes no memory. So whichever request is refused, it is one of a pull, and the reply
+/// to the line before goes out.
+fn answers_the_first_line(rt: &(impl Wait + Abort), refusals: &Refusals, alloc: Global, kind: Kind)
+    requires { IsPlayable kind }
+{
+    let mut input = BAD_LINE_AND_PULLS;
+    let mut room = [0; 64];
+    let mut output = room.as_mut_slice();
+    let result = engine::run(rt, alloc, kind, Reset::Keep, &mut input, &mut output);
+    let left = output.len();
+    let (text, _) = room.split_at(room.len().saturating_sub(left));
+    assert!(rt; text.starts_with(b"bad line\n"), "{kind:?}");
+    match result {
+        Ok(()) if text == REPLIES => {}
+        Ok(()) => refusals.note(),
+        Err(error) => {
+            refusals.note();
+            assert_eq!(rt; error, EngineError::Memory, "{kind:?}");
+        }
+    }
+}
+
+#[test]
+fn a_line_before_a_refusal_is_answered(rt: HostRuntime) -> Result<(), Fail> {
+    let refusals = Refusals::new();
+    answers_the_first_line(&rt, &refusals, rt.alloc(), Kind::Stack);
+    answers_the_first_line(&rt, &refusals, rt.alloc(), Kind::None);
+    Ok(refusals.tell(&rt)?)
+}

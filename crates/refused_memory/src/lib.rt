@@ -13,6 +13,8 @@ mod fixed_pools;
 #[cfg(test)]
 mod linear_pools;
 #[cfg(test)]
+mod makers;
+#[cfg(test)]
 mod pages;
 #[cfg(test)]
 mod players;

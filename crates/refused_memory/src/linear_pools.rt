@@ -75,5 +75,27 @@ fn an_owned_pull_that_was_refused_is_asked_again(rt: HostRuntime) -> Result<(), 
     let number = item.number;
     drop(item);
     assert_eq!(rt; pool.pull_owned()?.number, number);
+    drop(pool);
+    assert_eq!(rt; tally.living(), 32);
+    Ok(refusals.tell(&rt)?)
+}
+
+/// Where no page may be linked beside those that there are, a refusal is for the limit. Before, it is for memory.
+#[test]
+fn a_bounded_pull_tells_want_of_memory_from_its_limit(rt: HostRuntime) -> Result<(), Fail> {
+    let refusals = Refusals::new();
+    let tally = refusals.again(&|| new_tally(rt.alloc()))?;
+    let pool = used_up(&rt, &refusals, &tally, &|| bounded(rt.alloc(), &tally))?;
+    if let Some(refusal) = pool.pull().err() {
+        refusals.note();
+        assert_eq!(rt; (refusal, tally.living()), (PullError::Memory, 32));
+    }
+    for _ in 0..32 {
+        mem::forget(pool.pull()?);
+    }
+    assert_eq!(rt;
+        (pool.pull().err(), tally.living()),
+        (Some(PullError::Limit), 64)
+    );
     Ok(refusals.tell(&rt)?)
 }

@@ -282,3 +282,26 @@ fn a_run_that_was_refused_drops_the_commands_not_done(rt: HostRuntime) -> Result
     assert_eq!(rt; tally.living(), 1);
     Ok(refusals.tell(&rt)?)
 }
+
+/// The table has room, so an attaching command is a reply in either case. Where memory is refused, the value is in it.
+#[test]
+fn an_attach_that_was_refused_is_a_reply_with_the_value(rt: HostRuntime) -> Result<(), Fail> {
+    let refusals = Refusals::new();
+    let tally = refusals.again(&|| new_tally(rt.alloc()))?;
+    let core: Stack = StackCore::new(rt.alloc(), TalliedValues::new(&tally)?, Keep);
+    let mut player = Player::new(rt.alloc(), core);
+    holds_first(&rt, &refusals, &mut player);
+    assert!(rt; matches!(player.play(Command::Return(0)), Ok(Reply::Returned)));
+    let value = make(&tally).ok_or("a value takes no memory")?;
+    let reply = player.play(Command::Attach(value));
+    let number = match &reply {
+        Ok(Reply::Attached(holder)) => player.held(*holder).map(|held| held.number),
+        Ok(Reply::AttachRefused(AttachError::Memory(back))) => {
+            refusals.note();
+            Some(back.number)
+        }
+        _ => None,
+    };
+    assert_eq!(rt; number, Some(1));
+    Ok(refusals.tell(&rt)?)
+}

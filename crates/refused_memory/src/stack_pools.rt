@@ -1,6 +1,6 @@
 //! Mutex pools and spin lock pools: what is refused calls no `init`, and can be asked for again.
 use crate::refusals::Refusals;
-use crate::tallied::{Tallied, TalliedValues, Tally, new_tally};
+use crate::tallied::{Tallied, TalliedValues, Tally, make, new_tally};
 use lockfree_object_pool::clean::AnyValue;
 use lockfree_object_pool::closures::{Copied, Keep};
 use lockfree_object_pool::free_list::FreeList;
@@ -152,9 +152,13 @@ fn an_owned_pull_that_was_refused_is_asked_again(rt: HostRuntime) -> Result<(), 
     let tally = refusals.again(&|| new_tally(rt.alloc()))?;
     let pool = refusals.again(&|| tracked_by_mutex(rt.alloc(), &tally))?;
     owned_pulls(&rt, &refusals, &pool, &tally)?;
+    drop(pool);
+    assert_eq!(rt; tally.living(), 0);
     let tally = refusals.again(&|| new_tally(rt.alloc()))?;
     let pool = refusals.again(&|| tracked_by_spin_lock(rt.alloc(), &tally))?;
     owned_pulls(&rt, &refusals, &pool, &tally)?;
+    drop(pool);
+    assert_eq!(rt; tally.living(), 0);
     Ok(refusals.tell(&rt)?)
 }
 
@@ -196,6 +200,40 @@ fn an_attached_value_comes_back(rt: HostRuntime) -> Result<(), Fail> {
     attaches(&rt, &refusals, &pool)?;
     let pool = refusals.again(&|| kept_by_spin_lock(rt.alloc()))?;
     attaches(&rt, &refusals, &pool)?;
+    Ok(refusals.tell(&rt)?)
+}
+
+/// A value that the pool keeps, and one that is attached to an owned item or comes back. The pool ends with its last owner, and
+/// drops what it keeps.
+fn ends_behind_attach<F: FreeList<Tallied, TrackedValues>, W: Abort + Wait + Copy>(
+    rt: &W,
+    refusals: &Refusals,
+    pool: Arc<Tracked<F>>,
+    tally: &Arc<Tally>,
+) -> Result<(), Fail> {
+    refusals.again(&|| pool.fill(rt, 1))?;
+    let value = make(tally).ok_or("a value takes no memory")?;
+    match StackOwnedReusable::new(rt, Arc::try_clone(&pool)?, value) {
+        Ok(item) => drop(item),
+        Err(back) => {
+            refusals.note();
+            assert_eq!(rt; (back.number, tally.living()), (1, 2));
+        }
+    }
+    drop(pool);
+    assert_eq!(rt; (tally.made(), tally.living()), (2, 0));
+    Ok(())
+}
+
+#[test]
+fn a_pool_ends_behind_an_owned_attach_that_was_refused(rt: HostRuntime) -> Result<(), Fail> {
+    let refusals = Refusals::new();
+    let tally = refusals.again(&|| new_tally(rt.alloc()))?;
+    let pool = refusals.again(&|| tracked_by_mutex(rt.alloc(), &tally))?;
+    ends_behind_attach(&rt, &refusals, pool, &tally)?;
+    let tally = refusals.again(&|| new_tally(rt.alloc()))?;
+    let pool = refusals.again(&|| tracked_by_spin_lock(rt.alloc(), &tally))?;
+    ends_behind_attach(&rt, &refusals, pool, &tally)?;
     Ok(refusals.tell(&rt)?)
 }
 

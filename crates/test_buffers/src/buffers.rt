@@ -4,13 +4,14 @@ ghost use Rattle.std.specs.Global.{Vec};
 ghost use Rattle.object_pool_cores.specs.Buffers.{bytes_of};
 
 use lockfree_object_pool::PullError;
-use lockfree_object_pool::closures::{InitBy, Makes, ResetBy, Resets};
+use lockfree_object_pool::closures::{Init, InitBy, Makes, ResetBy, Resets};
 use object_pool_cores::buffers::*;
 use std::alloc::Global;
 use std::sync::Arc;
 use std::test::Fail;
 use std::thread;
 
+mod refusals;
 mod sizes;
 
 /// A thread that still asks after so many refusals gives up, and its test fails.
@@ -180,5 +181,18 @@ fn a_pool_and_its_buffer_are_shown(rt: HostRuntime) -> Result<(), Fail> {
     let text = format!(in rt.alloc(); "{pool:?} {buffer:?}")?;
     let expected = "BufferPool { pool: LinearObjectPool { limit: Some(1), .. } } [7, 9]";
     assert_eq!(rt; text.as_str(), expected);
+    Ok(())
+}
+
+#[test]
+fn an_empty_buffer_and_a_full_one_are_shown(rt: HostRuntime) -> Result<(), Fail> {
+    let pool = one_page(rt.alloc())?;
+    let mut buffer = pool.pull()?;
+    let empty = format!(in rt.alloc(); "{buffer:?}")?;
+    buffer.append(&[0, 1, 2, 3, 4, 5, 6, 7, 8, 9, 10, 11, 12, 13, 14, 255])?;
+    let full = format!(in rt.alloc(); "{buffer:?}")?;
+    assert_eq!(rt; empty.as_str(), "[]");
+    let expected = "[0, 1, 2, 3, 4, 5, 6, 7, 8, 9, 10, 11, 12, 13, 14, 255]";
+    assert_eq!(rt; full.as_str(), expected);
     Ok(())
 }

@@ -10,6 +10,7 @@ use std::cell::Cell;
 use std::test::Fail;
 
 mod first_uses;
+mod sends;
 mod vectors;
 
 /// The value is 0. Of what makes and resets it, nothing else needs to be said.

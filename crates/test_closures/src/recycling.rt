@@ -2,7 +2,7 @@
 ghost use Rattle.std.specs.Prelude.{◌≡◌, ⊤, [], IfSome};
 
 use lockfree_object_pool::recycling::{
-    FixedPool, OwnedReusable, Pool, Recyclable, Recycler, Reusable,
+    FixedPool, MutexPool, OwnedReusable, Pool, Recyclable, Recycler, Reusable, SpinLockPool,
 };
 use lockfree_object_pool::{LinearObjectPool, PullError};
 use std::alloc::Global;
@@ -146,4 +146,48 @@ impl Recyclable for Never {
 fn a_recyclable_type_that_refuses_has_no_pool(rt: HostRuntime) {
     let refused = Pool::<Never>::with_recycler(rt.alloc()).err();
     assert_eq!(rt; refused, Some(PullError::Init));
+}
+
+#[test]
+fn each_kind_of_pool_tells_that_a_recyclable_type_refused(rt: HostRuntime) {
+    let init = Some(PullError::Init);
+    let bounded = Pool::<Never>::with_recycler_within(rt.alloc(), 2).err();
+    let fixed = FixedPool::<Never>::with_recycler(rt.alloc(), 3).err();
+    assert_eq!(rt; (bounded, fixed), (init, init));
+    let mutex = MutexPool::<Never>::with_recycler(rt.alloc());
+    assert_eq!(rt; mutex.pull(&rt).err(), init);
+    let spin_lock = SpinLockPool::<Never>::with_recycler(rt.alloc()).expect(&rt, "a pool is made");
+    assert_eq!(rt; spin_lock.pull(&rt).err(), init);
+}
+
+/// So they take no memory before they are used.
+#[test]
+fn vectors_and_texts_are_made_without_room(rt: HostRuntime) -> Result<(), Fail> {
+    let vectors = Pool::<Vec<u8>>::with_recycler(rt.alloc())?;
+    let texts = Pool::<String>::with_recycler(rt.alloc())?;
+    let room = (vectors.pull()?.capacity(), texts.pull()?.capacity());
+    assert_eq!(rt; room, (0, 0));
+    Ok(())
+}
+
+#[test]
+fn vectors_and_texts_keep_much_room(rt: HostRuntime) -> Result<(), Fail> {
+    let vectors = Pool::<Vec<u8>>::with_recycler(rt.alloc())?;
+    vectors.pull()?.reserve(100_000)?;
+    let texts = Pool::<String>::with_recycler(rt.alloc())?;
+    texts.pull()?.reserve(100_000)?;
+    let (vector, text) = (vectors.pull()?, texts.pull()?);
+    assert!(rt; vector.capacity() >= 100_000 && text.capacity() >= 100_000);
+    Ok(())
+}
+
+#[test]
+fn a_fixed_pool_and_its_item_are_shown(rt: HostRuntime) -> Result<(), Fail> {
+    let pool = FixedPool::<Scratch>::with_recycler(rt.alloc(), 33)?;
+    let shown = format!(in rt.alloc(); "{pool:?} {:?}", pool.pull()?)?;
+    assert_eq!(rt;
+        shown.as_str(),
+        "FixedObjectPool { items: 33, .. } Scratch { words: [], sum: 0 }"
+    );
+    Ok(())
 }

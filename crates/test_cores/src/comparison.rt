@@ -82,6 +82,15 @@ impl<T: Value, A: Pulled, C: SequentialPool<T> + Drop> Comparison<T, A, C> {
         }
     }
 
+    /// Pulls so many items on both sides, and compares the tallies behind the last.
+    pub fn pull_first<P: Gives<T, A>>(&mut self, items: usize, pool: &P) -> Result<(), Stopped> {
+        for _ in 0..items {
+            let answer = self.pull(Call::Pull, pool.gives(Ask::Pull))?;
+            self.figures.count(Call::Pull, answer);
+        }
+        self.tallies.compare(Call::Pull)
+    }
+
     /// Does the session's calls, and drops what is held then.
     pub fn play<P: Gives<T, A>>(mut self, pool: &P) -> Result<Ended<C>, Stopped> {
         for _ in 0..self.session.calls {

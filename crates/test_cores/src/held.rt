@@ -7,7 +7,9 @@ use lockfree_object_pool::made_or_reset::MadeOrReset;
 use lockfree_object_pool::page::PageId;
 use lockfree_object_pool::stack_owned_reusable::StackOwnedReusable;
 use lockfree_object_pool::stack_reusable::StackReusable;
-use lockfree_object_pool::{LinearOwnedReusable, LinearReusable, NoneReusable};
+use lockfree_object_pool::{
+    FixedOwnedReusable, FixedReusable, LinearOwnedReusable, LinearReusable, NoneReusable,
+};
 use object_pool_cores::sequential::Item;
 use std::sync::Wait;
 
@@ -68,6 +70,36 @@ impl<T: Value, I: Init<T, K>, R: Reset<T, K>, K: Clean<T>> Pulled
 
     fn number(&self) -> Option<u128> {
         Some(number_of(self.page_number(), self.page_id()))
+    }
+}
+
+impl<T: Value, I: Init<T, K>, R: Reset<T, K>, K: Clean<T>> Pulled
+    for FixedReusable<'_, T, I, R, K> {
+    fn shown(&self) -> u64 {
+        T::content(&**self)
+    }
+
+    fn overwrite(&mut self, content: u64) {
+        T::write(&mut **self, content);
+    }
+
+    fn number(&self) -> Option<u128> {
+        Some(FixedReusable::number(self) as u128)
+    }
+}
+
+impl<T: Value, I: Init<T, K>, R: Reset<T, K>, K: Clean<T>> Pulled
+    for FixedOwnedReusable<T, I, R, K> {
+    fn shown(&self) -> u64 {
+        T::content(&**self)
+    }
+
+    fn overwrite(&mut self, content: u64) {
+        T::write(&mut **self, content);
+    }
+
+    fn number(&self) -> Option<u128> {
+        Some(FixedOwnedReusable::number(self) as u128)
     }
 }
 

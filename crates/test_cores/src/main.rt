@@ -9,6 +9,7 @@ mod buffers;
 mod comparison;
 mod dice;
 mod figures;
+mod fixed;
 mod fresh;
 mod held;
 mod linear;
@@ -24,6 +25,7 @@ mod value;
 use answer::Stopped;
 use buffers::compare_buffers;
 use figures::Figures;
+use fixed::compare_fixed;
 use fresh::compare_fresh;
 use linear::compare_linear;
 use pages::compare_pages;
@@ -114,5 +116,6 @@ fn compare_pools<T: Value, W: Wait + Copy>(
         Kind::Recycling => compare_recycled(alloc, session),
         Kind::Buffers => compare_buffers(alloc, session),
         Kind::Pages => compare_pages::<T>(alloc, session),
+        Kind::Fixed => compare_fixed::<T>(alloc, session),
     }
 }

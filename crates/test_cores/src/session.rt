@@ -12,6 +12,7 @@ pub enum Kind {
     Buffers,
     /// The pages of a chain, each of which is asked by itself.
     Pages,
+    Fixed,
 }
 
 /// The items.
@@ -66,14 +67,15 @@ pub fn drawn(seed: u64, number: u64) -> Session {
 }
 
 fn drawn_kind(dice: &mut Dice) -> Kind {
-    match dice.below(16) {
+    match dice.below(18) {
         0..=4 => Kind::Linear,
         5..=6 => Kind::Mutex,
         7..=8 => Kind::SpinLock,
         9 => Kind::None,
         10 => Kind::Recycling,
         11..=12 => Kind::Buffers,
-        _ => Kind::Pages,
+        13..=15 => Kind::Pages,
+        _ => Kind::Fixed,
     }
 }
 

@@ -7,9 +7,11 @@ use std::test::Fail;
 
 mod devices;
 mod failures;
+mod lines_and_numbers;
 mod long_inputs;
+mod long_replies;
 
-use devices::{Device, Interrupted};
+use devices::{Device, Parts};
 
 /// Plays an input on a pool, of at least one page where it has a limit.
 fn play<H: Wait, R: Read, W: Write>(
@@ -39,6 +41,12 @@ fn output_of<H: Wait>(
     let mut bytes = input.as_bytes();
     play(rt, alloc, kind, reset, &mut bytes, &mut output)?;
     Ok(output)
+}
+
+/// Whether bytes are this reply, so many times.
+fn is_repeated(bytes: &[u8], reply: &[u8], times: usize) -> bool {
+    let length = reply.len().max(1);
+    bytes.len() == length.saturating_mul(times) && bytes.chunks(length).all(|part| part == reply)
 }
 
 #[test]
@@ -179,29 +187,29 @@ fn replies_to_one_read_are_one_write(rt: HostRuntime) {
 }
 
 #[test]
-fn an_interrupted_read_or_write_is_a_failed_one(rt: HostRuntime) {
-    let mut input = Interrupted { is_next: false };
-    let mut output = Device::new(1024, 1024);
-    let result = run(
-        &rt,
-        rt.alloc(),
-        Kind::Stack,
-        Reset::Zero,
-        &mut input,
-        &mut output,
-    );
-    assert_eq!(rt; result, Err(EngineError::Read));
-    let mut input = SESSION;
-    let mut output = Interrupted { is_next: false };
-    let result = run(
-        &rt,
-        rt.alloc(),
-        Kind::Stack,
-        Reset::Zero,
-        &mut input,
-        &mut output,
-    );
-    assert_eq!(rt; result, Err(EngineError::Write));
+fn a_zero_byte_makes_a_line_bad_and_ends_nothing(rt: HostRuntime) {
+    let rows: [(&[&[u8]], &[u8]); 4] = [
+        (&[b"\0pull\npull\n"], b"bad line\npulled 0 value 0\n"),
+        (
+            &[b"pull\n", b"\0pull\n", b"pull\n"],
+            b"pulled 0 value 0\nbad line\npulled 1 value 0\n",
+        ),
+        (&[b"pu", b"\0ll\npull\n"], b"bad line\npulled 0 value 0\n"),
+        (&[b"pull\n", b"\0"], b"pulled 0 value 0\nbad line\n"),
+    ];
+    for (parts, replies) in rows {
+        let mut input = Parts::new(parts, None);
+        let mut output = Device::new(1024, 1024);
+        let result = run(
+            &rt,
+            rt.alloc(),
+            Kind::None,
+            Reset::Keep,
+            &mut input,
+            &mut output,
+        );
+        assert_eq!(rt; (result, output.bytes()), (Ok(()), replies), "{parts:?}");
+    }
 }
 
 const SESSION: &[u8] = b"pull\nwrite 0 5\nreturn 0\npull";

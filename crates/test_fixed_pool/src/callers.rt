@@ -1,6 +1,6 @@
 //! Callers that rest on a pool's history: what stands before what, what a refusal shows, and which refusals may come.
 ghost use Rattle.std.specs.Prelude.{◌≡◌, ◌<◌, ◌⊎◌, ◌↔◌, ℕ, ◌∷◌, IfSome, IfErr, IsTrue};
-ghost use Rattle.lockfree_object_pool.specs.FixedAnswer.{busy_since, busy_history};
+ghost use Rattle.lockfree_object_pool.specs.FullSeen.{full_since, full_history};
 ghost use Rattle.lockfree_object_pool.specs.FixedPool.{pool_identity, pool_items, pool_opening};
 ghost use Rattle.lockfree_object_pool.specs.FixedReusable.{reusable_item};
 ghost use Rattle.lockfree_object_pool.specs.Note.{note_page, note_history};
@@ -84,7 +84,7 @@ fn refused_while_out<'p>(
     number: usize,
 ) -> Option<BusySeen<'p, usize>>
     requires { number < pool_items pool.now }
-    ensures { IfSome result (λ busy. WasOutBetween (pool_opening pool.now) (busy_since busy) (busy_history busy) number) }
+    ensures { IfSome result (λ busy. WasOutBetween (pool_opening pool.now) (full_since busy) (full_history busy) number) }
 {
     match pool.try_pull(pass) {
         Ok(_) => None,

@@ -53,3 +53,20 @@ fn a_last_owner_drops_what_the_pool_has(rt: HostRuntime) -> Result<(), Fail> {
     assert_eq!(rt; counts.now(), (33, 33));
     Ok(())
 }
+
+#[test]
+fn a_refused_owned_pull_lets_its_pool_end(rt: HostRuntime) -> Result<(), Fail> {
+    let counts = Counts::new();
+    let init = CountedValues {
+        counts: &counts,
+        refused: NEVER,
+    };
+    let pool: CountedPool<'_> = FixedObjectPool::new(rt.alloc(), init, Keep, 1)?;
+    let pool = Arc::new(rt.alloc(), pool)?;
+    let item = pool.pull_owned()?;
+    assert_eq!(rt; pool.pull_owned().err(), Some(PullError::Limit));
+    drop(item);
+    drop(pool);
+    assert_eq!(rt; counts.now(), (1, 1));
+    Ok(())
+}

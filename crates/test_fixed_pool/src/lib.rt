@@ -12,6 +12,10 @@ mod near;
 #[cfg(test)]
 mod owners;
 #[cfg(test)]
+mod resets;
+#[cfg(test)]
+mod sends;
+#[cfg(test)]
 mod sizes;
 #[cfg(test)]
 mod threads;

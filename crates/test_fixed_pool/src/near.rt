@@ -1,7 +1,12 @@
 //! Pulls that begin at a page, and pulls that begin where a hint says.
+ghost use Rattle.std.specs.Prelude.{◌≤◌};
+
+use crate::callers::pulled_after;
 use crate::values::{NumberPool, held, new_calls, new_pool};
 use lockfree_object_pool::PullError;
+use std::alloc::Global;
 use std::mem;
+use std::sync::Arc;
 use std::test::Fail;
 
 /// The number of an item that was pulled near a page, and is never returned.
@@ -47,5 +52,113 @@ fn a_pull_begins_where_an_item_came_back_to_a_full_page(rt: HostRuntime) -> Resu
     drop(item);
     let back = pool.pull()?;
     assert_eq!(rt; back.number(), 63);
+    Ok(())
+}
+
+/// Whether pulls near pages of any number begin at the page that has this number, counted round and round.
+fn begin_round(alloc: Global, pages: usize) -> Result<bool, PullError>
+    requires some_page { 1 ≤ pages }
+    requires few { pages ≤ 1_000 }
+{
+    let pool = new_pool(alloc, &new_calls(alloc)?, pages * 32)?;
+    for number in [
+        pages,
+        pages + 1,
+        1_000_003,
+        1 << 32,
+        usize::MAX - 1,
+        usize::MAX,
+    ] {
+        let near = number_near(&pool, number);
+        if near.map(|item| item / 32) != Some(number % pages) {
+            return Ok(false);
+        }
+    }
+    Ok(true)
+}
+
+#[test]
+fn any_number_names_a_page(rt: HostRuntime) -> Result<(), Fail> {
+    for pages in 1..40usize {
+        assert!(rt; begin_round(rt.alloc(), pages)?);
+    }
+    Ok(())
+}
+
+/// A pull near page 2 sets no hint, so the next pull begins at page 0 as before.
+#[test]
+fn a_pull_near_a_page_leaves_the_hint(rt: HostRuntime) -> Result<(), Fail> {
+    let pool = new_pool(rt.alloc(), &new_calls(rt.alloc())?, 97)?;
+    assert_eq!(rt; number_near(&pool, 2), Some(64));
+    assert_eq!(rt; pool.pull()?.number(), 0);
+    Ok(())
+}
+
+/// The number of an item that an owner pulled near a page, and the number of one that was pulled then.
+fn numbers_by_owner(pool: &Arc<NumberPool>, page: usize) -> Result<(usize, usize), PullError> {
+    let owner = Arc::try_clone(pool)?;
+    let note = owner.note();
+    let Ok(item) = owner.pull_by_owner(page, note) else {
+        return Err(PullError::Limit);
+    };
+    Ok((item.number(), pool.pull()?.number()))
+}
+
+#[test]
+fn a_pull_by_an_owner_leaves_the_hint(rt: HostRuntime) -> Result<(), Fail> {
+    let pool = new_pool(rt.alloc(), &new_calls(rt.alloc())?, 97)?;
+    let pool = Arc::new(rt.alloc(), pool)?;
+    assert_eq!(rt; numbers_by_owner(&pool, 2), Ok((64, 0)));
+    Ok(())
+}
+
+/// Pages 0, 2 and 3 are free, and a pull near page 1 finds the first item behind that page.
+#[test]
+fn a_pull_looks_behind_its_page_before_it_goes_round(rt: HostRuntime) -> Result<(), Fail> {
+    let pool = new_pool(rt.alloc(), &new_calls(rt.alloc())?, 97)?;
+    for item in 32..64 {
+        assert_eq!(rt; number_near(&pool, 1), Some(item));
+    }
+    assert_eq!(rt; number_near(&pool, 1), Some(64));
+    Ok(())
+}
+
+/// Takes so many items out for good.
+fn keep_out(pool: &NumberPool, items: usize) -> Result<(), PullError> {
+    for _ in 0..items {
+        mem::forget(pool.pull()?);
+    }
+    Ok(())
+}
+
+/// Items 160 and 64,000 come back to full pages, in this order. The next pull begins at the page of the latter.
+#[test]
+fn a_pull_begins_at_page_2000_where_an_item_came_back(rt: HostRuntime) -> Result<(), Fail> {
+    let pool = new_pool(rt.alloc(), &new_calls(rt.alloc())?, 70_000)?;
+    keep_out(&pool, 160)?;
+    let lower = pool.pull()?;
+    keep_out(&pool, 63_839)?;
+    let higher = pool.pull()?;
+    keep_out(&pool, 5_999)?;
+    assert_eq!(rt; (lower.number(), higher.number()), (160, 64_000));
+    drop(lower);
+    drop(higher);
+    assert_eq!(rt; pool.pull()?.number(), 64_000);
+    Ok(())
+}
+
+/// As that of a pull: item 40 came back to a full page after item 3 did.
+#[test]
+fn a_pull_by_a_note_begins_where_a_hint_says(rt: HostRuntime) -> Result<(), Fail> {
+    let pool = new_pool(rt.alloc(), &new_calls(rt.alloc())?, 97)?;
+    keep_out(&pool, 3)?;
+    let lower = pool.pull()?;
+    keep_out(&pool, 36)?;
+    let higher = pool.pull()?;
+    keep_out(&pool, 56)?;
+    drop(lower);
+    drop(higher);
+    let item = pulled_after(&pool, pool.note()).ok_or("an item came back")?;
+    assert_eq!(rt; item.number(), 40);
     Ok(())
 }

@@ -41,6 +41,7 @@ fn an_owner_goes_into_its_item_and_comes_back(rt: HostRuntime) -> Result<(), Fai
     )?;
     let owner = Arc::try_clone(&pool)?;
     assert_eq!(rt; pulled_twice(owner, 1), Some((32, 32)));
+    assert_eq!(rt; Arc::strong_count(&pool), 1);
     let item = pulled_by(pool, 0).ok().expect(&rt, "an item is free");
     assert_eq!(rt; (item.number(), item.owner().items()), (0, 33));
     Ok(())

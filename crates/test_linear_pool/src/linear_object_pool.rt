@@ -14,13 +14,19 @@ use test_values::zeros::{CountedZeros, ToZero, Zero, new_calls};
 
 mod callers;
 mod closures;
+mod hints;
+mod late_links;
+mod later_pages;
 mod limits;
 mod makers;
 mod one_thread;
+mod origins;
 mod owned_pages;
 mod owners;
 mod refusals;
 mod resets;
+mod sends;
+mod sizes;
 mod threads;
 
 /// A pool of values that are counted.

@@ -6,6 +6,7 @@ use lockfree_object_pool::page::{Allocated, FullSeen, Page, PageSlot, PullPass};
 use std::alloc::Global;
 use std::sync::Arc;
 
+mod later_walks;
 mod links;
 mod lost_race;
 mod owned_walks;

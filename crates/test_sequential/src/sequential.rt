@@ -9,10 +9,12 @@ use std::process::Abort;
 use std::test::Fail;
 
 mod core_page;
+mod held_and_kept;
 mod kept_and_fresh;
 mod linear_core;
 mod many;
 mod refusals;
+mod runs;
 mod values;
 
 /// Makes zeros, counts its calls, and may refuse one of them.

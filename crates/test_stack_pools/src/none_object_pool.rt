@@ -115,6 +115,15 @@ fn each_item_is_dropped_once(rt: HostRuntime) -> Result<(), Fail> {
     Ok(())
 }
 
+/// So the pool ends while they are out.
+#[test]
+fn items_keep_no_owner_of_their_pool(rt: HostRuntime) -> Result<(), Fail> {
+    let pool = Arc::new(rt.alloc(), NoneObjectPool::new(|| Some(3u32)))?;
+    let (item, owned) = (pool.pull()?, pool.pull_owned()?);
+    assert_eq!(rt; (*item, *owned, Arc::strong_count(&pool)), (3, 3, 1));
+    Ok(())
+}
+
 #[test]
 fn a_pool_and_its_item_are_shown(rt: HostRuntime) -> Result<(), Fail> {
     let pool = NoneObjectPool::new(|| Some(3u32));

@@ -1,3 +1,4 @@
+//! The spin lock in use: what its guards show, who has it, and what it drops.
 use lockfree_object_pool::spin_lock::SpinLock;
 use std::sync::atomic::AtomicU64;
 use std::sync::atomic::Ordering::SeqCst;
@@ -7,6 +8,7 @@ use std::{mem, thread};
 use test_values::counted::Counts;
 
 mod callers;
+mod sends;
 
 /// A test that still waits after so many turns fails.
 const MOST_TURNS: u32 = 10_000_000;
@@ -91,5 +93,28 @@ fn a_guard_shows_its_value(rt: HostRuntime) -> Result<(), Fail> {
     let lock = SpinLock::new(rt.alloc(), 5u32)?;
     let shown = format!(in rt.alloc(); "{:?}", lock.lock(&rt))?;
     assert_eq!(rt; shown.as_str(), "5");
+    Ok(())
+}
+
+#[test]
+fn shows_what_was_written_last(rt: HostRuntime) -> Result<(), Fail> {
+    let lock = SpinLock::new(rt.alloc(), 7u32)?;
+    let mut guard = lock.lock(&rt);
+    assert_eq!(rt; *guard, 7);
+    *guard = 8;
+    assert_eq!(rt; *guard, 8);
+    assert!(rt; lock.try_lock().is_none());
+    drop(guard);
+    assert_eq!(rt; lock.try_lock().map(|guard| *guard), Some(8));
+    Ok(())
+}
+
+#[test]
+fn a_forgotten_guard_leaves_the_lock_taken(rt: HostRuntime) -> Result<(), Fail> {
+    let lock = SpinLock::new(rt.alloc(), 7u32)?;
+    mem::forget(lock.try_lock());
+    for _ in 0..1_000 {
+        assert!(rt; lock.try_lock().is_none());
+    }
     Ok(())
 }

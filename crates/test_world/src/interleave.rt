@@ -6,9 +6,11 @@ use object_pool_cores::interleave::*;
 use std::alloc::{AllocError, Global};
 use std::cell::Cell;
 use std::process::Abort;
+use std::rc::Rc;
 use std::test::Fail;
 
 mod hints;
+mod late_links;
 mod many;
 mod refusals;
 mod sizes;
@@ -80,6 +82,11 @@ fn make_counted<'c>(
             Some(Counted { ends })
         },
     )
+}
+
+/// 32 owners more of a value, whose count tells how many of them live.
+fn owners(alloc: Global, shared: &Rc<u32>) -> Result<Prepared<Rc<u32>>, PullError> {
+    Prepared::make(alloc, &|| shared.clone().ok())
 }
 
 #[test]

@@ -7,6 +7,7 @@ ghost use Rattle.lockfree_object_pool.specs.Word.{IsAllFree};
 use crate::PullError;
 use crate::clean::Clean;
 use crate::fixed_object_pool::{BusySeen, PoolNote};
+use crate::page::holding::Holding;
 use crate::page::items::{Items, TakenValue};
 use crate::page::user_view::UserSeat;
 use crate::page::{PAGE_ITEMS, PageNote, PullPass};
@@ -55,6 +56,7 @@ impl<T, K: Clean<T>> FixedItems<T, K> {
     ghost use Rattle.lockfree_object_pool.specs.FixedPool.{fixed_identity, fixed_opening};
     ghost use Rattle.lockfree_object_pool.specs.FixedReusable.{pulled_item, pulled_view};
     ghost use Rattle.lockfree_object_pool.specs.FixedRule.{MissesAll, TakesOne, IsWithin, no_steps, steps_of};
+    ghost use Rattle.lockfree_object_pool.specs.Holding.{holding_page, holding_view};
     ghost use Rattle.lockfree_object_pool.specs.Items.{IsFilled};
     ghost use Rattle.lockfree_object_pool.specs.Note.{note_page};
     ghost use Rattle.lockfree_object_pool.specs.PageRule.{GoesOn, KnowsOut, IsSound, item_of};
@@ -139,8 +141,10 @@ impl<T, K: Clean<T>> FixedItems<T, K> {
         let (word, mut seat) = self.shared.look(start);
         match self.take(&mut seat, start, word) {
             Some(taken) => Ok(PulledItem {
-                seat,
-                number: taken.number,
+                holding: Holding {
+                    seat,
+                    number: taken.number,
+                },
                 value: taken.value,
             }),
             None => Err(BusySeen { seat, pass }),
@@ -159,7 +163,7 @@ impl<T, K: Clean<T>> FixedItems<T, K> {
         ensures busy_brief { IfErr result (λ busy. IsWithin (fixed_identity self.now).words no_steps (busy_steps busy)) }
     {
         let pulled = self.pull(self.hinted(), pass)?;
-        self.set_hint(pulled.number / PAGE_ITEMS);
+        self.set_hint(pulled.holding.number / PAGE_ITEMS);
         Ok(pulled)
     }
 
@@ -184,8 +188,10 @@ impl<T, K: Clean<T>> FixedItems<T, K> {
         };
         self.set_hint(taken.number / PAGE_ITEMS);
         Ok(PulledItem {
-            seat,
-            number: taken.number,
+            holding: Holding {
+                seat,
+                number: taken.number,
+            },
             value: taken.value,
         })
     }
@@ -209,8 +215,10 @@ impl<T, K: Clean<T>> FixedItems<T, K> {
         let word = self.shared.look_again(&mut seat, page);
         match self.take(&mut seat, page, word) {
             Some(taken) => Ok(PulledItem {
-                seat,
-                number: taken.number,
+                holding: Holding {
+                    seat,
+                    number: taken.number,
+                },
                 value: taken.value,
             }),
             None => Err(PageNote { seat }),
@@ -218,22 +226,20 @@ impl<T, K: Clean<T>> FixedItems<T, K> {
     }
 
     /// Moves the value home and sets its bit, by the user that has the item. It hints at a page that was full.
-    pub(crate) fn give(&self, seat: UserSeat<T>, number: usize, value: T) -> UserSeat<T>
-        requires pool { seat.table_id ≡ fixed_identity self.now }
-        requires in_pool { number < (fixed_identity self.now).slots }
-        requires holds { seat.me.0.held ≡ Some number }
-        requires here { seat.me.0.gone ≡ false }
-        requires carries { seat.me.1 ≡ (number, None) ∷ [] }
+    pub(crate) fn give(&self, holding: Holding<T>, value: T) -> UserSeat<T>
+        requires pool { holding_page holding ≡ fixed_identity self.now }
+        requires in_pool { holding.number < (fixed_identity self.now).slots }
         requires meets { K.meets value }
-        ensures pool { result.table_id ≡ seat.table_id }
+        ensures pool { result.table_id ≡ holding_page holding }
         ensures carries_none { result.me.1 ≡ [] }
         ensures holds_none { result.me.0.held ≡ None }
         ensures here { result.me.0.gone ≡ false }
-        ensures returned { GoesOn (Gave result.me.0.user number value ∷ []) seat.me.0 result.me.0 }
+        ensures returned { GoesOn (Gave result.me.0.user holding.number value ∷ []) (holding_view holding) result.me.0 }
     {
-        let (seat, was_full) = self.shared.give(seat, number, value);
+        let page = holding.number / PAGE_ITEMS;
+        let (seat, was_full) = self.shared.give(holding, value);
         if was_full {
-            self.set_hint(number / PAGE_ITEMS);
+            self.set_hint(page);
         }
         seat
     }

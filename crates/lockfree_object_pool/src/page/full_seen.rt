@@ -1,4 +1,4 @@
-//! What a pull has when each id of a page was found out.
+//! What a pull has when each id of a page, or each item of a fixed pool, was found out.
 use super::PageSlot;
 use super::user_view::UserSeat;
 use crate::clean::Clean;
@@ -14,7 +14,8 @@ impl PullPass {
     }
 }
 
-/// Each id of one page was found out since the pass was made: by the word that was read, or by a step of its own.
+/// Each id of one page was found out since the pass was made: by the word that was read, or by a step of its own. Of a fixed pool
+/// each item.
 ///
 /// It borrows its pass, so it can't be kept past the pull.
 #[derive(Drop)]

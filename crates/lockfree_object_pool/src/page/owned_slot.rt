@@ -1,11 +1,12 @@
 //! A slot that owns its page with others, in place of a borrow.
-ghost use Rattle.std.specs.Prelude.{◌≡◌, ◌<◌, [], ◌∷◌, Some, None, false};
+ghost use Rattle.std.specs.Prelude.{◌≡◌, ◌<◌};
 ghost use Rattle.std.specs.Arc.{arc_value};
-ghost use Rattle.lockfree_object_pool.specs.OneProof.{same_page, same_holding, same_carrying};
+ghost use Rattle.lockfree_object_pool.specs.OneProof.{same_page};
+ghost use Rattle.lockfree_object_pool.specs.Holding.{holding_page};
 ghost use Rattle.lockfree_object_pool.specs.Page.{page_identity};
 ghost use Rattle.lockfree_object_pool.specs.declared.page.TheConstants.{PAGE_ITEMS};
 
-use super::user_view::UserSeat;
+use super::holding::Holding;
 use super::{Page, PageId, PageNote, Returned};
 use crate::clean::Clean;
 use std::ops::{Deref, DerefMut};
@@ -15,14 +16,9 @@ use std::sync::Arc;
 #[derive(Drop)]
 pub(crate) struct OwnedTakenId<T, K: Clean<T>> {
     pub(super) page: Arc<Page<T, K>>,
-    pub(super) seat: UserSeat<T>,
-    /// A whole word, so that an item on its way up is moved by words.
-    pub(super) id: usize,
-    ghost of_page: { seat.table_id ≡ page_identity (arc_value page) } by { same_page _ _ },
-    ghost in_page: { id < PAGE_ITEMS },
-    ghost here: { seat.me.0.gone ≡ false },
-    ghost holds: { seat.me.0.held ≡ Some id } by { same_holding _ _ },
-    ghost carries: { seat.me.1 ≡ (id, None) ∷ [] } by { same_carrying T.code _ _ },
+    pub(super) holding: Holding<T>,
+    ghost of_page: { holding_page holding ≡ page_identity (arc_value page) } by { same_page _ _ },
+    ghost in_page: { holding.number < PAGE_ITEMS },
 }
 
 impl<T, K: Clean<T>> OwnedTakenId<T, K> {
@@ -33,7 +29,7 @@ impl<T, K: Clean<T>> OwnedTakenId<T, K> {
         ensures value { result ≡ owned_taken_id self.now }
         ensures in_page { result < PAGE_ITEMS }
     {
-        self.id as PageId
+        self.holding.number as PageId
     }
 
     /// The value goes home, and the id is free again.
@@ -43,8 +39,8 @@ impl<T, K: Clean<T>> OwnedTakenId<T, K> {
         requires { K.meets value }
         ensures { IsReturned (owned_taken_item self value) result.note }
     {
-        let OwnedTakenId { page, seat, id } = self;
-        let (seat, was_full) = page.items.give(seat, id, value);
+        let OwnedTakenId { page, holding } = self;
+        let (seat, was_full) = page.items.give(holding, value);
         Returned {
             note: PageNote { seat },
             was_full,

@@ -1,11 +1,12 @@
 //! A slot: an item that is out of its page.
-ghost use Rattle.std.specs.Prelude.{◌≡◌, ◌<◌, [], ◌∷◌, Some, None, false};
+ghost use Rattle.std.specs.Prelude.{◌≡◌, ◌<◌};
 ghost use Rattle.std.specs.Arc.{arc_value};
-ghost use Rattle.lockfree_object_pool.specs.OneProof.{same_page, same_holding, same_carrying};
+ghost use Rattle.lockfree_object_pool.specs.OneProof.{same_page};
+ghost use Rattle.lockfree_object_pool.specs.Holding.{holding_page};
 ghost use Rattle.lockfree_object_pool.specs.Page.{page_identity};
 ghost use Rattle.lockfree_object_pool.specs.declared.page.TheConstants.{PAGE_ITEMS};
 
-use super::user_view::UserSeat;
+use super::holding::Holding;
 use super::{OwnedSlot, OwnedTakenId, Page, PageId, PageNote, Returned, Witness};
 use crate::clean::Clean;
 use crate::lender::Lender;
@@ -16,14 +17,9 @@ use std::sync::Arc;
 #[derive(Drop)]
 pub(crate) struct TakenId<'s, T, K: Clean<T>> {
     pub(super) page: &'s Page<T, K>,
-    pub(super) seat: UserSeat<T>,
-    /// A whole word, so that an item on its way up is moved by words.
-    pub(super) id: usize,
-    ghost of_page: { seat.table_id ≡ page_identity page.now } by { same_page _ _ },
-    ghost in_page: { id < PAGE_ITEMS },
-    ghost here: { seat.me.0.gone ≡ false },
-    ghost holds: { seat.me.0.held ≡ Some id } by { same_holding _ _ },
-    ghost carries: { seat.me.1 ≡ (id, None) ∷ [] } by { same_carrying T.code _ _ },
+    pub(super) holding: Holding<T>,
+    ghost of_page: { holding_page holding ≡ page_identity page.now } by { same_page _ _ },
+    ghost in_page: { holding.number < PAGE_ITEMS },
 }
 
 impl<'s, T, K: Clean<T>> TakenId<'s, T, K> {
@@ -34,7 +30,7 @@ impl<'s, T, K: Clean<T>> TakenId<'s, T, K> {
         ensures value { result ≡ taken_id self.now }
         ensures in_page { result < PAGE_ITEMS }
     {
-        self.id as PageId
+        self.holding.number as PageId
     }
 
     /// The value goes home, and the id is free again.
@@ -42,8 +38,8 @@ impl<'s, T, K: Clean<T>> TakenId<'s, T, K> {
         requires { K.meets value }
         ensures { IsReturned (taken_item self.entry value) result.note }
     {
-        let TakenId { page, seat, id } = self;
-        let (seat, was_full) = page.items.give(seat, id, value);
+        let TakenId { page, holding } = self;
+        let (seat, was_full) = page.items.give(holding, value);
         Returned {
             note: PageNote { seat },
             was_full,
@@ -93,7 +89,7 @@ impl<'s, T, K: Clean<T>> PageSlot<'s, T, K> {
     {
         let taken = &mut self.taken;
         let page = taken.page;
-        page.items.witness(&mut taken.seat)
+        taken.holding.witness(&page.items)
     }
 
     /// The id and the value by themselves.
@@ -113,8 +109,8 @@ impl<'s, T, K: Clean<T>> PageSlot<'s, T, K> {
         requires { (slot_item self).page ≡ page_identity (arc_value page) }
         ensures { owned_slot_item result ≡ slot_item self.entry }
     {
-        let (TakenId { page: _, seat, id }, value) = self.into_parts();
-        OwnedSlot::new(OwnedTakenId { page, seat, id }, value)
+        let (TakenId { page: _, holding }, value) = self.into_parts();
+        OwnedSlot::new(OwnedTakenId { page, holding }, value)
     }
 }
 

@@ -2,6 +2,7 @@
 ghost use Rattle.std.specs.Prelude.{◌≡◌, ◌<◌, [], ◌∷◌, Some, None, MatchOption, false};
 ghost use Rattle.lockfree_object_pool.specs.declared.page.history.PageAct.TheVariants.{Gave};
 
+use super::holding::Holding;
 use super::items::Items;
 use super::rule::{ClearBit, Look, LookAgain, LookOn, SetBit};
 use super::user_view::UserSeat;
@@ -9,6 +10,7 @@ use super::{PAGE_ITEMS, PageId, has_bit, with_bit, without_bit};
 use crate::clean::Clean;
 
 impl<T, K: Clean<T>> Items<T, K> {
+    ghost use Rattle.lockfree_object_pool.specs.Holding.{holding_page, holding_view};
     ghost use Rattle.lockfree_object_pool.specs.Items.{items_identity, items_opening};
     ghost use Rattle.lockfree_object_pool.specs.PageRule.{Looks, LooksAgain, LooksOn, Misses, MovesOut, GoesOn, first_view, item_of};
 
@@ -72,20 +74,18 @@ impl<T, K: Clean<T>> Items<T, K> {
     }
 
     /// Moves the value home, then sets its bit. Whether no other bit of its word was set then.
-    pub(crate) fn give(&self, mut seat: UserSeat<T>, number: usize, value: T) -> (UserSeat<T>, bool)
-        requires items { seat.table_id ≡ items_identity self.now }
-        requires in_items { number < (items_identity self.now).slots }
-        requires holds { seat.me.0.held ≡ Some number }
-        requires here { seat.me.0.gone ≡ false }
-        requires carries { seat.me.1 ≡ (number, None) ∷ [] }
+    pub(crate) fn give(&self, holding: Holding<T>, value: T) -> (UserSeat<T>, bool)
+        requires items { holding_page holding ≡ items_identity self.now }
+        requires in_items { holding.number < (items_identity self.now).slots }
         requires meets { K.meets value }
-        ensures items { result.0.table_id ≡ seat.table_id }
+        ensures items { result.0.table_id ≡ holding_page holding }
         ensures carries_none { result.0.me.1 ≡ [] }
         ensures holds_none { result.0.me.0.held ≡ None }
         ensures here { result.0.me.0.gone ≡ false }
-        ensures returned { GoesOn (Gave result.0.me.0.user number value ∷ []) seat.me.0 result.0.me.0 }
+        ensures returned { GoesOn (Gave result.0.me.0.user holding.number value ∷ []) (holding_view holding) result.0.me.0 }
     {
         let words = &self.table.shared;
+        let Holding { mut seat, number } = holding;
         match words.exchange(&mut seat, number, Some(value)) {
             None => {}
             Some(_) => unreachable!(),

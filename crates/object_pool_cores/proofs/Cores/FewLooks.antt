@@ -1,9 +1,9 @@
 -- How many pages the steps of a pull look at.
-use Rattle.std.proofs.Common.{◌≡◌, ◌≢◌, ℕ, ◌*◌, ◌<◌, ◌≤◌, suc, zero, Option, refl, sym, ap, ◌∙◌, arith, inl, inr}
+use Rattle.std.proofs.Common.{◌≡◌, ◌≢◌, ℕ, ◌+◌, ◌-◌, ◌*◌, ◌<◌, ◌≤◌, suc, zero, Option, refl, sym, ap, ◌∙◌, arith, inl, inr}
 use Rattle.std.proofs.lemmas.Bool.{cases_lt}
 use Rattle.object_pool_cores.specs.Pool.{Pool, Place, Absent, Free, Out, IsOut, IsPool}
 use Rattle.object_pool_cores.specs.LeastChoice.{IsExhausted, IsLeastFree}
-use Rattle.object_pool_cores.specs.Looks.{one_if_out, out_below, out_count, LooksAtFew}
+use Rattle.object_pool_cores.specs.Looks.{one_if_out, out_below, out_count, LooksAtFew, LooksAtEach}
 use Rattle.object_pool_cores.specs.Numbered.{Numbered, FindsNone, Grows, Looks, TakesLeastOf, pool_of}
 use Rattle.object_pool_cores.proofs.LeastChoiceSteps.{IsFree-grown}
 
@@ -42,6 +42,7 @@ module _ {T : Type 0} where
       → Looks old 1 new → LooksAtFew (pool_of old) old.looked new.looked
   LooksAtFew-taken old new n v sound takes looks =
       let few = out_count-least old.limit (pool_of old) n v sound takes.takes.least in
+      let onward = looks.onward in
       let each = looks.each in
       let starts = takes.starts in
       (looks.more, omega arith)
@@ -51,6 +52,7 @@ module _ {T : Type 0} where
       → LooksAtFew (pool_of old) old.looked middle.looked
   LooksAtFew-none old middle sound none looks =
       let few = out_count-exhausted old.limit (pool_of old) sound none.exhausted in
+      let onward = looks.onward in
       let each = looks.each in
       let starts = none.starts in
       (looks.more, omega arith)
@@ -68,6 +70,19 @@ module _ {T : Type 0} where
       let last = more.each in
       let starts = none.starts in
       let ends = takes.starts in
+      let onward = looks.onward in
+      let further = more.onward in
       let mores = looks.more in
       let most = more.more in
+      (omega arith, omega arith)
+
+  -- the looks at the pages that are full, and at the one that was added
+  pub LooksAtEach-grown : (old middle grown new : Numbered T) → Looks old 0 middle → grown.start ≡ middle.start
+      → grown.looked ≡ middle.looked → Looks grown 1 new
+      → (old.start ≤ new.start) × LooksAtEach (new.start - old.start + 1) old.looked new.looked
+  LooksAtEach-grown old middle grown new looks same_start same_looked more =
+      let onward = looks.onward in
+      let further = more.onward in
+      let each = looks.each in
+      let last = more.each in
       (omega arith, omega arith)

@@ -3,7 +3,7 @@ ghost use Rattle.std.specs.Prelude.{◌≡◌, ◌≢◌, ◌≤◌, ◌↔◌, 
 ghost use Rattle.object_pool_cores.specs.Item.{item_value};
 ghost use Rattle.object_pool_cores.specs.Attach.{RefusesAttach};
 ghost use Rattle.object_pool_cores.specs.Looks.{LooksAtFew};
-ghost use Rattle.object_pool_cores.specs.Linear.{pool_of, limit_of, looked_of, init_of, reset_of, IsOpening, Pulls, Gives, HeldTogether, IsOutOf};
+ghost use Rattle.object_pool_cores.specs.Linear.{pool_of, limit_of, looked_of, start_of, init_of, reset_of, IsOpening, Pulls, Gives, LooksUpTo, LooksAtTheRest, StartsNoFurther, HeldTogether, IsOutOf};
 
 use crate::sequential::numbered_items::NumberedItems;
 use crate::sequential::{AttachError, Item, SequentialPool};
@@ -30,6 +30,7 @@ impl<T: Drop, I: Init<T, K>, R: Reset<T, K>, K: Clean<T>> LinearCore<T, I, R, K>
         ensures opening { IfOk result (λ core. IsOpening (I.answers init) None core) }
         ensures init { IfOk result (λ core. init_of core ≡ init) }
         ensures reset { IfOk result (λ core. reset_of core ≡ reset) }
+        ensures start { IfOk result (λ core. start_of core ≡ 0) }
         ensures looked { IfOk result (λ core. looked_of core ≡ 0) }
         ensures refused { result ≡ Err PullError.Init → I.answers init None }
         ensures unlimited { result ≢ Err PullError.Limit }
@@ -52,6 +53,7 @@ impl<T: Drop, I: Init<T, K>, R: Reset<T, K>, K: Clean<T>> LinearCore<T, I, R, K>
         ensures opening { IfOk result (λ core. IsOpening (I.answers init) (Some pages) core) }
         ensures init { IfOk result (λ core. init_of core ≡ init) }
         ensures reset { IfOk result (λ core. reset_of core ≡ reset) }
+        ensures start { IfOk result (λ core. start_of core ≡ 0) }
         ensures looked { IfOk result (λ core. looked_of core ≡ 0) }
         ensures refused { result ≡ Err PullError.Init → I.answers init None }
         ensures within { result ≢ Err PullError.Limit }
@@ -66,10 +68,12 @@ impl<T: Drop, I: Init<T, K>, R: Reset<T, K>, K: Clean<T>> LinearCore<T, I, R, K>
     ) -> Result<LinearCore<T, I, R, K>, PullError>
         requires empty { items.places ≡ [] }
         requires allowed { items.limit ≢ Some 0 }
+        requires start { items.start ≡ 0 }
         requires looked { items.looked ≡ 0 }
         ensures opening { IfOk result (λ core. IsOpening (I.answers init) items.limit core) }
         ensures init { IfOk result (λ core. init_of core ≡ init) }
         ensures reset { IfOk result (λ core. reset_of core ≡ reset) }
+        ensures start { IfOk result (λ core. start_of core ≡ 0) }
         ensures looked { IfOk result (λ core. looked_of core ≡ 0) }
         ensures refused { result ≡ Err PullError.Init → I.answers init None }
         ensures within { result ≢ Err PullError.Limit }
@@ -125,6 +129,8 @@ impl<T: Drop, I: Init<T, K>, R: Reset<T, K>, K: Clean<T>> SequentialPool<T>
         ensures step { Pulls (I.answers (init_of self.old)) self.old result self.new }
         ensures meets { IfOk result (λ item. K.meets (item_value item)) }
         ensures looks { LooksAtFew (pool_of self.old) (looked_of self.old) (looked_of self.new) }
+        ensures looks_up_to { IfOk result (λ item. LooksUpTo self.old item self.new) }
+        ensures looks_at_the_rest { OnErr result (LooksAtTheRest self.old self.new) }
     {
         if let Some(item) = self.items.take_least() {
             return Ok(item);
@@ -139,6 +145,7 @@ impl<T: Drop, I: Init<T, K>, R: Reset<T, K>, K: Clean<T>> SequentialPool<T>
     fn give(&mut self, item: Item<T>)
         requires { IsOutOf self.old item }
         ensures step { Gives (R.leaves (reset_of self.old)) self.old item self.new }
+        ensures starts { StartsNoFurther self.old item self.new }
         ensures looked { looked_of self.new ≡ looked_of self.old }
     {
         let Some(number) = item.number() else {

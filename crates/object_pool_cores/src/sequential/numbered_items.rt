@@ -1,6 +1,7 @@
 //! The items of a linear pool of one owner, by their numbers.
-ghost use Rattle.std.specs.Prelude.{◌≡◌, ◌≤◌, ◌↔◌, ◌*◌, ◌+◌, [], Option, Some, None, Err, OnOk, OnErr, IfSome, IfNone, MatchOption, ◌<◌, IsTrue, IfOk, IfErr, ℕ, nat_lt, length, slice_get, is_some, if◌then◌else◌};
+ghost use Rattle.std.specs.Prelude.{◌≡◌, ◌≤◌, ◌↔◌, ◌*◌, ◌+◌, ◌-◌, ◌/◌, min, [], Option, Some, None, Err, OnOk, OnErr, IfSome, IfNone, MatchOption, ◌<◌, IsTrue, IfOk, IfErr, ℕ, nat_lt, length, slice_get, is_some, if◌then◌else◌};
 ghost use Rattle.object_pool_cores.specs.Item.{item_value, item_number};
+ghost use Rattle.object_pool_cores.specs.Looks.{LooksAtEach};
 ghost use Rattle.object_pool_cores.specs.MadePage.{IsMadePage};
 ghost use Rattle.object_pool_cores.specs.Numbered.{AreWhole, HasNoneBelow, laid_out};
 ghost use Rattle.lockfree_object_pool.specs.Refusal.{RefusesMaking};
@@ -56,6 +57,7 @@ impl<T: Drop, K: Clean<T>> NumberedItems<T, K> {
     pub(crate) fn new(alloc: Global, limit: Option<usize>) -> NumberedItems<T, K>
         ensures places { result.places ≡ [] }
         ensures limit { result.limit ≡ limit }
+        ensures start { result.start ≡ 0 }
         ensures looked { result.looked ≡ 0 }
     {
         NumberedItems {
@@ -95,7 +97,7 @@ impl<T: Drop, K: Clean<T>> NumberedItems<T, K> {
         ensures none { IfNone result (FindsNone self.old self.new) }
         ensures looks { Looks self.old (if is_some result then 1 else 0) self.new }
     {
-        self.start = first_open(&self.pages, self.start, &mut self.looked);
+        (self.start, self.looked) = first_open(&self.pages, self.start, self.looked);
         if self.start == self.pages.len() {
             return None;
         }
@@ -121,6 +123,7 @@ impl<T: Drop, K: Clean<T>> NumberedItems<T, K> {
         requires meets { K.meets value }
         ensures returned { IsSame (pool_of self.new) (after (pool_of self.old) (Return number value)) }
         ensures limit { self.new.limit ≡ self.old.limit }
+        ensures start { self.new.start ≡ min self.old.start (number / PAGE_ITEMS) }
         ensures looked { self.new.looked ≡ self.old.looked }
         ensures before { IsPool self.old.limit (pool_of self.old) }
         ensures after { IsPool self.new.limit (pool_of self.new) }
@@ -166,30 +169,31 @@ fn made_page<T: Drop, I: Init<T, K>, K: Clean<T>>(
     CorePage::new(alloc, &|| init.make())
 }
 
-/// The first page from `start` on that isn't full, or the count of pages. Each look at a page is counted.
+/// The first page from `start` on that isn't full, or the count of pages. Each look at a page is counted, from `looked` on.
 fn first_open<T: Drop, K: Clean<T>>(
     pages: &[CorePage<T, K>],
     start: usize,
-    looked: &mut u64,
-) -> usize
+    looked: u64,
+) -> (usize, u64)
     requires start { start ≤ length pages.now }
     requires whole { AreWhole pages.now }
     requires passed { HasNoneBelow (laid_out pages.now) (PAGE_ITEMS * start) }
-    ensures pages { (start ≤ result) × (result ≤ length pages.now) }
-    ensures passed { HasNoneBelow (laid_out pages.now) (PAGE_ITEMS * result) }
-    ensures open { (page : _) → slice_get pages.now result ≡ Some page → HasNoFreeId page → ⊥ }
-    ensures more { looked.old ≤ looked.new }
-    ensures each { looked.new + start ≤ looked.old + result + (if nat_lt result (length pages.now) then 1 else 0) }
+    ensures pages { (start ≤ result.0) × (result.0 ≤ length pages.now) }
+    ensures passed { HasNoneBelow (laid_out pages.now) (PAGE_ITEMS * result.0) }
+    ensures open { (page : _) → slice_get pages.now result.0 ≡ Some page → HasNoFreeId page → ⊥ }
+    ensures more { looked ≤ result.1 }
+    ensures each { LooksAtEach (result.0 - start + (if nat_lt result.0 (length pages.now) then 1 else 0)) looked result.1 }
 {
     let mut at = start;
+    let mut looked = looked;
     while at < pages.len() {
-        *looked = looked.saturating_add(1);
+        looked = looked.saturating_add(1);
         if !pages[at].is_full() {
-            return at;
+            return (at, looked);
         }
         at += 1;
     }
-    at
+    (at, looked)
 }
 
 /// The number of an item, by its page and its id there.

@@ -88,6 +88,21 @@ fn each_pool_plays_by_its_words(rt: HostRuntime) {
 }
 
 #[test]
+fn the_greatest_number_of_pages_is_played(rt: HostRuntime) {
+    let mut input = b"pull\n".as_slice();
+    let mut output = Vec::new(rt.alloc());
+    let words = ["linear", "keep", "4294967295"];
+    let ending = play(&rt, rt.alloc(), &words, &mut input, &mut output);
+    assert_eq!(rt;
+        (ending, output.as_slice()),
+        (
+            Ending::EndOfInput,
+            b"pulled 0 number 0 value 0\n".as_slice()
+        )
+    );
+}
+
+#[test]
 fn other_arguments_leave_the_input_unread(rt: HostRuntime) {
     for words in [["stack", "zero", "1"], ["linear", "zero", "0"]] {
         let mut input = b"pull\n".as_slice();
@@ -132,6 +147,40 @@ fn a_broken_device_is_told_as_a_failed_read_or_write(rt: HostRuntime) {
     let mut input = b"pull\n".as_slice();
     let ending = play(&rt, rt.alloc(), &words, &mut input, &mut Broken);
     assert_eq!(rt; ending, Ending::Stopped(EngineError::Write));
+}
+
+/// Takes all bytes, and counts the writes.
+#[derive(Drop)]
+struct Counting {
+    writes: usize,
+}
+
+impl Write for Counting {
+    fn write(&mut self, buf: &[u8]) -> io::Result<usize> {
+        self.writes = self.writes.saturating_add(1);
+        Ok(buf.len())
+    }
+
+    fn flush(&mut self) -> io::Result<()> {
+        Ok(())
+    }
+}
+
+#[test]
+fn nothing_is_written_where_there_is_nothing_to_write(rt: HostRuntime) {
+    let rows: [(&[&str], &str, usize); 6] = [
+        (&["none"], "pull\n", 0),
+        (&["none", "keep"], "", 0),
+        (&["none", "keep"], "pull", 1),
+        (&["none", "keep"], "pull\n", 1),
+        (&["none", "keep"], "pull\npull\n", 1),
+        (&["none", "keep"], "pull\npull", 2),
+    ];
+    for (words, input, writes) in rows {
+        let mut output = Counting { writes: 0 };
+        let _ = play(&rt, rt.alloc(), words, &mut input.as_bytes(), &mut output);
+        assert_eq!(rt; output.writes, writes, "{words:?}, {input:?}");
+    }
 }
 
 // Holds where each request for memory is refused in turn, and where none is.

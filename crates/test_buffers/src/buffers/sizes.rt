@@ -1,6 +1,9 @@
 //! Pools of several pages, and buffers of many bytes.
 use super::*;
 
+/// How many bytes a mebibyte is.
+const MEBIBYTE: usize = 1 << 20;
+
 #[test]
 fn three_pages_give_96_buffers_and_no_more(rt: HostRuntime) -> Result<(), Fail> {
     let alloc = rt.alloc();
@@ -40,9 +43,57 @@ fn a_buffer_takes_long_texts_again_and_again(rt: HostRuntime) -> Result<(), Fail
 
 #[test]
 fn a_fresh_buffer_has_the_room_that_is_asked_for(rt: HostRuntime) -> Result<(), Fail> {
-    for capacity in [0usize, 1, 100_000] {
+    for capacity in [0, 1, 100_000, 2 * MEBIBYTE, 3 * MEBIBYTE] {
         let bytes = fresh(rt.alloc(), capacity).ok_or("there is memory")?;
         assert!(rt; bytes.is_empty() && bytes.capacity() >= capacity);
     }
+    Ok(())
+}
+
+/// Whether a buffer that has a mebibyte takes two texts more, and holds them all.
+fn takes_more(alloc: Global, first: &[u8], second: &[u8]) -> Result<bool, PullError> {
+    let pool = one_page(alloc)?;
+    let mut buffer = pool.pull()?;
+    let mut expected = vec![in alloc; 7u8; MEBIBYTE]?;
+    buffer.append(&expected)?;
+    for text in [first, second] {
+        buffer.append(text)?;
+        expected.extend_from_slice(text)?;
+    }
+    Ok(buffer.as_slice() == expected.as_slice())
+}
+
+#[test]
+fn a_buffer_of_a_mebibyte_takes_more(rt: HostRuntime) {
+    let takes = takes_more(rt.alloc(), b"more", &[9; 5000]);
+    assert_eq!(rt; takes, Ok(true));
+}
+
+/// How many bytes a new buffer of a pool has, and whether they are those that were appended, once so many were appended at once.
+fn appended_at_once(alloc: Global, count: usize) -> Result<(usize, bool), PullError> {
+    let pool = one_page(alloc)?;
+    let mut buffer = pool.pull()?;
+    let text = vec![in alloc; 7u8; count]?;
+    buffer.append(&text)?;
+    Ok((
+        buffer.as_slice().len(),
+        buffer.as_slice() == text.as_slice(),
+    ))
+}
+
+#[test]
+fn three_mebibytes_are_appended_at_once(rt: HostRuntime) {
+    let count = 3 * MEBIBYTE;
+    assert_eq!(rt; appended_at_once(rt.alloc(), count), Ok((count, true)));
+}
+
+#[test]
+fn a_buffer_of_hundreds_of_bytes_is_shown_whole(rt: HostRuntime) -> Result<(), Fail> {
+    let pool = one_page(rt.alloc())?;
+    let mut buffer = pool.pull()?;
+    buffer.append(&[7; 600])?;
+    let text = format!(in rt.alloc(); "{buffer:?}")?;
+    let bytes = format!(in rt.alloc(); "{:?}", [7u8; 600].as_slice())?;
+    assert_eq!(rt; (text.len(), text.as_str()), (1800, bytes.as_str()));
     Ok(())
 }

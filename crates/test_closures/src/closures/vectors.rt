@@ -21,3 +21,14 @@ fn a_cleared_vector_drops_its_items(rt: HostRuntime) -> Result<(), Fail> {
     assert_eq!(rt; counts.now(), (2, 2));
     Ok(())
 }
+
+#[test]
+fn a_vector_has_room_for_as_many_items_as_asked(rt: HostRuntime) -> Result<(), Fail> {
+    for room in 0..40usize {
+        let bytes: Vec<u8> = WithCapacity::new(rt.alloc(), room)
+            .make()
+            .ok_or("no memory")?;
+        assert_eq!(rt; bytes.capacity(), room);
+    }
+    Ok(())
+}

@@ -54,10 +54,52 @@ impl Read for Lines {
     }
 }
 
+/// Gives one part a read. Behind them it fails once, where it has a cause for that, and then ends. Counts its reads.
+#[derive(Drop)]
+pub(super) struct Parts<'a> {
+    parts: &'a [&'a [u8]],
+    cause: Option<ErrorKind>,
+    reads: usize,
+}
+
+impl<'a> Parts<'a> {
+    pub(super) fn new(parts: &'a [&'a [u8]], cause: Option<ErrorKind>) -> Parts<'a> {
+        Parts {
+            parts,
+            cause,
+            reads: 0,
+        }
+    }
+
+    /// How often it was read.
+    pub(super) fn reads(&self) -> usize {
+        self.reads
+    }
+}
+
+impl Read for Parts<'_> {
+    fn read(&mut self, buf: &mut [u8]) -> io::Result<usize> {
+        let part = self.parts.get(self.reads);
+        self.reads = self.reads.saturating_add(1);
+        let Some(part) = part else {
+            return match self.cause.take() {
+                Some(cause) => Err(io::Error::from(cause)),
+                None => Ok(0),
+            };
+        };
+        let count = part.len().min(buf.len());
+        buf[..count].copy_from_slice(&part[..count]);
+        Ok(count)
+    }
+}
+
+/// The most bytes that a device keeps: more than one read is answered with.
+const KEPT: usize = 16384;
+
 /// Takes at most so many bytes a call, and fails where its room is used up.
 #[derive(Drop)]
 pub(super) struct Device {
-    bytes: ArrayVec<u8, 4096>,
+    bytes: ArrayVec<u8, KEPT>,
     room: usize,
     most: usize,
     calls: usize,
@@ -103,34 +145,29 @@ impl Write for Device {
     }
 }
 
-/// Is interrupted once, and would then do well.
+/// Fails at its first write, and would then do well. Counts its writes.
 #[derive(Drop)]
-pub(super) struct Interrupted {
-    pub(super) is_next: bool,
+pub(super) struct FailsOnce {
+    cause: ErrorKind,
+    writes: usize,
 }
 
-impl Interrupted {
-    /// Whether this call is the one that is interrupted.
-    fn interrupts(&mut self) -> bool {
-        let is_first = !self.is_next;
-        self.is_next = true;
-        is_first
+impl FailsOnce {
+    pub(super) fn new(cause: ErrorKind) -> FailsOnce {
+        FailsOnce { cause, writes: 0 }
+    }
+
+    /// How often it was written to.
+    pub(super) fn writes(&self) -> usize {
+        self.writes
     }
 }
 
-impl Read for Interrupted {
-    fn read(&mut self, _buf: &mut [u8]) -> io::Result<usize> {
-        if self.interrupts() {
-            return Err(io::Error::from(ErrorKind::Interrupted));
-        }
-        Ok(0)
-    }
-}
-
-impl Write for Interrupted {
+impl Write for FailsOnce {
     fn write(&mut self, buf: &[u8]) -> io::Result<usize> {
-        if self.interrupts() {
-            return Err(io::Error::from(ErrorKind::Interrupted));
+        self.writes = self.writes.saturating_add(1);
+        if self.writes == 1 {
+            return Err(io::Error::from(self.cause));
         }
         Ok(buf.len())
     }

@@ -1,8 +1,9 @@
 //! Devices that fail, and want of memory, on each kind of pool.
-use super::devices::{Device, Lines, Source};
+use super::devices::{Device, FailsOnce, Lines, Parts, Source};
 use super::*;
 use arrayvec::ArrayString;
 use std::fmt::Write as _;
+use std::io::ErrorKind;
 use std::process::Abort;
 
 /// An input for a kind of pool, whose last line has no line feed, with a reply for each line.
@@ -173,6 +174,62 @@ fn a_writer_may_take_one_byte_a_call_or_none(rt: HostRuntime) {
     }
 }
 
+/// Causes for which others might ask again.
+const PASSING: [ErrorKind; 4] = [
+    ErrorKind::Interrupted,
+    ErrorKind::WouldBlock,
+    ErrorKind::TimedOut,
+    ErrorKind::OutOfMemory,
+];
+
+/// Reads that fail once for a cause, at first or behind other reads, and would then do well.
+fn reads_that_fail_once(rt: &(impl Wait + Abort), alloc: Global, cause: ErrorKind) {
+    let rows: [(&[&[u8]], &[u8]); 3] = [
+        (&[], b""),
+        (&[b"pull\n"], b"pulled 0 value 0\n"),
+        (&[b"pull\n", b"pu"], b"pulled 0 value 0\n"),
+    ];
+    for (parts, replies) in rows {
+        let mut input = Parts::new(parts, Some(cause));
+        let mut output = Device::new(1024, 1024);
+        let result = run(rt, alloc, Kind::Stack, Reset::Keep, &mut input, &mut output);
+        assert_eq!(rt;
+            (result, output.bytes()),
+            (Err(EngineError::Read), replies),
+            "{cause:?}"
+        );
+        assert_eq!(rt; input.reads(), parts.len().saturating_add(1), "{cause:?}");
+    }
+}
+
+#[test]
+fn a_read_that_fails_is_never_asked_again(rt: HostRuntime) {
+    for cause in PASSING {
+        reads_that_fail_once(&rt, rt.alloc(), cause);
+    }
+}
+
+#[test]
+fn a_write_that_fails_is_never_asked_again(rt: HostRuntime) {
+    for cause in PASSING {
+        let mut input = SESSION;
+        let mut output = FailsOnce::new(cause);
+        let result = run(
+            &rt,
+            rt.alloc(),
+            Kind::Stack,
+            Reset::Keep,
+            &mut input,
+            &mut output,
+        );
+        assert_eq!(rt;
+            (result, output.writes()),
+            (Err(EngineError::Write), 1),
+            "{cause:?}"
+        );
+    }
+}
+
 /// Where no pull is refused for memory.
 const NOWHERE: usize = usize::MAX;
 
@@ -282,6 +339,48 @@ fn want_of_memory_is_answered_as_such(rt: HostRuntime) {
                 assert_eq!(rt; error, EngineError::Memory);
                 assert_eq!(rt; text, first_lines(session.replies, lines));
             }
+        }
+    }
+}
+
+/// Six pulls, and before each a line that takes no memory.
+const PULLS_BEHIND_LINES: &[u8] = b"-\npull\n-\npull\n-\npull\n-\npull\n-\npull\n-\npull\n";
+
+/// How many reads of those lines are played.
+const READS: usize = 6;
+
+/// The replies to those reads.
+fn replies_behind_lines() -> ArrayString<2048> {
+    let mut text = ArrayString::new();
+    for pulled in 0..READS.saturating_mul(6) {
+        let _ = write!(text, "bad line\npulled {pulled} value 0\n");
+    }
+    text
+}
+
+// Holds where each request for memory is refused in turn, and where none is.
+#[test]
+fn the_lines_done_are_answered_where_memory_was_refused(rt: HostRuntime) {
+    let mut input = Lines::new(PULLS_BEHIND_LINES, READS);
+    let mut output = Device::new(2048, 2048);
+    let result = run(
+        &rt,
+        rt.alloc(),
+        Kind::None,
+        Reset::Keep,
+        &mut input,
+        &mut output,
+    );
+    let text = output.bytes();
+    let replies = replies_behind_lines();
+    let whole = replies.as_str().as_bytes();
+    match result {
+        Ok(()) => assert_eq!(rt; text, whole),
+        Err(error) => {
+            assert_eq!(rt; error, EngineError::Memory);
+            assert!(rt; whole.starts_with(text));
+            // The pull alone has no reply, and the line before it has one.
+            assert!(rt; text.ends_with(b"bad line\n"));
         }
     }
 }

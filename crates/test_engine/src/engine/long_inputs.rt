@@ -28,13 +28,16 @@ fn an_input_that_fills_each_read_is_answered_line_by_line(rt: HostRuntime) -> Re
 }
 
 #[test]
-fn a_limit_of_ten_digits_needs_no_memory_beforehand(rt: HostRuntime) -> Result<(), Fail> {
-    let kind = Kind::Bounded(4294967295);
-    let output = output_of(&rt, rt.alloc(), kind, Reset::Keep, "pull\n")?;
-    assert_eq!(rt;
-        output.as_slice(),
-        b"pulled 0 number 0 value 0\n".as_slice()
-    );
+fn a_great_limit_needs_no_memory_beforehand(rt: HostRuntime) -> Result<(), Fail> {
+    for pages in [4294967295, 4294967296, usize::MAX] {
+        let kind = Kind::Bounded(pages);
+        let output = output_of(&rt, rt.alloc(), kind, Reset::Keep, "pull\n")?;
+        assert_eq!(rt;
+            output.as_slice(),
+            b"pulled 0 number 0 value 0\n".as_slice(),
+            "{pages} pages"
+        );
+    }
     Ok(())
 }
 
@@ -54,6 +57,25 @@ fn each_of_many_reads_is_answered(rt: HostRuntime) -> Result<(), Fail> {
     let expected = replies(rt.alloc())?;
     assert!(rt; output.as_slice() == expected.as_bytes());
     Ok(())
+}
+
+/// How many reads are made: more than a number of 16 bits counts.
+const READS: usize = 70000;
+
+#[test]
+fn each_of_seventy_thousand_reads_is_answered(rt: HostRuntime) {
+    let mut input = Lines::new(b"-\n", READS);
+    let mut output = Vec::new(rt.alloc());
+    let result = run(
+        &rt,
+        rt.alloc(),
+        Kind::None,
+        Reset::Keep,
+        &mut input,
+        &mut output,
+    );
+    assert_eq!(rt; result, Ok(()));
+    assert!(rt; is_repeated(&output, b"bad line\n", READS));
 }
 
 /// Gives its bytes, and counts the reads behind them.

@@ -1,4 +1,5 @@
 //! Bare closures as what makes a pool's values.
+use super::later_pages::keep_out;
 use super::*;
 use lockfree_object_pool::closures::{InitBy, Makes};
 use std::mem;
@@ -47,4 +48,35 @@ fn a_closure_that_refuses_a_growth_is_asked_once_a_pull(rt: HostRuntime) {
     let refusals = refusals_past_a_page(rt.alloc(), fill_a_page);
     assert_eq!(rt; refusals, Ok((refused, refused)));
     assert_eq!(rt; calls.load(SeqCst), 34);
+}
+
+/// The refusals of two pulls from a pool that may have one page more than the three that are full, one of them owned.
+fn refusals_past_three_pages<I: InitBy<u32>>(
+    alloc: Global,
+    init: I,
+) -> Result<(Option<PullError>, Option<PullError>), PullError>
+    requires { I.may_make init }
+{
+    let makes = Makes::new(init);
+    let pool = LinearObjectPool::<u32, _, _, AnyValue>::with_limit(alloc, makes, Keep, 4)?;
+    let pool = Arc::new(alloc, pool)?;
+    keep_out(&pool, 96)?;
+    Ok((pool.pull().err(), pool.pull_owned().err()))
+}
+
+/// A page that the limit allows and `init` refuses isn't told as the limit.
+#[test]
+fn a_closure_that_refuses_within_a_limit_is_told_as_such(rt: HostRuntime) {
+    let calls = AtomicUsize::new(0);
+    let fill_three_pages = || -> Option<u32> {
+        if calls.fetch_add(1, SeqCst) < 96 {
+            Some(0)
+        } else {
+            None
+        }
+    };
+    let refused = Some(PullError::Init);
+    let refusals = refusals_past_three_pages(rt.alloc(), fill_three_pages);
+    assert_eq!(rt; refusals, Ok((refused, refused)));
+    assert_eq!(rt; calls.load(SeqCst), 98);
 }

@@ -1,9 +1,10 @@
 //! Pools that may have so many pages and no more.
 ghost use Rattle.std.specs.Prelude.{◌≤◌};
 
+use super::later_pages::keep_out;
 use super::*;
 
-fn bounded(alloc: Global, calls: &Arc<AtomicUsize>, pages: usize) -> Cleared
+pub fn bounded(alloc: Global, calls: &Arc<AtomicUsize>, pages: usize) -> Cleared
     requires { 1 ≤ pages }
 {
     let calls = Arc::try_clone(calls)?;
@@ -33,7 +34,7 @@ fn a_full_pool_refuses(rt: HostRuntime) {
 }
 
 /// Owned items that are pulled one after the other and held.
-fn held_owned(
+pub fn held_owned(
     alloc: Global,
     pool: &Arc<LinearObjectPool<u32, CountedZeros, ToZero, Zero>>,
     count: usize,
@@ -113,4 +114,16 @@ fn each_limit_is_shown(rt: HostRuntime) {
         text.as_str(),
         "LinearObjectPool { limit: Some(18446744073709551615), .. }"
     );
+}
+
+/// Such a limit allows more items than a word can count.
+#[test]
+fn the_greatest_limit_gives_items_of_later_pages(rt: HostRuntime) {
+    let calls = new_calls(rt.alloc()).expect(&rt, "memory is left");
+    let pool = bounded(rt.alloc(), &calls, usize::MAX).expect(&rt, "a pool is made");
+    let pool = Arc::new(rt.alloc(), pool).expect(&rt, "memory is left");
+    keep_out(&pool, 64).expect(&rt, "items are free");
+    let item = pool.pull().expect(&rt, "an item is free");
+    let owned = pool.pull_owned().expect(&rt, "an item is free");
+    assert_eq!(rt; (item.page_number(), owned.page_number()), (2, 2));
 }

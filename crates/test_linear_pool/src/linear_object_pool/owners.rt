@@ -45,3 +45,47 @@ fn a_pool_ends_with_its_last_owned_item(rt: HostRuntime) {
     drop(item);
     assert_eq!(rt; counts.now(), (32, 32));
 }
+
+/// The page of the last of so many owned items that are held together.
+fn last_page(
+    alloc: Global,
+    pool: &Arc<Tracked<'_>>,
+    count: usize,
+) -> Result<Option<usize>, PullError> {
+    let mut items = Vec::with_capacity(alloc, count)?;
+    for _ in 0..count {
+        items.push(pool.pull_owned()?)?;
+    }
+    Ok(items.last().map(|item| item.page_number()))
+}
+
+#[test]
+fn owned_items_of_five_pages_let_their_pool_and_pages_end(rt: HostRuntime) {
+    let counts = Counts::new();
+    let pool = shared(rt.alloc(), &counts, NEVER).expect(&rt, "a pool is made");
+    assert_eq!(rt; last_page(rt.alloc(), &pool, 160), Ok(Some(4)));
+    assert_eq!(rt; counts.now(), (160, 0));
+    drop(pool);
+    assert_eq!(rt; counts.now(), (160, 160));
+}
+
+/// A pool that may have one page, in an `Arc`.
+fn shared_of_one<'c>(alloc: Global, counts: &'c Counts) -> Result<Arc<Tracked<'c>>, PullError> {
+    let init = CountedValues {
+        counts,
+        refused: NEVER,
+    };
+    let pool = LinearObjectPool::with_limit(alloc, init, Keep, 1)?;
+    Ok(Arc::new(alloc, pool)?)
+}
+
+#[test]
+fn pulls_refused_at_the_limit_let_their_pool_end(rt: HostRuntime) {
+    let counts = Counts::new();
+    let pool = shared_of_one(rt.alloc(), &counts).expect(&rt, "a pool is made");
+    let items = full(rt.alloc(), &pool).expect(&rt, "32 items are free");
+    assert_eq!(rt; pool.pull_owned().err(), Some(PullError::Limit));
+    drop(items);
+    drop(pool);
+    assert_eq!(rt; counts.now(), (32, 32));
+}

@@ -1,7 +1,9 @@
 //! How often a value is reset: once at its return, and not at a pull.
 ghost use Rattle.std.specs.Prelude.{⊤};
 
+use super::later_pages::keep_out;
 use super::*;
+use std::ops::Deref;
 
 /// A reset that shows how often it ran.
 #[derive(Drop)]
@@ -29,4 +31,52 @@ fn each_return_resets_once(rt: HostRuntime) {
     assert_eq!(rt; *pool.pull().expect(&rt, "an item is free"), 0);
     assert_eq!(rt; *pool.pull_owned().expect(&rt, "an item is free"), 1);
     assert_eq!(rt; *pool.pull().expect(&rt, "an item is free"), 2);
+}
+
+/// The page of an item, and its value at three pulls, of which the second is owned.
+fn pulled_thrice(pool: &Arc<Adding>) -> Result<(usize, (u32, u32, u32)), PullError> {
+    let item = pool.pull()?;
+    let (page, first) = (item.page_number(), *item);
+    drop(item);
+    let second = *pool.pull_owned()?;
+    let third = *pool.pull()?;
+    Ok((page, (first, second, third)))
+}
+
+#[test]
+fn each_return_to_a_later_page_resets_once(rt: HostRuntime) {
+    let pool = adding(rt.alloc()).expect(&rt, "a pool is made");
+    for page in 0..10usize {
+        assert_eq!(rt; pulled_thrice(&pool), Ok((page, (0, 1, 2))));
+        keep_out(&pool, 32).expect(&rt, "items are free");
+    }
+}
+
+/// Whether each of 96 items that are held together has this value.
+fn all_have<A: Deref<Target = u32> + Drop, P: Fn() -> Result<A, PullError>>(
+    alloc: Global,
+    pull: &P,
+    value: u32,
+) -> Result<bool, PullError>
+    requires { P.IsAlwaysCallable pull.now }
+{
+    let mut items = Vec::with_capacity(alloc, 96)?;
+    for _ in 0..96 {
+        items.push(pull()?)?;
+    }
+    for item in items {
+        if *item != value {
+            return Ok(false);
+        }
+    }
+    Ok(true)
+}
+
+#[test]
+fn each_item_of_three_pages_is_reset_once(rt: HostRuntime) {
+    let pool = adding(rt.alloc()).expect(&rt, "a pool is made");
+    let made = all_have(rt.alloc(), &|| pool.pull(), 0);
+    let returned = all_have(rt.alloc(), &|| pool.pull_owned(), 1);
+    let again = all_have(rt.alloc(), &|| pool.pull(), 2);
+    assert_eq!(rt; (made, returned, again), (Ok(true), Ok(true), Ok(true)));
 }

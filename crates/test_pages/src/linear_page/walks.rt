@@ -67,7 +67,7 @@ fn a_limit_of_three_pages_ends_a_walk_behind_the_third(rt: HostRuntime) {
 }
 
 /// The page behind so many links.
-fn behind<'c>(chain: &'c Zeros, links: usize) -> Option<ZeroPage<'c>> {
+pub fn behind<'c>(chain: &'c Zeros, links: usize) -> Option<ZeroPage<'c>> {
     let mut page = chain.first();
     for _ in 0..links {
         page = page.next()?;
@@ -76,18 +76,18 @@ fn behind<'c>(chain: &'c Zeros, links: usize) -> Option<ZeroPage<'c>> {
 }
 
 #[test]
-fn links_lead_to_six_hundred_pages_and_no_further(rt: HostRuntime) {
+fn links_lead_to_two_thousand_one_hundred_pages_and_no_further(rt: HostRuntime) {
     let chain = Zeros::new(rt.alloc(), &|| Some(0)).expect(&rt, "a chain is made");
     let mut page = chain.first();
-    for _ in 0..600 {
+    for _ in 0..2_100 {
         let slots = hold_all(rt.alloc(), &page).expect(&rt, "32 items are free");
         page = behind_full(&page, &|| Some(0)).expect(&rt, "a page is linked");
         for slot in slots {
             Page::free(slot);
         }
     }
-    let last = behind(&chain, 600).expect(&rt, "600 links lead on");
-    assert_eq!(rt; (last.number(), page.number()), (600, 600));
+    let last = behind(&chain, 2_100).expect(&rt, "2100 links lead on");
+    assert_eq!(rt; (last.number(), page.number()), (2_100, 2_100));
     assert_eq!(rt; (first_id(&last), first_id(&page)), (Some(0), Some(1)));
     assert!(rt; last.next().is_none());
 }

@@ -1,8 +1,11 @@
-//! How many pages a linear core looks at, and what it holds past the first few pages.
+//! What a linear core makes at its opening, how many pages it looks at, and what it holds past the first few pages.
+use super::Zeros;
+use lockfree_object_pool::PullError;
 use lockfree_object_pool::clean::AnyValue;
 use lockfree_object_pool::closures::{Copied, Keep};
 use object_pool_cores::sequential::{Item, LinearCore, SequentialPool};
 use std::alloc::Global;
+use std::cell::Cell;
 use std::test::Fail;
 
 /// A core of zeros with so many items of it held.
@@ -81,4 +84,118 @@ fn items_of_many_pages_come_back_with_their_values(rt: HostRuntime) -> Result<()
         assert_eq!(rt; (item.number(), *item), (Some(number), value));
     }
     Ok(())
+}
+
+/// The number that a pull gives, and how many pages it looks at. The item stays out.
+fn number_and_looks(held: &mut Held) -> Result<(Option<u128>, u64), PullError> {
+    let before = held.core.pages_looked();
+    let item = held.core.pull()?;
+    let looks = held.core.pages_looked().saturating_sub(before);
+    Ok((item.number(), looks))
+}
+
+#[test]
+fn a_pull_counts_each_page_that_it_looks_at(rt: HostRuntime) -> Result<(), Fail> {
+    let mut held = pulled(rt.alloc(), 12 * 32)?;
+    // An item of page 0, 1, 9 or 11 comes back. One pull takes it, and the next one passes all full pages from there on.
+    for (number, looks, further) in [
+        (0u32, 13u64, 384u128),
+        (40, 12, 385),
+        (300, 4, 386),
+        (352, 2, 387),
+    ] {
+        assert!(rt; given(&mut held, number as usize));
+        let near = number_and_looks(&mut held)?;
+        let far = number_and_looks(&mut held)?;
+        assert_eq!(rt;
+            (near, far),
+            ((Some(u128::from(number)), 1), (Some(further), looks))
+        );
+    }
+    Ok(())
+}
+
+#[test]
+fn a_core_with_a_limit_makes_one_page_at_its_opening(rt: HostRuntime) -> Result<(), Fail> {
+    let calls = Cell::new(0u32);
+    let init = Zeros {
+        calls: &calls,
+        refused: 0,
+    };
+    let core = LinearCore::<u32, _, _, AnyValue>::with_limit(rt.alloc(), init, Keep, 3)?;
+    assert_eq!(rt; (calls.get(), core.pages()), (32, 1));
+    Ok(())
+}
+
+/// How often `init` was called, and how many pages there are, once each item of ten pages was pulled and none came back, and
+/// what the next pull answers.
+fn ten_pages(
+    alloc: Global,
+    limit: Option<usize>,
+) -> Result<(u32, usize, Option<PullError>), PullError> {
+    let calls = Cell::new(0u32);
+    let init = Zeros {
+        calls: &calls,
+        refused: 0,
+    };
+    let mut core: LinearCore<u32, _, _, AnyValue> = match limit {
+        Some(pages) if pages > 0 => LinearCore::with_limit(alloc, init, Keep, pages)?,
+        _ => LinearCore::new(alloc, init, Keep)?,
+    };
+    for _ in 0..320 {
+        drop(core.pull()?);
+    }
+    let made = (calls.get(), core.pages());
+    let next = core.pull().err();
+    Ok((made.0, made.1, next))
+}
+
+#[test]
+fn each_of_ten_pages_takes_32_calls_of_init(rt: HostRuntime) {
+    let found = (
+        ten_pages(rt.alloc(), None),
+        ten_pages(rt.alloc(), Some(10)),
+        ten_pages(rt.alloc(), Some(11)),
+    );
+    let limit = Some(PullError::Limit);
+    assert_eq!(rt;
+        found,
+        (
+            Ok((320, 10, None)),
+            Ok((320, 10, limit)),
+            Ok((320, 10, None))
+        )
+    );
+}
+
+/// With a page held, a pull asks `init` for the next page, and is refused by the eighth call: how it is answered, and how often
+/// `init` was called, with a limit or without.
+fn refused_once(
+    alloc: Global,
+    limit: Option<usize>,
+) -> Result<(Option<PullError>, u32, usize), PullError> {
+    let calls = Cell::new(0u32);
+    let init = Zeros {
+        calls: &calls,
+        refused: 40,
+    };
+    let mut core: LinearCore<u32, _, _, AnyValue> = match limit {
+        Some(pages) if pages > 0 => LinearCore::with_limit(alloc, init, Keep, pages)?,
+        _ => LinearCore::new(alloc, init, Keep)?,
+    };
+    for _ in 0..32 {
+        drop(core.pull()?);
+    }
+    let refused = core.pull().err();
+    Ok((refused, calls.get(), core.pages()))
+}
+
+#[test]
+fn init_that_refuses_a_page_is_asked_once_with_a_limit_and_without(rt: HostRuntime) {
+    let refused = Ok((Some(PullError::Init), 40, 1));
+    let found = (
+        refused_once(rt.alloc(), None),
+        refused_once(rt.alloc(), Some(3)),
+    );
+    assert_eq!(rt; found, (refused, refused));
 }

@@ -32,3 +32,35 @@ fn more_than_a_thousand_items_are_kept(rt: HostRuntime) -> Result<(), Fail> {
     keeps_many::<UnderMutex<Tallied, TalliedValues, Keep, AnyValue>, _>(&rt, rt.alloc())?;
     keeps_many::<UnderSpinLock<Tallied, TalliedValues, Keep, AnyValue>, _>(&rt, rt.alloc())
 }
+
+/// So many values are held together and returned, twice: none is dropped, and none is made anew.
+fn keeps_seventy_thousand<F: Kind<Tallied, TalliedValues, Keep, AnyValue>, W: Abort + Wait + Copy>(
+    rt: &W,
+    alloc: Global,
+) -> Result<(), Fail> {
+    let tally = new_tally(alloc)?;
+    let pool = tracked::<F>(alloc, &tally, NEVER)?;
+    for _ in 0..2 {
+        let mut items = Vec::with_capacity(alloc, 70_000)?;
+        for _ in 0..70_000 {
+            items.push(pool.pull_owned(rt)?)?;
+        }
+        for item in items {
+            drop(item);
+        }
+        assert_eq!(rt; (pool.kept(rt), tally.now()), (70_000, (70_000, 0)));
+    }
+    Ok(())
+}
+
+#[test]
+fn seventy_thousand_returned_items_are_kept(rt: HostRuntime) -> Result<(), Fail> {
+    keeps_seventy_thousand::<UnderMutex<Tallied, TalliedValues, Keep, AnyValue>, _>(
+        &rt,
+        rt.alloc(),
+    )?;
+    keeps_seventy_thousand::<UnderSpinLock<Tallied, TalliedValues, Keep, AnyValue>, _>(
+        &rt,
+        rt.alloc(),
+    )
+}

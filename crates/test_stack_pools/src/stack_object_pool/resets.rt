@@ -46,3 +46,24 @@ fn each_return_resets_once(rt: HostRuntime) -> Result<(), Fail> {
     adds_one::<UnderMutex<u32, CountedZeros, AddsOne, AnyValue>, _>(&rt, rt.alloc())?;
     adds_one::<UnderSpinLock<u32, CountedZeros, AddsOne, AnyValue>, _>(&rt, rt.alloc())
 }
+
+/// What a filling makes is pulled as it was made.
+fn fills_without_a_reset<F: Kind<u32, CountedZeros, AddsOne, AnyValue>, W: Abort + Wait + Copy>(
+    rt: &W,
+    alloc: Global,
+) -> Result<(), Fail> {
+    let init = CountedZeros {
+        calls: new_calls(alloc)?,
+    };
+    let pool = F::new_pool(alloc, init, AddsOne)?;
+    pool.fill(rt, 2)?;
+    let (one, other) = (pool.pull(rt)?, pool.pull(rt)?);
+    assert_eq!(rt; (*one, *other), (0, 0));
+    Ok(())
+}
+
+#[test]
+fn a_filling_resets_nothing(rt: HostRuntime) -> Result<(), Fail> {
+    fills_without_a_reset::<UnderMutex<u32, CountedZeros, AddsOne, AnyValue>, _>(&rt, rt.alloc())?;
+    fills_without_a_reset::<UnderSpinLock<u32, CountedZeros, AddsOne, AnyValue>, _>(&rt, rt.alloc())
+}

@@ -57,18 +57,19 @@ fn clears<F: Kind<Tallied, TalliedValues, Keep, AnyValue>, W: Abort + Wait + Cop
 ) -> Result<(), PullError> {
     let tally = new_tally(alloc)?;
     let pool = tracked::<F>(alloc, &tally, NEVER)?;
-    pool.fill(rt, 5_000)?;
-    assert_eq!(rt; pool.kept(rt), 5_000);
+    pool.fill(rt, 70_000)?;
+    assert_eq!(rt; (pool.kept(rt), tally.now()), (70_000, (70_000, 0)));
     let item = pool.pull(rt)?;
+    assert_eq!(rt; (pool.kept(rt), tally.now()), (69_999, (70_000, 0)));
     pool.clear(rt);
-    assert_eq!(rt; (pool.kept(rt), tally.now()), (0, (5_000, 4_999)));
+    assert_eq!(rt; (pool.kept(rt), tally.now()), (0, (70_000, 69_999)));
     drop(item);
-    assert_eq!(rt; (pool.kept(rt), tally.now()), (1, (5_000, 4_999)));
+    assert_eq!(rt; (pool.kept(rt), tally.now()), (1, (70_000, 69_999)));
     let item = pool.pull(rt)?;
-    assert_eq!(rt; (item.call, pool.pull(rt)?.call), (4_999, 5_000));
+    assert_eq!(rt; (item.call, pool.pull(rt)?.call), (69_999, 70_000));
     pool.clear(rt);
     pool.clear(rt);
-    assert_eq!(rt; (pool.kept(rt), tally.now()), (0, (5_001, 5_000)));
+    assert_eq!(rt; (pool.kept(rt), tally.now()), (0, (70_001, 70_000)));
     Ok(())
 }
 
@@ -131,4 +132,43 @@ fn a_detached_value_is_as_it_was_written(rt: HostRuntime) -> Result<(), Fail> {
         rt.alloc(),
     )?;
     Ok(())
+}
+
+/// A value that `init` makes for no pool.
+fn made(tally: &Arc<Tally>) -> Option<Tallied> {
+    let init = TalliedValues {
+        tally: Arc::try_clone(tally).ok()?,
+        refused: NEVER,
+    };
+    init.make()
+}
+
+/// Three values are kept. Two are attached, borrowed and owned: each is kept beside them once it is dropped.
+fn keeps_beside<F: Kind<Tallied, TalliedValues, Keep, AnyValue>, W: Abort + Wait + Copy>(
+    rt: &W,
+    alloc: Global,
+) -> Result<(), Fail> {
+    let tally = new_tally(alloc)?;
+    let pool = tracked::<F>(alloc, &tally, NEVER)?;
+    pool.fill(rt, 3)?;
+    let value = made(&tally).ok_or("init makes a value")?;
+    let item = StackReusable::new(rt, &*pool, value).ok().ok_or("memory")?;
+    assert_eq!(rt; (pool.kept(rt), tally.now()), (3, (4, 0)));
+    drop(item);
+    assert_eq!(rt; (pool.kept(rt), tally.now()), (4, (4, 0)));
+    let value = made(&tally).ok_or("init makes a value")?;
+    let owner = Arc::try_clone(&pool)?;
+    let item = StackOwnedReusable::new(rt, owner, value)
+        .ok()
+        .ok_or("memory")?;
+    assert_eq!(rt; (pool.kept(rt), tally.now()), (4, (5, 0)));
+    drop(item);
+    assert_eq!(rt; (pool.kept(rt), tally.now()), (5, (5, 0)));
+    Ok(())
+}
+
+#[test]
+fn an_attached_value_is_kept_beside_others(rt: HostRuntime) -> Result<(), Fail> {
+    keeps_beside::<UnderMutex<Tallied, TalliedValues, Keep, AnyValue>, _>(&rt, rt.alloc())?;
+    keeps_beside::<UnderSpinLock<Tallied, TalliedValues, Keep, AnyValue>, _>(&rt, rt.alloc())
 }

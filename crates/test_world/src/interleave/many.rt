@@ -60,3 +60,37 @@ fn the_greatest_limit_needs_no_memory_beforehand(rt: HostRuntime) -> Result<(), 
     assert_eq!(rt; world.held(0), Some(&0));
     Ok(())
 }
+
+/// How many agents come to a world of one page.
+const CROWD: usize = 300;
+
+/// The events by which each of a crowd begins, or reads its page's word.
+fn crowd_events(alloc: Global, begins: bool) -> Result<Vec<Event<u32>>, AllocError> {
+    let mut events = Vec::with_capacity(alloc, CROWD)?;
+    for agent in 0..CROWD {
+        let event = if begins {
+            Event::Begin
+        } else {
+            Event::ReadMask(agent)
+        };
+        events.push(event)?;
+    }
+    Ok(events)
+}
+
+/// Two runs, whose answers stand in one list, in a world whose limit allows far fewer items than there are agents.
+#[test]
+fn a_world_of_one_page_takes_three_hundred_agents_in_two_runs(rt: HostRuntime) -> Result<(), Fail> {
+    let mut world = World::with_limit(rt.alloc(), zeros(rt.alloc())?, Keep, 1)?;
+    let mut seen = Vec::new(rt.alloc());
+    world.run(crowd_events(rt.alloc(), true)?, &mut seen)?;
+    world.run(crowd_events(rt.alloc(), false)?, &mut seen)?;
+    assert_eq!(rt; seen.len(), 2 * CROWD);
+    for agent in 0..CROWD {
+        assert_eq!(rt;
+            (seen.get(agent).copied(), seen.get(CROWD + agent).copied()),
+            (Some(Seen::Began(agent)), Some(Seen::Word(agent, FULL)))
+        );
+    }
+    Ok(())
+}

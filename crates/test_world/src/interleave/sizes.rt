@@ -1,4 +1,4 @@
-//! Many agents and many pages, and lists in which some events aren't enabled.
+//! Many agents and many pages, lists in which some events aren't enabled, and the list of none.
 use super::*;
 
 /// How many items a page has.
@@ -112,5 +112,22 @@ fn a_run_goes_on_past_events_that_are_not_enabled(rt: HostRuntime) -> Result<(),
     ];
     assert_eq!(rt; seen.as_slice(), wanted.as_slice());
     assert_eq!(rt; world.held(0), Some(&5));
+    Ok(())
+}
+
+#[test]
+fn a_run_of_no_events_changes_nothing(rt: HostRuntime) -> Result<(), Fail> {
+    let mut world = unbounded(rt.alloc())?;
+    let mut seen = Vec::new(rt.alloc());
+    let first = world.run(Vec::new(rt.alloc()), &mut seen);
+    hold(&mut world, 1);
+    seen.push(Seen::Began(7))?;
+    let second = world.run(Vec::new(rt.alloc()), &mut seen);
+    assert_eq!(rt; (first, second), (Ok(()), Ok(())));
+    assert_eq!(rt; seen.as_slice(), [Seen::Began(7)].as_slice());
+    assert_eq!(rt;
+        (world.pages(), world.word(0), world.held(0).copied()),
+        (1, Some(4294967294), Some(0))
+    );
     Ok(())
 }

@@ -78,3 +78,76 @@ fn a_run_drops_the_values_of_events_that_are_not_enabled(rt: HostRuntime) -> Res
     assert_eq!(rt; (made.get(), ends.get()), (64, 33));
     Ok(())
 }
+
+type SharedWorld = World<Rc<u32>, Keep>;
+
+/// Agent 0 writes, and makes a page: what it sees, and how many owners of the value live then.
+fn write_and_make(
+    alloc: Global,
+    world: &mut SharedWorld,
+    shared: &Rc<u32>,
+) -> Result<(Seen, Seen, usize), PullError> {
+    let written = world.step(Event::Write(0, shared.clone()?));
+    let made = world.step(Event::MakePage(0, Ok(owners(alloc, shared)?)));
+    Ok((written, made, Rc::strong_count(shared)))
+}
+
+#[test]
+fn what_cannot_be_written_or_linked_is_dropped_at_once(rt: HostRuntime) -> Result<(), Fail> {
+    let shared = Rc::new(rt.alloc(), 7u32)?;
+    let mut world: SharedWorld = World::new(rt.alloc(), owners(rt.alloc(), &shared)?, Keep)?;
+    // What a write is answered in front of each event of an agent's life, which begins with the first.
+    let not = Seen::NotEnabled;
+    for (answer, event) in [
+        (not, Event::Begin),
+        (not, Event::ReadMask(0)),
+        (not, Event::ClearBit(0)),
+        (not, Event::MoveOut(0)),
+        (Seen::Wrote(0), Event::MoveHome(0)),
+        (not, Event::OrMask(0)),
+    ] {
+        let seen = write_and_make(rt.alloc(), &mut world, &shared)?;
+        assert_eq!(rt; seen, (answer, not, 33));
+        let _ = world.step(event);
+    }
+    drop(world);
+    assert_eq!(rt; Rc::strong_count(&shared), 1);
+    Ok(())
+}
+
+/// Adds 1 to what comes home, and counts how often.
+#[derive(Drop)]
+struct Adds<'c> {
+    resets: &'c Cell<u32>,
+}
+
+impl Reset<u32, AnyValue> for Adds<'_> {
+    fn reset(&self, value: &mut u32) {
+        self.resets.set(self.resets.get().saturating_add(1));
+        *value = value.saturating_add(1);
+    }
+}
+
+#[test]
+fn a_return_resets_once_and_nothing_else_does(rt: HostRuntime) -> Result<(), Fail> {
+    let resets = Cell::new(0u32);
+    let first = zeros(rt.alloc())?;
+    let mut world = World::new(rt.alloc(), first, Adds { resets: &resets })?;
+    hold(&mut world, 3);
+    for value in [5, 6, 7] {
+        let _ = world.step(Event::Write(0, value));
+    }
+    // Agent 3 hasn't begun.
+    let _ = world.step(Event::Write(3, 8));
+    assert_eq!(rt; resets.get(), 0);
+    give_back(&mut world, 0);
+    give_back(&mut world, 1);
+    let _ = world.step(Event::Write(0, 9));
+    assert_eq!(rt;
+        (resets.get(), world.place(0, 0), world.place(0, 1)),
+        (2, Some(&8), Some(&1))
+    );
+    drop(world);
+    assert_eq!(rt; resets.get(), 2);
+    Ok(())
+}

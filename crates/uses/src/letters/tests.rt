@@ -79,23 +79,25 @@ fn letters_reach_the_reader_and_their_sheets_come_home(rt: HostRuntime) -> Resul
     Ok(())
 }
 
-#[test]
-fn a_letter_may_be_longer_than_its_sheet_was(rt: HostRuntime) -> Result<(), Fail> {
-    let alloc = rt.alloc();
-    let pool = LinearObjectPool::new(alloc, WithCapacity::new(alloc, 4), Clear)?;
-    let pool = Arc::new(alloc, pool)?;
-    let text = [7u8; 5000];
-    let letter = Letter::new(&pool, &text)?;
-    assert!(rt; letter.text() == text.as_slice() && letter.len() == 5000);
-    Ok(())
+/// Whether a hundred letters with the text are whole, each of them dropped before the next is written.
+fn write_often(pool: &Arc<SheetPool>, text: &[u8]) -> bool {
+    for _ in 0..100 {
+        match Letter::new(pool, text) {
+            Ok(letter) if letter.text() == text && letter.len() == text.len() => {}
+            _ => return false,
+        }
+    }
+    true
 }
 
 #[test]
-fn a_letter_may_have_no_bytes(rt: HostRuntime) -> Result<(), Fail> {
+fn letters_of_any_length_are_whole_and_their_sheets_come_home(rt: HostRuntime) -> Result<(), Fail> {
     let alloc = rt.alloc();
-    let pool = LinearObjectPool::new(alloc, WithCapacity::new(alloc, 4), Clear)?;
+    let pool = LinearObjectPool::with_limit(alloc, WithCapacity::new(alloc, 4), Clear, 1)?;
     let pool = Arc::new(alloc, pool)?;
-    let letter = Letter::new(&pool, b"")?;
-    assert_eq!(rt; (letter.len(), letter.text()), (0, b"".as_slice()));
+    for len in [0, 1, 5_000, 8_193, 70_000] {
+        let text = vec![in alloc; 7u8; len]?;
+        assert!(rt; write_often(&pool, &text), "letters of {len} bytes");
+    }
     Ok(())
 }

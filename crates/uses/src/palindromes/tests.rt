@@ -50,3 +50,30 @@ fn each_text_of_one_byte_is_a_palindrome(rt: HostRuntime) -> Result<(), Fail> {
     assert_eq!(rt; answers.as_slice(), [Some(true), Some(true)].as_slice());
     Ok(())
 }
+
+/// Of each length a text of one letter, and the same with another letter behind it.
+fn even_and_odd(alloc: Global) -> Result<Vec<Vec<u8>>, AllocError> {
+    let mut texts = Vec::new(alloc);
+    for len in [1, 4_096, 4_097, 70_000] {
+        let even = vec![in alloc; b'a'; len]?;
+        let mut odd = vec![in alloc; b'a'; len]?;
+        odd.push(b'b')?;
+        texts.push(even)?;
+        texts.push(odd)?;
+    }
+    Ok(texts)
+}
+
+#[test]
+fn long_texts_have_answers_and_their_scratches_come_home(rt: HostRuntime) -> Result<(), Fail> {
+    let alloc = rt.alloc();
+    let pool = LinearObjectPool::with_limit(alloc, WithCapacity::new(alloc, 8), Clear, 1)?;
+    let texts = even_and_odd(alloc)?;
+    let (yes, no) = (Some(true), Some(false));
+    for _ in 0..40 {
+        let answers = palindromes(&rt, alloc, &pool, &texts)?;
+        let expected = [yes, no, yes, no, yes, no, yes, no];
+        assert_eq!(rt; answers.as_slice(), expected.as_slice());
+    }
+    Ok(())
+}

@@ -49,12 +49,33 @@ fn a_page_of_replies_is_all_there_is(rt: HostRuntime) -> Result<(), Fail> {
     Ok(())
 }
 
+/// Whether a name of so many bytes is greeted a hundred times, which is more often than a page has buffers.
+fn greet_at_length(alloc: Global, replies: &Replies, len: usize) -> Result<bool, PullError> {
+    let name = vec![in alloc; b'a'; len]?;
+    let mut expected = Vec::from_slice(alloc, b"hello, ")?;
+    expected.extend_from_slice(&name)?;
+    expected.push(b'\n')?;
+    Ok(greet_often(alloc, replies, &name, &expected))
+}
+
 #[test]
-fn a_long_name_is_greeted(rt: HostRuntime) -> Result<(), Fail> {
+fn names_of_any_length_are_greeted_and_their_buffers_come_home(
+    rt: HostRuntime,
+) -> Result<(), Fail> {
     let replies = new_replies(rt.alloc(), 16)?;
-    let reply = greeting(rt.alloc(), &replies, &[b'a'; 5000])?;
-    assert_eq!(rt; reply.len(), 5008);
+    for len in [0, 1, 5_000, 8_193, 70_000] {
+        assert!(rt;
+            greet_at_length(rt.alloc(), &replies, len)?,
+            "a name of {len} bytes"
+        );
+    }
     Ok(())
+}
+
+#[test]
+fn more_room_than_there_is_memory_is_refused(rt: HostRuntime) {
+    let refused = new_replies(rt.alloc(), usize::MAX).err();
+    assert_eq!(rt; refused, Some(PullError::Init));
 }
 
 #[test]

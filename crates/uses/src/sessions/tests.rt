@@ -71,17 +71,70 @@ fn a_session_that_is_opened_anew_gives_its_basket_back(rt: HostRuntime) -> Resul
     Ok(())
 }
 
-#[test]
-fn a_basket_takes_a_thousand_products(rt: HostRuntime) -> Result<(), Fail> {
-    let mut sessions = Sessions::new(rt.alloc(), new_pool(rt.alloc())?);
-    sessions.open(7)?;
-    for product in 0..1000u32 {
-        sessions.add(7, product)?;
+/// Opens a session, or opens it anew, and gathers as many products as are asked for. How many there are then, and the
+/// last of them.
+fn gather(
+    sessions: &mut Sessions,
+    session: u64,
+    count: u32,
+) -> Result<(usize, Option<u32>), PullError> {
+    sessions.open(session)?;
+    for product in 0..count {
+        sessions.add(session, product)?;
     }
-    assert_eq!(rt;
-        sessions.products(7).map(|products| products.len()),
-        Some(1000)
-    );
+    match sessions.products(session) {
+        Some(products) => Ok((products.len(), products.last().copied())),
+        None => Ok((0, None)),
+    }
+}
+
+#[test]
+fn baskets_of_seventy_thousand_products_come_home(rt: HostRuntime) -> Result<(), Fail> {
+    let mut sessions = Sessions::new(rt.alloc(), new_pool(rt.alloc())?);
+    for _ in 0..3 {
+        let gathered = gather(&mut sessions, 7, 70_000)?;
+        assert_eq!(rt; gathered, (70_000, Some(69_999)));
+    }
+    sessions.close(7);
+    assert!(rt; all_baskets_are_home(&mut sessions));
+    Ok(())
+}
+
+/// Opens ten pages of sessions, each of which gathers one product: what is asked for and its own number together.
+fn open_each(sessions: &mut Sessions, product: u32) -> Result<(), PullError> {
+    for session in 0..320u32 {
+        sessions.open(u64::from(session))?;
+        sessions.add(u64::from(session), session.wrapping_add(product))?;
+    }
+    Ok(())
+}
+
+/// Closes each of them. Whether each held that product.
+fn close_each(sessions: &mut Sessions, product: u32) -> bool {
+    for session in 0..320u32 {
+        let is_kept = holds(
+            sessions,
+            u64::from(session),
+            &[session.wrapping_add(product)],
+        );
+        sessions.close(u64::from(session));
+        if !is_kept {
+            return false;
+        }
+    }
+    true
+}
+
+#[test]
+fn three_hundred_and_twenty_sessions_are_open_at_once(rt: HostRuntime) -> Result<(), Fail> {
+    let alloc = rt.alloc();
+    let pool = LinearObjectPool::with_limit(alloc, WithCapacity::new(alloc, 4), Clear, 10)?;
+    let mut sessions = Sessions::new(alloc, Arc::new(alloc, pool)?);
+    for product in [1_000, 2_000] {
+        open_each(&mut sessions, product)?;
+        assert_eq!(rt; sessions.open(320), Err(PullError::Limit));
+        assert!(rt; close_each(&mut sessions, product));
+    }
     Ok(())
 }
 

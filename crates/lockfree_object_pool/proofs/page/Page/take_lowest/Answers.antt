@@ -2,7 +2,7 @@ use Rattle.std.proofs.Common.{◌∙◌, ◌∷◌, [], sym, subst, arith}
 use Rattle.lockfree_object_pool.specs.Item.{Item, IsItemOf}
 use Rattle.lockfree_object_pool.specs.Page.{page_identity}
 use Rattle.lockfree_object_pool.specs.PageRule.{GoesOn}
-use Rattle.lockfree_object_pool.specs.Slot.{item_known}
+use Rattle.lockfree_object_pool.specs.Holding.{item_known}
 use Rattle.lockfree_object_pool.specs.declared.page.history.PageAct.TheVariants.{Took}
 use Rattle.lockfree_object_pool.specs.declared.page.user_view.UserView.{UserView}
 use Rattle.lockfree_object_pool.proofs.PageAnswers.{was_out_from}
@@ -15,8 +15,7 @@ returns-in-Some-clause-answer g c =
     let sized = c.args.self.now.sized in
     let inside = took.in_pool in
     let here : IsItemOf g.K.Clean.meets (page_identity c.args.self.now) item = record {
-      of_page = c.take_lowest.ensures.items ∙ c.requires.page;
-      in_page = omega arith;
+      is_in = record { of_page = c.take_lowest.ensures.items ∙ c.requires.page; in_page = omega arith };
       meets_condition = took.meets_condition;
     } in
     subst (λ (p : Item g.row.T.Denot × UserView g.row.T.Denot). IsItemOf g.K.Clean.meets (page_identity c.args.self.now) p.0 × GoesOn (Took p.0.holder p.0.id p.0.value ∷ []) c.args.seat.me.0 p.1)

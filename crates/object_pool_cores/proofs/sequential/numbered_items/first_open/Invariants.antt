@@ -1,4 +1,5 @@
 use Rattle.std.proofs.Common.{◌≤◌, ◌+◌, ◌-◌, ◌*◌, length}
+use Rattle.object_pool_cores.specs.Looks.{LooksAtEach}
 use Rattle.object_pool_cores.specs.Numbered.{HasNoneBelow, laid_out}
 use Rattle.object_pool_cores.proofs.sequential.numbered_items.first_open.Given as goal
 
@@ -9,7 +10,7 @@ invariant-loop-at g l = record {
   up_to : l.at ≤ length l.pages;
   passed : HasNoneBelow (laid_out l.pages) (32 * l.at);
   more : l.fn.looked ≤ l.looked;
-  each : l.looked + l.start ≤ l.fn.looked + l.at;
+  each : LooksAtEach (l.at - l.start) l.fn.looked l.looked;
 }
 
 abbrev pub decreases-loop-at : goal.decreases-loop-at

@@ -6,4 +6,4 @@ pub fetch_or-word-requires : goal.fetch_or-word-requires
 fetch_or-word-requires g c =
     let covered = c.args.self.now.covered in
     let inside = c.requires.in_items in
-    (search rules, omega arith, gives_back _ _ _ _ _ c.args.number _ _ c.args.value c.requires.in_items (omega arith) c.with_bit-bit.ensures.bits c.requires.holds c.requires.here c.requires.carries c.exchange.ensures.3 c.requires.meets)
+    (search rules, omega arith, gives_back _ _ _ _ _ c.args.holding.number _ _ c.args.value c.requires.in_items (omega arith) c.with_bit-bit.ensures.bits c.args.holding.holds c.args.holding.here c.args.holding.carries c.exchange.ensures.3 c.requires.meets)

@@ -28,3 +28,6 @@ returns-clause-step g c =
         returned = c.put.ensures.returned;
       };
     }
+
+pub returns-clause-starts : goal.returns-clause-starts
+returns-clause-starts g c = rw (← c.in-Some.ensures) c.put.ensures.start

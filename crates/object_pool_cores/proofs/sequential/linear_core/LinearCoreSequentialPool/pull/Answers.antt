@@ -1,6 +1,7 @@
-use Rattle.std.proofs.Common.{refl, ◌∙◌}
-use Rattle.object_pool_cores.proofs.LeastChoiceSteps.{PullsLeast-grown}
-use Rattle.object_pool_cores.proofs.Cores.FewLooks.{LooksAtFew-taken, LooksAtFew-none, LooksAtFew-grown}
+use Rattle.std.proofs.Common.{refl, arith, ◌∙◌}
+use Rattle.object_pool_cores.proofs.LeastChoiceSteps.{IsFree-grown, PullsLeast-grown}
+use Rattle.object_pool_cores.proofs.Cores.FewLooks.{LooksAtFew-taken, LooksAtFew-none, LooksAtFew-grown, LooksAtEach-grown}
+use Rattle.object_pool_cores.proofs.ReplyRuns.{OnErr-always}
 use Rattle.object_pool_cores.proofs.sequential.linear_core.LinearCoreSequentialPool.pull.Goals as goal
 
 pub returns-in-Some-clause-looks : goal.returns-in-Some-clause-looks
@@ -8,10 +9,22 @@ returns-in-Some-clause-looks g c =
     let taken = c.in-Some.ensures in
     LooksAtFew-taken _ _ _ _ taken.before taken.least.2 taken.looks
 
+pub returns-in-Some-clause-looks_up_to : goal.returns-in-Some-clause-looks_up_to
+returns-in-Some-clause-looks_up_to g c =
+    let taken = c.in-Some.ensures in
+    record { onward = taken.looks.onward; stops = rw taken.least.1 taken.least.2.starts; each = taken.looks.each }
+
 pub returns-in_err-grow-clause-looks : goal.returns-in_err-grow-clause-looks
 returns-in_err-grow-clause-looks g c =
     let full = c.in_default.ensures in
     rw c.in_err-grow.ensures.err (LooksAtFew-none _ _ full.before full.none full.looks)
+
+pub returns-in_err-grow-clause-looks_at_the_rest : goal.returns-in_err-grow-clause-looks_at_the_rest
+returns-in_err-grow-clause-looks_at_the_rest g c =
+    let full = c.in_default.ensures in
+    let each = full.looks.each in
+    OnErr-always c.from_residual.result
+    (rw c.in_err-grow.ensures.err (record { onward = full.looks.onward; stops = full.none.starts; each = omega (arith, each) }))
 
 pub returns-clause-step : goal.returns-clause-step
 returns-clause-step g c =
@@ -30,3 +43,16 @@ returns-clause-looks g c =
     let taken = c.in-Some-take_least.ensures in
     let grows = rw (full.none.places, full.limit) at grew.ok in
     LooksAtFew-grown _ _ _ _ _ _ _ full.before full.none full.looks grows grew.start grew.looked taken.least.2 taken.looks
+
+pub returns-clause-looks_up_to : goal.returns-clause-looks_up_to
+returns-clause-looks_up_to g c =
+    let full = c.in_default.ensures in
+    let grew = c.in_ok-grow.ensures in
+    let taken = c.in-Some-take_least.ensures in
+    let looks = LooksAtEach-grown _ _ _ _ full.looks grew.start grew.looked taken.looks in
+    record { onward = looks.0; stops = rw taken.least.1 taken.least.2.starts; each = looks.1 }
+
+pub unreachable-requires : goal.unreachable-requires
+unreachable-requires g c =
+    let added = IsFree-grown _ _ _ _ c.in_ok-grow.ensures.ok in
+    c.in-None.ensures.none.exhausted _ added.0 added.1

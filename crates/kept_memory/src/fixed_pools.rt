@@ -1,0 +1,113 @@
+//! Turns on fixed pools.
+ghost use Rattle.std.specs.Prelude.{◌≤◌};
+
+use crate::observer::Observer;
+use crate::supply::{Buffer, Supply};
+use anyhow::Result;
+use lockfree_object_pool::closures::Keep;
+use lockfree_object_pool::{FixedObjectPool, PullError};
+use std::alloc::Global;
+use std::rt::Files;
+use std::sync::Arc;
+
+type Pool = FixedObjectPool<Buffer, Supply, Keep>;
+
+/// How many items a pool has: a word of them and one more.
+const ITEMS: usize = 33;
+
+pub fn observe<R: Files + AllocGlobal + Print>(
+    alloc: Global,
+    observer: &mut Observer<R>,
+) -> Result<()> {
+    observer.observe(
+        "fixed pools that are refused",
+        &|turns| refused_pools(alloc, turns),
+    )?;
+    observer.observe(
+        "refused pulls of a fixed pool",
+        &|turns| refused_pulls(alloc, turns),
+    )?;
+    observer.observe("items of a fixed pool", &|turns| returns(alloc, turns))?;
+    observer.observe(
+        "owners of a fixed pool",
+        &|turns| owner_returns(alloc, turns),
+    )?;
+    observer.observe("fixed pools", &|turns| ends(alloc, turns))
+}
+
+fn new_pool(alloc: Global, supply: &Supply, items: usize) -> Option<Arc<Pool>>
+    requires { 1 ≤ items }
+{
+    let pool: Pool = FixedObjectPool::new(alloc, supply.share()?, Keep, items).ok()?;
+    Arc::new(alloc, pool).ok()
+}
+
+/// A pool is refused, after any number of its items.
+fn refused_pools(alloc: Global, turns: usize) -> Option<()> {
+    let supply = Supply::endless(alloc)?;
+    for turn in 0..turns {
+        supply.end_after(turn % ITEMS);
+        let Err(PullError::Init) = Pool::new(alloc, supply.share()?, Keep, ITEMS) else {
+            return None;
+        };
+    }
+    Some(())
+}
+
+/// Pulls are refused while each item is held.
+fn refused_pulls(alloc: Global, turns: usize) -> Option<()> {
+    let pool = new_pool(alloc, &Supply::endless(alloc)?, ITEMS)?;
+    let mut held = Vec::with_capacity(alloc, ITEMS).ok()?;
+    for _ in 0..ITEMS {
+        held.push(pool.pull().ok()?).ok()?;
+    }
+    for turn in 0..turns {
+        let Err(PullError::Limit) = pool.pull_near(turn) else {
+            return None;
+        };
+        let Err(PullError::Limit) = pool.pull_owned() else {
+            return None;
+        };
+    }
+    Some(())
+}
+
+/// Items are pulled and returned.
+fn returns(alloc: Global, turns: usize) -> Option<()> {
+    let pool = new_pool(alloc, &Supply::endless(alloc)?, ITEMS)?;
+    for turn in 0..turns {
+        let _borrowed = pool.pull().ok()?;
+        let _near = pool.pull_near(turn).ok()?;
+        let _owned = pool.pull_owned().ok()?;
+    }
+    Some(())
+}
+
+/// The only owner of a pool goes into an item, comes back from it, and ends.
+fn owner_returns(alloc: Global, turns: usize) -> Option<()> {
+    let supply = Supply::endless(alloc)?;
+    for turn in 0..turns {
+        let owner = new_pool(alloc, &supply, ITEMS)?;
+        let note = owner.note();
+        let Ok(item) = owner.pull_by_owner(turn, note) else {
+            return None;
+        };
+        drop(item.give_back_with_owner());
+    }
+    Some(())
+}
+
+/// A pool ends with the last of its items, after a pull that was refused.
+fn ends(alloc: Global, turns: usize) -> Option<()> {
+    let supply = Supply::endless(alloc)?;
+    for _ in 0..turns {
+        let pool = new_pool(alloc, &supply, 2)?;
+        let _first = pool.pull_owned().ok()?;
+        let _second = pool.pull_owned().ok()?;
+        let Err(PullError::Limit) = pool.pull_owned() else {
+            return None;
+        };
+        drop(pool);
+    }
+    Some(())
+}

@@ -1,6 +1,0 @@
-use denote.Param.Send.{sendable}
-use Rattle.lockfree_object_pool.proofs.SlotShared.{slot_sync}
-use Rattle.lockfree_object_pool.proofs.page.tests.sharing.read_twice.Goals as goal
-
-pub join-requires-send-F : goal.join-requires-send-F
-join-requires-send-F g c κs within = search (sendable, slot_sync) depth 20

@@ -1,0 +1,72 @@
+//! What makes values that take memory of their own: where that is refused, it is asked once, and the pull is refused.
+ghost use Rattle.std.specs.Prelude.{◌≡◌, []};
+
+use crate::refusals::Refusals;
+use lockfree_object_pool::clean::Empty;
+use lockfree_object_pool::closures::{Clear, WithCapacity};
+use lockfree_object_pool::recycling::{MutexPool, Recyclable};
+use lockfree_object_pool::{MutexObjectPool, PullError};
+use std::alloc::Global;
+use std::test::Fail;
+
+/// A sheet that has its room from the start.
+#[derive(Drop)]
+struct Sheet {
+    letters: Vec<u8>,
+}
+
+impl Recyclable for Sheet {
+    ghost is_clean = { λ sheet. sheet.letters.items ≡ [] };
+
+    fn make(alloc: Global) -> Option<Sheet> {
+        Some(Sheet {
+            letters: Vec::with_capacity(alloc, 16).ok()?,
+        })
+    }
+
+    fn reset(&mut self) {
+        self.letters.clear();
+    }
+}
+
+/// The answer of a pull. Where it was refused, that of a second try: `Memory` for the room of its return, `Init` for the value.
+fn pulled<X: Drop, F: Fn() -> Result<X, PullError>>(
+    refusals: &Refusals,
+    pull: &F,
+) -> Result<X, PullError>
+    requires { F.IsAlwaysCallable pull.now }
+{
+    match pull() {
+        Err(PullError::Memory | PullError::Init) => {
+            refusals.note();
+            pull()
+        }
+        answer => answer,
+    }
+}
+
+/// A refusal that a maker hides is missed between those of the rooms: a second item is pulled while the first is held.
+#[test]
+fn a_recyclable_value_that_memory_was_refused_for_is_told(rt: HostRuntime) -> Result<(), Fail> {
+    let refusals = Refusals::new();
+    let pool = MutexPool::<Sheet>::with_recycler(rt.alloc());
+    let first = pulled(&refusals, &|| pool.pull(&rt))?;
+    let second = pulled(&refusals, &|| pool.pull(&rt))?;
+    assert_eq!(rt; (first.letters.len(), second.letters.len()), (0, 0));
+    Ok(refusals.tell(&rt)?)
+}
+
+/// As above, of vectors that are made with room.
+#[test]
+fn a_vector_that_memory_was_refused_for_is_told(rt: HostRuntime) -> Result<(), Fail> {
+    let refusals = Refusals::new();
+    let pool: MutexObjectPool<Vec<u8>, _, _, Empty> = MutexObjectPool::new(
+        rt.alloc(),
+        WithCapacity::new(rt.alloc(), 16),
+        Clear,
+    );
+    let first = pulled(&refusals, &|| pool.pull(&rt))?;
+    let second = pulled(&refusals, &|| pool.pull(&rt))?;
+    assert_eq!(rt; (first.len(), second.len()), (0, 0));
+    Ok(refusals.tell(&rt)?)
+}

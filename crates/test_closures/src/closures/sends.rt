@@ -1,0 +1,81 @@
+//! Pools by closures, of values that may be sent and not shared: threads send and share such a pool.
+use super::*;
+use lockfree_object_pool::{
+    FixedObjectPool, LinearObjectPool, LinearReusable, MutexObjectPool, PullError,
+    SpinLockObjectPool,
+};
+use std::thread;
+use std::thread::Threads;
+
+fn is_sent<X: Send>(_value: &X) {}
+
+fn linear_pool<T: Send + Drop, I: InitBy<T> + Send + Sync, R: ResetBy<T> + Send + Sync>(
+    pool: &LinearObjectPool<T, Makes<T, I, AnyValue>, Resets<T, R, AnyValue>>,
+    item: &LinearReusable<'_, T, Makes<T, I, AnyValue>, Resets<T, R, AnyValue>>,
+) {
+    is_sent(pool);
+    is_shared(pool);
+    is_sent(item);
+}
+
+fn kept_pool<T: Send + Drop, I: InitBy<T> + Send + Sync>(
+    pool: &LinearObjectPool<T, Makes<T, I, AnyValue>, Kept<T, AnyValue>>,
+) {
+    is_sent(pool);
+    is_shared(pool);
+}
+
+fn fixed_pool<T: Send + Drop, I: InitBy<T>, R: ResetBy<T> + Send + Sync>(
+    pool: &FixedObjectPool<T, Makes<T, I, AnyValue>, Resets<T, R, AnyValue>>,
+) {
+    is_sent(pool);
+    is_shared(pool);
+}
+
+fn stack_pools<T: Send + Drop, I: InitBy<T> + Send + Sync, R: ResetBy<T> + Send + Sync>(
+    mutex: &MutexObjectPool<T, Makes<T, I, AnyValue>, Resets<T, R, AnyValue>>,
+    spin_lock: &SpinLockObjectPool<T, Makes<T, I, AnyValue>, Resets<T, R, AnyValue>>,
+) {
+    is_sent(mutex);
+    is_shared(mutex);
+    is_sent(spin_lock);
+    is_shared(spin_lock);
+}
+
+/// A pool of cells, each of which one thread at a time may read and write.
+type Cells<I, R> = LinearObjectPool<
+    Cell<u32>,
+    Makes<Cell<u32>, I, AnyValue>,
+    Resets<Cell<u32>, R, AnyValue>,
+>;
+
+/// What a cell of the pool holds once 1 was added to it.
+fn added<I: InitBy<Cell<u32>>, R: ResetBy<Cell<u32>>>(pool: &Cells<I, R>) -> Option<u32> {
+    let cell = pool.pull().ok()?;
+    cell.set(cell.get().saturating_add(1));
+    Some(cell.get())
+}
+
+/// What two threads come to that share a pool.
+fn added_by_two<
+    I: InitBy<Cell<u32>> + Send + Sync,
+    R: ResetBy<Cell<u32>> + Send + Sync,
+    W: Threads + Sync,
+>(rt: &W, alloc: Global, init: I, reset: R) -> Result<(Option<u32>, Option<u32>), PullError>
+    requires may_make { I.may_make init }
+    requires may_reset { R.may_reset reset }
+{
+    let pool: Cells<I, R> = LinearObjectPool::new(alloc, Makes::new(init), Resets::new(reset))?;
+    Ok(thread::join(rt, || added(&pool), || added(&pool)))
+}
+
+#[test]
+fn two_threads_share_a_pool_of_cells(rt: HostRuntime) {
+    let found = added_by_two(
+        &rt,
+        rt.alloc(),
+        || Some(Cell::new(5)),
+        |cell: &mut Cell<u32>| cell.set(5),
+    );
+    assert_eq!(rt; found, Ok((Some(6), Some(6))));
+}

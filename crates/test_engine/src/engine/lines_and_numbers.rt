@@ -1,0 +1,104 @@
+//! Lines of any length and of any bytes, the greatest numbers, and each kind of pool with a reset to zero.
+use super::*;
+
+/// How many bytes the lines have: about the longest that is kept, about one read, and many reads.
+const LENGTHS: [usize; 9] = [1, 63, 64, 65, 1023, 1024, 1025, 2048, 100_000];
+
+/// What is answered to a line of so many letters and a pull behind it, and to such a line that the input ends in.
+fn answers_to_letters<H: Wait>(
+    rt: &H,
+    alloc: Global,
+    length: usize,
+) -> Result<(Vec<u8>, Vec<u8>), Fail> {
+    let mut input = String::new(alloc);
+    for _ in 0..length {
+        input.push_str("p")?;
+    }
+    let last = output_of(rt, alloc, Kind::None, Reset::Keep, input.as_str())?;
+    input.push_str("\npull\n")?;
+    let first = output_of(rt, alloc, Kind::None, Reset::Keep, input.as_str())?;
+    Ok((first, last))
+}
+
+#[test]
+fn a_line_of_any_length_is_answered_with_a_line_feed_or_without(
+    rt: HostRuntime,
+) -> Result<(), Fail> {
+    for length in LENGTHS {
+        let (first, last) = answers_to_letters(&rt, rt.alloc(), length)?;
+        assert_eq!(rt;
+            (first.as_slice(), last.as_slice()),
+            (
+                b"bad line\npulled 0 value 0\n".as_slice(),
+                b"bad line\n".as_slice()
+            ),
+            "{length} bytes"
+        );
+    }
+    Ok(())
+}
+
+#[test]
+fn each_byte_alone_is_a_bad_line(rt: HostRuntime) {
+    for byte in 0..=255u8 {
+        let line = [byte, b'\n'];
+        let mut input = line.as_slice();
+        let mut output = Device::new(64, 64);
+        let result = run(
+            &rt,
+            rt.alloc(),
+            Kind::Stack,
+            Reset::Keep,
+            &mut input,
+            &mut output,
+        );
+        let lines = if byte == b'\n' { 2 } else { 1 };
+        assert_eq!(rt; result, Ok(()), "byte {byte}");
+        assert!(rt;
+            is_repeated(output.bytes(), b"bad line\n", lines),
+            "byte {byte}"
+        );
+    }
+}
+
+/// Each command with a number, at the greatest numbers that one may be.
+const GREATEST: &str =
+    "attach 4294967295\nwrite 4294967295 1\nreturn 4294967295\nforget 4294967295\npull\nwrite 0 4294967295\nreturn 0\npull\n";
+
+#[test]
+fn the_greatest_numbers_are_answered_in_each_command(rt: HostRuntime) -> Result<(), Fail> {
+    let rows = [
+        (
+            Kind::Linear,
+            "not offered\nno such holder\nno such holder\nno such holder\npulled 0 number 0 value 0\nwritten 0\nreturned 0\npulled 1 number 0 value 4294967295\n",
+        ),
+        (
+            Kind::Stack,
+            "attached 0\nno such holder\nno such holder\nno such holder\npulled 1 value 0\nwritten 0\nreturned 0\npulled 2 value 4294967295\n",
+        ),
+    ];
+    for (kind, expected) in rows {
+        let output = output_of(&rt, rt.alloc(), kind, Reset::Keep, GREATEST)?;
+        assert_eq!(rt; output.as_slice(), expected.as_bytes(), "{kind:?}");
+    }
+    Ok(())
+}
+
+#[test]
+fn each_kind_of_pool_is_reset_to_zero(rt: HostRuntime) -> Result<(), Fail> {
+    let input = "pull\nwrite 0 5\nreturn 0\npull\n";
+    let numbered = "pulled 0 number 0 value 0\nwritten 0\nreturned 0\npulled 1 number 0 value 0\n";
+    let plain = "pulled 0 value 0\nwritten 0\nreturned 0\npulled 1 value 0\n";
+    for (kind, expected) in [
+        (Kind::Linear, numbered),
+        (Kind::Bounded(1), numbered),
+        (Kind::Bounded(2), numbered),
+        (Kind::Bounded(100), numbered),
+        (Kind::Stack, plain),
+        (Kind::None, plain),
+    ] {
+        let output = output_of(&rt, rt.alloc(), kind, Reset::Zero, input)?;
+        assert_eq!(rt; output.as_slice(), expected.as_bytes(), "{kind:?}");
+    }
+    Ok(())
+}

@@ -1,0 +1,74 @@
+//! Where a pulled value comes from, concluded from the contract of a pull alone.
+ghost use Rattle.std.specs.Prelude.{◌≡◌, ◌⊎◌, ℕ, ◌∷◌, ⊤, Some, IfSome};
+ghost use Rattle.lockfree_object_pool.specs.LinearPool.{reusable_item};
+ghost use Rattle.lockfree_object_pool.specs.PageHistory.{History, WasReturned};
+ghost use Rattle.lockfree_object_pool.specs.declared.page.history.PageAct.TheVariants.{Took};
+
+use super::*;
+use lockfree_object_pool::closures::Copied;
+use std::mem::size_of;
+use std::test::Fail;
+
+/// Makes sevens.
+#[derive(Drop)]
+struct Sevens;
+
+impl Init<u32, AnyValue> for Sevens {
+    ghost answers = { λ _ answer. answer ≡ Some 7 };
+
+    fn make(&self) -> Option<u32> {
+        Some(7)
+    }
+}
+
+type SevenPool<R> = LinearObjectPool<u32, Sevens, R, AnyValue>;
+
+/// Whatever the resets do: a pulled value is 7, or what the last return of this very item left.
+fn pulled<'p, R: Reset<u32, AnyValue>>(
+    pool: &'p SevenPool<R>,
+) -> Option<LinearReusable<'p, u32, Sevens, R, AnyValue>>
+    ensures { IfSome result (λ item. ((reusable_item item).value ≡ 7) ⊎ ((before : History ℕ) × ((reusable_item item).history ≡ Took (reusable_item item).holder (reusable_item item).id (reusable_item item).value ∷ before) × WasReturned before (reusable_item item).id (reusable_item item).value)) }
+{
+    match pool.pull() {
+        Ok(item) => Some(item),
+        Err(_) => None,
+    }
+}
+
+/// Leaves one more than there was.
+#[derive(Drop)]
+struct OneMore;
+
+impl Reset<u32, AnyValue> for OneMore {
+    ghost leaves = { λ _ _ _. ⊤ };
+
+    fn reset(&self, value: &mut u32) {
+        *value = value.wrapping_add(1);
+    }
+}
+
+#[test]
+fn a_value_is_an_answer_or_what_a_return_left(rt: HostRuntime) -> Result<(), Fail> {
+    let pool = SevenPool::new(rt.alloc(), Sevens, OneMore)?;
+    for expected in [7, 8, 9] {
+        let Some(item) = pulled(&pool) else {
+            panic!(rt; "an item is free")
+        };
+        assert_eq!(rt; *item, expected);
+    }
+    Ok(())
+}
+
+/// What is known of a history takes no room in a reusable.
+#[test]
+fn a_reusable_is_as_large_as_its_parts(rt: HostRuntime) -> Result<(), Fail> {
+    assert_eq!(rt;
+        size_of::<LinearReusable<'static, u64, Copied<u64, AnyValue>, Keep, AnyValue>>(),
+        40
+    );
+    assert_eq!(rt;
+        size_of::<LinearOwnedReusable<u64, Copied<u64, AnyValue>, Keep, AnyValue>>(),
+        40
+    );
+    Ok(())
+}

@@ -1,0 +1,154 @@
+//! Callers that need a page's history: what comes before what, and that two histories are of one page.
+ghost use Rattle.std.specs.Prelude.{◌≡◌, ◌⊎◌, ℕ, ◌∷◌, IfSome};
+ghost use Rattle.lockfree_object_pool.specs.Note.{note_page, note_history};
+ghost use Rattle.lockfree_object_pool.specs.OwnedSlot.{owned_slot_item};
+ghost use Rattle.lockfree_object_pool.specs.Page.{page_identity};
+ghost use Rattle.lockfree_object_pool.specs.PageHistory.{History, IsBeginningOf};
+ghost use Rattle.lockfree_object_pool.specs.Slot.{slot_item};
+ghost use Rattle.lockfree_object_pool.specs.declared.page.history.PageAct.TheVariants.{Gave};
+
+use lockfree_object_pool::clean::{AnyValue, Clean};
+use lockfree_object_pool::page::{
+    Allocated, OwnedSlot, Page, PageNote, PageSlot, PullPass, Witness,
+};
+use std::mem::size_of;
+use std::sync::Arc;
+use std::test::Fail;
+use std::thread;
+use std::thread::Threads;
+
+type NumberPage = Page<u32, AnyValue>;
+
+fn sent<X: Send>(_value: &X) {}
+
+fn sent_notes<T: Send>(note: &PageNote<T>, witness: &Witness<T>) {
+    sent(note);
+    sent(witness);
+}
+
+/// A pull by a note stands after all that the note knew.
+fn pulled_after<'s>(
+    page: &'s NumberPage,
+    note: PageNote<u32>,
+) -> Option<PageSlot<'s, u32, AnyValue>>
+    requires { note_page note ≡ page_identity page.now }
+    ensures page { IfSome result (λ slot. (slot_item slot).page ≡ page_identity page.now) }
+    ensures after { IfSome result (λ slot. IsBeginningOf (note_history note) (slot_item slot).history) }
+{
+    let pass = PullPass::new();
+    match page.try_alloc_from(&pass, note) {
+        Ok(Allocated::Slot(slot)) => Some(slot),
+        _ => None,
+    }
+}
+
+/// Returns 5, and tells it by a note: the return is the last act that the note knows.
+fn returned_five(page: &NumberPage) -> Option<PageNote<u32>>
+    ensures page { IfSome result (λ note. note_page note ≡ page_identity page.now) }
+    ensures last { IfSome result (λ note. (user id : ℕ) × (before : History ℕ) × (note_history note ≡ Gave user id 5 ∷ before)) }
+{
+    let mut slot = page.alloc().ok()??;
+    *slot = 5;
+    Some(Page::free(slot))
+}
+
+/// Two threads return an item each, and hand their notes on. A pull by the first note stands after the first return;
+/// what the two threads saw is of one history, so that of one is a beginning of the other's.
+fn handed_on<'s, R: Threads + Sync>(
+    rt: &R,
+    page: &'s NumberPage,
+) -> Option<(PageSlot<'s, u32, AnyValue>, PageNote<u32>)>
+    ensures after { IfSome result (λ seen. (user id : ℕ) × (before : History ℕ) × IsBeginningOf (Gave user id 5 ∷ before) (slot_item seen.0).history) }
+    ensures slot_page { IfSome result (λ seen. (slot_item seen.0).page ≡ page_identity page.now) }
+    ensures note_page { IfSome result (λ seen. note_page seen.1 ≡ page_identity page.now) }
+{
+    let (first, second) = thread::join(
+        rt,
+        || -> Option<PageNote<u32>>
+            ensures page { IfSome result (λ note. note_page note ≡ page_identity page.entry.now) }
+            ensures last { IfSome result (λ note. (user id : ℕ) × (before : History ℕ) × (note_history note ≡ Gave user id 5 ∷ before)) }
+        { returned_five(page) },
+        || -> Option<PageNote<u32>>
+            ensures page { IfSome result (λ note. note_page note ≡ page_identity page.entry.now) }
+        { returned_five(page) },
+    );
+    let slot = pulled_after(page, first?)?;
+    Some((slot, second?))
+}
+
+/// What two users of one page know are beginnings of one history, so one of them is a beginning of the other.
+fn compared(page: &NumberPage, one: PageNote<u32>, other: PageNote<u32>) -> PageNote<u32>
+    requires one { note_page one ≡ page_identity page.now }
+    requires other { note_page other ≡ page_identity page.now }
+    ensures page { note_page result ≡ page_identity page.now }
+    ensures compared { IsBeginningOf (note_history one) (note_history other) ⊎ IsBeginningOf (note_history other) (note_history one) }
+{
+    let mut both = one;
+    page.tell(&mut both, other.into_witness());
+    both
+}
+
+/// A holder leaves a witness of what it knows, and a note is told: the pull stands in the note's history.
+fn told_of_pull(page: &NumberPage, slot: &mut PageSlot<'_, u32, AnyValue>) -> PageNote<u32>
+    requires { (slot_item slot.old).page ≡ page_identity page.now }
+    ensures page { note_page result ≡ page_identity page.now }
+    ensures knows { IsBeginningOf (slot_item slot.old).history (note_history result) }
+    ensures same_item { slot_item slot.new ≡ slot_item slot.old }
+{
+    let mut note = page.note();
+    page.tell(&mut note, slot.witness());
+    note
+}
+
+/// An owned slot's return is told alike.
+fn owned_returned<K: Clean<u32>>(slot: OwnedSlot<u32, K>) -> PageNote<u32>
+    requires { K.meets (owned_slot_item slot).value }
+    ensures { IsBeginningOf (owned_slot_item slot).history (note_history result) }
+{
+    slot.free()
+}
+
+#[test]
+fn a_pull_stands_after_a_return_of_another_thread(rt: HostRuntime) -> Result<(), Fail> {
+    let page = NumberPage::new(rt.alloc(), &|| Some(3))?;
+    let Some((mut slot, other)) = handed_on(&rt, &page) else {
+        panic!(rt; "an item is free")
+    };
+    assert_eq!(rt; *slot, 5);
+    let note = told_of_pull(&page, &mut slot);
+    let both = compared(&page, note, other);
+    let Some(second) = pulled_after(&page, both) else {
+        panic!(rt; "an item is free")
+    };
+    assert_eq!(rt; page.get_mask().count_ones(), 30);
+    Page::free(slot);
+    Page::free(second);
+    assert_eq!(rt; page.get_mask(), u32::MAX);
+    Ok(())
+}
+
+#[test]
+fn an_owned_return_is_told_too(rt: HostRuntime) -> Result<(), Fail> {
+    let page = Arc::new(rt.alloc(), NumberPage::new(rt.alloc(), &|| Some(3))?)?;
+    let Ok(Some(slot)) = page.alloc() else {
+        panic!(rt; "an item is free")
+    };
+    let mut owned = slot.into_owned(Arc::try_clone(&page)?);
+    *owned = 8;
+    drop(owned_returned(owned));
+    let Ok(Some(again)) = page.alloc() else {
+        panic!(rt; "an item is free")
+    };
+    assert_eq!(rt; *again, 8);
+    Ok(())
+}
+
+/// What is known of a history costs nothing: a note, a witness and what a slot knows have no bytes.
+#[test]
+fn a_history_takes_no_bytes(rt: HostRuntime) -> Result<(), Fail> {
+    assert_eq!(rt; size_of::<PageNote<u32>>(), 0);
+    assert_eq!(rt; size_of::<Witness<u32>>(), 0);
+    assert_eq!(rt; size_of::<PageSlot<'static, u64, AnyValue>>(), 24);
+    assert_eq!(rt; size_of::<OwnedSlot<u64, AnyValue>>(), 24);
+    Ok(())
+}

@@ -1,0 +1,103 @@
+//! Stack cores that keep many items, and players that hold many and let many go.
+use super::Zeros;
+use lockfree_object_pool::PullError;
+use lockfree_object_pool::clean::AnyValue;
+use lockfree_object_pool::closures::{Copied, Keep};
+use object_pool_cores::sequential::*;
+use std::alloc::{AllocError, Global};
+use std::cell::Cell;
+use std::test::Fail;
+
+/// How many items are kept.
+const KEPT: usize = 100;
+
+/// Pulls so many items, and then gives each back.
+fn pull_and_give<P: SequentialPool<u32>>(
+    alloc: Global,
+    core: &mut P,
+    count: usize,
+) -> Result<(), PullError> {
+    let mut items = Vec::with_capacity(alloc, count)?;
+    for _ in 0..count {
+        items.push(core.pull()?)?;
+    }
+    for item in items {
+        if core.is_mine(&item) {
+            core.give(item);
+        }
+    }
+    Ok(())
+}
+
+/// Each pull that finds an item kept leaves `init` alone, and a value is attached beside those that are kept.
+#[test]
+fn a_hundred_kept_items_are_pulled_before_init_is_asked(rt: HostRuntime) -> Result<(), Fail> {
+    let calls = Cell::new(0u32);
+    let init = Zeros {
+        calls: &calls,
+        refused: 0,
+    };
+    let mut core = StackCore::<u32, _, _, AnyValue>::new(rt.alloc(), init, Keep);
+    for _ in 0..3 {
+        pull_and_give(rt.alloc(), &mut core, KEPT)?;
+        let attached = core.attach(9).ok().map(|item| *item);
+        assert_eq!(rt; (calls.get(), attached), (100, Some(9)));
+    }
+    pull_and_give(rt.alloc(), &mut core, KEPT + 1)?;
+    assert_eq!(rt; calls.get(), 101);
+    Ok(())
+}
+
+/// 200 pulls, and the returns of the last hundred.
+fn pulls_and_returns(alloc: Global) -> Result<Vec<Command<u32>>, AllocError> {
+    let mut commands = Vec::new(alloc);
+    for _ in 0..200 {
+        commands.push(Command::Pull)?;
+    }
+    for holder in 100..200 {
+        commands.push(Command::Return(holder))?;
+    }
+    Ok(commands)
+}
+
+/// So many attaches, and then so many pulls.
+fn attaches_and_pulls(alloc: Global, count: usize) -> Result<Vec<Command<u32>>, AllocError> {
+    let mut commands = Vec::new(alloc);
+    for _ in 0..count {
+        commands.push(Command::Attach(9))?;
+    }
+    for _ in 0..count {
+        commands.push(Command::Pull)?;
+    }
+    Ok(commands)
+}
+
+/// The reply to the command at an index of both lists, one behind the other.
+fn reply_at(index: usize) -> Reply<u32> {
+    match index {
+        0..200 => Reply::Pulled(index, None),
+        200..300 => Reply::Returned,
+        300..500 => Reply::Attached(index - 100),
+        _ => Reply::Pulled(index - 100, None),
+    }
+}
+
+#[test]
+fn a_player_that_holds_and_let_go_hundreds_attaches_and_pulls(rt: HostRuntime) -> Result<(), Fail> {
+    let zero = Copied::<u32, AnyValue>::new(0);
+    let core = StackCore::<u32, _, _, AnyValue>::new(rt.alloc(), zero, Keep);
+    let mut player = Player::new(rt.alloc(), core);
+    let mut replies = Vec::new(rt.alloc());
+    player.run(pulls_and_returns(rt.alloc())?, &mut replies)?;
+    player.run(attaches_and_pulls(rt.alloc(), 200)?, &mut replies)?;
+    let mut index = 0usize;
+    for reply in replies.iter() {
+        assert_eq!(rt; *reply, reply_at(index));
+        index = index.saturating_add(1);
+    }
+    assert_eq!(rt;
+        (index, player.held(99), player.held(199), player.held(399)),
+        (700, Some(&0), None, Some(&9))
+    );
+    Ok(())
+}

@@ -1,0 +1,54 @@
+//! Runs of no commands, and of more than a million.
+use lockfree_object_pool::PullError;
+use lockfree_object_pool::clean::AnyValue;
+use lockfree_object_pool::closures::{Copied, Keep};
+use object_pool_cores::sequential::{Command, LinearCore, Player, Reply};
+use std::alloc::{AllocError, Global};
+use std::test::Fail;
+
+/// How often an item is pulled and returned in one run.
+const TURNS: usize = 550_000;
+
+type ZeroPlayer = Player<u32, LinearCore<u32, Copied<u32, AnyValue>, Keep, AnyValue>>;
+
+fn new_player(alloc: Global) -> Result<ZeroPlayer, PullError> {
+    let core = LinearCore::new(alloc, Copied::new(0), Keep)?;
+    Ok(Player::new(alloc, core))
+}
+
+/// A pull and the return of its item, in turn.
+fn turns(alloc: Global) -> Result<Vec<Command<u32>>, AllocError> {
+    let mut commands = Vec::with_capacity(alloc, 2 * TURNS)?;
+    for holder in 0..TURNS {
+        commands.push(Command::Pull)?;
+        commands.push(Command::Return(holder))?;
+    }
+    Ok(commands)
+}
+
+#[test]
+fn a_run_of_no_commands_is_done_and_leaves_no_reply(rt: HostRuntime) -> Result<(), Fail> {
+    let mut player = new_player(rt.alloc())?;
+    let mut replies = Vec::new(rt.alloc());
+    let first = player.run(Vec::new(rt.alloc()), &mut replies);
+    let one = vec![in rt.alloc(); Command::Pull]?;
+    player.run(one, &mut replies)?;
+    let second = player.run(Vec::new(rt.alloc()), &mut replies);
+    assert_eq!(rt;
+        (first, second, player.held(0).copied()),
+        (Ok(()), Ok(()), Some(0))
+    );
+    assert_eq!(rt; replies.as_slice(), [Reply::Pulled(0, Some(0))].as_slice());
+    Ok(())
+}
+
+#[test]
+fn a_run_of_more_than_a_million_commands_is_done(rt: HostRuntime) -> Result<(), Fail> {
+    let mut player = new_player(rt.alloc())?;
+    let mut replies = Vec::new(rt.alloc());
+    player.run(turns(rt.alloc())?, &mut replies)?;
+    let last = [Reply::Pulled(TURNS - 1, Some(0)), Reply::Returned];
+    assert_eq!(rt; replies.len(), 2 * TURNS);
+    assert!(rt; replies.as_slice().ends_with(last.as_slice()));
+    Ok(())
+}

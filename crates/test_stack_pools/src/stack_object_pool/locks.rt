@@ -1,0 +1,120 @@
+//! A lock that another thread holds: a take from the pools' free lists and a put to them wait for it, and neither a value nor
+//! its room is lost.
+use super::waits::wait_for;
+use super::*;
+use lockfree_object_pool::stack::Room;
+use std::test::Fail;
+use std::thread;
+use std::thread::{JoinHandle, Threads};
+
+/// How long a lock is held after the other thread's call began, unless that call returns before.
+const TURNS: u32 = 10_000;
+
+/// How far two threads are: the one that holds the lock, and the one whose call waits for it.
+#[derive(Drop)]
+struct Steps {
+    held: AtomicUsize,
+    begun: AtomicUsize,
+    done: AtomicUsize,
+}
+
+impl Steps {
+    fn new() -> Steps {
+        Steps {
+            held: AtomicUsize::new(0),
+            begun: AtomicUsize::new(0),
+            done: AtomicUsize::new(0),
+        }
+    }
+
+    /// What the holder does while it has the lock.
+    fn hold(&self) {
+        self.held.store(1, SeqCst);
+        let _begun = wait_for(&self.begun);
+        for _ in 0..TURNS {
+            if self.done.load(SeqCst) > 0 {
+                return;
+            }
+            thread::yield_now();
+        }
+    }
+
+    /// Begins a call once the lock is held.
+    fn begin(&self) -> bool {
+        let held = wait_for(&self.held);
+        self.begun.store(1, SeqCst);
+        held
+    }
+
+    fn end(&self) {
+        self.done.store(1, SeqCst);
+    }
+}
+
+/// A free list whose lock can be held.
+trait Lockable: FreeList<u32, AnyValue> {
+    fn new_list(alloc: Global) -> Option<Self>;
+
+    fn lock_during<W: Wait>(&self, rt: &W, steps: &Steps);
+}
+
+impl Lockable for Mutex<Stack<u32, AnyValue>> {
+    fn new_list(_alloc: Global) -> Option<Self> {
+        Some(Mutex::new(Stack::new()))
+    }
+
+    fn lock_during<W: Wait>(&self, rt: &W, steps: &Steps) {
+        let _guard = self.lock(rt);
+        steps.hold();
+    }
+}
+
+impl Lockable for SpinLock<Stack<u32, AnyValue>> {
+    fn new_list(alloc: Global) -> Option<Self> {
+        SpinLock::new(alloc, Stack::new()).ok()
+    }
+
+    fn lock_during<W: Wait>(&self, rt: &W, steps: &Steps) {
+        let _guard = self.lock(rt);
+        steps.hold();
+    }
+}
+
+/// A thread that holds the list's lock.
+fn hold_elsewhere<F: Lockable + Send + Sync + 'static, W: Wait + Threads + Copy + Send + 'static>(
+    rt: &W,
+    list: &Arc<F>,
+    steps: &Arc<Steps>,
+) -> Option<JoinHandle<()>> {
+    let (list, steps, there) = (Arc::try_clone(list).ok()?, Arc::try_clone(steps).ok()?, *rt);
+    thread::spawn(rt, move || list.lock_during(&there, &steps)).ok()
+}
+
+fn waits_for_the_lock<
+    F: Lockable + Send + Sync + 'static,
+    W: Abort + Wait + Threads + Copy + Send + 'static,
+>(rt: &W, alloc: Global) -> Result<(), Fail> {
+    let list = Arc::new(alloc, F::new_list(alloc).ok_or("memory")?)?;
+    list.put(rt, Room::new(alloc)?, 5);
+    let steps = Arc::new(alloc, Steps::new())?;
+    let holder = hold_elsewhere(rt, &list, &steps).ok_or("a thread is made")?;
+    assert!(rt; steps.begin());
+    let (value, room) = list.take(rt).ok_or("5 is kept")?;
+    steps.end();
+    holder.join(rt);
+    assert_eq!(rt; (value, list.count(rt)), (5, 0));
+    let steps = Arc::new(alloc, Steps::new())?;
+    let holder = hold_elsewhere(rt, &list, &steps).ok_or("a thread is made")?;
+    assert!(rt; steps.begin());
+    list.put(rt, room, 6);
+    steps.end();
+    holder.join(rt);
+    assert_eq!(rt; list.take(rt).map(|taken| taken.0), Some(6));
+    Ok(())
+}
+
+#[test]
+fn a_take_and_a_put_wait_for_the_lock(rt: HostRuntime) -> Result<(), Fail> {
+    waits_for_the_lock::<Mutex<Stack<u32, AnyValue>>, _>(&rt, rt.alloc())?;
+    waits_for_the_lock::<SpinLock<Stack<u32, AnyValue>>, _>(&rt, rt.alloc())
+}
