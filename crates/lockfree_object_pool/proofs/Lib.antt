@@ -3,6 +3,7 @@ pub mod FixedAnswers
 pub mod FixedShared
 pub mod GuardShared
 pub mod KeptPlaces
+pub mod LinkPlaces
 pub mod LockSteps
 pub mod PageActs
 pub mod PageAnswers

@@ -16,9 +16,10 @@ use Rattle.lockfree_object_pool.specs.contracts.linear_page.opened_page.OpenedPa
 use Rattle.lockfree_object_pool.specs.contracts.linear_page.page_number.PageNumber as PageNumber
 use Rattle.lockfree_object_pool.specs.contracts.linear_reusable.LinearReusable as LinearReusable
 use Rattle.lockfree_object_pool.specs.contracts.made_or_reset.MadeOrReset as MadeOrReset
+use Rattle.lockfree_object_pool.specs.contracts.linear_owned_reusable.OwnedTakenItem as OwnedTakenItem
 use Rattle.lockfree_object_pool.specs.contracts.linear_owned_reusable.LinearOwnedReusable as LinearOwnedReusable
 use Rattle.lockfree_object_pool.proofs.linear_object_pool.LinearObjectPool.TheSendSync as pool
-use Rattle.lockfree_object_pool.proofs.SlotShared.{taken_sync, owned_slot_parts_sync}
+use Rattle.lockfree_object_pool.proofs.SlotShared.{taken_sync, holding_sync}
 
 -- what a note owns names no thread
 note_sync : (T : RattleType) → IsSync (Note.the_row T)
@@ -38,8 +39,12 @@ module _ (T I R K : RattleType) (answers : Init.Ghosts I.Denot T.Denot K.Denot) 
       let pool_shared = shr_sync _ _ _ (pool.the_sync T I R K answers leaves clean sent init reset) in
       record { shared = λ reusable. (struct_sync (shape type) (pool_shared, (search sendable, (taken_sync T (MadeOrReset.the_row I R K) _ κ sent, (number_sync T (MadeOrReset.the_row I R K) (AnswerOf.the_row I K) _ _, (record { shared = shared.shared }, tt)))))).shared (type.to reusable) }
 
+  owned_taken_sync : IsSend T → IsSend I → IsSync I → IsSend R → IsSync R → IsSync (OwnedTakenItem.the_field T I R K answers leaves clean).row
+  owned_taken_sync sent init_sent init_shared reset_sent reset_shared =
+      let owner = Arc-sync (LinearObjectPool.the_row T I R K answers leaves clean) (pool.the_send T I R K answers leaves clean sent init_sent reset_sent) (pool.the_sync T I R K answers leaves clean sent init_shared reset_shared) in
+      struct_sync (shape (OwnedTakenItem.the_type T I R K answers leaves clean)) (record { shared = owner.shared }, (holding_sync T sent, (number_sync T (MadeOrReset.the_row I R K) (AnswerOf.the_row I K) _ _, tt)))
+
   pub owned_reusable_sync : IsSend T → IsSync T → IsSend I → IsSync I → IsSend R → IsSync R → IsSync (LinearOwnedReusable.the_row T I R K answers leaves clean)
   owned_reusable_sync sent shared init_sent init_shared reset_sent reset_shared =
       let type = LinearOwnedReusable.the_type T I R K answers leaves clean in
-      let owner = Arc-sync (LinearObjectPool.the_row T I R K answers leaves clean) (pool.the_send T I R K answers leaves clean sent init_sent reset_sent) (pool.the_sync T I R K answers leaves clean sent init_shared reset_shared) in
-      record { shared = λ reusable. (struct_sync (shape type) (record { shared = owner.shared }, (owned_slot_parts_sync T (MadeOrReset.the_row I R K) _ sent shared, (number_sync T (MadeOrReset.the_row I R K) (AnswerOf.the_row I K) _ _, tt)))).shared (type.to reusable) }
+      record { shared = λ reusable. (struct_sync (shape type) (owned_taken_sync sent init_sent init_shared reset_sent reset_shared, (record { shared = shared.shared }, tt))).shared (type.to reusable) }

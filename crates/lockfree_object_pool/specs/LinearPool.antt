@@ -3,9 +3,9 @@ use Rattle.std.specs.Prelude.{◌≡◌, ℕ, ◌<◌, Option}
 use Rattle.std.specs.Arc.{arc_value}
 use Rattle.std.specs.Option.{option_map}
 use Rattle.atomic_table.specs.Seated.{TableId}
+use Rattle.lockfree_object_pool.specs.Holding.{held_item}
 use Rattle.lockfree_object_pool.specs.Item.{Item}
 use Rattle.lockfree_object_pool.specs.LinearPage.{first_page}
-use Rattle.lockfree_object_pool.specs.OwnedSlot.{owned_slot_item, owned_slot_with}
 use Rattle.lockfree_object_pool.specs.Slot.{taken_item}
 use Rattle.lockfree_object_pool.specs.Walk.{start_of, number_of, IsReached}
 use Rattle.lockfree_object_pool.specs.declared.linear_object_pool.LinearObjectPool.{LinearObjectPool}
@@ -60,15 +60,15 @@ module _ {T I R K : Type 0} where
 
   -- which pool the value of an owned reusable returns to
   abbrev pub owned_pool : LinearOwnedReusable T I R K → LinearObjectPool T I R K
-  owned_pool reusable = arc_value reusable.pool
+  owned_pool reusable = arc_value reusable.taken.pool
 
   -- the item that the owned reusable has
   abbrev pub owned_item : LinearOwnedReusable T I R K → Item T
-  owned_item reusable = owned_slot_item reusable.slot
+  owned_item reusable = held_item reusable.taken.holding reusable.value
 
   -- the number of the item's page, with what the pull learned of the link to it
   abbrev pub owned_page : LinearOwnedReusable T I R K → PageNumber T (MadeOrReset I R K) (AnswerOf I K)
-  owned_page reusable = reusable.number
+  owned_page reusable = reusable.taken.number
 
   -- the number of the item's page in the pool
   abbrev pub owned_number : LinearOwnedReusable T I R K → ℕ
@@ -76,7 +76,7 @@ module _ {T I R K : Type 0} where
 
   -- the same item with another value
   abbrev pub owned_with : LinearOwnedReusable T I R K → T → LinearOwnedReusable T I R K
-  owned_with reusable value = record reusable { slot = owned_slot_with reusable.slot value }
+  owned_with reusable value = record reusable { value = value }
 
   -- an item that was pulled from this pool, and the number of its page, which at 0 is the pool's first one
   pub record IsPulledFrom (meets : T → Type 0) (pool : LinearObjectPool T I R K) (item : Item T) (number : ℕ) : Type 0 where

@@ -12,7 +12,6 @@ use crate::linear_owned_reusable::LinearOwnedReusable;
 use crate::linear_page::{Chain, Reached};
 use crate::linear_reusable::LinearReusable;
 use crate::made_or_reset::MadeOrReset;
-use crate::page::{Allocated, FullSeen, PullPass};
 pub(crate) use answer_of::AnswerOf;
 use page_limit::PageLimit;
 use std::alloc::Global;
@@ -34,16 +33,14 @@ mod page_limit;
 pub struct LinearObjectPool<T, I: Init<T, K>, R: Reset<T, K>, K: Clean<T> = AnyValue> {
     init: I,
     reset: R,
-    chain: Chain<T, MadeOrReset<I, R, K>, AnswerOf<I, K>>,
+    pub(crate) chain: Chain<T, MadeOrReset<I, R, K>, AnswerOf<I, K>>,
     limit: Option<PageLimit>,
 }
 
 impl<T: Drop, I: Init<T, K>, R: Reset<T, K>, K: Clean<T>> LinearObjectPool<T, I, R, K> {
     ghost use Rattle.lockfree_object_pool.specs.Answers.{IsAnswer, IsMadeOrReset};
-    ghost use Rattle.lockfree_object_pool.specs.FullSeen.{full_page};
     ghost use Rattle.lockfree_object_pool.specs.Item.{HasOrigin};
-    ghost use Rattle.lockfree_object_pool.specs.LinearPool.{pool_init, pool_reset, pool_limit, pages_of, pool_first_page, reusable_pool, reusable_item, reusable_page, reusable_number, owned_pool, owned_item, owned_page, owned_number, IsOnPage, IsPulledFrom};
-    ghost use Rattle.lockfree_object_pool.specs.Page.{page_identity};
+    ghost use Rattle.lockfree_object_pool.specs.LinearPool.{pool_init, pool_reset, pool_limit, pages_of, reusable_pool, reusable_item, reusable_page, reusable_number, owned_pool, owned_item, owned_page, owned_number, IsOnPage, IsPulledFrom};
     ghost use Rattle.lockfree_object_pool.specs.Refusal.{RefusesMaking, RefusesPull};
     ghost use Rattle.lockfree_object_pool.specs.Slot.{slot_item};
     ghost use Rattle.lockfree_object_pool.specs.Walk.{number_of};
@@ -132,36 +129,7 @@ impl<T: Drop, I: Init<T, K>, R: Reset<T, K>, K: Clean<T>> LinearObjectPool<T, I,
           init_refuses = I.answers (pool_init self.now) None;
         })) }
     {
-        let pass = PullPass::new();
-        match self.chain.ask_first(&pass) {
-            Allocated::Slot(slot) => Ok(LinearReusable::new(self, slot, self.chain.first_number())),
-            Allocated::Full(seen) => self.pull_further(seen),
-        }
-    }
-
-    /// As `pull`, where the first page was found full in this pull.
-    #[inline]
-    fn pull_further(
-        &self,
-        seen: FullSeen<'_, T>,
-    ) -> Result<LinearReusable<'_, T, I, R, K>, PullError>
-        requires { full_page seen ≡ pool_first_page self.now }
-        ensures pool { IfOk result (λ item. reusable_pool item ≡ self.now) }
-        ensures pulled { IfOk result (λ item. IsPulledFrom K.meets self.now (reusable_item item) (reusable_number item)) }
-        ensures on_page { IfOk result (λ item. IsOnPage self.now (reusable_page item) (reusable_item item)) }
-        ensures history { IfOk result (λ item. HasOrigin (IsAnswer I.answers) (reusable_item item)) }
-        ensures made_or_reset { IfOk result (λ item.
-            IsMadeOrReset I.answers R.leaves (reusable_item item).value) }
-        ensures within { IfOk result (λ item. IfSome (pool_limit self.now) (λ pages. reusable_number item < pages)) }
-        ensures refused { IfErr result (RefusesPull (record {
-          limited = IsSome (pool_limit self.now);
-          init_refuses = I.answers (pool_init self.now) None;
-        })) }
-    {
-        let init = &self.init;
-        let reached = self
-            .chain
-            .pull_further(seen, self.limit(), &|| init.make())?;
+        let reached = self.find()?;
         Ok(LinearReusable::new(self, reached.slot, reached.number))
     }
 
@@ -169,7 +137,7 @@ impl<T: Drop, I: Init<T, K>, R: Reset<T, K>, K: Clean<T>> LinearObjectPool<T, I,
     ///
     /// # Errors
     ///
-    /// As `pull`; `Memory` too where the pool or the page can have no more owners, and then the item is free again.
+    /// As `pull`; `Memory` too where the pool can have no more owners.
     pub fn pull_owned(self: &Arc<Self>) -> Result<LinearOwnedReusable<T, I, R, K>, PullError>
         ensures pool { IfOk result (λ item. owned_pool item ≡ arc_value self.now) }
         ensures pulled { IfOk result (λ item. IsPulledFrom K.meets (arc_value self.now) (owned_item item) (owned_number item)) }
@@ -185,24 +153,17 @@ impl<T: Drop, I: Init<T, K>, R: Reset<T, K>, K: Clean<T>> LinearObjectPool<T, I,
     {
         let owner = Arc::try_clone(self)?;
         let reached = self.find()?;
-        let number = reached.number.get();
-        match reached.into_owned() {
-            Ok((slot, number)) => Ok(LinearOwnedReusable::new(owner, slot, number)),
-            Err(refused) => {
-                self.chain.no_longer_full(number);
-                Err(refused)
-            }
-        }
+        Ok(LinearOwnedReusable::new(owner, reached.slot, reached.number))
     }
 
     /// The item of a pull, and how many pages lie before its page.
+    #[inline]
     fn find(&self) -> Result<Reached<'_, T, MadeOrReset<I, R, K>, AnswerOf<I, K>>, PullError>
         ensures pulled { IfOk result (λ reached. IsPulledFrom K.meets self.now (slot_item reached.slot) (number_of reached.number)) }
         ensures on_page { IfOk result (λ reached. IsOnPage self.now reached.number (slot_item reached.slot)) }
         ensures history { IfOk result (λ reached. HasOrigin (IsAnswer I.answers) (slot_item reached.slot)) }
         ensures made_or_reset { IfOk result (λ reached.
             IsMadeOrReset I.answers R.leaves (slot_item reached.slot).value) }
-        ensures of_page { IfOk result (λ reached. (slot_item reached.slot).page ≡ page_identity (arc_value reached.page.now)) }
         ensures within { IfOk result (λ reached. IfSome (pool_limit self.now) (λ pages. number_of reached.number < pages)) }
         ensures refused { IfErr result (RefusesPull (record {
           limited = IsSome (pool_limit self.now);
@@ -211,12 +172,6 @@ impl<T: Drop, I: Init<T, K>, R: Reset<T, K>, K: Clean<T>> LinearObjectPool<T, I,
     {
         let init = &self.init;
         self.chain.pull(self.limit(), &|| init.make())
-    }
-
-    /// Tells the next pulls that a page that was full has a free item now. Apart, so that a drop is short enough to be inlined.
-    #[inline(never)]
-    pub(crate) fn no_longer_full(&self, page_number: usize) {
-        self.chain.no_longer_full(page_number);
     }
 
     /// Leaves a value as it is kept.

@@ -1,6 +1,8 @@
 //! A value that was pulled from a linear pool, with an owner of the pool.
 ghost use Rattle.std.specs.Prelude.{◌≡◌, ◌<◌};
 ghost use Rattle.std.specs.Arc.{arc_value};
+ghost use Rattle.lockfree_object_pool.specs.Holding.{holding_page};
+ghost use Rattle.lockfree_object_pool.specs.Walk.{start_of, IsReached};
 ghost use Rattle.lockfree_object_pool.specs.declared.page.TheConstants.{PAGE_ITEMS};
 
 use crate::clean::{AnyValue, Clean};
@@ -8,39 +10,58 @@ use crate::closures::{Init, Reset};
 use crate::linear_object_pool::{AnswerOf, LinearObjectPool};
 use crate::linear_page::PageNumber;
 use crate::made_or_reset::MadeOrReset;
-use crate::page::{OwnedSlot, PageId};
+use crate::page::holding::Holding;
+use crate::page::{PageId, PageSlot};
 use std::fmt::{self, Debug, Formatter, Write};
 use std::ops::{Deref, DerefMut};
 use std::sync::Arc;
 
+/// An item that was taken by an owner of its pool, without its value. Its page is found by the page's number.
+#[derive(Drop)]
+pub(crate) struct OwnedTakenItem<T: Drop, I: Init<T, K>, R: Reset<T, K>, K: Clean<T>> {
+    pool: Arc<LinearObjectPool<T, I, R, K>>,
+    holding: Holding<T>,
+    number: PageNumber<T, MadeOrReset<I, R, K>, AnswerOf<I, K>>,
+    ghost on_page: { ∥ IsReached (start_of (arc_value pool).chain) number (holding_page holding) ∥₁ },
+    ghost in_page: { holding.number < PAGE_ITEMS },
+}
+
 /// A pulled value. Its end resets it and brings it back to its page.
 pub struct LinearOwnedReusable<T: Drop, I: Init<T, K>, R: Reset<T, K>, K: Clean<T> = AnyValue> {
-    pool: Arc<LinearObjectPool<T, I, R, K>>,
-    slot: OwnedSlot<T, MadeOrReset<I, R, K>>,
-    number: PageNumber<T, MadeOrReset<I, R, K>, AnswerOf<I, K>>,
+    taken: OwnedTakenItem<T, I, R, K>,
+    value: T,
 }
 
 impl<T: Drop, I: Init<T, K>, R: Reset<T, K>, K: Clean<T>> LinearOwnedReusable<T, I, R, K> {
-    ghost use Rattle.lockfree_object_pool.specs.LinearPool.{owned_pool, owned_item, owned_page, owned_number};
-    ghost use Rattle.lockfree_object_pool.specs.OwnedSlot.{owned_slot_item};
+    ghost use Rattle.lockfree_object_pool.specs.LinearPool.{owned_pool, owned_item, owned_page, owned_number, IsOnPage};
+    ghost use Rattle.lockfree_object_pool.specs.Slot.{slot_item};
 
     pub(crate) fn new(
         pool: Arc<LinearObjectPool<T, I, R, K>>,
-        slot: OwnedSlot<T, MadeOrReset<I, R, K>>,
+        slot: PageSlot<'_, T, MadeOrReset<I, R, K>>,
         number: PageNumber<T, MadeOrReset<I, R, K>, AnswerOf<I, K>>,
     ) -> LinearOwnedReusable<T, I, R, K>
+        requires { IsOnPage (arc_value pool) number (slot_item slot) }
         ensures pool { owned_pool result ≡ arc_value pool }
-        ensures item { owned_item result ≡ owned_slot_item slot }
+        ensures item { owned_item result ≡ slot_item slot.entry }
         ensures page { owned_page result ≡ number }
     {
-        LinearOwnedReusable { pool, slot, number }
+        let (holding, value) = slot.into_holding();
+        LinearOwnedReusable {
+            taken: OwnedTakenItem {
+                pool,
+                holding,
+                number,
+            },
+            value,
+        }
     }
 
     /// The number of the item's page in the pool, counted from 0.
     pub fn page_number(&self) -> usize
         ensures { result ≡ owned_number self.now }
     {
-        self.number.get()
+        self.taken.number.get()
     }
 
     /// The number of the item in its page.
@@ -48,7 +69,7 @@ impl<T: Drop, I: Init<T, K>, R: Reset<T, K>, K: Clean<T>> LinearOwnedReusable<T,
         ensures value { result ≡ (owned_item self.now).id }
         ensures in_page { result < PAGE_ITEMS }
     {
-        self.slot.id()
+        self.taken.holding.number as PageId
     }
 }
 
@@ -61,7 +82,7 @@ impl<T: Drop, I: Init<T, K>, R: Reset<T, K>, K: Clean<T>> Deref
     ghost deref_gives = { λ reusable value. value ≡ (owned_item reusable).value };
 
     fn deref(&self) -> &T {
-        &self.slot
+        &self.value
     }
 }
 
@@ -77,22 +98,20 @@ impl<T: Drop, I: Init<T, K>, R: Reset<T, K>, K: Clean<T>> DerefMut
         ensures* writes_back { sem 𝓛 (LendsOwnedValue T.row I.row R.row K.row I.Init R.Reset K.Clean self.entry result) }
         ensures shows { result.now ≡ (owned_item self.old).value }
     {
-        &mut self.slot
+        &mut self.value
     }
 }
 
 impl<T: Drop, I: Init<T, K>, R: Reset<T, K>, K: Clean<T>> Drop for LinearOwnedReusable<T, I, R, K> {
     fn drop(self) {
-        let LinearOwnedReusable {
+        let LinearOwnedReusable { taken, mut value } = self;
+        let OwnedTakenItem {
             pool,
-            mut slot,
+            holding,
             number,
-        } = self;
-        pool.reset(&mut slot);
-        let (taken, value) = slot.into_parts();
-        if taken.free(value).was_full {
-            pool.no_longer_full(number.get());
-        }
+        } = taken;
+        pool.reset(&mut value);
+        pool.chain.free(number, holding, value);
     }
 }
 
@@ -103,6 +122,6 @@ impl<T: Debug + Drop, I: Init<T, K>, R: Reset<T, K>, K: Clean<T>> Debug
     ghost debug_output = { λ reusable. T.debug_output (owned_item reusable).value };
 
     fn fmt<W: Write>(&self, f: &mut Formatter<W>) -> fmt::Result {
-        Debug::fmt(&*self.slot, f)
+        Debug::fmt(&self.value, f)
     }
 }

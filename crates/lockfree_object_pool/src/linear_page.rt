@@ -2,7 +2,8 @@
 //!
 //! This file has the chain and a page of it. Below it: where a link lies (`directory`), what a caller has learned of a
 //! link (`link_note`) and of the number of a page (`page_number`), a page with what it opened with (`opened_page`), the walk
-//! from page to page for an item (`walk`), which pages may have a free item (`hints`), and a pull by such hints (`hinted`).
+//! from page to page for an item (`walk`), which pages may have a free item (`hints`), a pull by such hints (`hinted`), and
+//! the return of an item to the page of its number (`numbered`).
 //!
 //! No call waits for another thread. A link is set once, in `get_or_create_next_as` alone, for a
 //! caller that has found its page full.
@@ -26,6 +27,7 @@ mod directory;
 mod hinted;
 mod hints;
 mod link_note;
+mod numbered;
 mod opened_page;
 mod page_number;
 mod walk;

@@ -100,7 +100,7 @@ impl<T: Drop, I: Init<T, K>, R: Reset<T, K>, K: Clean<T>> Drop for LinearReusabl
         } = self;
         pool.reset(&mut value);
         if taken.free(value).was_full {
-            pool.no_longer_full(number.get());
+            pool.chain.no_longer_full(number.get());
         }
     }
 }

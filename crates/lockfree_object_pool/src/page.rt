@@ -102,6 +102,7 @@ pub struct Page<T, K: Clean<T>> {
 impl<T, K: Clean<T>> Page<T, K> {
     ghost use Rattle.lockfree_object_pool.specs.Answers.{MayMake};
     ghost use Rattle.lockfree_object_pool.specs.FullSeen.{IsAnswerOf, IsAnswerFrom, IsAnswerAfter, IsBrief, IsBriefAfter, answer_view};
+    ghost use Rattle.lockfree_object_pool.specs.Holding.{holding_page, held_item};
     ghost use Rattle.lockfree_object_pool.specs.Item.{IsPulledOf};
     ghost use Rattle.lockfree_object_pool.specs.Note.{note_page, witness_page, IsReturned, IsNoteOf, HasLearned};
     ghost use Rattle.lockfree_object_pool.specs.Page.{page_identity, page_opening, OpensWith};
@@ -253,6 +254,20 @@ impl<T, K: Clean<T>> Page<T, K> {
     {
         let (taken, value) = slot.into_parts();
         taken.free(value).note
+    }
+
+    /// The value of an item that is out goes home, and its id is free again.
+    pub(crate) fn give(&self, holding: Holding<T>, value: T) -> Returned<T>
+        requires of_page { holding_page holding ≡ page_identity self.now }
+        requires in_page { holding.number < PAGE_ITEMS }
+        requires meets { K.meets value }
+        ensures { IsReturned (held_item holding value) result.note }
+    {
+        let (seat, was_full) = self.items.give(holding, value);
+        Returned {
+            note: PageNote { seat },
+            was_full,
+        }
     }
 
     /// Whether no item was free at this moment.

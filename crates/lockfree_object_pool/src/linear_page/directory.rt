@@ -4,11 +4,12 @@ ghost use Rattle.std.specs.Prelude.{◌≡◌, ◌^◌, ◌<◌, length, IfOk, I
 ghost use Rattle.once_cell.specs.Once.{cell_name};
 ghost use Rattle.lockfree_object_pool.specs.Refusal.{RefusesMaking};
 
-use super::LinkNote;
 use super::hints::{HINTS, HintWord};
 use super::opened_page::OpenedPage;
+use super::{LinkNote, PageNumber};
 use crate::PullError;
 use crate::clean::Clean;
+use crate::page::holding::Holding;
 use once_cell::race::OnceBox;
 use std::alloc::{AllocError, Global};
 use std::marker::Model;
@@ -87,7 +88,8 @@ impl<T: Drop, K: Clean<T>, O: Clean<T>> Directory<T, K, O> {
     ghost use Rattle.std.specs.Arc.{arc_value};
     ghost use Rattle.lockfree_object_pool.specs.LinkRow.{IsLinkTo, link_at};
     ghost use Rattle.lockfree_object_pool.specs.Page.{page_identity};
-    ghost use Rattle.lockfree_object_pool.specs.Walk.{IsKnownAt};
+    ghost use Rattle.lockfree_object_pool.specs.Holding.{holding_page};
+    ghost use Rattle.lockfree_object_pool.specs.Walk.{IsKnownAt, IsLinkedAt};
 
     pub(super) fn new(alloc: Global) -> Result<Directory<T, K, O>, PullError>
         ensures refused { IfErr result (RefusesMaking ⊥) }
@@ -116,6 +118,23 @@ impl<T: Drop, K: Clean<T>, O: Clean<T>> Directory<T, K, O> {
         let mut note = place.known_row()?;
         let page = place.get_as(&mut note)?;
         Some((page, note))
+    }
+
+    /// The page of an item, to which the notes of the page's number lead.
+    pub(super) fn linked_page(
+        &self,
+        number: PageNumber<T, K, O>,
+        holding: &Holding<T>,
+    ) -> &OpenedPage<T, K, O>
+        requires { ∥ IsLinkedAt self.now number (holding_page holding.now) ∥₁ }
+        ensures { page_identity (arc_value result.now) ≡ holding_page holding.now }
+    {
+        let place = self.place(number.get());
+        let mut note = number.into_note(&place);
+        let Some(page) = place.get_as(&mut note) else {
+            unreachable!()
+        };
+        page
     }
 
     /// The number of the first page that a hint names.
@@ -186,7 +205,7 @@ pub(super) struct LinkPlace<'c, T, K: Clean<T>, O: Clean<T>> {
     alloc: Global,
     row: &'c OnceBox<Row<T, K, O>>,
     row_number: u32,
-    offset: usize,
+    pub(super) offset: usize,
     ghost in_directory: { row_number < 64 },
 }
 

@@ -16,7 +16,7 @@ ghost use Rattle.lockfree_object_pool.specs.LinearPage.{first_page};
 ghost use Rattle.lockfree_object_pool.specs.Page.{page_identity};
 ghost use Rattle.lockfree_object_pool.specs.Refusal.{RefusesPull};
 ghost use Rattle.lockfree_object_pool.specs.Slot.{slot_item};
-ghost use Rattle.lockfree_object_pool.specs.Walk.{start_of, number_of, IsAnsweredBy, IsKnownAt, IsReached};
+ghost use Rattle.lockfree_object_pool.specs.Walk.{start_of, number_of, IsKnownAt, IsReached};
 
 use super::opened_page::OpenedPage;
 use super::walk::{KnownFull, Reached};
@@ -27,6 +27,7 @@ use crate::page::{Allocated, FullSeen, Page, PullPass};
 
 impl<T: Drop, K: Clean<T>, O: Clean<T>> Chain<T, K, O> {
     /// An item of the first page, or of a page that a hint names, or of the first page that has one.
+    #[inline]
     pub(crate) fn pull<I: Fn() -> Option<T>>(
         &self,
         limit: Option<usize>,
@@ -44,33 +45,19 @@ impl<T: Drop, K: Clean<T>, O: Clean<T>> Chain<T, K, O> {
         })) }
     {
         let pass = PullPass::new();
-        match self.ask_first(&pass) {
+        match self.first.take(&pass).answer {
             Allocated::Slot(slot) => Ok(Reached {
                 slot,
                 page: self.first.owner(),
-                number: self.first_number(),
+                number: PageNumber::of_start(self.directory.allocator(), 0),
             }),
             Allocated::Full(seen) => self.pull_further(seen, limit, init),
         }
     }
 
-    /// What the first page answers to a pull.
-    pub(crate) fn ask_first<'s, 'p>(&'s self, pass: &'p PullPass) -> Allocated<'s, 'p, T, K>
-        ensures { IsAnsweredBy K.meets O.meets (first_page self.now) result }
-    {
-        self.first.take(pass).answer
-    }
-
-    /// The number of the first page.
-    pub(crate) fn first_number(&self) -> PageNumber<T, K, O>
-        ensures { number_of result ≡ 0 }
-    {
-        PageNumber::of_start(self.directory.allocator(), 0)
-    }
-
     /// As `pull`, where the first page was found full in this pull. Apart, so that a pull of the first page is short.
     #[inline(never)]
-    pub(crate) fn pull_further<I: Fn() -> Option<T>>(
+    fn pull_further<I: Fn() -> Option<T>>(
         &self,
         seen: FullSeen<'_, T>,
         limit: Option<usize>,
@@ -145,7 +132,9 @@ impl<T: Drop, K: Clean<T>, O: Clean<T>> Chain<T, K, O> {
         }
     }
 
-    /// Sets the hint of a page that has a free item now and may have been full before.
+    /// Sets the hint of a page that has a free item now and may have been full before. Apart, so that a drop is short enough to be
+    /// inlined.
+    #[inline(never)]
     pub(crate) fn no_longer_full(&self, number: usize) {
         if number > 0 {
             self.directory.set_hint(number);

@@ -1,15 +1,20 @@
 //! The number of a page in its chain.
-ghost use Rattle.std.specs.Prelude.{◌≡◌};
+ghost use Rattle.std.specs.Prelude.{◌≡◌, Some};
+ghost use Rattle.std.specs.Arc.{arc_value};
+ghost use Rattle.std.specs.Option.{option_map};
 ghost use Rattle.atomic_table.specs.Seated.{TableId};
-ghost use Rattle.lockfree_object_pool.specs.LinkRow.{Cells};
+ghost use Rattle.lockfree_object_pool.specs.LinkNote.{known_link, known_next};
+ghost use Rattle.lockfree_object_pool.specs.LinkRow.{Cells, cell_in_row};
+ghost use Rattle.lockfree_object_pool.specs.Page.{page_identity};
 ghost use Rattle.lockfree_object_pool.specs.Walk.{number_of, IsKnownAt, IsLinkedAt};
 
 use super::LinkNote;
-use super::directory::Row;
+use super::directory::{LinkPlace, Row};
 use super::opened_page::OpenedPage;
 use crate::clean::Clean;
 use once_cell::race::{Note, OnceBox};
 use std::alloc::Global;
+use std::snapshot::Snapshot;
 
 /// The number of a page in its chain, and what was learned of the link to it: at run time the number alone.
 #[derive(Drop)]
@@ -46,6 +51,25 @@ impl<T: Drop, K: Clean<T>, O: Clean<T>> PageNumber<T, K, O> {
             offset: _,
         } = note;
         PageNumber { number, row, link }
+    }
+
+    /// The note of the link at this place, where its row and the link are those of the number's notes.
+    pub(super) fn into_note(self, place: &LinkPlace<'_, T, K, O>) -> LinkNote<T, K, O>
+        requires { cell_in_row self.row.known place.now.offset ≡ Some self.link.cell }
+        ensures row { (known_link result).0 ≡ self.row.cell }
+        ensures offset { (known_link result).1 ≡ place.now.offset }
+        ensures next { known_next result ≡ option_map (λ page. page_identity (arc_value page)) self.link.known }
+    {
+        let PageNumber {
+            number: _,
+            row,
+            link,
+        } = self;
+        LinkNote {
+            row,
+            link,
+            offset: Snapshot::of(&place.offset),
+        }
     }
 
     /// How many links the page lies behind its chain's first one.

@@ -40,11 +40,7 @@ impl<T, K: Clean<T>> OwnedTakenId<T, K> {
         ensures { IsReturned (owned_taken_item self value) result.note }
     {
         let OwnedTakenId { page, holding } = self;
-        let (seat, was_full) = page.items.give(holding, value);
-        Returned {
-            note: PageNote { seat },
-            was_full,
-        }
+        page.give(holding, value)
     }
 }
 

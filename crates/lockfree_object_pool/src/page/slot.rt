@@ -7,7 +7,7 @@ ghost use Rattle.lockfree_object_pool.specs.Page.{page_identity};
 ghost use Rattle.lockfree_object_pool.specs.declared.page.TheConstants.{PAGE_ITEMS};
 
 use super::holding::Holding;
-use super::{OwnedSlot, OwnedTakenId, Page, PageId, PageNote, Returned, Witness};
+use super::{OwnedSlot, OwnedTakenId, Page, PageId, Returned, Witness};
 use crate::clean::Clean;
 use crate::lender::Lender;
 use std::ops::{Deref, DerefMut};
@@ -39,11 +39,7 @@ impl<'s, T, K: Clean<T>> TakenId<'s, T, K> {
         ensures { IsReturned (taken_item self.entry value) result.note }
     {
         let TakenId { page, holding } = self;
-        let (seat, was_full) = page.items.give(holding, value);
-        Returned {
-            note: PageNote { seat },
-            was_full,
-        }
+        page.give(holding, value)
     }
 }
 
@@ -58,6 +54,7 @@ pub struct PageSlot<'s, T, K: Clean<T>> {
 }
 
 impl<'s, T, K: Clean<T>> PageSlot<'s, T, K> {
+    ghost use Rattle.lockfree_object_pool.specs.Holding.{held_item};
     ghost use Rattle.lockfree_object_pool.specs.Note.{witness_page, witness_history};
     ghost use Rattle.lockfree_object_pool.specs.OwnedSlot.{owned_slot_item};
     ghost use Rattle.lockfree_object_pool.specs.Slot.{slot_item, slot_view, taken_item, taken_view};
@@ -102,6 +99,15 @@ impl<'s, T, K: Clean<T>> PageSlot<'s, T, K> {
             value,
         } = self;
         (taken, value)
+    }
+
+    /// What the holder has, and the value, without the borrow of the page.
+    pub(crate) fn into_holding(self) -> (Holding<T>, T)
+        ensures item { held_item result.0 result.1 ≡ slot_item self.entry }
+        ensures in_page { result.0.number < PAGE_ITEMS }
+    {
+        let (TakenId { page: _, holding }, value) = self.into_parts();
+        (holding, value)
     }
 
     /// The same item, with an owner of the page in place of the borrow.

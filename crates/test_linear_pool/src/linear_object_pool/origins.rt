@@ -68,7 +68,7 @@ fn a_reusable_is_as_large_as_its_parts(rt: HostRuntime) -> Result<(), Fail> {
     );
     assert_eq!(rt;
         size_of::<LinearOwnedReusable<u64, Copied<u64, AnyValue>, Keep, AnyValue>>(),
-        40
+        32
     );
     Ok(())
 }

@@ -1,6 +1,7 @@
 //! Walks for owned items, with a limit and without one.
 use super::*;
 use lockfree_object_pool::page::OwnedSlot;
+use test_values::counted::{Counted, Counts, NEVER};
 
 /// Owned slots with the numbers of their pages.
 type WalkedOwned = Vec<(OwnedSlot<u32, AnyValue>, usize)>;
@@ -28,4 +29,32 @@ fn owned_walks_fill_page_after_page(rt: HostRuntime) {
     for (index, (slot, number)) in found.iter().enumerate() {
         assert_eq!(rt; (*number, usize::from(slot.id())), (index / 32, index % 32));
     }
+}
+
+/// 33 items that one walk after the other finds, on two pages.
+fn counted_walks<'c>(
+    alloc: Global,
+    counts: &'c Counts,
+) -> Result<Vec<OwnedSlot<Counted<'c>, AnyValue>>, PullError> {
+    let chain = Chain::<_, _, AnyValue>::new(alloc, &|| counts.make_but(NEVER))?;
+    let mut slots = Vec::new(alloc);
+    for _ in 0..33 {
+        let (slot, _) = chain.first().alloc_owned(&|| counts.make_but(NEVER))?;
+        slots.push(slot)?;
+    }
+    Ok(slots)
+}
+
+/// The chain ends before the slots, and its pages end with them.
+#[test]
+fn the_last_slots_that_walks_found_let_their_pages_end(rt: HostRuntime) {
+    let counts = Counts::new();
+    let mut slots = counted_walks(rt.alloc(), &counts).expect(&rt, "33 items are found");
+    assert_eq!(rt; counts.now(), (64, 0));
+    if let Some(slot) = slots.pop() {
+        slot.free();
+    }
+    assert_eq!(rt; counts.now(), (64, 32));
+    drop(slots);
+    assert_eq!(rt; counts.now(), (64, 64));
 }
