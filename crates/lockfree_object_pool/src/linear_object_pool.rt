@@ -12,6 +12,7 @@ use crate::linear_owned_reusable::LinearOwnedReusable;
 use crate::linear_page::{Chain, Reached};
 use crate::linear_reusable::LinearReusable;
 use crate::made_or_reset::MadeOrReset;
+use crate::page::{Allocated, FullSeen, PullPass};
 pub(crate) use answer_of::AnswerOf;
 use page_limit::PageLimit;
 use std::alloc::Global;
@@ -39,8 +40,9 @@ pub struct LinearObjectPool<T, I: Init<T, K>, R: Reset<T, K>, K: Clean<T> = AnyV
 
 impl<T: Drop, I: Init<T, K>, R: Reset<T, K>, K: Clean<T>> LinearObjectPool<T, I, R, K> {
     ghost use Rattle.lockfree_object_pool.specs.Answers.{IsAnswer, IsMadeOrReset};
+    ghost use Rattle.lockfree_object_pool.specs.FullSeen.{full_page};
     ghost use Rattle.lockfree_object_pool.specs.Item.{HasOrigin};
-    ghost use Rattle.lockfree_object_pool.specs.LinearPool.{pool_init, pool_reset, pool_limit, pages_of, reusable_pool, reusable_item, reusable_page, reusable_number, owned_pool, owned_item, owned_page, owned_number, IsOnPage, IsPulledFrom};
+    ghost use Rattle.lockfree_object_pool.specs.LinearPool.{pool_init, pool_reset, pool_limit, pages_of, pool_first_page, reusable_pool, reusable_item, reusable_page, reusable_number, owned_pool, owned_item, owned_page, owned_number, IsOnPage, IsPulledFrom};
     ghost use Rattle.lockfree_object_pool.specs.Refusal.{RefusesMaking, RefusesPull};
     ghost use Rattle.lockfree_object_pool.specs.Slot.{slot_item};
     ghost use Rattle.lockfree_object_pool.specs.Walk.{number_of};
@@ -129,8 +131,14 @@ impl<T: Drop, I: Init<T, K>, R: Reset<T, K>, K: Clean<T>> LinearObjectPool<T, I,
           init_refuses = I.answers (pool_init self.now) None;
         })) }
     {
-        let reached = self.find()?;
-        Ok(LinearReusable::new(self, reached.slot, reached.number))
+        let pass = PullPass::new();
+        match self.chain.ask_first(&pass) {
+            Allocated::Slot(slot) => Ok(LinearReusable::new(self, slot, self.chain.first_number())),
+            Allocated::Full(seen) => {
+                let reached = self.pull_further(seen)?;
+                Ok(LinearReusable::new(self, reached.slot, reached.number))
+            }
+        }
     }
 
     /// As `pull`, with a reusable that owns the pool with others. The pool's owners grow by one before an item is taken.
@@ -152,13 +160,26 @@ impl<T: Drop, I: Init<T, K>, R: Reset<T, K>, K: Clean<T>> LinearObjectPool<T, I,
         })) }
     {
         let owner = Arc::try_clone(self)?;
-        let reached = self.find()?;
-        Ok(LinearOwnedReusable::new(owner, reached.slot, reached.number))
+        let pass = PullPass::new();
+        match self.chain.ask_first(&pass) {
+            Allocated::Slot(slot) => {
+                let number = self.chain.first_number();
+                Ok(LinearOwnedReusable::new(owner, slot, number))
+            }
+            Allocated::Full(seen) => {
+                let reached = self.pull_further(seen)?;
+                Ok(LinearOwnedReusable::new(owner, reached.slot, reached.number))
+            }
+        }
     }
 
-    /// The item of a pull, and how many pages lie before its page.
+    /// The item of a pull that found the first page full, and its page's number.
     #[inline]
-    fn find(&self) -> Result<Reached<'_, T, MadeOrReset<I, R, K>, AnswerOf<I, K>>, PullError>
+    fn pull_further(
+        &self,
+        seen: FullSeen<'_, T>,
+    ) -> Result<Reached<'_, T, MadeOrReset<I, R, K>, AnswerOf<I, K>>, PullError>
+        requires { full_page seen ≡ pool_first_page self.now }
         ensures pulled { IfOk result (λ reached. IsPulledFrom K.meets self.now (slot_item reached.slot) (number_of reached.number)) }
         ensures on_page { IfOk result (λ reached. IsOnPage self.now reached.number (slot_item reached.slot)) }
         ensures history { IfOk result (λ reached. HasOrigin (IsAnswer I.answers) (slot_item reached.slot)) }
@@ -171,7 +192,7 @@ impl<T: Drop, I: Init<T, K>, R: Reset<T, K>, K: Clean<T>> LinearObjectPool<T, I,
         })) }
     {
         let init = &self.init;
-        self.chain.pull(self.limit(), &|| init.make())
+        self.chain.pull_further(seen, self.limit(), &|| init.make())
     }
 
     /// Leaves a value as it is kept.

@@ -16,7 +16,7 @@ ghost use Rattle.lockfree_object_pool.specs.LinearPage.{first_page};
 ghost use Rattle.lockfree_object_pool.specs.Page.{page_identity};
 ghost use Rattle.lockfree_object_pool.specs.Refusal.{RefusesPull};
 ghost use Rattle.lockfree_object_pool.specs.Slot.{slot_item};
-ghost use Rattle.lockfree_object_pool.specs.Walk.{start_of, number_of, IsKnownAt, IsReached};
+ghost use Rattle.lockfree_object_pool.specs.Walk.{start_of, number_of, IsAnsweredBy, IsKnownAt, IsReached};
 
 use super::opened_page::OpenedPage;
 use super::walk::{KnownFull, Reached};
@@ -26,38 +26,24 @@ use crate::clean::Clean;
 use crate::page::{Allocated, FullSeen, Page, PullPass};
 
 impl<T: Drop, K: Clean<T>, O: Clean<T>> Chain<T, K, O> {
-    /// An item of the first page, or of a page that a hint names, or of the first page that has one.
-    #[inline]
-    pub(crate) fn pull<I: Fn() -> Option<T>>(
-        &self,
-        limit: Option<usize>,
-        init: &I,
-    ) -> Result<Reached<'_, T, K, O>, PullError>
-        requires some_page { IfSome limit (λ pages. 1 ≤ pages) }
-        requires opens { MayOpen (I.pre init.now) (λ answer. I.post init.now answer) K.meets O.meets }
-        ensures item { IfOk result (λ reached. IsItemOf K.meets (page_identity (arc_value reached.page.now)) (slot_item reached.slot)) }
-        ensures history { IfOk result (λ reached. HasOrigin O.meets (slot_item reached.slot)) }
-        ensures number { IfOk result (λ reached. IsReached (start_of self.now) reached.number (page_identity (arc_value reached.page.now))) }
-        ensures within { IfOk result (λ reached. IfSome limit (λ pages. number_of reached.number < pages)) }
-        ensures refused { IfErr result (RefusesPull (record {
-          limited = IsSome limit;
-          init_refuses = I.post init.now None;
-        })) }
+    /// What the first page answers to a pull.
+    pub(crate) fn ask_first<'s, 'p>(&'s self, pass: &'p PullPass) -> Allocated<'s, 'p, T, K>
+        ensures { IsAnsweredBy K.meets O.meets (first_page self.now) result }
     {
-        let pass = PullPass::new();
-        match self.first.take(&pass).answer {
-            Allocated::Slot(slot) => Ok(Reached {
-                slot,
-                page: self.first.owner(),
-                number: PageNumber::of_start(self.directory.allocator(), 0),
-            }),
-            Allocated::Full(seen) => self.pull_further(seen, limit, init),
-        }
+        self.first.take(pass).answer
     }
 
-    /// As `pull`, where the first page was found full in this pull. Apart, so that a pull of the first page is short.
+    /// The number of the first page.
+    pub(crate) fn first_number(&self) -> PageNumber<T, K, O>
+        ensures { number_of result ≡ 0 }
+    {
+        PageNumber::of_start(self.directory.allocator(), 0)
+    }
+
+    /// An item of a page that a hint names, or of the first page that has one, where the first page of the chain was found full in this
+    /// pull. Apart, so that a pull of the first page is short.
     #[inline(never)]
-    fn pull_further<I: Fn() -> Option<T>>(
+    pub(crate) fn pull_further<I: Fn() -> Option<T>>(
         &self,
         seen: FullSeen<'_, T>,
         limit: Option<usize>,
