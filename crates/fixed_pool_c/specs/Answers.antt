@@ -3,7 +3,7 @@ use Rattle.std.specs.Prelude.{◌≡◌, ℕ, ◌+◌, ◌/◌, ◌⊎◌, ⊤, 
 use Rattle.std.specs.Arc.{arc_value}
 use Rattle.lockfree_object_pool.specs.FixedAnswer.{IsPulledWith, IsBusyNote, IsGivenBack, note_steps}
 use Rattle.lockfree_object_pool.specs.FixedPool.{pool_identity, pool_items, pool_opening, pool_pages}
-use Rattle.lockfree_object_pool.specs.FixedReusable.{owned_pool, owned_item, owned_steps}
+use Rattle.lockfree_object_pool.specs.FixedReusable.{reusable_pool, reusable_item, reusable_steps}
 use Rattle.lockfree_object_pool.specs.FixedRule.{IsWithin}
 use Rattle.lockfree_object_pool.specs.Items.{IsFilled}
 use Rattle.lockfree_object_pool.specs.Note.{IsNoteOf}
@@ -22,11 +22,11 @@ pub record Pulls (old new : Held) (place : ℕ) : Type 0 where
   pub held_none : old.hand ≡ Some (Empty idle)
   pub out : OutPlace
   pub holds : new.hand ≡ Some (Full out)
-  pub same_pool : owned_pool out ≡ arc_value idle.pool
-  pub pulled : IsPulledWith (pool_identity (arc_value idle.pool)) idle.note (owned_item out)
-  pub number : place ≡ (owned_item out).id
+  pub same_pool : arc_value (reusable_pool out) ≡ arc_value idle.pool
+  pub pulled : IsPulledWith (pool_identity (arc_value idle.pool)) idle.note (reusable_item out)
+  pub number : place ≡ (reusable_item out).id
   -- so many loads and tries at most
-  pub brief : IsWithin (pool_pages (arc_value idle.pool)) (note_steps idle.note) (owned_steps out)
+  pub brief : IsWithin (pool_pages (arc_value idle.pool)) (note_steps idle.note) (reusable_steps out)
 
 -- the handle held no place, and holds none: each place was out at some time of the call
 pub record FindsAllOut (old new : Held) : Type 0 where
@@ -44,8 +44,8 @@ pub record Returns (old new : Held) : Type 0 where
   pub held_one : old.hand ≡ Some (Full out)
   pub idle : Idle
   pub holds_none : new.hand ≡ Some (Empty idle)
-  pub same_pool : arc_value idle.pool ≡ owned_pool out
-  pub given_back : IsGivenBack (λ old new. new ≡ old) (owned_item out) idle.note
+  pub same_pool : arc_value idle.pool ≡ arc_value (reusable_pool out)
+  pub given_back : IsGivenBack (λ old new. new ≡ old) (reusable_item out) idle.note
 
 -- a new handle of this pool: it holds no place, and knows the pool's history as it was then
 pub record OpensOf (pool : PlacePool) (new : Held) : Type 0 where
@@ -141,7 +141,7 @@ handle_items (Some held) = hand_items held.hand
 abbrev pub LeavesNone : Option Hand → Type 0
 LeavesNone None = ⊤
 LeavesNone (Some (Empty idle)) = ⊤
-LeavesNone (Some (Full out)) = (note : PageNote ⊤) × IsGivenBack (λ old new. new ≡ old) (owned_item out) note
+LeavesNone (Some (Full out)) = (note : PageNote ⊤) × IsGivenBack (λ old new. new ≡ old) (reusable_item out) note
 
 -- what the end of a handle answers
 abbrev pub IsDropAnswer : ℕ → Option Held → Option Held → Type 0

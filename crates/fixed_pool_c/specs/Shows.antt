@@ -1,12 +1,14 @@
 -- What an open handle shows.
 use Rattle.std.specs.Prelude.{⊤}
 use Rattle.std.specs.Arc.{arc_value}
-use Rattle.lockfree_object_pool.specs.FixedReusable.{owned_pool}
+use Rattle.std.specs.declared.alloc.Global.{Global}
+use Rattle.std.specs.declared.sync.Arc.{Arc}
+use Rattle.lockfree_object_pool.specs.FixedReusable.{reusable_pool}
 use Rattle.lockfree_object_pool.specs.declared.clean.AnyValue.{AnyValue}
 use Rattle.lockfree_object_pool.specs.declared.closures.ready.Copied.{Copied}
 use Rattle.lockfree_object_pool.specs.declared.closures.ready.Keep.{Keep}
 use Rattle.lockfree_object_pool.specs.declared.fixed_object_pool.FixedObjectPool.{FixedObjectPool}
-use Rattle.lockfree_object_pool.specs.declared.fixed_owned_reusable.FixedOwnedReusable.{FixedOwnedReusable}
+use Rattle.lockfree_object_pool.specs.declared.fixed_reusable.FixedReusableOf.{FixedReusableOf}
 use Rattle.fixed_pool_c.specs.declared.held.Hand.{Hand}
 use Rattle.fixed_pool_c.specs.declared.held.Hand.TheVariants.{Empty, Full}
 
@@ -16,9 +18,9 @@ PlacePool = FixedObjectPool ⊤ (Copied ⊤ AnyValue) Keep AnyValue
 
 -- a place that is out
 abbrev pub OutPlace : Type 0
-OutPlace = FixedOwnedReusable ⊤ (Copied ⊤ AnyValue) Keep AnyValue
+OutPlace = FixedReusableOf ⊤ (Arc PlacePool Global)
 
 -- the pool of a handle, whether it holds a place or not
 abbrev pub hand_pool : Hand → PlacePool
 hand_pool (Empty idle) = arc_value idle.pool
-hand_pool (Full out) = owned_pool out
+hand_pool (Full out) = arc_value (reusable_pool out)

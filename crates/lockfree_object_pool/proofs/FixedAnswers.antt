@@ -5,25 +5,29 @@ use Rattle.std.proofs.lemmas.Bool.{cases_lt}
 use native.Mathlib.Decide.{ℕ_discrete}
 use mathlib.Core.Logic.{dite}
 use Rattle.atomic_table.specs.Seated.{TableId}
-use Rattle.lockfree_object_pool.specs.declared.page.history.PageAct.TheVariants.{Took}
+use Rattle.lockfree_object_pool.specs.declared.page.history.Operation.TheVariants.{Pull}
 use Rattle.lockfree_object_pool.specs.declared.page.note.PageNote.{PageNote}
 use Rattle.lockfree_object_pool.specs.declared.page.full_seen.FullSeen.{FullSeen}
 use Rattle.lockfree_object_pool.specs.FixedAnswer.{IsPulledOf, IsPulledWith, IsBusyOf, IsBusyAfter, IsBusyNote}
 use Rattle.lockfree_object_pool.specs.Note.{note_view, note_opening, note_history}
 use Rattle.lockfree_object_pool.specs.FullSeen.{FoundAllOut}
 use Rattle.lockfree_object_pool.specs.Holding.{item_known}
-use Rattle.lockfree_object_pool.specs.PageHistory.{IsBeginningOf, WasOutBetween}
+use Rattle.lockfree_object_pool.specs.Ledger.{IsPrefixOf, WasOutBetween}
 use Rattle.lockfree_object_pool.specs.Word.{ClearsBit, IsLeastBit}
-use Rattle.lockfree_object_pool.specs.PageRule.{User, item_of, GoesOn, KnowsOut, StartsFrom, LooksOn, Misses}
+use Rattle.lockfree_object_pool.specs.PageRule.{User, item_of, GoesOn, KnowsOut, StartsFrom, LoadsOn, Misses}
 use Rattle.lockfree_object_pool.specs.FixedRule.{MissesAll, TakesOne}
-use Rattle.lockfree_object_pool.proofs.PageActs.{lawful_of, goes_on_further, still_out}
+use Rattle.lockfree_object_pool.proofs.Ledger.{legal_of, goes_on_further, still_out}
 use Rattle.lockfree_object_pool.proofs.PageAnswers.{pulled, pulled_after}
 
--- the bits are tried from the lowest on, so a bit that is left has as many tries before it as there are bits below it at most
-pub more_tried : (untried bit left start before after : ℕ) → IsLeastBit untried bit → ClearsBit untried bit left → after ≡ before + 1
-    → ((i : ℕ) → i < 32 → bit_at untried i ≡ 1 → before ≤ start + i) → (i : ℕ) → i < 32 → bit_at left i ≡ 1 → after ≤ start + i
+-- the bits are tried from the lowest on, so a bit that is left has at most as many tries before it as there are bits
+-- below it
+pub more_tried : (untried bit left start before after : ℕ) → IsLeastBit untried bit → ClearsBit untried bit left
+    → after ≡ before + 1
+    → ((i : ℕ) → i < 32 → bit_at untried i ≡ 1 → before ≤ start + i) → (i : ℕ) → i < 32 → bit_at left i ≡ 1
+    → after ≤ start + i
 more_tried untried bit left start before after least clears more within i below one =
-    let apart : i ≢ bit = λ same. let clear = clears.clear in let here = ap (bit_at left) same in absurd (omega arith) in
+    let apart : i ≢ bit = λ same. let clear = clears.clear in let here = ap (bit_at left) same in
+    absurd (omega arith) in
     let was_set : bit_at untried i ≡ 1 = sym (clears.others i apart) ∙ one in
     let tried = within bit least.in_page least.set in
     elim (cases_lt i bit) [
@@ -33,24 +37,30 @@ more_tried untried bit left start before after least clears more within i below 
 
 module _ {T : Type 0} where
   -- one more bit was tried in vain
-  pub out_or_untried : (place untried bit left : ℕ) (old new : User T) → ClearsBit untried bit left → Misses (item_of place bit) old new
-      → ((i : ℕ) → i < 32 → bit_at untried i ≡ 0 → KnowsOut old.0 (item_of place i)) → (i : ℕ) → i < 32 → bit_at left i ≡ 0 → KnowsOut new.0 (item_of place i)
+  pub out_or_untried : (place untried bit left : ℕ) (old new : User T) → ClearsBit untried bit left
+      → Misses (item_of place bit) old new
+      → ((i : ℕ) → i < 32 → bit_at untried i ≡ 0 → KnowsOut old.0 (item_of place i)) → (i : ℕ) → i < 32
+      → bit_at left i ≡ 0 → KnowsOut new.0 (item_of place i)
   out_or_untried place untried bit left old new clears missed before i within none = dite (ℕ_discrete i bit)
       (λ same. subst (λ i. KnowsOut new.0 (item_of place i)) (sym same) missed.was_out)
-      (λ differ. still_out old.0 new.0 (item_of place i) missed.goes_on (before i within (sym (clears.others i differ) ∙ none)))
+      (λ differ. still_out old.0 new.0 (item_of place i) missed.goes_on
+      (before i within (sym (clears.others i differ) ∙ none)))
 
   -- each bit of a word was tried in vain
-  pub word_missed : (place : ℕ) (old new : User T) → new.0.held ≡ old.0.held → new.1 ≡ old.1 → GoesOn [] old.0 new.0 → ((bit : ℕ) → bit < 32 → KnowsOut new.0 (item_of place bit)) → MissesAll (32 * place) (32 * place + 32) old new
+  pub word_missed : (place : ℕ) (old new : User T) → new.0.held ≡ old.0.held → new.1 ≡ old.1 → GoesOn [] old.0 new.0
+      → ((bit : ℕ) → bit < 32 → KnowsOut new.0 (item_of place bit)) → MissesAll (32 * place) (32 * place + 32) old new
   word_missed place old new held carries goes each = record {
     holds_same = held;
     carries_same = carries;
-    each_was_out = λ id from to. let whole : 32 * place + (id - 32 * place) ≡ id = omega arith in subst (KnowsOut new.0) whole (each (id - 32 * place) (omega arith));
+    each_was_out = λ id from to. let whole : 32 * place + (id - 32 * place) ≡ id = omega arith in
+        subst (KnowsOut new.0) whole (each (id - 32 * place) (omega arith));
     goes_on = goes;
   }
 
   -- what a user did in vain, and then a further load
-  pub misses_looked : (from to place word : ℕ) (one two three : User T) → MissesAll from to one two → LooksOn place two word three → MissesAll from to one three
-  misses_looked from to place word one two three missed looked = record {
+  pub misses_loaded : (from to place word : ℕ) (one two three : User T) → MissesAll from to one two
+      → LoadsOn place two word three → MissesAll from to one three
+  misses_loaded from to place word one two three missed looked = record {
     holds_same = looked.holds_same ∙ missed.holds_same;
     carries_same = looked.carries_same ∙ missed.carries_same;
     each_was_out = λ id above below. still_out two.0 three.0 id looked.goes_on (missed.each_was_out id above below);
@@ -58,7 +68,8 @@ module _ {T : Type 0} where
   }
 
   -- and then a further word
-  pub misses_more : (from middle to : ℕ) (one two three : User T) → MissesAll from middle one two → MissesAll middle to two three → MissesAll from to one three
+  pub misses_more : (from middle to : ℕ) (one two three : User T) → MissesAll from middle one two
+      → MissesAll middle to two three → MissesAll from to one three
   misses_more from middle to one two three first second = record {
     holds_same = second.holds_same ∙ first.holds_same;
     carries_same = second.carries_same ∙ first.carries_same;
@@ -69,18 +80,21 @@ module _ {T : Type 0} where
     goes_on = goes_on_further [] one.0 two.0 three.0 first.goes_on second.goes_on;
   }
 
-  pub takes_after : (meets : T → Type 0) (items from to id : ℕ) (value : T) (one two three : User T) → MissesAll from to one two → TakesOne meets items id value two three → TakesOne meets items id value one three
+  pub takes_after : (meets : T → Type 0) (items from to id : ℕ) (value : T) (one two three : User T)
+      → MissesAll from to one two → TakesOne meets items id value two three → TakesOne meets items id value one three
   takes_after meets items from to id value one two three missed taken = record {
     in_pool = taken.in_pool;
     meets_condition = taken.meets_condition;
     holds = taken.holds;
     carries = taken.carries ∙ ap (λ l. (id, None) ∷ l) missed.carries_same;
-    goes_on = goes_on_further (Took three.0.user id value ∷ []) one.0 two.0 three.0 missed.goes_on taken.goes_on;
+    goes_on = goes_on_further (Pull three.0.user id value ∷ []) one.0 two.0 three.0 missed.goes_on taken.goes_on;
   }
 
   -- what a user has seen out round the whole pool, in three segments
-  pub missed_round : (page words slots : ℕ) (start one two last : User T) → slots ≤ 32 * words → MissesAll (32 * page) (32 * page + 32) start one
-      → MissesAll (32 * (page + 1)) (32 * words) one two → MissesAll 0 (32 * page) two last → MissesAll 0 slots start last
+  pub missed_round : (page words slots : ℕ) (start one two last : User T) → slots ≤ 32 * words
+      → MissesAll (32 * page) (32 * page + 32) start one
+      → MissesAll (32 * (page + 1)) (32 * words) one two → MissesAll 0 (32 * page) two last
+      → MissesAll 0 slots start last
   missed_round page words slots start one two last covered own behind before = record {
     holds_same = before.holds_same ∙ behind.holds_same ∙ own.holds_same;
     carries_same = before.carries_same ∙ behind.carries_same ∙ own.carries_same;
@@ -91,12 +105,15 @@ module _ {T : Type 0} where
         | inr past ↦ behind.each_was_out id (omega arith) (omega arith)
       ])
     ];
-    goes_on = goes_on_further [] start.0 one.0 last.0 own.goes_on (goes_on_further [] one.0 two.0 last.0 behind.goes_on before.goes_on);
+    goes_on = goes_on_further [] start.0 one.0 last.0 own.goes_on
+        (goes_on_further [] one.0 two.0 last.0 behind.goes_on before.goes_on);
   }
 
   -- the item that a pull took whose user had done nothing
-  pub item_pulled : (meets : T → Type 0) (pool : TableId) (opening : List (Option T)) (start known : User T) (seated : TableId) (id : ℕ) (value : T)
-      → start.0.opening ≡ opening → start.0.own ≡ [] → TakesOne meets pool.slots id value start known → seated ≡ pool → IsPulledOf pool opening (item_known seated known.0 id value)
+  pub item_pulled : (meets : T → Type 0) (pool : TableId) (opening : List (Option T)) (start known : User T)
+      (seated : TableId) (id : ℕ) (value : T)
+      → start.0.opening ≡ opening → start.0.own ≡ [] → TakesOne meets pool.slots id value start known → seated ≡ pool
+      → IsPulledOf pool opening (item_known seated known.0 id value)
   item_pulled meets pool opening start known seated id value opened none taken same = record {
     is_item = record { of_page = same; in_page = taken.in_pool };
     same_opening = taken.goes_on.same_opening ∙ opened;
@@ -104,45 +121,57 @@ module _ {T : Type 0} where
   }
 
   -- the item that a pull by a note took
-  pub item_pulled_with : (meets : T → Type 0) (pool : TableId) (note : PageNote T) (start known : User T) (seated : TableId) (id : ℕ) (value : T)
-      → StartsFrom (note_view note) start.0 → TakesOne meets pool.slots id value start known → seated ≡ pool → IsPulledWith pool note (item_known seated known.0 id value)
+  pub item_pulled_with : (meets : T → Type 0) (pool : TableId) (note : PageNote T) (start known : User T)
+      (seated : TableId) (id : ℕ) (value : T)
+      → StartsFrom (note_view note) start.0 → TakesOne meets pool.slots id value start known → seated ≡ pool
+      → IsPulledWith pool note (item_known seated known.0 id value)
   item_pulled_with meets pool note start known seated id value starts taken same = record {
     is_item = record { of_page = same; in_page = taken.in_pool };
     pulled = pulled_after seated start.0 known.0 id value taken.goes_on note starts;
   }
 
-  -- what a user has found that found each item out
-  found_all_out : (count : ℕ) (opening : List (Option T)) (start known : User T) → start.0.opening ≡ opening → MissesAll 0 count start known → FoundAllOut count opening known.0
+  -- what a user has seen that observed each item taken
+  found_all_out : (count : ℕ) (opening : List (Option T)) (start known : User T) → start.0.opening ≡ opening
+      → MissesAll 0 count start known → FoundAllOut count opening known.0
   found_all_out count opening start known opened missed =
       let opened_now : known.0.opening ≡ opening = missed.goes_on.same_opening ∙ opened in
       record {
         same_opening = opened_now;
-        lawful = lawful_of opening known.0 opened_now missed.goes_on.sound;
+        legal = legal_of opening known.0 opened_now missed.goes_on.sound;
         goes_on = missed.goes_on.sound.since_load;
-        each_was_out = λ id within. subst (λ o. WasOutBetween o known.0.since known.0.acts id) opened_now (missed.each_was_out id (omega arith) within);
+        each_was_out = λ id within. subst (λ o.
+            WasOutBetween o known.0.since known.0.operations id) opened_now
+            (missed.each_was_out id (omega arith) within);
       }
 
-  -- a pool of which each item was found out
-  pub all_busy : (pool : TableId) (opening : List (Option T)) (start : User T) (busy : FullSeen T) → start.0.opening ≡ opening
+  -- a pool of which each item was observed taken
+  pub all_busy : (pool : TableId) (opening : List (Option T)) (start : User T) (busy : FullSeen T)
+      → start.0.opening ≡ opening
       → MissesAll 0 pool.slots start busy.seat.me → busy.seat.table_id ≡ pool → IsBusyOf pool opening busy
-  all_busy pool opening start busy opened missed same = record { of_page = same; found = found_all_out pool.slots opening start busy.seat.me opened missed }
+  all_busy pool opening start busy opened missed same =
+      record { of_page = same; found = found_all_out pool.slots opening start busy.seat.me opened missed }
 
   -- so it is of a pull by a note
-  pub all_busy_after : (pool : TableId) (note : PageNote T) (start : User T) (busy : FullSeen T) → StartsFrom (note_view note) start.0
+  pub all_busy_after : (pool : TableId) (note : PageNote T) (start : User T) (busy : FullSeen T)
+      → StartsFrom (note_view note) start.0
       → MissesAll 0 pool.slots start busy.seat.me → busy.seat.table_id ≡ pool → IsBusyAfter pool note busy
   all_busy_after pool note start busy starts missed same = record {
     all_out = all_busy pool (note_opening note) start busy starts.same_opening missed same;
-    after_note = subst (IsBeginningOf (note_history note)) (sym (missed.goes_on.same_since ∙ starts.from_now)) starts.after_known;
+    after_note = subst (IsPrefixOf (note_history note))
+        (sym (missed.goes_on.same_since ∙ starts.from_now)) starts.after_known;
   }
 
   -- and of the note that such a pull hands on
-  pub busy_note : (pool : TableId) (old : PageNote T) (start : User T) (new : PageNote T) → StartsFrom (note_view old) start.0
+  pub busy_note : (pool : TableId) (old : PageNote T) (start : User T) (new : PageNote T)
+      → StartsFrom (note_view old) start.0
       → MissesAll 0 pool.slots start new.seat.me → new.seat.table_id ≡ pool → IsBusyNote pool old new
   busy_note pool old start new starts missed same =
       record {
         of_pool = same;
         same_user = missed.goes_on.same_user ∙ starts.same_user;
         found = found_all_out pool.slots (note_opening old) start new.seat.me starts.same_opening missed;
-        after_note = subst (IsBeginningOf (note_history old)) (sym (missed.goes_on.same_since ∙ starts.from_now)) starts.after_known;
-        same_acts = missed.goes_on.sound.own_acts ∙ missed.goes_on.own ∙ starts.own_same ∙ sym starts.own_before;
+        after_note = subst (IsPrefixOf (note_history old))
+            (sym (missed.goes_on.same_since ∙ starts.from_now)) starts.after_known;
+        same_operations = missed.goes_on.sound.own_operations ∙ missed.goes_on.own ∙ starts.own_same
+            ∙ sym starts.own_before;
       }

@@ -1,37 +1,77 @@
--- A fixed reusable may be shared among threads where its value and its pool may.
+-- A fixed reusable may be shared among threads where its value and what it has of its pool may.
+use mir.Syntax.{Lifetime}
+use base.Fml.{Lft}
 use denote.RattleType.{RattleType}
-use denote.Ref.{NamedLft}
-use denote.Param.Send.{IsSend, IsSync, struct_sync, shr_sync, sendable}
+use denote.Ref.{ShrRef}
+use denote.Param.Send.{IsSend, IsSync, struct_sync, shr_sync, view_sync, sendable}
 use denote.Struct.Declared.{shape}
+use Rattle.std.specs.Arc.{arc_value}
 use Rattle.std.proofs.Crossing.{Arc-sync}
-use Rattle.lockfree_object_pool.specs.declared.clean.Clean.{Ghosts}
+use Rattle.std.specs.contracts.sync.Arc as Arc
+use Rattle.std.specs.contracts.alloc.Global as Global
+use Rattle.std.specs.contracts.impls.GlobalAllocator.TheImpl as GlobalAllocator
+use Rattle.lockfree_object_pool.specs.FixedPool.{pool_identity, pool_reset}
+use Rattle.lockfree_object_pool.specs.declared.clean.Clean as Clean
 use Rattle.lockfree_object_pool.specs.declared.closures.Init as Init
 use Rattle.lockfree_object_pool.specs.declared.closures.Reset as Reset
+use Rattle.lockfree_object_pool.specs.declared.fixed_reusable.SharedFixedPool.{Ghosts}
 use Rattle.lockfree_object_pool.specs.contracts.fixed_object_pool.FixedObjectPool as FixedObjectPool
 use Rattle.lockfree_object_pool.specs.contracts.fixed_reusable.TakenItem as TakenItem
-use Rattle.lockfree_object_pool.specs.contracts.fixed_reusable.FixedReusable as FixedReusable
-use Rattle.lockfree_object_pool.specs.contracts.fixed_owned_reusable.OwnedTakenItem as OwnedTakenItem
-use Rattle.lockfree_object_pool.specs.contracts.fixed_owned_reusable.FixedOwnedReusable as FixedOwnedReusable
-use Rattle.lockfree_object_pool.proofs.fixed_object_pool.FixedObjectPool.TheSendSync as pool
+use Rattle.lockfree_object_pool.specs.contracts.fixed_reusable.TakenItem.TheInside as TakenInside
+use Rattle.lockfree_object_pool.specs.contracts.fixed_reusable.FixedReusableOf as FixedReusableOf
+use Rattle.lockfree_object_pool.proofs.fixed_object_pool.FixedObjectPool.TheSendSync as fixed_pool
 use Rattle.lockfree_object_pool.proofs.SlotShared.{holding_sync}
 
-module _ (T I R K : RattleType) (answers : Init.Ghosts I.Denot T.Denot K.Denot) (leaves : Reset.Ghosts R.Denot T.Denot K.Denot) (clean : Ghosts K.Denot T.Denot) where
-  taken_sync : (κ : NamedLft) → IsSend T → IsSync R → IsSync (TakenItem.the_field κ T I R K answers leaves clean).row
-  taken_sync κ sent reset =
-      let type = TakenItem.the_type κ T I R K answers leaves clean in
-      struct_sync (shape type) (shr_sync _ _ _ (pool.the_sync T I R K answers leaves clean sent reset), (holding_sync T sent, tt))
+module _ (T P : RattleType) (pool : Ghosts P.Denot T.Denot) where
+  taken_sync : IsSend T → IsSync P → IsSync (TakenItem.the_row T P pool)
+  taken_sync sent pool_shared =
+      let type = TakenInside.the_type T P pool in
+      let inside : IsSync (TakenInside.the_row T P pool) =
+      record {
+        shared = λ taken.
+            (struct_sync (shape type) (record { shared = pool_shared.shared }, (holding_sync T sent, tt))).shared
+            (type.to taken);
+      } in
+      view_sync (TakenInside.the_row T P pool) _ _ _ _ inside
 
-  pub reusable_sync : (κ : NamedLft) → IsSend T → IsSync T → IsSync R → IsSync (FixedReusable.the_row κ T I R K answers leaves clean)
-  reusable_sync κ sent shared reset =
-      let type = FixedReusable.the_type κ T I R K answers leaves clean in
-      record { shared = λ reusable. (struct_sync (shape type) (search sendable, (taken_sync κ sent reset, (record { shared = shared.shared }, tt)))).shared (type.to reusable) }
+  pub reusable_sync : IsSend T → IsSync T → IsSync P → IsSync (FixedReusableOf.the_row T P pool)
+  reusable_sync sent shared pool_shared =
+      let type = FixedReusableOf.the_type T P pool in
+      record {
+        shared = λ reusable.
+            (struct_sync (shape type)
+            (search sendable, (taken_sync sent pool_shared, (record { shared = shared.shared }, tt)))).shared
+            (type.to reusable);
+      }
 
-  owned_taken_sync : IsSend T → IsSend R → IsSync R → IsSync (OwnedTakenItem.the_field T I R K answers leaves clean).row
-  owned_taken_sync sent reset_sent reset_shared =
-      let owner = Arc-sync (FixedObjectPool.the_row T I R K answers leaves clean) (pool.the_send T I R K answers leaves clean sent reset_sent) (pool.the_sync T I R K answers leaves clean sent reset_shared) in
-      struct_sync (shape (OwnedTakenItem.the_type T I R K answers leaves clean)) (record { shared = owner.shared }, (holding_sync T sent, tt))
+-- so a borrowed one may where its value may, and a reset of its pool; and an owned one
+module _ (T I R K : RattleType) (answers : Init.Ghosts I.Denot T.Denot K.Denot)
+    (leaves : Reset.Ghosts R.Denot T.Denot K.Denot) (clean : Clean.Ghosts K.Denot T.Denot) where
+  -- a borrow of the pool, and an owner
+  abbrev borrow : Lifetime → Lft → RattleType
+  borrow ℓ κ = ShrRef ℓ κ (FixedObjectPool.the_row T I R K answers leaves clean)
 
-  pub owned_reusable_sync : IsSend T → IsSync T → IsSend R → IsSync R → IsSync (FixedOwnedReusable.the_row T I R K answers leaves clean)
+  abbrev owner : RattleType
+  owner = Arc.the_row (FixedObjectPool.the_row T I R K answers leaves clean) Global.the_row GlobalAllocator.ghosts
+
+  -- which pool it is of, and what that pool's reset may leave
+  abbrev borrowed : (ℓ : Lifetime) (κ : Lft) → Ghosts (borrow ℓ κ).Denot T.Denot
+  borrowed ℓ κ =
+      record { identity = λ pool. pool_identity pool.now; leaves = λ pool. leaves.leaves (pool_reset pool.now) }
+
+  abbrev owned : Ghosts owner.Denot T.Denot
+  owned =
+      record { identity = λ pool. pool_identity (arc_value pool); leaves = λ pool. leaves.leaves (pool_reset (arc_value pool)) }
+
+  pub borrowed_reusable_sync : (ℓ : Lifetime) (κ : Lft) → IsSend T → IsSync T → IsSync R
+      → IsSync (FixedReusableOf.the_row T (borrow ℓ κ) (borrowed ℓ κ))
+  borrowed_reusable_sync ℓ κ sent shared reset =
+      reusable_sync T (borrow ℓ κ) (borrowed ℓ κ) sent shared
+      (shr_sync ℓ κ _ (fixed_pool.the_sync T I R K answers leaves clean sent reset))
+
+  pub owned_reusable_sync : IsSend T → IsSync T → IsSend R → IsSync R → IsSync (FixedReusableOf.the_row T owner owned)
   owned_reusable_sync sent shared reset_sent reset_shared =
-      let type = FixedOwnedReusable.the_type T I R K answers leaves clean in
-      record { shared = λ reusable. (struct_sync (shape type) (owned_taken_sync sent reset_sent reset_shared, (record { shared = shared.shared }, tt))).shared (type.to reusable) }
+      reusable_sync T owner owned sent shared
+      (Arc-sync (FixedObjectPool.the_row T I R K answers leaves clean)
+      (fixed_pool.the_send T I R K answers leaves clean sent reset_sent)
+      (fixed_pool.the_sync T I R K answers leaves clean sent reset_shared))

@@ -17,14 +17,17 @@ use Rattle.lockfree_object_pool.specs.Walk.{IsLinkedAt}
 use Rattle.lockfree_object_pool.specs.declared.linear_page.page_number.PageNumber.{PageNumber}
 
 -- a number of one row is in no later one
-no_later_row : (number row offset later further : ℕ) → 2 ^ row + offset ≡ number → offset < 2 ^ row → 2 ^ later + further ≡ number → row < later → ⊥
+no_later_row : (number row offset later further : ℕ) → 2 ^ row + offset ≡ number → offset < 2 ^ row
+    → 2 ^ later + further ≡ number → row < later → ⊥
 no_later_row number row offset later further here within there before =
-    let further_on : 2 ^ suc row ≤ 2 ^ later = pow-le-pow_right {n = 2} (omega arith) {i = suc row} {j = later} before in
+    let further_on : 2 ^ suc row ≤ 2 ^ later =
+    pow-le-pow_right {n = 2} (omega arith) {i = suc row} {j = later} before in
     let twice = two-pow-succ row in
     omega arith
 
 -- a number is in one row
-one_row : (number row offset other further : ℕ) → 2 ^ row + offset ≡ number → offset < 2 ^ row → 2 ^ other + further ≡ number → further < 2 ^ other → row ≡ other
+one_row : (number row offset other further : ℕ) → 2 ^ row + offset ≡ number → offset < 2 ^ row
+    → 2 ^ other + further ≡ number → further < 2 ^ other → row ≡ other
 one_row number row offset other further here within there inside = elim (cases_lt row other) [
   | inl before ↦ absurd (no_later_row number row offset other further here within there before)
   | inr past ↦ elim (cases_lt other row) [
@@ -34,9 +37,11 @@ one_row number row offset other further here within there inside = elim (cases_l
 ]
 
 -- one link leads to a page
-pub one_link : (rows : Cells) (number : ℕ) (one other : ℕ × ℕ) → IsLinkTo rows number one → IsLinkTo rows number other → one ≡ other
+pub one_link : (rows : Cells) (number : ℕ) (one other : ℕ × ℕ) → IsLinkTo rows number one → IsLinkTo rows number other
+    → one ≡ other
 one_link rows number one other is was =
-    let same_row = one_row number is.row_number one.1 was.row_number other.1 is.offset is.in_row was.offset was.in_row in
+    let same_row = one_row number is.row_number one.1 was.row_number other.1 is.offset is.in_row was.offset was.in_row
+    in
     let same_start : 2 ^ is.row_number ≡ 2 ^ was.row_number = ap (λ row. 2 ^ row) same_row in
     let here = is.offset in
     let there = was.offset in
@@ -47,7 +52,8 @@ one_link rows number one other is was =
     λ i. (same_cell i, same_offset i)
 
 -- no link leads to the first page
-pub no_link_to_first : {T K O : Type 0} (links : Cells) (known : PageNumber T K O) (page : TableId) → IsLinkedAt links known page → known.number ≡ 0 → ⊥
+pub no_link_to_first : {T K O : Type 0} (links : Cells) (known : PageNumber T K O) (page : TableId)
+    → IsLinkedAt links known page → known.number ≡ 0 → ⊥
 no_link_to_first links known page linked first =
     let here = linked.is_link in
     let start = pow_pos here.row_number in
@@ -65,6 +71,7 @@ knows_link links link known page linked here = record {
   place = ∥∥₁_elim linked (Coded-set (coded× coded_ℕ coded_ℕ) _ _) (λ it.
       λ i. ((one_link _ _ _ _ it.is_link here i).0, link.1));
   in_row = ∥∥₁_elim linked (same_holding _ _) (λ it.
-      subst (λ offset. cell_in_row known.row.known offset ≡ Some known.link.cell) (ap (λ link. link.1) (one_link _ _ _ _ it.is_link here)) it.in_row);
+      subst (λ offset. cell_in_row known.row.known offset ≡ Some known.link.cell)
+      (ap (λ link. link.1) (one_link _ _ _ _ it.is_link here)) it.in_row);
   leads_here = ∥∥₁_elim linked (Coded-set (coded_option table_id_coded) _ _) (λ it. it.leads_here);
 }

@@ -13,11 +13,13 @@ use Rattle.lockfree_object_pool.specs.declared.spin_lock.rule.Visitor.TheVariant
 use Rattle.lockfree_object_pool.specs.Lock.{IsLock, HasValue, HasNothing, TakesIfFree}
 
 -- what stands in a list with one more element at its end
-at_end : {A : Type 0} (l : List A) (last a : A) (j : ℕ) → get_elem? (l ++ last ∷ []) j ≡ some a → (get_elem? l j ≡ some a) ⊎ ((j ≡ length l) × (last ≡ a))
+at_end : {A : Type 0} (l : List A) (last a : A) (j : ℕ) → get_elem? (l ++ last ∷ []) j ≡ some a
+    → (get_elem? l j ≡ some a) ⊎ ((j ≡ length l) × (last ≡ a))
 at_end [] last a zero found = inr (refl, some-injective last a found)
 at_end [] last a (suc j) found = absurd (some-ne-none a (sym found))
 at_end (x ∷ xs) last a zero found = inl found
-at_end (x ∷ xs) last a (suc j) found = elim (at_end xs last a j found) [ inl before ↦ inl before | inr end ↦ inr (ap suc end.0, end.1) ]
+at_end (x ∷ xs) last a (suc j) found =
+    elim (at_end xs last a j found) [ inl before ↦ inl before | inr end ↦ inr (ap suc end.0, end.1) ]
 
 no_holder : (j : ℕ) → get_elem? (Passing ∷ []) j ≡ some Holder → ⊥
 no_holder zero held = cc
@@ -36,7 +38,8 @@ module _ {T : Type 0} where
   }
 
   -- a new lock is free, with its value at home
-  pub opens : (places : List (Option T)) (value : T) → places ≡ Some value ∷ [] → IsLock (opening (0 ∷ []) places Passing)
+  pub opens : (places : List (Option T)) (value : T) → places ≡ Some value ∷ []
+      → IsLock (opening (0 ∷ []) places Passing)
   opens places value is = subst (λ row. IsLock (opening (0 ∷ []) row Passing)) (sym is) (opened value)
 
   module _ (s : State (Option T) Visitor) (lock : IsLock s) where
@@ -44,8 +47,10 @@ module _ {T : Type 0} where
     stored n = get_or-set_same s.words 0 n 0 (omega (arith, lock.one_word))
 
     -- the word is taken, and a visitor comes
-    taken : (homes : List (maybe.Option (Option T))) (visitor : Visitor) → length homes ≡ 1 → (j : ℕ) × (get_elem? (s.views ++ visitor ∷ []) j ≡ some Holder)
-        → ((j k : ℕ) → get_elem? (s.views ++ visitor ∷ []) j ≡ some Holder → get_elem? (s.views ++ visitor ∷ []) k ≡ some Holder → j ≡ k)
+    taken : (homes : List (maybe.Option (Option T))) (visitor : Visitor) → length homes ≡ 1
+        → (j : ℕ) × (get_elem? (s.views ++ visitor ∷ []) j ≡ some Holder)
+        → ((j k : ℕ) → get_elem? (s.views ++ visitor ∷ []) j ≡ some Holder
+        → get_elem? (s.views ++ visitor ∷ []) k ≡ some Holder → j ≡ k)
         → IsLock record { words = slice_set s.words 0 1; homes = homes; views = s.views ++ visitor ∷ [] }
     taken homes visitor one_place held one_holder = record {
       one_word = length-set s.words 0 1 ∙ lock.one_word;
@@ -58,7 +63,8 @@ module _ {T : Type 0} where
     }
 
     -- where the lock is free nobody holds it, so who comes is the one holder
-    comes_alone : slice_index s.words 0 ≡ 0 → (j : ℕ) → get_elem? (s.views ++ Holder ∷ []) j ≡ some Holder → j ≡ length s.views
+    comes_alone : slice_index s.words 0 ≡ 0 → (j : ℕ) → get_elem? (s.views ++ Holder ∷ []) j ≡ some Holder
+        → j ≡ length s.views
     comes_alone free j held = elim (at_end s.views Holder Holder j held) [
       | inl before ↦ let taken = lock.taken_if_held j before in absurd (omega arith)
       | inr end ↦ end.0
@@ -66,26 +72,38 @@ module _ {T : Type 0} where
 
     -- who found the lock taken leaves it with its holder
     still_held : slice_index s.words 0 ≡ 1 → (j : ℕ) × (get_elem? (s.views ++ Passing ∷ []) j ≡ some Holder)
-    still_held is_taken = let held = lock.held_if_taken is_taken in (held.0, at_longer s.views (Passing ∷ []) held.0 Holder held.1)
+    still_held is_taken = let held = lock.held_if_taken is_taken in
+        (held.0, at_longer s.views (Passing ∷ []) held.0 Holder held.1)
 
     -- and is no holder
     was_there : (j : ℕ) → get_elem? (s.views ++ Passing ∷ []) j ≡ some Holder → get_elem? s.views j ≡ some Holder
-    was_there j held = elim (at_end s.views Passing Holder j held) [ inl before ↦ before | inr end ↦ let unlike = end.1 in cc ]
+    was_there j held = elim
+        (at_end s.views Passing Holder j held) [ inl before ↦ before | inr end ↦ let unlike = end.1 in cc ]
 
     -- the holder's view is over, and no other is left
-    none_left : (id : ℕ) → get_elem? s.views id ≡ some Holder → (j : ℕ) → get_elem? (slice_set s.views id Passing) j ≡ some Holder → ⊥
-    none_left id here j held = elim (at_set s.views id j Passing Holder held) [ inl same ↦ let unlike = same.1 in cc | inr other ↦ other.0 (lock.one_holder j id other.1 here) ]
+    none_left : (id : ℕ) → get_elem? s.views id ≡ some Holder → (j : ℕ)
+        → get_elem? (slice_set s.views id Passing) j ≡ some Holder → ⊥
+    none_left id here j held =
+        elim (at_set s.views id j Passing Holder held) [
+          | inl same ↦ let unlike = same.1 in
+              cc
+          | inr other ↦ other.0 (lock.one_holder j id other.1 here)
+        ]
 
   tried : (slots : ℕ) → Arrives IsLock slots 0 (λ _. 1) (TakesIfFree {T = T})
   tried slots s lock _ _ = elim (cases_lt 0 (slice_index s.words 0)) [
     | inl is_taken ↦
-        let still = taken s lock s.homes Passing lock.one_place (still_held s lock (omega (arith, lock.free_or_taken))) (λ j k one other. lock.one_holder j k (was_there s lock j one) (was_there s lock k other)) in
+        let still = taken s lock s.homes Passing lock.one_place (still_held s lock (omega (arith, lock.free_or_taken)))
+        (λ j k one other. lock.one_holder j k (was_there s lock j one) (was_there s lock k other)) in
         (Passing, keeps, tt, still, ((λ free. absurd (omega arith)), λ _. refl))
     | inr le ↦
         let free : slice_index s.words 0 ≡ 0 = omega arith in
         let home = lock.home_if_free free in
         let alone = comes_alone s lock free in
-        let now = taken s lock (slice_set s.homes 0 maybe.none) Holder (length-set s.homes 0 maybe.none ∙ lock.one_place) (length s.views, at_last s.views Holder (length s.views) refl) (λ j k one other. alone j one ∙ sym (alone k other)) in
+        let now = taken s lock (slice_set s.homes 0 maybe.none) Holder
+        (length-set s.homes 0 maybe.none ∙ lock.one_place)
+        (length s.views, at_last s.views Holder (length s.views) refl) (λ j k one other.
+        alone j one ∙ sym (alone k other)) in
         (Holder, takes 0 (Some home.0), home.1, now, ((λ _. (home.0, refl)), λ other. absurd (other free)))
   ]
 
@@ -97,10 +115,15 @@ module _ {T : Type 0} where
   pub has_place : (me : Me (Option T) Visitor) → HasValue me → (old : Option T) × (me.1 ≡ (0, old) ∷ rest me.1)
   has_place me has = (Some has.0, ap (λ m. m.1) has.1 ∙ ap (λ m. (0, Some has.0) ∷ rest m.1) (sym has.1))
 
-  freed : (slots id : ℕ) (value : T) → Allows IsLock slots id (Holder, (0, Some value) ∷ []) 0 (λ _. 0) (λ _. HasNothing)
+  freed : (slots id : ℕ) (value : T)
+      → Allows IsLock slots id (Holder, (0, Some value) ∷ []) 0 (λ _. 0) (λ _. HasNothing)
   freed slots id value s lock _ here _ =
       let nobody = none_left s lock id here in
-      let now : IsLock record { words = slice_set s.words 0 0; homes = slice_set s.homes 0 (some (Some value)); views = slice_set s.views id Passing } = record {
+      let now : IsLock record {
+        words = slice_set s.words 0 0;
+        homes = slice_set s.homes 0 (some (Some value));
+        views = slice_set s.views id Passing;
+      } = record {
         one_word = length-set s.words 0 0 ∙ lock.one_word;
         one_place = length-set s.homes 0 (some (Some value)) ∙ lock.one_place;
         free_or_taken = omega (arith, stored s lock 0);
@@ -112,5 +135,7 @@ module _ {T : Type 0} where
       (Passing, gives, tt, now, refl)
 
   -- a store of free by the holder brings the value home
-  pub frees : (slots id : ℕ) (me : Me (Option T) Visitor) (value : T) → me ≡ (Holder, (0, Some value) ∷ []) → Allows IsLock slots id me 0 (λ _. 0) (λ _. HasNothing)
-  frees slots id me value is = subst (λ m. Allows IsLock slots id m 0 (λ _. 0) (λ _. HasNothing)) (sym is) (freed slots id value)
+  pub frees : (slots id : ℕ) (me : Me (Option T) Visitor) (value : T) → me ≡ (Holder, (0, Some value) ∷ [])
+      → Allows IsLock slots id me 0 (λ _. 0) (λ _. HasNothing)
+  frees slots id me value is =
+      subst (λ m. Allows IsLock slots id m 0 (λ _. 0) (λ _. HasNothing)) (sym is) (freed slots id value)

@@ -1,7 +1,7 @@
 -- What a page answers, told by what the answer shows and no longer by its user's view.
 use Rattle.std.proofs.Common.{◌≡◌, List, [], ◌∷◌, ◌++◌, ℕ, ◌<◌, Option, refl, ap, sym, ◌∙◌, subst}
 use Rattle.atomic_table.specs.Seated.{TableId}
-use Rattle.lockfree_object_pool.specs.declared.page.history.PageAct.TheVariants.{Took, Gave}
+use Rattle.lockfree_object_pool.specs.declared.page.history.Operation.TheVariants.{Pull, Return}
 use Rattle.lockfree_object_pool.specs.declared.page.user_view.UserView.{UserView}
 use Rattle.lockfree_object_pool.specs.declared.page.note.PageNote.{PageNote}
 use Rattle.lockfree_object_pool.specs.declared.page.full_seen.FullSeen.{FullSeen}
@@ -9,53 +9,66 @@ use Rattle.lockfree_object_pool.specs.declared.page.full_seen.Allocated.{Allocat
 use Rattle.lockfree_object_pool.specs.declared.page.full_seen.Allocated.TheVariants.{Slot, Full}
 use Rattle.lockfree_object_pool.specs.Item.{IsPulled}
 use Rattle.lockfree_object_pool.specs.Note.{note_page, note_view, note_opening, note_history, IsReturned, IsPulledAfter}
-use Rattle.lockfree_object_pool.specs.PageHistory.{History, acts_of, IsBeginningOf, WasOutBetween}
+use Rattle.lockfree_object_pool.specs.Ledger.{History, operations_of, IsPrefixOf, WasOutBetween}
 use Rattle.lockfree_object_pool.specs.PageRule.{GoesOn, StartsFrom, KnowsOut}
 use Rattle.lockfree_object_pool.specs.Holding.{item_known}
 use Rattle.lockfree_object_pool.specs.FullSeen.{full_page, full_view, full_history, IsFullOf, IsAnswerFrom, IsAnswerOf, IsAnswerAfter}
-use Rattle.lockfree_object_pool.proofs.PageActs.{lawful_of, beginning_further}
-use Rattle.lockfree_object_pool.proofs.PageHolders.{came_from_lawful, spared_return}
+use Rattle.lockfree_object_pool.proofs.Ledger.{legal_of, prefix_further}
+use Rattle.lockfree_object_pool.proofs.LedgerHolders.{came_from_legal, spared_return}
 
 module _ {T : Type 0} where
-  -- what was found out since a load, told of the user as it was then
-  pub was_out_from : (start known : UserView T) (id : ℕ) → GoesOn [] start known → KnowsOut known id → WasOutBetween start.opening start.since known.acts id
+  -- what was observed taken since a load, told of the user as it was then
+  pub was_out_from : (start known : UserView T) (id : ℕ) → GoesOn [] start known → KnowsOut known id
+      → WasOutBetween start.opening start.since known.operations id
   was_out_from start known id goes was =
-      subst (λ (p : List (Option T) × History T). WasOutBetween p.0 p.1 known.acts id) (λ i. (goes.same_opening i, goes.same_since i)) was
+      subst (λ (p : List (Option T) × History T). WasOutBetween p.0 p.1 known.operations id) (λ i.
+      (goes.same_opening i, goes.same_since i)) was
 
-  -- the user of a pull has acted since it began: the pull is the one act more
-  module _ (page : TableId) (start known : UserView T) (id : ℕ) (value : T) (goes : GoesOn (Took known.user id value ∷ []) start known) where
+  -- the user of a pull has acted since it began: the pull is the one operation more
+  module _ (page : TableId) (start known : UserView T) (id : ℕ) (value : T)
+      (goes : GoesOn (Pull known.user id value ∷ []) start known) where
     pub pulled : start.own ≡ [] → IsPulled (item_known page known id value)
     pulled none = record {
-      lawful = goes.sound.lawful;
-      before = goes.acts.0 ++ start.acts;
-      last = goes.acts.1;
-      origin = came_from_lawful known.opening known.acts (goes.acts.0 ++ start.acts) known.user id value goes.acts.1 goes.sound.lawful;
-      only = goes.sound.own_acts ∙ goes.own ∙ ap (λ own. Took known.user id value ∷ own) none;
+      legal = goes.sound.legal;
+      before = goes.operations.0 ++ start.operations;
+      last = goes.operations.1;
+      origin = came_from_legal known.opening known.operations
+          (goes.operations.0 ++ start.operations) known.user id value goes.operations.1 goes.sound.legal;
+      only = goes.sound.own_operations ∙ goes.own ∙ ap (λ own. Pull known.user id value ∷ own) none;
     }
 
-    pub pulled_after : (note : PageNote T) → StartsFrom (note_view note) start → IsPulledAfter note (item_known page known id value)
+    pub pulled_after : (note : PageNote T) → StartsFrom (note_view note) start
+        → IsPulledAfter note (item_known page known id value)
     pulled_after note starts =
-        let further = beginning_further (note_history note) start.acts (goes.acts.0 ++ start.acts) starts.after_known (goes.acts.0, refl) in
-        let last : known.acts ≡ Took known.user id value ∷ (further.0 ++ note_history note) = goes.acts.1 ∙ ap (λ acts. Took known.user id value ∷ acts) further.1 in
+        let further = prefix_further (note_history note) start.operations
+        (goes.operations.0 ++ start.operations) starts.after_known (goes.operations.0, refl) in
+        let last : known.operations ≡ Pull known.user id value ∷ (further.0 ++ note_history note) =
+        goes.operations.1 ∙ ap (λ operations. Pull known.user id value ∷ operations) further.1 in
         let same_user = goes.same_user ∙ starts.same_user in
         record {
           same_opening = goes.same_opening ∙ starts.same_opening;
           same_user = same_user;
-          lawful = goes.sound.lawful;
+          legal = goes.sound.legal;
           others = further.0;
           last = last;
-          origin = came_from_lawful known.opening known.acts (further.0 ++ note_history note) known.user id value last goes.sound.lawful;
-          only = goes.sound.own_acts ∙ goes.own ∙ ap (λ own. Took known.user id value ∷ own) (starts.own_same ∙ sym starts.own_before ∙ ap (λ user. acts_of user (note_history note)) (sym same_user));
+          origin = came_from_legal known.opening known.operations
+              (further.0 ++ note_history note) known.user id value last goes.sound.legal;
+          only = goes.sound.own_operations ∙ goes.own ∙ ap (λ own.
+              Pull known.user id value ∷ own)
+              (starts.own_same ∙ sym starts.own_before
+              ∙ ap (λ user. operations_of user (note_history note)) (sym same_user));
         }
 
   -- a page that was full, of a call whose user stood here at its load
-  full : (page : TableId) (opening : List (Option T)) (start : UserView T) (seen : FullSeen T) → start.opening ≡ opening → full_page seen ≡ page → GoesOn [] start (full_view seen)
-      → ((id : ℕ) → id < 32 → WasOutBetween start.opening start.since (full_history seen) id) → IsFullOf page opening seen
+  full : (page : TableId) (opening : List (Option T)) (start : UserView T) (seen : FullSeen T) → start.opening ≡ opening
+      → full_page seen ≡ page → GoesOn [] start (full_view seen)
+      → ((id : ℕ) → id < 32 → WasOutBetween start.opening start.since (full_history seen) id)
+      → IsFullOf page opening seen
   full page opening start seen same of_page goes each = record {
     of_page = of_page;
     found = record {
       same_opening = goes.same_opening ∙ same;
-      lawful = lawful_of opening (full_view seen) (goes.same_opening ∙ same) goes.sound;
+      legal = legal_of opening (full_view seen) (goes.same_opening ∙ same) goes.sound;
       goes_on = goes.sound.since_load;
       each_was_out = λ id within.
           subst (λ o. WasOutBetween o (full_view seen).since (full_history seen) id) same
@@ -64,35 +77,49 @@ module _ {T : Type 0} where
   }
 
   -- a return: nobody was at the item since its pull
-  pub returned : (page : TableId) (old new : UserView T) (note : PageNote T) (id : ℕ) (value : T) → note_view note ≡ new → note_page note ≡ page → GoesOn (Gave new.user id value ∷ []) old new → IsReturned (item_known page old id value) note
+  pub returned : (page : TableId) (old new : UserView T) (note : PageNote T) (id : ℕ) (value : T) → note_view note ≡ new
+      → note_page note ≡ page → GoesOn (Return new.user id value ∷ []) old new
+      → IsReturned (item_known page old id value) note
   returned page old new note id value is of_page went =
-      let same : GoesOn (Gave old.user id value ∷ []) old (note_view note) = subst (λ (p : ℕ × UserView T). GoesOn (Gave p.0 id value ∷ []) old p.1) (λ i. (went.same_user i, sym is i)) went in
+      let same : GoesOn (Return old.user id value ∷ []) old (note_view note) =
+      subst (λ (p : ℕ × UserView T). GoesOn (Return p.0 id value ∷ []) old p.1) (λ i.
+      (went.same_user i, sym is i)) went in
       let spared = spared_return old (note_view note) old.user id value refl same in
       record {
         of_page = of_page;
         same_opening = same.same_opening;
         same_user = same.same_user;
-        lawful = lawful_of old.opening (note_view note) same.same_opening same.sound;
+        legal = legal_of old.opening (note_view note) same.same_opening same.sound;
         others = spared.0;
         last = spared.1;
         untouched = spared.2;
-        only = ap (λ user. acts_of user (note_history note)) (sym same.same_user) ∙ same.sound.own_acts ∙ same.own ∙ ap (λ own. Gave old.user id value ∷ own) (sym same.own_before);
+        only = ap (λ user. operations_of user (note_history note)) (sym same.same_user) ∙ same.sound.own_operations
+            ∙ same.own ∙ ap (λ own. Return old.user id value ∷ own) (sym same.own_before);
       }
 
 module _ {T K : Type 0} where
   -- the answer to a user that had done nothing
-  pub answer_fresh : (meets : T → Type 0) (page : TableId) (opening : List (Option T)) (start : UserView T) (answer : Allocated T K) → start.opening ≡ opening → start.own ≡ [] → IsAnswerFrom meets page start answer → IsAnswerOf meets page opening answer
+  pub answer_fresh : (meets : T → Type 0) (page : TableId) (opening : List (Option T)) (start : UserView T)
+      (answer : Allocated T K) → start.opening ≡ opening → start.own ≡ [] → IsAnswerFrom meets page start answer
+      → IsAnswerOf meets page opening answer
   answer_fresh meets page opening start (Slot slot) same none is = record {
     is_item = is.0;
     same_opening = is.1.same_opening ∙ same;
-    pulled = pulled slot.taken.holding.seat.table_id start slot.taken.holding.seat.me.0 slot.taken.holding.number slot.value is.1 none;
+    pulled = pulled slot.taken.holding.seat.table_id start slot.taken.holding.seat.me.0 slot.taken.holding.number
+        slot.value is.1 none;
   }
   answer_fresh meets page opening start (Full seen) same none is = full page opening start seen same is.0 is.1 is.2
 
   -- the answer to a user that had a note
-  pub answer_after : (meets : T → Type 0) (page : TableId) (note : PageNote T) (start : UserView T) (answer : Allocated T K) → StartsFrom (note_view note) start → IsAnswerFrom meets page start answer → IsAnswerAfter meets page note answer
-  answer_after meets page note start (Slot slot) starts is = (is.0, pulled_after slot.taken.holding.seat.table_id start slot.taken.holding.seat.me.0 slot.taken.holding.number slot.value is.1 note starts)
+  pub answer_after : (meets : T → Type 0) (page : TableId) (note : PageNote T) (start : UserView T)
+      (answer : Allocated T K) → StartsFrom (note_view note) start → IsAnswerFrom meets page start answer
+      → IsAnswerAfter meets page note answer
+  answer_after meets page note start (Slot slot) starts is = (
+    is.0,
+    pulled_after slot.taken.holding.seat.table_id start slot.taken.holding.seat.me.0 slot.taken.holding.number
+        slot.value is.1 note starts,
+  )
   answer_after meets page note start (Full seen) starts is = record {
     all_out = full page (note_opening note) start seen starts.same_opening is.0 is.1 is.2;
-    after_note = subst (IsBeginningOf (note_history note)) (sym (is.1.same_since ∙ starts.from_now)) starts.after_known;
+    after_note = subst (IsPrefixOf (note_history note)) (sym (is.1.same_since ∙ starts.from_now)) starts.after_known;
   }

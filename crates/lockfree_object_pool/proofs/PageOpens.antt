@@ -8,65 +8,92 @@ use lib.ListN.{get_elem?}
 use Rattle.atomic_table.specs.Table.{opening}
 use Rattle.atomic_table.proofs.Lists.{at_map}
 use Rattle.lockfree_object_pool.specs.declared.page.user_view.UserView.{UserView}
-use Rattle.lockfree_object_pool.proofs.PageActs.{beginning_same, knows_of}
+use Rattle.lockfree_object_pool.proofs.Ledger.{prefix_same, knows_of}
 use Rattle.lockfree_object_pool.specs.Word.{item_bit, IsAllFree}
 use Rattle.lockfree_object_pool.specs.PageRule.{first_view, IsPage, IsKept, IsSound, Knows}
 
 -- a page's first user holds nothing
-first_holds_none : {T : Type 0} (opening : List (Option T)) (known : UserView T) (user id : ℕ) → get_elem? (first_view opening ∷ []) user ≡ some known → known.held ≡ Some id → ⊥
-first_holds_none {T} opening known zero id at holds = let none_held : None ≡ Some id = ap (λ (known : UserView T). known.held) (some-injective (first_view opening) known at) ∙ holds in absurd (cc)
+first_holds_none : {T : Type 0} (opening : List (Option T)) (known : UserView T) (user id : ℕ)
+    → get_elem? (first_view opening ∷ []) user ≡ some known → known.held ≡ Some id → ⊥
+first_holds_none {T} opening known zero id at holds = let none_held : None ≡ Some id =
+    ap (λ (known : UserView T). known.held) (some-injective (first_view opening) known at) ∙ holds in absurd (cc)
 first_holds_none opening known (suc user) id at holds = absurd (some-ne-none known (sym at))
 
 module _ {T : Type 0} where
   -- what lies at a place of a page at its start
-  opening_at : (items : List (Option T)) (id : ℕ) (value : Option T) → get_elem? (map some items) id ≡ some (some value) → get_or items id None ≡ value
+  opening_at : (items : List (Option T)) (id : ℕ) (value : Option T) → get_elem? (map some items) id ≡ some (some value)
+      → get_or items id None ≡ value
   opening_at [] id value at = absurd (some-ne-none (some value) (sym at))
   opening_at (item ∷ items) zero value at = some-injective item value (some-injective (some item) (some value) at)
   opening_at (item ∷ items) (suc id) value at = opening_at items id value at
 
 module _ {T : Type 0} (meets : T → Type 0) where
   -- what lies at a place of a filled list
-  filled_at : (items : List (Option T)) (id : ℕ) → id < length items → All (λ item. IsSomeAnd item meets) items → (value : T) × (get_elem? items id ≡ some (Some value)) × meets value
+  filled_at : (items : List (Option T)) (id : ℕ) → id < length items → All (λ item. IsSomeAnd item meets) items
+      → (value : T) × (get_elem? items id ≡ some (Some value)) × meets value
   filled_at [] id within each = absurd (omega arith)
   filled_at (None ∷ items) id within each = absurd (each 0 None (omega arith))
   filled_at (Some value ∷ items) zero within each = (value, refl, each 0 None (omega arith))
-  filled_at (Some value ∷ items) (suc id) within each = filled_at items id (omega arith) (λ k default below. each (suc k) default (omega arith))
+  filled_at (Some value ∷ items) (suc id) within each =
+      filled_at items id (omega arith) (λ k default below. each (suc k) default (omega arith))
 
-  module _ (words : List ℕ) (items : List (Option T)) (free : IsAllFree (length items) words) (each : All (λ item. IsSomeAnd item meets) items) where
+  module _ (words : List ℕ) (items : List (Option T)) (free : IsAllFree (length items) words)
+      (each : All (λ item. IsSomeAnd item meets) items) where
     same_count : length (map some items) ≡ length items
     same_count = length-map items some
 
     -- each item whose bit is set is at home
     set_inside : (id : ℕ) → item_bit words id ≡ 1 → id < length items
-    set_inside id one = elim (cases_lt id (length items)) [ inl inside ↦ inside | inr past ↦ let none = free.clear id past in absurd (omega arith) ]
+    set_inside id one =
+        elim (cases_lt id (length items)) [
+          | inl inside ↦ inside
+          | inr past ↦ let none = free.clear id past in
+              absurd (omega arith)
+        ]
 
     -- a page at its start: each item is free and at home, and nothing was done
     opens_page : IsPage meets (opening words items (first_view items))
     opens_page = record {
       all_places = let places = same_count in let all = free.one_for_32 in omega arith;
       words_fit = free.words_fit;
-      free_is_home = λ id one. let found = filled_at items id (set_inside id one) each in (found.0, at_map some items id (Some found.0) found.1, found.2);
+      free_is_home = λ id one. let found = filled_at items id (set_inside id one) each in
+          (found.0, at_map some items id (Some found.0) found.1, found.2);
       held_is_out = λ user id holds. absurd (first_holds_none items holds.0 user id holds.1 holds.2);
       one_holder = λ user other id holds _. absurd (first_holds_none items holds.0 user id holds.1 holds.2);
     }
 
     first_sound : IsSound (first_view items)
-    first_sound = record { lawful = tt; since_load = beginning_same []; own_acts = refl; holds = refl }
+    first_sound = record { legal = tt; since_load = prefix_same []; own_operations = refl; holds = refl }
 
-    first_informed : (user : ℕ) (known : UserView T) → get_elem? (first_view items ∷ []) user ≡ some known → Knows items [] user known
-    first_informed zero known at = subst (Knows items [] 0) (some-injective (first_view items) known at) (knows_of _ _ _ _ record { sound = first_sound; number = refl; same_opening = refl; beginning = beginning_same []; told_before = beginning_same []; own_so_far = refl })
+    first_informed : (user : ℕ) (known : UserView T) → get_elem? (first_view items ∷ []) user ≡ some known
+        → Knows items [] user known
+    first_informed zero known at =
+        subst (Knows items [] 0) (some-injective (first_view items) known at)
+        (knows_of _ _ _ _ record {
+          sound = first_sound;
+          number = refl;
+          same_opening = refl;
+          prefix = prefix_same [];
+          told_before = prefix_same [];
+          own_so_far = refl;
+        })
     first_informed (suc user) known at = absurd (some-ne-none known (sym at))
 
     -- nothing lies at an item whose bit is clear, since there is none
     nothing_past : (id : ℕ) → item_bit words id ≡ 0 → get_or items id None ≡ None
-    nothing_past id out = elim (cases_lt id (length items)) [ inl inside ↦ let one = free.set id inside in absurd (omega arith) | inr past ↦ get_or_past items id None past ]
+    nothing_past id out =
+        elim (cases_lt id (length items)) [
+          | inl inside ↦ let one = free.set id inside in
+              absurd (omega arith)
+          | inr past ↦ get_or_past items id None past
+        ]
 
     pub opens : IsKept meets items (opening words items (first_view items))
     opens = (
       opens_page,
       record {
-        acts = [];
-        lawful = tt;
+        operations = [];
+        legal = tt;
         free_lies = λ id free value home. opening_at items id (Some value) home;
         out_lies = nothing_past;
         informed = first_informed;

@@ -23,28 +23,63 @@ use Rattle.lockfree_object_pool.proofs.SlotShared.{taken_sync, holding_sync}
 
 -- what a note owns names no thread
 note_sync : (T : RattleType) → IsSync (Note.the_row T)
-note_sync T = record { shared = λ note block offset lifetime share. part_keyless (Note.the_row T) (sent_note.the_send T) share note block offset }
+note_sync T = record {
+  shared = λ note block offset lifetime share.
+      part_keyless (Note.the_row T) (sent_note.the_send T) share note block offset;
+}
 
 -- so threads may share the number of a page with what was learned of it
-number_sync : (T K O : RattleType) (clean : Ghosts K.Denot T.Denot) (opens : Ghosts O.Denot T.Denot) → IsSync (PageNumber.the_field T K O clean opens).row
+number_sync : (T K O : RattleType) (clean : Ghosts K.Denot T.Denot) (opens : Ghosts O.Denot T.Denot)
+    → IsSync (PageNumber.the_field T K O clean opens).row
 number_sync T K O clean opens =
     let row = note_sync (Row.the_row T K O clean opens) in
     let link = note_sync (OpenedPage.the_row T K O clean opens) in
-    struct_sync (shape (PageNumber.the_type T K O clean opens)) (search sendable, (record { shared = row.shared }, (record { shared = link.shared }, tt)))
+    struct_sync (shape (PageNumber.the_type T K O clean opens))
+    (search sendable, (record { shared = row.shared }, (record { shared = link.shared }, tt)))
 
-module _ (T I R K : RattleType) (answers : Init.Ghosts I.Denot T.Denot K.Denot) (leaves : Reset.Ghosts R.Denot T.Denot K.Denot) (clean : Ghosts K.Denot T.Denot) where
-  pub reusable_sync : (κ : NamedLft) → IsSend T → IsSync T → IsSync I → IsSync R → IsSync (LinearReusable.the_row κ T I R K answers leaves clean)
+module _ (T I R K : RattleType) (answers : Init.Ghosts I.Denot T.Denot K.Denot)
+    (leaves : Reset.Ghosts R.Denot T.Denot K.Denot) (clean : Ghosts K.Denot T.Denot) where
+  pub reusable_sync : (κ : NamedLft) → IsSend T → IsSync T → IsSync I → IsSync R
+      → IsSync (LinearReusable.the_row κ T I R K answers leaves clean)
   reusable_sync κ sent shared init reset =
       let type = LinearReusable.the_type κ T I R K answers leaves clean in
       let pool_shared = shr_sync _ _ _ (pool.the_sync T I R K answers leaves clean sent init reset) in
-      record { shared = λ reusable. (struct_sync (shape type) (pool_shared, (search sendable, (taken_sync T (MadeOrReset.the_row I R K) _ κ sent, (number_sync T (MadeOrReset.the_row I R K) (AnswerOf.the_row I K) _ _, (record { shared = shared.shared }, tt)))))).shared (type.to reusable) }
+      record {
+        shared = λ reusable.
+            (struct_sync (shape type) (
+              pool_shared,
+              (
+                search sendable,
+                (
+                  taken_sync T (MadeOrReset.the_row I R K) _ κ sent,
+                  (
+                    number_sync T (MadeOrReset.the_row I R K) (AnswerOf.the_row I K) _ _,
+                    (record { shared = shared.shared }, tt),
+                  ),
+                ),
+              ),
+            )).shared (type.to reusable);
+      }
 
-  owned_taken_sync : IsSend T → IsSend I → IsSync I → IsSend R → IsSync R → IsSync (OwnedTakenItem.the_field T I R K answers leaves clean).row
+  owned_taken_sync : IsSend T → IsSend I → IsSync I → IsSend R → IsSync R
+      → IsSync (OwnedTakenItem.the_field T I R K answers leaves clean).row
   owned_taken_sync sent init_sent init_shared reset_sent reset_shared =
-      let owner = Arc-sync (LinearObjectPool.the_row T I R K answers leaves clean) (pool.the_send T I R K answers leaves clean sent init_sent reset_sent) (pool.the_sync T I R K answers leaves clean sent init_shared reset_shared) in
-      struct_sync (shape (OwnedTakenItem.the_type T I R K answers leaves clean)) (record { shared = owner.shared }, (holding_sync T sent, (number_sync T (MadeOrReset.the_row I R K) (AnswerOf.the_row I K) _ _, tt)))
+      let owner = Arc-sync (LinearObjectPool.the_row T I R K answers leaves clean)
+      (pool.the_send T I R K answers leaves clean sent init_sent reset_sent)
+      (pool.the_sync T I R K answers leaves clean sent init_shared reset_shared) in
+      struct_sync (shape (OwnedTakenItem.the_type T I R K answers leaves clean)) (
+        record { shared = owner.shared },
+        (holding_sync T sent, (number_sync T (MadeOrReset.the_row I R K) (AnswerOf.the_row I K) _ _, tt)),
+      )
 
-  pub owned_reusable_sync : IsSend T → IsSync T → IsSend I → IsSync I → IsSend R → IsSync R → IsSync (LinearOwnedReusable.the_row T I R K answers leaves clean)
+  pub owned_reusable_sync : IsSend T → IsSync T → IsSend I → IsSync I → IsSend R → IsSync R
+      → IsSync (LinearOwnedReusable.the_row T I R K answers leaves clean)
   owned_reusable_sync sent shared init_sent init_shared reset_sent reset_shared =
       let type = LinearOwnedReusable.the_type T I R K answers leaves clean in
-      record { shared = λ reusable. (struct_sync (shape type) (owned_taken_sync sent init_sent init_shared reset_sent reset_shared, (record { shared = shared.shared }, tt))).shared (type.to reusable) }
+      record {
+        shared = λ reusable.
+            (struct_sync (shape type) (
+              owned_taken_sync sent init_sent init_shared reset_sent reset_shared,
+              (record { shared = shared.shared }, tt),
+            )).shared (type.to reusable);
+      }

@@ -21,20 +21,31 @@ use Rattle.lockfree_object_pool.specs.contracts.page.user_view.UserView as UserV
 pub seat_sync : (T : RattleType) → IsSend T → IsSync (Seat.the_row (OptionRow.the_row T) (UserView.the_row T))
 seat_sync T sent =
     let item : IsSend (OptionRow.the_row T) = search (sendable, crosses) depth 20 in
-    record { shared = λ seat block offset lifetime share. part_keyless (Seat.the_row (OptionRow.the_row T) (UserView.the_row T)) (the_send (OptionRow.the_row T) (UserView.the_row T) item) share seat block offset }
+    record {
+      shared = λ seat block offset lifetime share.
+          part_keyless (Seat.the_row (OptionRow.the_row T) (UserView.the_row T))
+          (the_send (OptionRow.the_row T) (UserView.the_row T) item) share seat block offset;
+    }
 
 -- so it is of what the holder of an item has
 pub holding_sync : (T : RattleType) → IsSend T → IsSync (Holding.the_field T).row
-holding_sync T sent = struct_sync (shape (Holding.the_type T)) (record { shared = (seat_sync T sent).shared }, (search sendable, tt))
+holding_sync T sent =
+    struct_sync (shape (Holding.the_type T)) (record { shared = (seat_sync T sent).shared }, (search sendable, tt))
 
 module _ (T K : RattleType) (clean : Ghosts K.Denot T.Denot) where
   pub taken_sync : (κ : NamedLft) → IsSend T → IsSync (TakenId.the_field κ T K clean).row
-  taken_sync κ sent = struct_sync (shape (TakenId.the_type κ T K clean)) (shr_sync _ _ _ (page.the_sync T K clean sent), (holding_sync T sent, tt))
+  taken_sync κ sent =
+      struct_sync (shape (TakenId.the_type κ T K clean))
+      (shr_sync _ _ _ (page.the_sync T K clean sent), (holding_sync T sent, tt))
 
   pub slot_sync : (κ : NamedLft) → IsSend T → IsSync T → IsSync (PageSlot.the_row κ T K clean)
   slot_sync κ sent shared =
       let type = PageSlot.the_type κ T K clean in
-      record { shared = λ slot. (struct_sync (shape type) (search sendable, (taken_sync κ sent, (record { shared = shared.shared }, tt)))).shared (type.to slot) }
+      record {
+        shared = λ slot.
+            (struct_sync (shape type)
+            (search sendable, (taken_sync κ sent, (record { shared = shared.shared }, tt)))).shared (type.to slot);
+      }
 
   owned_taken_sync : IsSend T → IsSync (OwnedTakenId.the_field T K clean).row
   owned_taken_sync sent =
@@ -42,7 +53,10 @@ module _ (T K : RattleType) (clean : Ghosts K.Denot T.Denot) where
       struct_sync (shape (OwnedTakenId.the_type T K clean)) (record { shared = page.shared }, (holding_sync T sent, tt))
 
   pub owned_slot_parts_sync : IsSend T → IsSync T → IsSync (OwnedSlot.the_field T K clean).row
-  owned_slot_parts_sync sent shared = struct_sync (shape (OwnedSlot.the_type T K clean)) (owned_taken_sync sent, (record { shared = shared.shared }, tt))
+  owned_slot_parts_sync sent shared =
+      struct_sync (shape (OwnedSlot.the_type T K clean))
+      (owned_taken_sync sent, (record { shared = shared.shared }, tt))
 
   pub owned_slot_sync : IsSend T → IsSync T → IsSync (OwnedSlot.the_row T K clean)
-  owned_slot_sync sent shared = record { shared = λ slot. (owned_slot_parts_sync sent shared).shared ((OwnedSlot.the_type T K clean).to slot) }
+  owned_slot_sync sent shared =
+      record { shared = λ slot. (owned_slot_parts_sync sent shared).shared ((OwnedSlot.the_type T K clean).to slot) }

@@ -1,18 +1,21 @@
 -- The bits of a word after one step.
 use Rattle.std.proofs.Common.{◌≡◌, ℕ, ◌-◌, ◌*◌, ◌/◌, ◌%◌, ◌^◌, ◌<◌, suc, zero, min, List, length, set, get_or, get_or-set_same, length-set, ◌≢◌, ◌+◌, ◌≤◌, bit_and, bit_or, refl, sym, ◌∙◌, ap, arith, inl, inr, replicate}
 use Rattle.std.specs.Int.{bit_at, bit_not, w32}
+use Rattle.std.specs.Int.Bits.{or_add_and}
 use native.Mathlib.Decide.{ℕ_discrete}
 use mathlib.Core.Logic.{dite}
 use Rattle.std.proofs.lemmas.List.{get_or-set_other, get_or-replicate, get_or_past, length-replicate}
 use Rattle.std.proofs.lemmas.Bool.{cases_lt}
-use Rattle.std.proofs.lemmas.Nat.Bits.{bit_at_lowest, bit_at-suc, bit_at_and, bit_at_set_same, bit_at_set_other, bit_at_clear_same, bit_at_clear_other, bit_at_above, bit_at-lt, bit_at_ones, bit_at_ones_above, bit_at_or, bit_at-zero}
+use Rattle.std.proofs.lemmas.Nat.Bits.{bit_at_lowest, bit_at-suc, bit_at_and, bit_at_set_same, bit_at_set_other, bit_at_clear_same, bit_at_clear_other, bit_at_above, bit_at-lt, bit_at_ones, bit_at_ones_above, bit_at_or, bit_at-zero, same_from_bits}
 use lib.Pow.{pow_mono, ones_lt}
 use Rattle.lockfree_object_pool.specs.Word.{all_bits, SetsBit, ClearsBit, item_bit, IsAllFree}
 
 -- one less turns the lowest set bit off, the bits below it on, and leaves those above it
-bit_at-less_one : (k word : ℕ) → bit_at word k ≡ 1 → ((i : ℕ) → i < k → bit_at word i ≡ 0) → (i : ℕ) → (i ≡ k → bit_at (word - 1) i ≡ 0) × (k < i → bit_at (word - 1) i ≡ bit_at word i)
+bit_at-less_one : (k word : ℕ) → bit_at word k ≡ 1 → ((i : ℕ) → i < k → bit_at word i ≡ 0) → (i : ℕ)
+    → (i ≡ k → bit_at (word - 1) i ≡ 0) × (k < i → bit_at (word - 1) i ≡ bit_at word i)
 bit_at-less_one zero word set lowest zero =
-    let odd = bit_at_lowest word in let low = bit_at_lowest (word - 1) in (λ _. omega arith, λ above. absurd (omega arith))
+    let odd = bit_at_lowest word in let low = bit_at_lowest (word - 1) in
+    (λ _. omega arith, λ above. absurd (omega arith))
 bit_at-less_one zero word set lowest (suc i) =
     let odd = bit_at_lowest word in
     let half : (word - 1) / 2 ≡ word / 2 = omega arith in
@@ -21,14 +24,17 @@ bit_at-less_one (suc k) word set lowest zero = (λ e. absurd (omega arith), λ a
 bit_at-less_one (suc k) word set lowest (suc i) =
     let even : word % 2 ≡ 0 = sym (bit_at_lowest word) ∙ lowest 0 (omega arith) in
     let higher : bit_at (word / 2) k ≡ 1 = sym (bit_at-suc word k) ∙ set in
-    let below : (j : ℕ) → j < k → bit_at (word / 2) j ≡ 0 = λ j lt. sym (bit_at-suc word j) ∙ lowest (suc j) (omega arith) in
+    let below : (j : ℕ) → j < k
+    → bit_at (word / 2) j ≡ 0 = λ j lt. sym (bit_at-suc word j) ∙ lowest (suc j) (omega arith) in
     let half : (word - 1) / 2 ≡ word / 2 - 1 = omega arith in
-    let less : bit_at (word - 1) (suc i) ≡ bit_at (word / 2 - 1) i = bit_at-suc (word - 1) i ∙ ap (λ n. bit_at n i) half in
+    let less : bit_at (word - 1) (suc i) ≡ bit_at (word / 2 - 1) i =
+    bit_at-suc (word - 1) i ∙ ap (λ n. bit_at n i) half in
     let rest = bit_at-less_one k (word / 2) higher below i in
     (λ e. less ∙ rest.0 (omega arith), λ above. less ∙ rest.1 (omega arith) ∙ sym (bit_at-suc word i))
 
 -- a word without its lowest set bit
-pub clears_least : (word k : ℕ) → bit_at word k ≡ 1 → ((i : ℕ) → i < k → bit_at word i ≡ 0) → ClearsBit word k (bit_and word (word - 1))
+pub clears_least : (word k : ℕ) → bit_at word k ≡ 1 → ((i : ℕ) → i < k → bit_at word i ≡ 0)
+    → ClearsBit word k (bit_and word (word - 1))
 clears_least word k set lowest =
     let less = bit_at-less_one k word set lowest in
     record {
@@ -49,7 +55,8 @@ sets_bit word id within = record {
 }
 
 -- a word with one bit clear
-pub clears_bit : (word id : ℕ) → word < 2 ^ 32 → id < 32 → ClearsBit word id (bit_and word (bit_not w32 (1 * 2 ^ id % 2 ^ 32)))
+pub clears_bit : (word id : ℕ) → word < 2 ^ 32 → id < 32
+    → ClearsBit word id (bit_and word (bit_not w32 (1 * 2 ^ id % 2 ^ 32)))
 clears_bit word id fits within = record {
   clear = bit_at_clear_same w32 word id within;
   others = λ i other. elim (cases_lt i 32) [
@@ -61,7 +68,8 @@ clears_bit word id fits within = record {
 }
 
 -- an and with a word that lacks one bit alone clears that bit
-pub and_clears : (word operand id : ℕ) → word < 2 ^ 32 → ClearsBit all_bits id operand → ClearsBit word id (bit_and word operand)
+pub and_clears : (word operand id : ℕ) → word < 2 ^ 32 → ClearsBit all_bits id operand
+    → ClearsBit word id (bit_and word operand)
 and_clears word operand id fits lacks = record {
   clear = bit_at_and word operand id ∙ (let zero = lacks.clear in let low = bit_at-lt word id in omega arith);
   others = λ i other.
@@ -85,8 +93,23 @@ or_sets word operand id has = record {
       omega arith;
 }
 
+-- to add a word that has one bit alone is an or with it, where that bit was clear
+pub add_sets : (word operand id : ℕ) → word < 2 ^ 32 → operand < 2 ^ 32 → SetsBit 0 id operand → bit_at word id ≡ 0
+    → (word + operand) % 2 ^ 64 ≡ bit_or word operand
+add_sets word operand id word_fits operand_fits has clear =
+    let apart : bit_and word operand ≡ 0 = same_from_bits (bit_and word operand) 0 (λ i.
+    let both = bit_at_and word operand i in
+    let zero = bit_at-zero i in
+    let low = bit_at-lt operand i in
+    dite (ℕ_discrete i id)
+    (λ same. let here = ap (bit_at word) same ∙ clear in omega arith)
+    (λ other. let none = has.others i other in omega arith)) in
+    let sum = or_add_and word operand in
+    omega arith
+
 -- an item's bit is the bit of its word
-pub item_bit_of : (words : List ℕ) (place bit : ℕ) → bit < 32 → item_bit words (32 * place + bit) ≡ bit_at (get_or words place 0) bit
+pub item_bit_of : (words : List ℕ) (place bit : ℕ) → bit < 32
+    → item_bit words (32 * place + bit) ≡ bit_at (get_or words place 0) bit
 item_bit_of words place bit within =
     let word : (32 * place + bit) / 32 ≡ place = omega arith in
     let rest : (32 * place + bit) % 32 ≡ bit = omega arith in
@@ -99,28 +122,37 @@ pub record Turns (old : List ℕ) (id value : ℕ) (new : List ℕ) : Type 0 whe
   pub same_count : length new ≡ length old
 
 -- words of which one bit of one word has changed
-pub turns : (words : List ℕ) (place bit value new : ℕ) → bit < 32 → place < length words → bit_at new bit ≡ value → ((b : ℕ) → b ≢ bit → bit_at new b ≡ bit_at (get_or words place 0) b) → Turns words (32 * place + bit) value (set words place new)
+pub turns : (words : List ℕ) (place bit value new : ℕ) → bit < 32 → place < length words → bit_at new bit ≡ value
+    → ((b : ℕ) → b ≢ bit → bit_at new b ≡ bit_at (get_or words place 0) b)
+    → Turns words (32 * place + bit) value (set words place new)
 turns words place bit value new within inside here others = record {
-  here = item_bit_of (set words place new) place bit within ∙ ap (λ w. bit_at w bit) (get_or-set_same words place new 0 inside) ∙ here;
+  here = item_bit_of (set words place new) place bit within ∙ ap (λ w.
+      bit_at w bit) (get_or-set_same words place new 0 inside) ∙ here;
   others = λ i differ. dite (ℕ_discrete (i / 32) place)
       (λ same.
       let apart : i % 32 ≢ bit = λ e. differ (omega arith) in
-      ap (λ w. bit_at w (i % 32)) (ap (λ p. get_or (set words place new) p 0) same ∙ get_or-set_same words place new 0 inside) ∙ others (i % 32) apart ∙ ap (λ p. bit_at (get_or words p 0) (i % 32)) (sym same))
+      ap (λ w. bit_at w (i % 32))
+      (ap (λ p. get_or (set words place new) p 0) same ∙ get_or-set_same words place new 0 inside)
+      ∙ others (i % 32) apart ∙ ap (λ p. bit_at (get_or words p 0) (i % 32)) (sym same))
       (λ other. ap (λ w. bit_at w (i % 32)) (get_or-set_other words place (i / 32) new 0 other));
   same_count = length-set words place new;
 }
 
 -- each word still fits, once one has changed
-pub fits_after : (words : List ℕ) (place new : ℕ) → place < length words → ((p : ℕ) → get_or words p 0 < 2 ^ 32) → new < 2 ^ 32 → (p : ℕ) → get_or (set words place new) p 0 < 2 ^ 32
+pub fits_after : (words : List ℕ) (place new : ℕ) → place < length words → ((p : ℕ) → get_or words p 0 < 2 ^ 32)
+    → new < 2 ^ 32 → (p : ℕ) → get_or (set words place new) p 0 < 2 ^ 32
 fits_after words place new inside fit small p = dite (ℕ_discrete p place)
-    (λ same. let here = ap (λ p. get_or (set words place new) p 0) same ∙ get_or-set_same words place new 0 inside in omega arith)
+    (λ same. let here = ap (λ p. get_or (set words place new) p 0) same ∙ get_or-set_same words place new 0 inside in
+    omega arith)
     (λ other. let was = fit p in let same = get_or-set_other words place p new 0 other in omega arith)
 
 -- words that are all set but the last, of which only the lowest bits are
 -- a word that lacks one bit alone tells which
-pub lacks_one : (operand bit other : ℕ) → other < 32 → ClearsBit all_bits bit operand → ClearsBit all_bits other operand → bit ≡ other
+pub lacks_one : (operand bit other : ℕ) → other < 32 → ClearsBit all_bits bit operand → ClearsBit all_bits other operand
+    → bit ≡ other
 lacks_one operand bit other within one two = dite (ℕ_discrete bit other) (λ same. same)
-    (λ differ. let set = one.others other (λ same. differ (sym same)) in let clear = two.clear in let all = bit_at_ones 32 other within in absurd (omega arith))
+    (λ differ. let set = one.others other (λ same. differ (sym same)) in let clear = two.clear in
+    let all = bit_at_ones 32 other within in absurd (omega arith))
 
 module _ (full low : ℕ) (some : 0 < low) (within : low ≤ 32) where
   abbrev pub free_words : List ℕ
@@ -130,13 +162,19 @@ module _ (full low : ℕ) (some : 0 < low) (within : low ≤ 32) where
   words_long = length-replicate (full + 1) all_bits
 
   last_word : get_or free_words full 0 ≡ 2 ^ low - 1
-  last_word = let long = words_long in get_or-set_same (replicate (full + 1) all_bits) full (2 ^ low - 1) 0 (omega arith)
+  last_word = let long = words_long in
+      get_or-set_same (replicate (full + 1) all_bits) full (2 ^ low - 1) 0 (omega arith)
 
   full_word : (place : ℕ) → place < full → get_or free_words place 0 ≡ all_bits
-  full_word place before = get_or-set_other (replicate (full + 1) all_bits) full place (2 ^ low - 1) 0 (λ same. let here : place ≡ full = same in absurd (omega arith)) ∙ get_or-replicate (full + 1) place all_bits 0 (omega arith)
+  full_word place before =
+      get_or-set_other (replicate (full + 1) all_bits) full place (2 ^ low - 1) 0 (λ same.
+      let here : place ≡ full = same in absurd (omega arith))
+      ∙ get_or-replicate (full + 1) place all_bits 0 (omega arith)
 
   past_word : (place : ℕ) → full < place → get_or free_words place 0 ≡ 0
-  past_word place past = let long = words_long in let same = length-set (replicate (full + 1) all_bits) full (2 ^ low - 1) in get_or_past free_words place 0 (omega arith)
+  past_word place past = let long = words_long in
+      let same = length-set (replicate (full + 1) all_bits) full (2 ^ low - 1) in
+      get_or_past free_words place 0 (omega arith)
 
   word_fits : (place : ℕ) → get_or free_words place 0 < 2 ^ 32
   word_fits place = elim (cases_lt place full) [
@@ -155,14 +193,17 @@ module _ (full low : ℕ) (some : 0 < low) (within : low ≤ 32) where
 
   pub all_free : IsAllFree (32 * full + low) free_words
   all_free = record {
-    one_for_32 = let long = words_long in let same = length-set (replicate (full + 1) all_bits) full (2 ^ low - 1) in omega arith;
+    one_for_32 = let long = words_long in let same = length-set (replicate (full + 1) all_bits) full (2 ^ low - 1) in
+        omega arith;
     words_fit = word_fits;
     set = λ id inside. elim (cases_lt (id / 32) full) [
       | inl before ↦ ap (λ w. bit_at w (id % 32)) (full_word (id / 32) before) ∙ bit_at_ones 32 (id % 32) (omega arith)
-      | inr from ↦ let here : id / 32 ≡ full = omega arith in bit_of_last id here ∙ bit_at_ones low (id % 32) (omega arith)
+      | inr from ↦ let here : id / 32 ≡ full = omega arith in
+          bit_of_last id here ∙ bit_at_ones low (id % 32) (omega arith)
     ];
     clear = λ id past. elim (cases_lt full (id / 32)) [
       | inl behind ↦ ap (λ w. bit_at w (id % 32)) (past_word (id / 32) behind) ∙ bit_at-zero (id % 32)
-      | inr to ↦ let here : id / 32 ≡ full = omega arith in bit_of_last id here ∙ bit_at_ones_above low (id % 32) (omega arith)
+      | inr to ↦ let here : id / 32 ≡ full = omega arith in
+          bit_of_last id here ∙ bit_at_ones_above low (id % 32) (omega arith)
     ];
   }

@@ -3,12 +3,12 @@ use Rattle.std.specs.Prelude.{◌≡◌, List, Option}
 use Rattle.atomic_table.specs.Seated.{TableId}
 use Rattle.lockfree_object_pool.specs.declared.page.note.PageNote.{PageNote}
 use Rattle.lockfree_object_pool.specs.declared.page.full_seen.FullSeen.{FullSeen}
-use Rattle.lockfree_object_pool.specs.FixedReusable.{item_with}
+use Rattle.lockfree_object_pool.specs.FixedItem.{item_with}
 use Rattle.lockfree_object_pool.specs.FixedRule.{StepCount, steps_of}
 use Rattle.lockfree_object_pool.specs.FullSeen.{full_view, FoundAllOut, IsAllOut, IsAllOutAfter}
 use Rattle.lockfree_object_pool.specs.Item.{Item, IsItemIn, IsPulledAs}
 use Rattle.lockfree_object_pool.specs.Note.{note_page, note_view, note_opening, note_user, note_history, IsReturned, IsPulledAfter}
-use Rattle.lockfree_object_pool.specs.PageHistory.{History, acts_of, IsBeginningOf}
+use Rattle.lockfree_object_pool.specs.Ledger.{History, operations_of, IsPrefixOf}
 
 module _ {T : Type 0} where
   -- an item of this pool
@@ -28,7 +28,7 @@ module _ {T : Type 0} where
   abbrev pub busy_steps : FullSeen T → StepCount
   busy_steps busy = steps_of (full_view busy)
 
-  -- each item of this pool was found out by one call
+  -- each item of this pool was observed taken by one call
   abbrev pub IsBusyOf : TableId → List (Option T) → FullSeen T → Type 0
   IsBusyOf pool opening busy = IsAllOut pool.slots pool opening busy
 
@@ -40,14 +40,16 @@ module _ {T : Type 0} where
   abbrev pub note_since : PageNote T → History T
   note_since note = (note_view note).since
 
-  -- the same evidence, where the note of a refused pull keeps it: the pull's first load stands after all that the note knew
+  -- the same evidence, where the note of a refused pull keeps it: the pull's first load stands after all that the note
+  -- knew
   pub record IsBusyNote (pool : TableId) (old new : PageNote T) : Type 0 where
     pub of_pool : note_page new ≡ pool
     pub same_user : note_user new ≡ note_user old
     pub found : FoundAllOut pool.slots (note_opening old) (note_view new)
-    pub after_note : IsBeginningOf (note_history old) (note_since new)
+    pub after_note : IsPrefixOf (note_history old) (note_since new)
     -- its user did nothing
-    pub same_acts : acts_of (note_user new) (note_history new) ≡ acts_of (note_user old) (note_history old)
+    pub same_operations : operations_of (note_user new) (note_history new) ≡ operations_of (note_user old)
+        (note_history old)
 
   -- what the operations of a note have read and tried
   abbrev pub note_steps : PageNote T → StepCount

@@ -1,6 +1,6 @@
 -- What a user did at several words of a fixed pool.
 use Rattle.std.specs.Prelude.{◌≡◌, ℕ, ◌+◌, ◌*◌, ◌<◌, ◌≤◌, [], ◌∷◌, Some, None}
-use Rattle.lockfree_object_pool.specs.declared.page.history.PageAct.TheVariants.{Took}
+use Rattle.lockfree_object_pool.specs.declared.page.history.Operation.TheVariants.{Pull}
 use Rattle.lockfree_object_pool.specs.declared.page.user_view.UserView.{UserView}
 use Rattle.lockfree_object_pool.specs.PageRule.{User, GoesOn, KnowsOut}
 
@@ -21,9 +21,9 @@ pub record IsWithin (words : ℕ) (before after : StepCount) : Type 0 where
 module _ {T : Type 0} where
   -- what a user has read and tried
   abbrev pub steps_of : UserView T → StepCount
-  steps_of known = record { loads = known.looks; tries = known.tries }
+  steps_of known = record { loads = known.loads; tries = known.tries }
 
-  -- the user has found each item out, from the one number up to below the other
+  -- the user has observed each item taken, from the one number up to below the other
   pub record MissesAll (from to : ℕ) (old new : User T) : Type 0 where
     pub holds_same : new.0.held ≡ old.0.held
     pub carries_same : new.1 ≡ old.1
@@ -36,4 +36,4 @@ module _ {T : Type 0} where
     pub meets_condition : meets value
     pub holds : new.0.held ≡ Some id
     pub carries : new.1 ≡ (id, None) ∷ old.1
-    pub goes_on : GoesOn (Took new.0.user id value ∷ []) old.0 new.0
+    pub goes_on : GoesOn (Pull new.0.user id value ∷ []) old.0 new.0

@@ -14,7 +14,7 @@ module _ {T : Type 0} where
     id = id;
     value = value;
     holder = known.user;
-    history = known.acts;
+    history = known.operations;
   }
 
   -- of which page or pool the item is

@@ -1,9 +1,9 @@
 -- An item that is out of its page, however it is held, and what the page's history tells of it.
 use Rattle.std.specs.Prelude.{◌≡◌, ℕ, ◌<◌, List, [], ◌∷◌, Option}
 use Rattle.atomic_table.specs.Seated.{TableId}
-use Rattle.lockfree_object_pool.specs.declared.page.history.PageAct.TheVariants.{Took}
+use Rattle.lockfree_object_pool.specs.declared.page.history.Operation.TheVariants.{Pull}
 use Rattle.lockfree_object_pool.specs.Items.{IsFilled}
-use Rattle.lockfree_object_pool.specs.PageHistory.{History, acts_of, IsLawful, CameFrom}
+use Rattle.lockfree_object_pool.specs.Ledger.{History, operations_of, IsLegal, CameFrom}
 use Rattle.lockfree_object_pool.specs.declared.page.TheConstants.{PAGE_ITEMS}
 
 -- an item, its value now, and what its holder knows of the page
@@ -31,17 +31,17 @@ module _ {T : Type 0} where
     pub is_in : IsItemIn PAGE_ITEMS page item
     pub meets_condition : meets item.value
 
-  -- how an item was pulled: a lawful history of its page ends with the pull
+  -- how an item was pulled: a legal history of its page ends with the pull
   pub record IsPulled (item : Item T) : Type 0 where
-    -- each act of the history may come after those before it
-    pub lawful : IsLawful item.opening item.history
-    -- its last act is this pull, with exactly this value
+    -- each operation of the history may come after those before it
+    pub legal : IsLegal item.opening item.history
+    -- its last operation is this pull, with exactly this value
     pub before : History T
-    pub last : item.history ≡ Took item.holder item.id item.value ∷ before
+    pub last : item.history ≡ Pull item.holder item.id item.value ∷ before
     -- the value is what the last return of this very item left, or the opening's
     pub origin : CameFrom item.opening before item.id item.value
     -- its holder did nothing else
-    pub only : acts_of item.holder item.history ≡ Took item.holder item.id item.value ∷ []
+    pub only : operations_of item.holder item.history ≡ Pull item.holder item.id item.value ∷ []
 
   -- an item of this kind, pulled as its history tells, which begins with these values
   pub record IsPulledAs (kind : Item T → Type 0) (opening : List (Option T)) (item : Item T) : Type 0 where

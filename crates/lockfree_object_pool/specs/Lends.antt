@@ -29,7 +29,8 @@ module _ (T K : RattleType) (clean : Clean.Ghosts K.Denot T.Denot) where
   LendsOwnedSlotValue slot loan =
       Lends (OwnedSlotRow.the_row T K clean) T slot loan (owned_slot_with slot.now)
 
-module _ (T I R K : RattleType) (init : Init.Ghosts I.Denot T.Denot K.Denot) (reset : Reset.Ghosts R.Denot T.Denot K.Denot) (clean : Clean.Ghosts K.Denot T.Denot) where
+module _ (T I R K : RattleType) (init : Init.Ghosts I.Denot T.Denot K.Denot)
+    (reset : Reset.Ghosts R.Denot T.Denot K.Denot) (clean : Clean.Ghosts K.Denot T.Denot) where
   -- so it is of a linear reusable's value
   abbrev pub LendsValue : MutBor (LinearReusable T.Denot I.Denot R.Denot K.Denot) → MutBor T.Denot → Fml
   LendsValue reusable loan =

@@ -30,7 +30,8 @@ module _ {T K O : Type 0} {opens : Ghosts O T} where
   next_link page = link_at page.next
 
   -- the page behind a page: a note of the link knows it, and knew no other before
-  pub record IsNextAs (page : LinearPage T K O opens) (before after : LinkNote T K O opens) (next : LinearPage T K O opens) : Type 0 where
+  pub record IsNextAs (page : LinearPage T K O opens) (before after : LinkNote T K O opens)
+      (next : LinearPage T K O opens) : Type 0 where
     pub one_further : page_number next ≡ page_number page + 1
     pub known : known_next after ≡ Some (shown_page next)
     pub agrees : IfSome (known_next before) (λ known. known ≡ shown_page next)

@@ -1,13 +1,15 @@
 -- What a linear pool and its reusables show.
-use Rattle.std.specs.Prelude.{◌≡◌, ℕ, ◌<◌, Option}
+use Rattle.std.specs.Prelude.{◌≡◌, ℕ, ◌<◌, Option, None, IfSome, IsSome}
 use Rattle.std.specs.Arc.{arc_value}
 use Rattle.std.specs.Option.{option_map}
 use Rattle.atomic_table.specs.Seated.{TableId}
+use Rattle.lockfree_object_pool.specs.Answers.{IsAnswer, IsMadeOrReset}
 use Rattle.lockfree_object_pool.specs.Holding.{held_item}
-use Rattle.lockfree_object_pool.specs.Item.{Item}
+use Rattle.lockfree_object_pool.specs.Item.{Item, HasOrigin}
 use Rattle.lockfree_object_pool.specs.LinearPage.{first_page}
+use Rattle.lockfree_object_pool.specs.Refusal.{Causes}
 use Rattle.lockfree_object_pool.specs.Slot.{taken_item}
-use Rattle.lockfree_object_pool.specs.Walk.{start_of, number_of, IsReached}
+use Rattle.lockfree_object_pool.specs.Walk.{start_of, number_of, IsWalkedTo}
 use Rattle.lockfree_object_pool.specs.declared.linear_object_pool.LinearObjectPool.{LinearObjectPool}
 use Rattle.lockfree_object_pool.specs.declared.linear_object_pool.answer_of.AnswerOf.{AnswerOf}
 use Rattle.lockfree_object_pool.specs.declared.linear_object_pool.page_limit.PageLimit.{PageLimit}
@@ -78,12 +80,24 @@ module _ {T I R K : Type 0} where
   abbrev pub owned_with : LinearOwnedReusable T I R K → T → LinearOwnedReusable T I R K
   owned_with reusable value = record reusable { value = value }
 
-  -- an item that was pulled from this pool, and the number of its page, which at 0 is the pool's first one
-  pub record IsPulledFrom (meets : T → Type 0) (pool : LinearObjectPool T I R K) (item : Item T) (number : ℕ) : Type 0 where
-    pub in_page : item.id < PAGE_ITEMS
-    pub meets_condition : meets item.value
-    pub of_first : number ≡ 0 → item.page ≡ pool_first_page pool
-
-  -- the item's page is the pool's page of this number: the first one where it is 0, else the one to which that page's link leads
+  -- the item's page is the pool's page of this number: the first one where it is 0, else the one to which that page's
+  -- link leads
   abbrev pub IsOnPage : LinearObjectPool T I R K → PageNumber T (MadeOrReset I R K) (AnswerOf I K) → Item T → Type 0
-  IsOnPage pool number item = IsReached (start_of pool.chain) number item.page
+  IsOnPage pool number item = IsWalkedTo (start_of pool.chain) number item.page
+
+  -- what a pull gives: an item of the pool's page of this number
+  pub record Pulls (meets : T → Type 0) (answers : I → Option T → Type 0) (leaves : R → T → T → Type 0)
+      (pool : LinearObjectPool T I R K) (number : PageNumber T (MadeOrReset I R K) (AnswerOf I K)) (item : Item T)
+      : Type 0 where
+    pub in_page : item.id < PAGE_ITEMS
+    pub on_page : IsOnPage pool number item
+    pub of_first : number_of number ≡ 0 → item.page ≡ pool_first_page pool
+    pub within : IfSome (pool_limit pool) (λ pages. number_of number < pages)
+    -- the value that lay there by the page's history, which opened with answers of init
+    pub history : HasOrigin (IsAnswer answers) item
+    pub meets_condition : meets item.value
+    pub made_or_reset : IsMadeOrReset answers leaves item.value
+
+  -- what a pull may be refused for, beside want of memory: a limit, and an init that may answer None
+  abbrev pub pull_causes : (I → Option T → Type 0) → LinearObjectPool T I R K → Causes
+  pull_causes answers pool = record { limited = IsSome (pool_limit pool); init_refuses = answers (pool_init pool) None }

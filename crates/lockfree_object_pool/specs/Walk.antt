@@ -1,10 +1,10 @@
 -- Where a walk along the links of a chain came to.
-use Rattle.std.specs.Prelude.{◌≡◌, ◌⊎◌, ℕ, Some}
+use Rattle.std.specs.Prelude.{◌≡◌, ◌⊎◌, ℕ, ◌-◌, ◌<◌, ◌≤◌, Option, Some, IfSome}
 use Rattle.std.specs.Arc.{arc_value}
 use Rattle.std.specs.Option.{option_map}
 use Rattle.atomic_table.specs.Seated.{TableId}
 use Rattle.lockfree_object_pool.specs.FullSeen.{full_page}
-use Rattle.lockfree_object_pool.specs.Item.{IsItemOf, HasOrigin}
+use Rattle.lockfree_object_pool.specs.Item.{Item, IsItemOf, HasOrigin}
 use Rattle.lockfree_object_pool.specs.LinearPage.{first_page, shown_page, page_number}
 use Rattle.lockfree_object_pool.specs.LinkNote.{known_link, known_next}
 use Rattle.lockfree_object_pool.specs.LinkRow.{Cells, IsLinkTo, cell_in_row}
@@ -43,14 +43,15 @@ module _ {T K O : Type 0} where
     pub leads_here : option_map (λ page. page_identity (arc_value page)) known.link.known ≡ Some page
 
   -- a walk came to the page of this number: it is the start's, or the one to which the link of that number leads
-  abbrev pub IsReached : Start → PageNumber T K O → TableId → Type 0
-  IsReached start known page =
+  abbrev pub IsWalkedTo : Start → PageNumber T K O → TableId → Type 0
+  IsWalkedTo start known page =
       ((known.number ≡ start.number) × (page ≡ start.page)) ⊎ IsLinkedAt start.links known page
 
 module _ {T K : Type 0} where
-  -- what a page of a chain answers to a pull: an item of this page with its origin; or each of its ids was found out
+  -- what a page of a chain answers to a pull: an item of this page with its origin; or each of its ids was observed taken
   abbrev pub IsAnsweredBy : (T → Type 0) → (T → Type 0) → TableId → Allocated T K → Type 0
-  IsAnsweredBy meets may_open page (Slot slot) = IsItemOf meets page (slot_item slot) × HasOrigin may_open (slot_item slot)
+  IsAnsweredBy meets may_open page (Slot slot) =
+      IsItemOf meets page (slot_item slot) × HasOrigin may_open (slot_item slot)
   IsAnsweredBy meets may_open page (Full seen) = full_page seen ≡ page
 
 module _ {T K O : Type 0} {opens : Ghosts O T} where
@@ -66,3 +67,13 @@ module _ {T K O : Type 0} {opens : Ghosts O T} where
   -- the page of this number was found full
   abbrev pub IsFullAt : Cells → KnownFull T K O opens → Type 0
   IsFullAt links full = IsKnownAt links full.number full.note (full_page full.seen)
+
+-- what a walk took: an item with its origin, of the page of this number, within so many pages from the walk's start
+pub record IsTaken {T K O : Type 0} (meets may_open : T → Type 0) (start : Start) (limit : Option ℕ)
+    (number : PageNumber T K O) (item : Item T) : Type 0 where
+  pub is_item : IsItemOf meets item.page item
+  pub history : HasOrigin may_open item
+  pub from_start : start.number ≤ number_of number
+  pub on_page : IsWalkedTo start number item.page
+  pub of_start : number_of number ≡ start.number → item.page ≡ start.page
+  pub within : IfSome limit (λ pages. number_of number - start.number < pages)

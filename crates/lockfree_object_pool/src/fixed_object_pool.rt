@@ -12,6 +12,7 @@ use crate::closures::{Init, Reset};
 use crate::fixed_owned_reusable::FixedOwnedReusable;
 use crate::fixed_reusable::FixedReusable;
 use crate::made_or_reset::MadeOrReset;
+use crate::page::holding::Holding;
 use crate::page::{FullSeen, PageNote, PullPass, Witness};
 use items::FixedItems;
 use std::alloc::Global;
@@ -23,11 +24,11 @@ pub(crate) mod items;
 /// What is known of a fixed pool's history while no item is held. It has no bytes.
 pub type PoolNote<T> = PageNote<T>;
 
-/// What a refused pull has: each item of the pool was found out since the pass was made, by a word that was read or by a try of its
-/// own.
+/// What a refused pull has: each item of the pool was observed taken since the pass was made, by a word that was read or by
+/// an attempt on its own bit.
 pub type BusySeen<'p, T> = FullSeen<'p, T>;
 
-/// What [`FixedObjectPool::try_pull`] answers: an item, or that each one was found out.
+/// What [`FixedObjectPool::try_pull`] answers: an item, or that each one was observed taken.
 pub type FixedPulled<'s, 'p, T, I, R, K = AnyValue> = Result<
     FixedReusable<'s, T, I, R, K>,
     BusySeen<'p, T>,
@@ -49,10 +50,11 @@ pub struct FixedObjectPool<T, I: Init<T, K>, R: Reset<T, K>, K: Clean<T> = AnyVa
 
 impl<T: Drop, I: Init<T, K>, R: Reset<T, K>, K: Clean<T>> FixedObjectPool<T, I, R, K> {
     ghost use Rattle.lockfree_object_pool.specs.Answers.{IsMadeOrReset};
-    ghost use Rattle.lockfree_object_pool.specs.FixedAnswer.{IsPulledOf, IsPulledWith, IsBusyOf, IsBusyAfter, IsBusyNote, busy_steps, note_steps};
+    ghost use Rattle.lockfree_object_pool.specs.FixedAnswer.{IsPulledOf, IsPulledWith, IsBusyOf, IsBusyAfter, IsBusyNote, IsGivenBack, busy_steps, note_steps};
     ghost use Rattle.lockfree_object_pool.specs.FixedPool.{pool_identity, pool_items, pool_pages, pool_opening, pool_reset};
+    ghost use Rattle.lockfree_object_pool.specs.Holding.{holding_page, held_item};
     ghost use Rattle.lockfree_object_pool.specs.Items.{IsFilled};
-    ghost use Rattle.lockfree_object_pool.specs.FixedReusable.{reusable_pool, reusable_item, reusable_steps, owned_pool, owned_item, owned_steps};
+    ghost use Rattle.lockfree_object_pool.specs.FixedReusable.{reusable_pool, reusable_item, reusable_steps};
     ghost use Rattle.lockfree_object_pool.specs.FixedRule.{IsWithin, no_steps};
     ghost use Rattle.lockfree_object_pool.specs.Note.{note_page, witness_page, IsNoteOf, HasLearned};
     ghost use Rattle.lockfree_object_pool.specs.Refusal.{RefusesMaking};
@@ -92,9 +94,9 @@ impl<T: Drop, I: Init<T, K>, R: Reset<T, K>, K: Clean<T>> FixedObjectPool<T, I, 
     ///
     /// # Errors
     ///
-    /// `Limit`, where each item was found out.
+    /// `Limit`, where each item was observed taken.
     pub fn pull(&self) -> Result<FixedReusable<'_, T, I, R, K>, PullError>
-        ensures pool { IfOk result (λ item. reusable_pool item ≡ self.now) }
+        ensures pool { IfOk result (λ item. (reusable_pool item).now ≡ self.now) }
         ensures pulled { IfOk result (λ item.
             IsPulledOf (pool_identity self.now) (pool_opening self.now) (reusable_item item)) }
         ensures meets { IfOk result (λ item. K.meets (reusable_item item).value) }
@@ -116,9 +118,9 @@ impl<T: Drop, I: Init<T, K>, R: Reset<T, K>, K: Clean<T>> FixedObjectPool<T, I, 
     ///
     /// # Errors
     ///
-    /// `Limit`, where each item was found out.
+    /// `Limit`, where each item was observed taken.
     pub fn pull_near(&self, page: usize) -> Result<FixedReusable<'_, T, I, R, K>, PullError>
-        ensures pool { IfOk result (λ item. reusable_pool item ≡ self.now) }
+        ensures pool { IfOk result (λ item. (reusable_pool item).now ≡ self.now) }
         ensures pulled { IfOk result (λ item.
             IsPulledOf (pool_identity self.now) (pool_opening self.now) (reusable_item item)) }
         ensures meets { IfOk result (λ item. K.meets (reusable_item item).value) }
@@ -141,7 +143,7 @@ impl<T: Drop, I: Init<T, K>, R: Reset<T, K>, K: Clean<T>> FixedObjectPool<T, I, 
     ///
     /// The evidence that each item was out during this call.
     pub fn try_pull<'s, 'p>(&'s self, pass: &'p PullPass) -> FixedPulled<'s, 'p, T, I, R, K>
-        ensures pool { IfOk result (λ item. reusable_pool item ≡ self.now) }
+        ensures pool { IfOk result (λ item. (reusable_pool item).now ≡ self.now) }
         ensures pulled { IfOk result (λ item.
             IsPulledOf (pool_identity self.now) (pool_opening self.now) (reusable_item item)) }
         ensures meets { IfOk result (λ item. K.meets (reusable_item item).value) }
@@ -167,7 +169,7 @@ impl<T: Drop, I: Init<T, K>, R: Reset<T, K>, K: Clean<T>> FixedObjectPool<T, I, 
         note: PoolNote<T>,
     ) -> FixedPulled<'s, 'p, T, I, R, K>
         requires { note_page note ≡ pool_identity self.now }
-        ensures pool { IfOk result (λ item. reusable_pool item ≡ self.now) }
+        ensures pool { IfOk result (λ item. (reusable_pool item).now ≡ self.now) }
         ensures pulled { IfOk result (λ item.
             IsPulledWith (pool_identity self.now) note (reusable_item item)) }
         ensures meets { IfOk result (λ item. K.meets (reusable_item item).value) }
@@ -203,17 +205,17 @@ impl<T: Drop, I: Init<T, K>, R: Reset<T, K>, K: Clean<T>> FixedObjectPool<T, I, 
     ///
     /// # Errors
     ///
-    /// `Memory`, where the pool can have no more owners; `Limit`, where each item was found out.
+    /// `Memory`, where the pool can have no more owners; `Limit`, where each item was observed taken.
     pub fn pull_owned(self: &Arc<Self>) -> Result<FixedOwnedReusable<T, I, R, K>, PullError>
-        ensures pool { IfOk result (λ item. owned_pool item ≡ arc_value self.now) }
+        ensures pool { IfOk result (λ item. arc_value (reusable_pool item) ≡ arc_value self.now) }
         ensures pulled { IfOk result (λ item.
             IsPulledOf (pool_identity (arc_value self.now)) (pool_opening (arc_value self.now))
-            (owned_item item)) }
-        ensures meets { IfOk result (λ item. K.meets (owned_item item).value) }
+            (reusable_item item)) }
+        ensures meets { IfOk result (λ item. K.meets (reusable_item item).value) }
         ensures made_or_reset { IfOk result (λ item.
-            IsMadeOrReset I.answers R.leaves (owned_item item).value) }
+            IsMadeOrReset I.answers R.leaves (reusable_item item).value) }
         ensures brief { IfOk result (λ item.
-            IsWithin (pool_pages (arc_value self.now)) no_steps (owned_steps item)) }
+            IsWithin (pool_pages (arc_value self.now)) no_steps (reusable_steps item)) }
         ensures refused { IfErr result (λ error. (error ≡ Memory) ⊎ (error ≡ Limit)) }
     {
         let owner = Arc::try_clone(self)?;
@@ -236,14 +238,14 @@ impl<T: Drop, I: Init<T, K>, R: Reset<T, K>, K: Clean<T>> FixedObjectPool<T, I, 
         note: PoolNote<T>,
     ) -> Result<FixedOwnedReusable<T, I, R, K>, (Arc<Self>, PoolNote<T>)>
         requires { note_page note ≡ pool_identity (arc_value self) }
-        ensures pool { IfOk result (λ item. owned_pool item ≡ arc_value self) }
+        ensures pool { IfOk result (λ item. arc_value (reusable_pool item) ≡ arc_value self) }
         ensures pulled { IfOk result (λ item.
-            IsPulledWith (pool_identity (arc_value self)) note (owned_item item)) }
-        ensures meets { IfOk result (λ item. K.meets (owned_item item).value) }
+            IsPulledWith (pool_identity (arc_value self)) note (reusable_item item)) }
+        ensures meets { IfOk result (λ item. K.meets (reusable_item item).value) }
         ensures made_or_reset { IfOk result (λ item.
-            IsMadeOrReset I.answers R.leaves (owned_item item).value) }
+            IsMadeOrReset I.answers R.leaves (reusable_item item).value) }
         ensures brief { IfOk result (λ item.
-            IsWithin (pool_pages (arc_value self)) (note_steps note) (owned_steps item)) }
+            IsWithin (pool_pages (arc_value self)) (note_steps note) (reusable_steps item)) }
         ensures same_owner { IfErr result (λ kept. arc_value kept.0 ≡ arc_value self) }
         ensures busy { IfErr result (λ kept.
             IsBusyNote (pool_identity (arc_value self)) note kept.1) }
@@ -257,12 +259,17 @@ impl<T: Drop, I: Init<T, K>, R: Reset<T, K>, K: Clean<T>> FixedObjectPool<T, I, 
         }
     }
 
-    /// Leaves a value as it is kept.
-    pub(crate) fn reset(&self, value: &mut T)
-        ensures leaves { R.leaves (pool_reset self.now) value.old value.new }
-        ensures meets { K.meets value.new }
+    /// Resets the value of an item and brings it back.
+    pub(crate) fn give(&self, holding: Holding<T>, value: T) -> PoolNote<T>
+        requires of_pool { holding_page holding ≡ pool_identity self.now }
+        requires in_pool { holding.number < pool_items self.now }
+        ensures { IsGivenBack (R.leaves (pool_reset self.now)) (held_item holding value) result }
     {
-        self.reset.reset(value);
+        let mut left = value;
+        self.reset.reset(&mut left);
+        PageNote {
+            seat: self.items.give(holding, left),
+        }
     }
 }
 

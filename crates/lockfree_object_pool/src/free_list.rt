@@ -26,6 +26,7 @@ pub trait FreeList<T, K: Clean<T>>: Drop {
 }
 
 impl<T: Drop, K: Clean<T>> FreeList<T, K> for Mutex<Stack<T, K>> {
+    #[inline(always)]
     fn take<W: Wait>(&self, rt: &W) -> Option<(T, Room<T>)> {
         self.lock(rt).take()
     }
@@ -47,6 +48,7 @@ impl<T: Drop, K: Clean<T>> FreeList<T, K> for Mutex<Stack<T, K>> {
 }
 
 impl<T: Drop, K: Clean<T>> FreeList<T, K> for SpinLock<Stack<T, K>> {
+    #[inline(always)]
     fn take<W: Wait>(&self, rt: &W) -> Option<(T, Room<T>)> {
         self.lock(rt).take()
     }

@@ -29,7 +29,6 @@ pub mod spin_lock_owned_reusable;
 pub mod spin_lock_reusable;
 pub mod stack;
 pub mod stack_object_pool;
-pub mod stack_owned_reusable;
 pub mod stack_reusable;
 
 pub use fixed_object_pool::FixedObjectPool;

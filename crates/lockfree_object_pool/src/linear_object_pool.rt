@@ -2,14 +2,14 @@
 //!
 //! A pull takes a free item of the first page, or of a page that a hint names, or of the first page that has one, and makes a
 //! page where each one was full. No pull and no return waits for another thread.
-ghost use Rattle.std.specs.Prelude.{◌≡◌, ◌≤◌, ◌<◌, Option, None, Some, IfSome, IsSome, IfOk, IfErr};
+ghost use Rattle.std.specs.Prelude.{◌≡◌, ◌≤◌, Option, None, Some, IfOk, IfErr};
 ghost use Rattle.std.specs.Arc.{arc_value};
 
 use crate::PullError;
 use crate::clean::{AnyValue, Clean};
 use crate::closures::{Init, Reset};
 use crate::linear_owned_reusable::LinearOwnedReusable;
-use crate::linear_page::{Chain, Reached};
+use crate::linear_page::{Chain, WalkEnd};
 use crate::linear_reusable::LinearReusable;
 use crate::made_or_reset::MadeOrReset;
 use crate::page::{Allocated, FullSeen, PullPass};
@@ -39,13 +39,13 @@ pub struct LinearObjectPool<T, I: Init<T, K>, R: Reset<T, K>, K: Clean<T> = AnyV
 }
 
 impl<T: Drop, I: Init<T, K>, R: Reset<T, K>, K: Clean<T>> LinearObjectPool<T, I, R, K> {
-    ghost use Rattle.lockfree_object_pool.specs.Answers.{IsAnswer, IsMadeOrReset};
+    ghost use Rattle.lockfree_object_pool.specs.Answers.{IsMadeOrReset};
     ghost use Rattle.lockfree_object_pool.specs.FullSeen.{full_page};
-    ghost use Rattle.lockfree_object_pool.specs.Item.{HasOrigin};
-    ghost use Rattle.lockfree_object_pool.specs.LinearPool.{pool_init, pool_reset, pool_limit, pages_of, pool_first_page, reusable_pool, reusable_item, reusable_page, reusable_number, owned_pool, owned_item, owned_page, owned_number, IsOnPage, IsPulledFrom};
+    ghost use Rattle.lockfree_object_pool.specs.LinearPool.{pool_init, pool_reset, pool_limit, pages_of, pool_first_page};
+    ghost use Rattle.lockfree_object_pool.specs.LinearPool.{reusable_pool, reusable_item, reusable_page};
+    ghost use Rattle.lockfree_object_pool.specs.LinearPool.{owned_pool, owned_item, owned_page, Pulls, pull_causes};
     ghost use Rattle.lockfree_object_pool.specs.Refusal.{RefusesMaking, RefusesPull};
     ghost use Rattle.lockfree_object_pool.specs.Slot.{slot_item};
-    ghost use Rattle.lockfree_object_pool.specs.Walk.{number_of};
 
     /// A pool of one page, which grows by a page where each is full.
     ///
@@ -116,20 +116,13 @@ impl<T: Drop, I: Init<T, K>, R: Reset<T, K>, K: Clean<T>> LinearObjectPool<T, I,
     ///
     /// # Errors
     ///
-    /// `Limit`, where each item of as many pages as the limit allows was found out in this call. Where a page is made: `Memory`, or
-    /// `Init` at the first `None`; no page is linked in part then.
+    /// `Limit`, where each item of as many pages as the limit allows was observed taken in this call. Where a page is made:
+    /// `Memory`, or `Init` at the first `None`; no page is linked in part then.
     pub fn pull(&self) -> Result<LinearReusable<'_, T, I, R, K>, PullError>
         ensures pool { IfOk result (λ item. reusable_pool item ≡ self.now) }
-        ensures pulled { IfOk result (λ item. IsPulledFrom K.meets self.now (reusable_item item) (reusable_number item)) }
-        ensures on_page { IfOk result (λ item. IsOnPage self.now (reusable_page item) (reusable_item item)) }
-        ensures history { IfOk result (λ item. HasOrigin (IsAnswer I.answers) (reusable_item item)) }
-        ensures made_or_reset { IfOk result (λ item.
-            IsMadeOrReset I.answers R.leaves (reusable_item item).value) }
-        ensures within { IfOk result (λ item. IfSome (pool_limit self.now) (λ pages. reusable_number item < pages)) }
-        ensures refused { IfErr result (RefusesPull (record {
-          limited = IsSome (pool_limit self.now);
-          init_refuses = I.answers (pool_init self.now) None;
-        })) }
+        ensures pulled { IfOk result (λ item.
+            Pulls K.meets I.answers R.leaves self.now (reusable_page item) (reusable_item item)) }
+        ensures refused { IfErr result (RefusesPull (pull_causes I.answers self.now)) }
     {
         let pass = PullPass::new();
         match self.chain.ask_first(&pass) {
@@ -148,16 +141,9 @@ impl<T: Drop, I: Init<T, K>, R: Reset<T, K>, K: Clean<T>> LinearObjectPool<T, I,
     /// As `pull`; `Memory` too where the pool can have no more owners.
     pub fn pull_owned(self: &Arc<Self>) -> Result<LinearOwnedReusable<T, I, R, K>, PullError>
         ensures pool { IfOk result (λ item. owned_pool item ≡ arc_value self.now) }
-        ensures pulled { IfOk result (λ item. IsPulledFrom K.meets (arc_value self.now) (owned_item item) (owned_number item)) }
-        ensures on_page { IfOk result (λ item. IsOnPage (arc_value self.now) (owned_page item) (owned_item item)) }
-        ensures history { IfOk result (λ item. HasOrigin (IsAnswer I.answers) (owned_item item)) }
-        ensures made_or_reset { IfOk result (λ item.
-            IsMadeOrReset I.answers R.leaves (owned_item item).value) }
-        ensures within { IfOk result (λ item. IfSome (pool_limit (arc_value self.now)) (λ pages. owned_number item < pages)) }
-        ensures refused { IfErr result (RefusesPull (record {
-          limited = IsSome (pool_limit (arc_value self.now));
-          init_refuses = I.answers (pool_init (arc_value self.now)) None;
-        })) }
+        ensures pulled { IfOk result (λ item.
+            Pulls K.meets I.answers R.leaves (arc_value self.now) (owned_page item) (owned_item item)) }
+        ensures refused { IfErr result (RefusesPull (pull_causes I.answers (arc_value self.now))) }
     {
         let owner = Arc::try_clone(self)?;
         let pass = PullPass::new();
@@ -178,18 +164,11 @@ impl<T: Drop, I: Init<T, K>, R: Reset<T, K>, K: Clean<T>> LinearObjectPool<T, I,
     fn pull_further(
         &self,
         seen: FullSeen<'_, T>,
-    ) -> Result<Reached<'_, T, MadeOrReset<I, R, K>, AnswerOf<I, K>>, PullError>
+    ) -> Result<WalkEnd<'_, T, MadeOrReset<I, R, K>, AnswerOf<I, K>>, PullError>
         requires { full_page seen ≡ pool_first_page self.now }
-        ensures pulled { IfOk result (λ reached. IsPulledFrom K.meets self.now (slot_item reached.slot) (number_of reached.number)) }
-        ensures on_page { IfOk result (λ reached. IsOnPage self.now reached.number (slot_item reached.slot)) }
-        ensures history { IfOk result (λ reached. HasOrigin (IsAnswer I.answers) (slot_item reached.slot)) }
-        ensures made_or_reset { IfOk result (λ reached.
-            IsMadeOrReset I.answers R.leaves (slot_item reached.slot).value) }
-        ensures within { IfOk result (λ reached. IfSome (pool_limit self.now) (λ pages. number_of reached.number < pages)) }
-        ensures refused { IfErr result (RefusesPull (record {
-          limited = IsSome (pool_limit self.now);
-          init_refuses = I.answers (pool_init self.now) None;
-        })) }
+        ensures pulled { IfOk result (λ reached.
+            Pulls K.meets I.answers R.leaves self.now reached.number (slot_item reached.slot)) }
+        ensures refused { IfErr result (RefusesPull (pull_causes I.answers self.now)) }
     {
         let init = &self.init;
         self.chain.pull_further(seen, self.limit(), &|| init.make())

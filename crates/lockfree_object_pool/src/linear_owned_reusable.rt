@@ -2,7 +2,7 @@
 ghost use Rattle.std.specs.Prelude.{◌≡◌, ◌<◌};
 ghost use Rattle.std.specs.Arc.{arc_value};
 ghost use Rattle.lockfree_object_pool.specs.Holding.{holding_page};
-ghost use Rattle.lockfree_object_pool.specs.Walk.{start_of, IsReached};
+ghost use Rattle.lockfree_object_pool.specs.Walk.{start_of, IsWalkedTo};
 ghost use Rattle.lockfree_object_pool.specs.declared.page.TheConstants.{PAGE_ITEMS};
 
 use crate::clean::{AnyValue, Clean};
@@ -22,7 +22,8 @@ pub(crate) struct OwnedTakenItem<T: Drop, I: Init<T, K>, R: Reset<T, K>, K: Clea
     pool: Arc<LinearObjectPool<T, I, R, K>>,
     holding: Holding<T>,
     number: PageNumber<T, MadeOrReset<I, R, K>, AnswerOf<I, K>>,
-    ghost on_page: { ∥ IsReached (start_of (arc_value pool).chain) number (holding_page holding) ∥₁ },
+    ghost on_page: { ∥ IsWalkedTo (start_of (arc_value pool).chain) number
+        (holding_page holding) ∥₁ },
     ghost in_page: { holding.number < PAGE_ITEMS },
 }
 
@@ -95,7 +96,8 @@ impl<T: Drop, I: Init<T, K>, R: Reset<T, K>, K: Clean<T>> DerefMut
     ghost deref_mut_gives = { λ reusable value. value ≡ (owned_item reusable).value };
 
     fn deref_mut(&mut self) -> &mut T
-        ensures* writes_back { sem 𝓛 (LendsOwnedValue T.row I.row R.row K.row I.Init R.Reset K.Clean self.entry result) }
+        ensures* writes_back { sem 𝓛 (LendsOwnedValue T.row I.row R.row K.row I.Init R.Reset K.Clean self.entry
+            result) }
         ensures shows { result.now ≡ (owned_item self.old).value }
     {
         &mut self.value
@@ -103,6 +105,8 @@ impl<T: Drop, I: Init<T, K>, R: Reset<T, K>, K: Clean<T>> DerefMut
 }
 
 impl<T: Drop, I: Init<T, K>, R: Reset<T, K>, K: Clean<T>> Drop for LinearOwnedReusable<T, I, R, K> {
+    // Inlined, so that the item isn't handed on through memory.
+    #[inline(always)]
     fn drop(self) {
         let LinearOwnedReusable { taken, mut value } = self;
         let OwnedTakenItem {

@@ -34,7 +34,7 @@ mod walk;
 
 pub use link_note::LinkNote;
 pub(crate) use page_number::PageNumber;
-pub(crate) use walk::Reached;
+pub(crate) use walk::WalkEnd;
 
 /// A chain of pages: the first one, and the links behind it.
 ///
@@ -55,7 +55,7 @@ impl<T: Drop, K: Clean<T>, O: Clean<T>> Chain<T, K, O> {
     ///
     /// `Memory`, or `Init` at the first `None`. The items that were made are dropped.
     pub fn new<I: Fn() -> Option<T>>(alloc: Global, init: &I) -> Result<Chain<T, K, O>, PullError>
-        requires { MayOpen (I.pre init.now) (λ answer. I.post init.now answer) K.meets O.meets }
+        requires { MayOpen I.pre I.post K.meets O.meets init.now }
         ensures refused { IfErr result (RefusesMaking (I.post init.now None)) }
     {
         let first = made_page(alloc, init)?;
@@ -79,7 +79,8 @@ pub struct LinearPage<'c, T, K: Clean<T>, O: Clean<T> = AnyValue> {
     page: &'c OpenedPage<T, K, O>,
     number: usize,
     next: LinkPlace<'c, T, K, O>,
-    ghost next_link: { ∥ (number + 1 < 2 ^ 64 → IsLinkTo directory.now (number + 1) (link_at next)) ∥₁ },
+    ghost next_link: { ∥
+        (number + 1 < 2 ^ 64 → IsLinkTo directory.now (number + 1) (link_at next)) ∥₁ },
 }
 
 impl<T, K: Clean<T>, O: Clean<T>> Copy for LinearPage<'_, T, K, O> {}
@@ -110,7 +111,8 @@ impl<'c, T: Drop, K: Clean<T>, O: Clean<T>> LinearPage<'c, T, K, O> {
         ensures page { shown_page result ≡ page_identity (arc_value page.now) }
         ensures number { page_number result ≡ number }
         ensures links { (start_at result).links ≡ directory.now }
-        ensures next { number + 1 < 2 ^ 64 → IsLinkTo directory.now (number + 1) (next_link result) }
+        ensures next { number + 1 < 2 ^ 64
+            → IsLinkTo directory.now (number + 1) (next_link result) }
     {
         LinearPage {
             directory,
@@ -159,7 +161,8 @@ impl<'c, T: Drop, K: Clean<T>, O: Clean<T>> LinearPage<'c, T, K, O> {
     pub fn next_as(&self, note: &mut LinkNote<T, K, O>) -> Option<LinearPage<'c, T, K, O>>
         requires { known_link note.old ≡ next_link self.now }
         ensures link { known_link note.new ≡ known_link note.old }
-        ensures none { IfNone result (page_number self.now + 1 < 2 ^ 64 → known_next note.old ≡ None) }
+        ensures none { IfNone result
+            (page_number self.now + 1 < 2 ^ 64 → known_next note.old ≡ None) }
         ensures unlearned { IfNone result (known_next note.new ≡ known_next note.old) }
         ensures next { IfSome result (IsNextAs self.now note.old note.new) }
     {
@@ -181,7 +184,7 @@ impl<'c, T: Drop, K: Clean<T>, O: Clean<T>> LinearPage<'c, T, K, O> {
         init: &I,
     ) -> Result<LinearPage<'c, T, K, O>, PullError>
         requires of_page { full_page seen ≡ shown_page self.now }
-        requires opens { MayOpen (I.pre init.now) (λ answer. I.post init.now answer) K.meets O.meets }
+        requires opens { MayOpen I.pre I.post K.meets O.meets init.now }
         ensures number { IfOk result (λ next. page_number next ≡ page_number self.now + 1) }
         ensures refused { IfErr result (RefusesMaking (I.post init.now None)) }
     {
@@ -197,12 +200,12 @@ impl<'c, T: Drop, K: Clean<T>, O: Clean<T>> LinearPage<'c, T, K, O> {
     /// As `get_or_create_next`.
     pub fn get_or_create_next_as<I: Fn() -> Option<T>>(
         &self,
-        _seen: FullSeen<'_, T>,
+        seen: FullSeen<'_, T>,
         init: &I,
         note: &mut LinkNote<T, K, O>,
     ) -> Result<LinearPage<'c, T, K, O>, PullError>
-        requires of_page { full_page _seen ≡ shown_page self.now }
-        requires opens { MayOpen (I.pre init.now) (λ answer. I.post init.now answer) K.meets O.meets }
+        requires of_page { full_page seen ≡ shown_page self.now }
+        requires opens { MayOpen I.pre I.post K.meets O.meets init.now }
         requires link { known_link note.old ≡ next_link self.now }
         ensures link { known_link note.new ≡ known_link note.old }
         ensures next { IfOk result (IsNextAs self.now note.old note.new) }
@@ -211,6 +214,7 @@ impl<'c, T: Drop, K: Clean<T>, O: Clean<T>> LinearPage<'c, T, K, O> {
         let Some(number) = self.number.checked_add(1) else {
             return Err(PullError::Memory);
         };
+        drop(seen);
         let alloc = self.directory.allocator();
         let link = self.next.link(note);
         let made = Cell::new(false);
@@ -230,7 +234,7 @@ fn made_page<T: Drop, K: Clean<T>, O: Clean<T>, I: Fn() -> Option<T>>(
     alloc: Global,
     init: &I,
 ) -> Result<OpenedPage<T, K, O>, PullError>
-    requires { MayOpen (I.pre init.now) (λ answer. I.post init.now answer) K.meets O.meets }
+    requires { MayOpen I.pre I.post K.meets O.meets init.now }
     ensures refused { IfErr result (RefusesMaking (I.post init.now None)) }
 {
     let page = Arc::new(alloc, Page::new(alloc, init)?)?;
@@ -243,7 +247,7 @@ fn told_page<T: Drop, K: Clean<T>, O: Clean<T>, I: Fn() -> Option<T>>(
     init: &I,
     made: &Cell<bool>,
 ) -> Result<OpenedPage<T, K, O>, PullError>
-    requires { MayOpen (I.pre init.now) (λ answer. I.post init.now answer) K.meets O.meets }
+    requires { MayOpen I.pre I.post K.meets O.meets init.now }
     ensures refused { IfErr result (RefusesMaking (I.post init.now None)) }
 {
     let page = made_page(alloc, init)?;

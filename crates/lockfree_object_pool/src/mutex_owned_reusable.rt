@@ -1,16 +1,8 @@
 //! A value that was pulled from a mutex pool or attached to it, with an owner of the pool.
-use crate::made_or_reset::MadeOrReset;
-use crate::stack::Stack;
-use crate::stack_owned_reusable::StackOwnedReusable;
-use std::sync::Mutex;
+use crate::mutex_object_pool::MutexObjectPool;
+use crate::stack_reusable::StackReusable;
+use std::sync::Arc;
 
 /// A value with the room for its return. Its end waits for the pool's mutex, and brings it back
 /// reset.
-pub type MutexOwnedReusable<T, I, R, K, W> = StackOwnedReusable<
-    T,
-    I,
-    R,
-    K,
-    Mutex<Stack<T, MadeOrReset<I, R, K>>>,
-    W,
->;
+pub type MutexOwnedReusable<T, I, R, K, W> = StackReusable<T, Arc<MutexObjectPool<T, I, R, K>>, W>;

@@ -35,7 +35,8 @@ impl<T, I: Fn() -> Option<T>> NoneObjectPool<T, I> {
     pub fn pull(&self) -> Result<NoneReusable<T>, PullError>
         requires callable { I.pre (none_init self.now) }
         ensures made { IfOk result (λ item. I.post (none_init self.now) (Some (none_value item))) }
-        ensures refused { IfErr result (λ error. (error ≡ Init) × I.post (none_init self.now) None) }
+        ensures refused { IfErr result
+            (λ error. (error ≡ Init) × I.post (none_init self.now) None) }
     {
         match (self.init)() {
             Some(value) => Ok(NoneReusable::new(value)),
@@ -50,8 +51,10 @@ impl<T, I: Fn() -> Option<T>> NoneObjectPool<T, I> {
     /// As `pull`.
     pub fn pull_owned(self: &Arc<Self>) -> Result<NoneReusable<T>, PullError>
         requires callable { I.pre (none_init (arc_value self.now)) }
-        ensures made { IfOk result (λ item. I.post (none_init (arc_value self.now)) (Some (none_value item))) }
-        ensures refused { IfErr result (λ error. (error ≡ Init) × I.post (none_init (arc_value self.now)) None) }
+        ensures made { IfOk result
+            (λ item. I.post (none_init (arc_value self.now)) (Some (none_value item))) }
+        ensures refused { IfErr result
+            (λ error. (error ≡ Init) × I.post (none_init (arc_value self.now)) None) }
     {
         self.pull()
     }

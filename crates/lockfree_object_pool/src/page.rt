@@ -118,7 +118,7 @@ impl<T, K: Clean<T>> Page<T, K> {
     pub fn new<I: Fn() -> Option<T>>(alloc: Global, init: &I) -> Result<Page<T, K>, PullError>
     where
         T: Drop,
-        requires { MayMake (I.pre init.now) (λ answer. I.post init.now answer) K.meets }
+        requires { MayMake I.pre I.post K.meets init.now }
         ensures refused { IfErr result (RefusesMaking (I.post init.now None)) }
         ensures opened { IfOk result (OpensWith (λ made. I.post init.now (Some made))) }
     {
@@ -126,7 +126,7 @@ impl<T, K: Clean<T>> Page<T, K> {
         Ok(Page { items })
     }
 
-    /// A slot, or `None` after each of the 32 ids was found out during the call.
+    /// A slot, or `None` after each of the 32 ids was observed taken during the call.
     ///
     /// The word is read once. Then the bits that were set in it are cleared, lowest first, until one was still set.
     ///
@@ -135,7 +135,10 @@ impl<T, K: Clean<T>> Page<T, K> {
     /// None comes: a page counts no users, and the clause `succeeds` says so.
     pub fn alloc(&self) -> Result<Option<PageSlot<'_, T, K>>, PullError>
         ensures succeeds { IsOk result }
-        ensures pulled { IfOk result (λ found. IfSome found (λ slot. IsPulledOf K.meets (page_identity self.now) (page_opening self.now) (slot_item slot))) }
+        ensures pulled { IfOk result
+            (λ found. IfSome found
+            (λ slot. IsPulledOf K.meets (page_identity self.now) (page_opening self.now)
+            (slot_item slot))) }
         ensures brief { IfOk result (λ found. IfSome found (λ slot. IsBrief (slot_view slot))) }
     {
         let pass = PullPass::new();
@@ -155,7 +158,8 @@ impl<T, K: Clean<T>> Page<T, K> {
         pass: &'p PullPass,
     ) -> Result<Allocated<'s, 'p, T, K>, PullError>
         ensures succeeds { IsOk result }
-        ensures answer { IfOk result (IsAnswerOf K.meets (page_identity self.now) (page_opening self.now)) }
+        ensures answer { IfOk result
+            (IsAnswerOf K.meets (page_identity self.now) (page_opening self.now)) }
         ensures brief { IfOk result (λ answer. IsBrief (answer_view answer)) }
     {
         Ok(self.take(pass).answer)
@@ -163,7 +167,8 @@ impl<T, K: Clean<T>> Page<T, K> {
 
     /// As `try_alloc`, which is never refused.
     pub(crate) fn take<'s, 'p>(&'s self, pass: &'p PullPass) -> Taken<'s, 'p, T, K>
-        ensures answer { IsAnswerOf K.meets (page_identity self.now) (page_opening self.now) result.answer }
+        ensures answer { IsAnswerOf K.meets (page_identity self.now)
+            (page_opening self.now) result.answer }
         ensures brief { IsBrief (answer_view result.answer) }
     {
         let (word, seat) = self.items.look(0);
@@ -199,8 +204,9 @@ impl<T, K: Clean<T>> Page<T, K> {
         self.items.note()
     }
 
-    /// Tells a note what a witness of the same page knows, as another thread leaves one of its slot or note. Both histories are
-    /// prefixes of what the note knows then.
+    /// Adds what a witness knows of this page to what a note knows. Afterwards the note's history has both histories as prefixes.
+    ///
+    /// A witness comes of another thread's slot or note: so a thread that received it concludes what happened before.
     pub fn tell(&self, note: &mut PageNote<T>, other: Witness<T>)
         requires note { note_page note.old ≡ page_identity self.now }
         requires other { witness_page other ≡ page_identity self.now }
@@ -221,9 +227,10 @@ impl<T, K: Clean<T>> Page<T, K> {
         requires holds_none { seat.me.0.held ≡ None }
         requires here { seat.me.0.gone ≡ false }
         requires sound { IsSound seat.me.0 }
-        requires found { (id : ℕ) → id < PAGE_ITEMS → bit_at word id ≡ 0 → KnowsOut seat.me.0 (item_of 0 id) }
+        requires found { (id : ℕ) → id < PAGE_ITEMS → bit_at word id ≡ 0
+            → KnowsOut seat.me.0 (item_of 0 id) }
         ensures answer { IsAnswerFrom K.meets (page_identity self.now) seat.me.0 result.answer }
-        ensures looks { (answer_view result.answer).looks ≡ seat.me.0.looks }
+        ensures loads { (answer_view result.answer).loads ≡ seat.me.0.loads }
         ensures tries { (answer_view result.answer).tries ≤ seat.me.0.tries + PAGE_ITEMS }
     {
         match self.items.take_lowest(&mut seat, 0, word) {

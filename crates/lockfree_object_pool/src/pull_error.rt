@@ -14,7 +14,7 @@ pub enum PullError {
     /// The pool's `init` answered `None`.
     #[error("init gave no item")]
     Init = 2,
-    /// All pages that the pool may have are linked, and the pull found each of their items out.
+    /// All pages that the pool may have are linked, and the pull observed each of their items taken.
     #[error("the pool is at its limit")]
     Limit = 3,
 }

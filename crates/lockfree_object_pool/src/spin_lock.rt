@@ -3,7 +3,7 @@
 //! Its word changes in two ways: one exchange takes it, and one store frees it. The guard has the value itself, and its
 //! drop brings the value home before it frees the word. A holder that stops keeps all others waiting.
 ghost use Rattle.std.specs.Prelude.{◌≡◌, [], ◌∷◌, Some, IfErr, IfOk, IfSome};
-ghost use Rattle.lockfree_object_pool.specs.Guard.{lock_of, value_of, with_value};
+ghost use Rattle.lockfree_object_pool.specs.Guard.{lock_of, value_of};
 ghost use Rattle.lockfree_object_pool.specs.Lock.{HasValue};
 
 use crate::spin_lock::rule::{OneHolder, Take, Visitor};
@@ -43,7 +43,8 @@ impl<T> Model for SpinLock<T> {
 
     ghost view = { λ lock. lock.table.shared.table_id };
 
-    ghost invariant = { λ lock. (lock.table.shared.table_id.words ≡ 1) × (lock.table.shared.table_id.slots ≡ 1) };
+    ghost invariant = { λ lock.
+        (lock.table.shared.table_id.words ≡ 1) × (lock.table.shared.table_id.slots ≡ 1) };
 }
 
 impl<T: Drop> SpinLock<T> {
@@ -132,16 +133,13 @@ impl<T> Deref for SpinLockGuard<'_, T> {
 }
 
 impl<T> DerefMut for SpinLockGuard<'_, T> {
-    ghost use Rattle.std.specs.Prelude.{◌≡◌, ◌<◌, []};
-    ghost use Rattle.std.specs.Borrow.{Lends, sem};
-    ghost use mir.Syntax.{named};
-    ghost use Rattle.lockfree_object_pool.specs.Guard.{value_of, with_value};
-    ghost use Rattle.lockfree_object_pool.specs.contracts.spin_lock.SpinLockGuard.{the_row};
+    ghost use Rattle.std.specs.Borrow.{sem};
+    ghost use Rattle.lockfree_object_pool.specs.GuardLends.{LendsGuarded};
 
     ghost deref_mut_gives = { λ guard shown. shown ≡ value_of guard };
 
     fn deref_mut(&mut self) -> &mut T
-        ensures* writes_back { sem 𝓛 (Lends (the_row (record { mir = named 1; lft = [] }) T.row) T.row self.entry result (with_value self.old)) }
+        ensures* writes_back { sem 𝓛 (LendsGuarded T.row self.entry result) }
         ensures shows { result.now ≡ value_of self.old }
     {
         &mut self.value

@@ -1,16 +1,12 @@
 //! A value that was pulled from a spin lock pool or attached to it, with an owner of the pool.
-use crate::made_or_reset::MadeOrReset;
-use crate::spin_lock::SpinLock;
-use crate::stack::Stack;
-use crate::stack_owned_reusable::StackOwnedReusable;
+use crate::spin_lock_object_pool::SpinLockObjectPool;
+use crate::stack_reusable::StackReusable;
+use std::sync::Arc;
 
 /// A value with the room for its return. Its end waits for the pool's lock, and brings it back
 /// reset.
-pub type SpinLockOwnedReusable<T, I, R, K, W> = StackOwnedReusable<
+pub type SpinLockOwnedReusable<T, I, R, K, W> = StackReusable<
     T,
-    I,
-    R,
-    K,
-    SpinLock<Stack<T, MadeOrReset<I, R, K>>>,
+    Arc<SpinLockObjectPool<T, I, R, K>>,
     W,
 >;

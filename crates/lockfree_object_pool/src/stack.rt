@@ -82,7 +82,8 @@ impl<T: Drop, K: Clean<T>> Stack<T, K> {
 
     /// The last value that was put, with its room.
     pub fn take(&mut self) -> Option<(T, Room<T>)>
-        ensures first { MatchOption result (StaysEmpty self.old self.new) (λ taken. TakesFirst self.old taken.0 self.new) }
+        ensures first { MatchOption result (StaysEmpty self.old self.new)
+            (λ taken. TakesFirst self.old taken.0 self.new) }
         ensures clean { IfSome result (λ taken. K.meets taken.0) }
     {
         let mut place = self.head.take()?;

@@ -11,7 +11,6 @@ use crate::closures::{Init, Reset};
 use crate::free_list::FreeList;
 use crate::made_or_reset::MadeOrReset;
 use crate::stack::Room;
-use crate::stack_owned_reusable::StackOwnedReusable;
 use crate::stack_reusable::StackReusable;
 use std::alloc::Global;
 use std::marker::PhantomData;
@@ -44,7 +43,7 @@ impl<
     F: FreeList<T, MadeOrReset<I, R, K>>,
 > StackObjectPool<T, I, R, K, F> {
     ghost use Rattle.lockfree_object_pool.specs.Answers.{IsMadeOrReset};
-    ghost use Rattle.lockfree_object_pool.specs.StackPool.{stack_init, stack_reset, stack_pool, stack_value, stack_owned_pool, stack_owned_value};
+    ghost use Rattle.lockfree_object_pool.specs.StackPool.{stack_init, stack_reset, stack_pool, stack_value};
     ghost use Rattle.lockfree_object_pool.specs.Refusal.{RefusesMaking};
 
     pub(crate) fn over(alloc: Global, init: I, reset: R, kept: F) -> StackObjectPool<T, I, R, K, F>
@@ -65,11 +64,8 @@ impl<
     /// # Errors
     ///
     /// Where none is kept: `Memory`, and `init` isn't called; or `Init`, where it answers `None`.
-    pub fn pull<W: Wait + Copy>(
-        &self,
-        rt: &W,
-    ) -> Result<StackReusable<'_, T, I, R, K, F, W>, PullError>
-        ensures pool { IfOk result (λ item. stack_pool item ≡ self.now) }
+    pub fn pull<W: Wait + Copy>(&self, rt: &W) -> Result<StackReusable<T, &Self, W>, PullError>
+        ensures pool { IfOk result (λ item. (stack_pool item).now ≡ self.now) }
         ensures meets { IfOk result (λ item. K.meets (stack_value item)) }
         ensures made_or_reset { IfOk result (λ item.
             IsMadeOrReset I.answers R.leaves (stack_value item)) }
@@ -88,19 +84,21 @@ impl<
     pub fn pull_owned<W: Wait + Copy>(
         self: &Arc<Self>,
         rt: &W,
-    ) -> Result<StackOwnedReusable<T, I, R, K, F, W>, PullError>
-        ensures pool { IfOk result (λ item. stack_owned_pool item ≡ arc_value self.now) }
-        ensures meets { IfOk result (λ item. K.meets (stack_owned_value item)) }
+    ) -> Result<StackReusable<T, Arc<Self>, W>, PullError>
+        ensures pool { IfOk result (λ item. arc_value (stack_pool item) ≡ arc_value self.now) }
+        ensures meets { IfOk result (λ item. K.meets (stack_value item)) }
         ensures made_or_reset { IfOk result (λ item.
-            IsMadeOrReset I.answers R.leaves (stack_owned_value item)) }
-        ensures refused { IfErr result (RefusesMaking (I.answers (stack_init (arc_value self.now)) None)) }
+            IsMadeOrReset I.answers R.leaves (stack_value item)) }
+        ensures refused { IfErr result
+            (RefusesMaking (I.answers (stack_init (arc_value self.now)) None)) }
     {
         let owner = Arc::try_clone(self)?;
         let (value, room) = self.item(rt)?;
-        Ok(StackOwnedReusable::in_room(owner, *rt, room, value))
+        Ok(StackReusable::in_room(owner, *rt, room, value))
     }
 
     /// A kept value with its room, or a new one of each. The list is asked for the kept one alone.
+    #[inline(always)]
     fn item<W: Wait>(&self, rt: &W) -> Result<(T, Room<T>), PullError>
         ensures meets { IfOk result (λ item. K.meets item.0) }
         ensures made_or_reset { IfOk result (λ item. IsMadeOrReset I.answers R.leaves item.0) }

@@ -1,6 +1,7 @@
-//! A value that was pulled from a stack pool or attached to it, under a borrow of the pool.
-ghost use Rattle.std.specs.Prelude.{◌≡◌, IfOk};
+//! A value that was pulled from a stack pool or attached to it, under a borrow of the pool or with an owner of it.
+ghost use Rattle.std.specs.Prelude.{◌≡◌, IfOk, IfErr};
 
+use crate::PullError;
 use crate::clean::Clean;
 use crate::closures::{Init, Reset};
 use crate::free_list::FreeList;
@@ -10,35 +11,67 @@ use crate::stack::Room;
 use crate::stack_object_pool::StackObjectPool;
 use std::fmt::{self, Debug, Formatter, Write};
 use std::ops::{Deref, DerefMut};
-use std::sync::Wait;
+use std::sync::{Arc, Wait};
 
-/// A value with the room for its return. Its end waits for the pool's lock, and brings it back
-/// reset.
-pub struct StackReusable<
-    'p,
+/// A stack pool as each of its reusables has it: by a borrow, or with an owner.
+pub trait SharedStackPool<T>: Drop {
+    ghost use Rattle.lockfree_object_pool.specs.Refusal.{RefusesMaking};
+
+    /// A room for the return of a value.
+    ///
+    /// # Errors
+    ///
+    /// `Memory`.
+    fn room(&self) -> Result<Room<T>, PullError>
+        ensures refused { IfErr result (RefusesMaking ⊥) };
+
+    /// Resets a value and keeps it. It takes no memory beside what the reset takes.
+    fn give<W: Wait>(&self, rt: &W, room: Room<T>, value: T);
+}
+
+impl<
     T: Drop,
     I: Init<T, K>,
     R: Reset<T, K>,
     K: Clean<T>,
     F: FreeList<T, MadeOrReset<I, R, K>>,
-    W: Wait + Copy,
-> {
-    pool: &'p StackObjectPool<T, I, R, K, F>,
+> SharedStackPool<T> for &StackObjectPool<T, I, R, K, F> {
+    fn room(&self) -> Result<Room<T>, PullError> {
+        (**self).room()
+    }
+
+    fn give<W: Wait>(&self, rt: &W, room: Room<T>, value: T) {
+        (**self).give(rt, room, value);
+    }
+}
+
+impl<
+    T: Drop,
+    I: Init<T, K>,
+    R: Reset<T, K>,
+    K: Clean<T>,
+    F: FreeList<T, MadeOrReset<I, R, K>>,
+> SharedStackPool<T> for Arc<StackObjectPool<T, I, R, K, F>> {
+    fn room(&self) -> Result<Room<T>, PullError> {
+        (**self).room()
+    }
+
+    fn give<W: Wait>(&self, rt: &W, room: Room<T>, value: T) {
+        (**self).give(rt, room, value);
+    }
+}
+
+/// A value with the room for its return. Its end waits for the pool's lock, and brings it back
+/// reset.
+pub struct StackReusable<T: Drop, P: SharedStackPool<T>, W: Wait + Copy> {
+    pool: P,
     lender: Lender,
     rt: W,
     room: Room<T>,
     value: T,
 }
 
-impl<
-    'p,
-    T: Drop,
-    I: Init<T, K>,
-    R: Reset<T, K>,
-    K: Clean<T>,
-    F: FreeList<T, MadeOrReset<I, R, K>>,
-    W: Wait + Copy,
-> StackReusable<'p, T, I, R, K, F, W> {
+impl<T: Drop, P: SharedStackPool<T>, W: Wait + Copy> StackReusable<T, P, W> {
     ghost use Rattle.std.specs.Prelude.{MatchResult};
     ghost use Rattle.lockfree_object_pool.specs.StackPool.{stack_pool, stack_value};
 
@@ -47,13 +80,10 @@ impl<
     /// # Errors
     ///
     /// The value, where there is no memory for the room of its return.
-    pub fn new(
-        rt: &W,
-        pool: &'p StackObjectPool<T, I, R, K, F>,
-        value: T,
-    ) -> Result<StackReusable<'p, T, I, R, K, F, W>, T>
-        ensures pool { IfOk result (λ item. stack_pool item ≡ pool.now) }
-        ensures attached { MatchResult result (λ item. stack_value item ≡ value) (λ back. back ≡ value) }
+    pub fn new(rt: &W, pool: P, value: T) -> Result<StackReusable<T, P, W>, T>
+        ensures pool { IfOk result (λ item. stack_pool item ≡ pool) }
+        ensures attached { MatchResult result (λ item. stack_value item ≡ value)
+            (λ back. back ≡ value) }
     {
         match pool.room() {
             Ok(room) => Ok(StackReusable::in_room(pool, *rt, room, value)),
@@ -61,9 +91,9 @@ impl<
         }
     }
 
-    /// The value, which leaves its pool for good: no reset runs, and its room is dropped.
+    /// The value, which leaves its pool for good: no reset runs, its room is dropped, and so is an owner of the pool.
     pub fn detach(self) -> T
-        ensures { result ≡ stack_value self.entry }
+        ensures { result ≡ stack_value self }
     {
         let StackReusable {
             pool: _,
@@ -75,13 +105,8 @@ impl<
         value
     }
 
-    pub(crate) fn in_room(
-        pool: &'p StackObjectPool<T, I, R, K, F>,
-        rt: W,
-        room: Room<T>,
-        value: T,
-    ) -> StackReusable<'p, T, I, R, K, F, W>
-        ensures pool { stack_pool result ≡ pool.now }
+    pub(crate) fn in_room(pool: P, rt: W, room: Room<T>, value: T) -> StackReusable<T, P, W>
+        ensures pool { stack_pool result ≡ pool }
         ensures value { stack_value result ≡ value }
     {
         StackReusable {
@@ -94,14 +119,7 @@ impl<
     }
 }
 
-impl<
-    T: Drop,
-    I: Init<T, K>,
-    R: Reset<T, K>,
-    K: Clean<T>,
-    F: FreeList<T, MadeOrReset<I, R, K>>,
-    W: Wait + Copy,
-> Deref for StackReusable<'_, T, I, R, K, F, W> {
+impl<T: Drop, P: SharedStackPool<T>, W: Wait + Copy> Deref for StackReusable<T, P, W> {
     type Target = T;
 
     ghost use Rattle.lockfree_object_pool.specs.StackPool.{stack_value};
@@ -113,14 +131,7 @@ impl<
     }
 }
 
-impl<
-    T: Drop,
-    I: Init<T, K>,
-    R: Reset<T, K>,
-    K: Clean<T>,
-    F: FreeList<T, MadeOrReset<I, R, K>>,
-    W: Wait + Copy,
-> DerefMut for StackReusable<'_, T, I, R, K, F, W> {
+impl<T: Drop, P: SharedStackPool<T>, W: Wait + Copy> DerefMut for StackReusable<T, P, W> {
     ghost use Rattle.std.specs.Borrow.{sem};
     ghost use Rattle.lockfree_object_pool.specs.StackLends.{LendsValue};
     ghost use Rattle.lockfree_object_pool.specs.StackPool.{stack_value};
@@ -128,21 +139,16 @@ impl<
     ghost deref_mut_gives = { λ reusable value. value ≡ stack_value reusable };
 
     fn deref_mut(&mut self) -> &mut T
-        ensures* writes_back { sem 𝓛 (LendsValue T.row I.row R.row K.row F.row W.row self.entry result) }
+        ensures* writes_back { sem 𝓛 (LendsValue T.row P.row W.row self.entry result) }
         ensures shows { result.now ≡ stack_value self.old }
     {
         &mut self.value
     }
 }
 
-impl<
-    T: Drop,
-    I: Init<T, K>,
-    R: Reset<T, K>,
-    K: Clean<T>,
-    F: FreeList<T, MadeOrReset<I, R, K>>,
-    W: Wait + Copy,
-> Drop for StackReusable<'_, T, I, R, K, F, W> {
+impl<T: Drop, P: SharedStackPool<T>, W: Wait + Copy> Drop for StackReusable<T, P, W> {
+    // Inlined, so that the value isn't handed on through memory.
+    #[inline(always)]
     fn drop(self) {
         let StackReusable {
             pool,
@@ -155,14 +161,7 @@ impl<
     }
 }
 
-impl<
-    T: Debug + Drop,
-    I: Init<T, K>,
-    R: Reset<T, K>,
-    K: Clean<T>,
-    F: FreeList<T, MadeOrReset<I, R, K>>,
-    W: Wait + Copy,
-> Debug for StackReusable<'_, T, I, R, K, F, W> {
+impl<T: Debug + Drop, P: SharedStackPool<T>, W: Wait + Copy> Debug for StackReusable<T, P, W> {
     ghost use Rattle.lockfree_object_pool.specs.StackPool.{stack_value};
 
     ghost debug_output = { λ reusable. T.debug_output (stack_value reusable) };

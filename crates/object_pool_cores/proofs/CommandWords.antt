@@ -8,7 +8,8 @@ use Rattle.object_pool_cores.specs.CommandText.{IsNumber, HasNoSpace, AreNumbers
 
 -- a number has no space
 HasNoSpace-number : (text : List ℕ) (n : ℕ) → IsNumber text n → HasNoSpace text
-HasNoSpace-number text n number = All-weaker IsAsciiDigit (λ byte. byte ≢ 32) (λ byte digit. omega arith) text number.digits
+HasNoSpace-number text n number =
+    All-weaker IsAsciiDigit (λ byte. byte ≢ 32) (λ byte digit. omega arith) text number.digits
 
 -- two numbers have a space between them
 pub AreNumbers-space : (text : List ℕ) (first second : ℕ) → HasNoSpace text → AreNumbers text first second → ⊥
@@ -21,23 +22,31 @@ AreNumbers-space text first second none numbers = with_space numbers.0 numbers.1
 -- the first space cuts a text in one way
 same_parts : (a b c d : List ℕ) → HasNoSpace a → HasNoSpace c → a ++ 32 ∷ b ≡ c ++ 32 ∷ d → (a ≡ c) × (b ≡ d)
 same_parts [] b [] d front other e = (refl, cc)
-same_parts [] b (y ∷ c) d front other e = let space : 32 ≡ y = cc in absurd (All-head (λ byte. byte ≢ 32) y c other (sym space))
-same_parts (x ∷ a) b [] d front other e = let space : x ≡ 32 = cc in absurd (All-head (λ byte. byte ≢ 32) x a front space)
+same_parts [] b (y ∷ c) d front other e = let space : 32 ≡ y = cc in
+    absurd (All-head (λ byte. byte ≢ 32) y c other (sym space))
+same_parts (x ∷ a) b [] d front other e = let space : x ≡ 32 = cc in
+    absurd (All-head (λ byte. byte ≢ 32) x a front space)
 same_parts (x ∷ a) b (y ∷ c) d front other e =
     let tails : a ++ 32 ∷ b ≡ c ++ 32 ∷ d = cc in
-    let rest = same_parts a b c d (All-tail (λ byte. byte ≢ 32) x a front) (All-tail (λ byte. byte ≢ 32) y c other) tails in
+    let rest = same_parts a b c d (All-tail (λ byte. byte ≢ 32) x a front)
+    (All-tail (λ byte. byte ≢ 32) y c other) tails in
     (let head : x ≡ y = cc in let tail = rest.0 in cc, rest.1)
 
 -- two numbers are what stands before the first space and behind it
 pub AreNumbers-parts : (text front back : List ℕ) (first second : ℕ) → HasNoSpace front → text ≡ front ++ 32 ∷ back
     → AreNumbers text first second → IsNumber front first × IsNumber back second
 AreNumbers-parts text front back first second clear cut numbers =
-    let same = same_parts numbers.0 numbers.1 front back (HasNoSpace-number numbers.0 first numbers.3) clear (sym numbers.2 ∙ cut) in
-    (subst (λ (part : List ℕ). IsNumber part first) same.0 numbers.3, subst (λ (part : List ℕ). IsNumber part second) same.1 numbers.4)
+    let same = same_parts numbers.0 numbers.1 front back (HasNoSpace-number numbers.0 first numbers.3) clear
+    (sym numbers.2 ∙ cut) in (
+      subst (λ (part : List ℕ). IsNumber part first) same.0 numbers.3,
+      subst (λ (part : List ℕ). IsNumber part second) same.1 numbers.4,
+    )
 
 -- a line that begins as a write is a write
-pub IsBadLine-write : (line rest : List ℕ) → line ≡ codes "write " ++ rest → ((first second : ℕ) → AreNumbers rest first second → ⊥) → IsBadLine line
-IsBadLine-write line rest begins none Pull is = let letters : 112 ≡ 119 = ap (λ bytes. slice_index bytes 0) (sym is ∙ begins) in omega (arith, letters)
+pub IsBadLine-write : (line rest : List ℕ) → line ≡ codes "write " ++ rest
+    → ((first second : ℕ) → AreNumbers rest first second → ⊥) → IsBadLine line
+IsBadLine-write line rest begins none Pull is = let letters : 112 ≡ 119 =
+    ap (λ bytes. slice_index bytes 0) (sym is ∙ begins) in omega (arith, letters)
 IsBadLine-write line rest begins none (Write index value) is =
     let same : is.0 ≡ rest = let e = sym is.1 ∙ begins in cc in
     none index value (subst (λ (part : List ℕ). AreNumbers part index value) same is.2)

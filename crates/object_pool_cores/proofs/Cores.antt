@@ -1,7 +1,7 @@
 pub mod KeptWord
 pub mod PagedPlaces
 pub mod NumberedSteps
-pub mod FewLooks
+pub mod FewProbes
 pub mod ShownTranscript
 pub mod HeldTableSteps
 pub mod EngineKinds

@@ -1,11 +1,15 @@
 -- In each run each number that is out has one holder, and the numbers are those of the pages.
-use Rattle.std.proofs.Common.{◌≡◌, ◌≢◌, ◌⊎◌, inl, inr, ℕ, ◌+◌, ◌-◌, ◌*◌, ◌<◌, ◌≤◌, Option, Some, List, [], ◌∷◌, length, slice_get, refl, ap, sym, ◌∙◌, subst, arith}
+use Rattle.std.proofs.Common.{◌≡◌, ◌≢◌, ◌⊎◌, inl, inr, ℕ, ◌+◌, ◌-◌, ◌*◌, ◌<◌, ◌≤◌, Option, Some, List, [], ◌∷◌, length}
+use Rattle.std.proofs.Common.{slice_get, refl, ap, sym, ◌∙◌, subst, arith}
 use Rattle.std.proofs.lemmas.Bool.{cases_eq, cases_lt}
 use Rattle.std.proofs.lemmas.Option.{slice_get_past, slice_get_cases}
 use Rattle.lockfree_object_pool.specs.declared.pull_error.PullError.TheVariants.{Memory, Init, Limit}
-use Rattle.object_pool_cores.specs.Pool.{Place, Pool, Absent, Free, Out, IsFree, IsOut, AllowsPages, free_with, with_place}
-use Rattle.object_pool_cores.specs.Move.{Move, Pull, Return, Growth, Refusal, IsLawful, after}
-use Rattle.object_pool_cores.specs.Run.{Act, Opens, Writes, Moves, Stage, NotBegun, Looking, Holds, agent_of, after_act, after_write, stage_of, pool_of, MayMove, MayCome, Run, HasHolders, IsWhole, AtEachPlace}
+use Rattle.object_pool_cores.specs.Pool.{Place, Pool, Absent, Free, Out, IsFree, IsOut, AllowsPages, free_with}
+use Rattle.object_pool_cores.specs.Pool.{with_place}
+use Rattle.object_pool_cores.specs.Move.{Move, Pull, Return, Growth, Refusal, IsLegal, after}
+use Rattle.object_pool_cores.specs.Run.{Act, Opens, Writes, Moves, Stage, NotBegun, Looking, Holds, agent_of, after_act}
+use Rattle.object_pool_cores.specs.Run.{after_write, stage_of, pool_of, MayMove, MayCome, Run, HasHolders, IsWhole}
+use Rattle.object_pool_cores.specs.Run.{AtEachPlace}
 use Rattle.object_pool_cores.proofs.Runs.{stage_of-own, stage_of-other, free_with-in}
 use Rattle.object_pool_cores.specs.Laws.PoolSteps.{with_place-same, with_place-other, grown-old, grown-new}
 
@@ -21,7 +25,8 @@ module _ {T : Type 0} where
   begun-not-empty stage none n value holds = cc
 
   -- who holds something keeps it through the act of an agent that holds nothing
-  keeps-holding : (act : Act T) (acts : List (Act T)) (a n : ℕ) (value : T) → IsEmptyHanded (stage_of acts (agent_of act))
+  keeps-holding : (act : Act T) (acts : List (Act T)) (a n : ℕ) (value : T)
+      → IsEmptyHanded (stage_of acts (agent_of act))
       → stage_of acts a ≡ Holds n value → stage_of (act ∷ acts) a ≡ Holds n value
   keeps-holding act acts a n value empty holds =
       elim (cases_eq (agent_of act) a) [
@@ -35,7 +40,10 @@ module _ {T : Type 0} where
       → stage_of acts a ≡ Holds n value
   held-before act acts a n value empty holds =
       elim (cases_eq (agent_of act) a) [
-        | inl same ↦ absurd (empty n value (sym (stage_of-own act acts (agent_of act) refl) ∙ ap (stage_of (act ∷ acts)) same ∙ holds))
+        | inl same ↦
+            absurd
+            (empty n value
+            (sym (stage_of-own act acts (agent_of act) refl) ∙ ap (stage_of (act ∷ acts)) same ∙ holds))
         | inr other ↦ sym (stage_of-other act acts a other) ∙ holds
       ]
 
@@ -57,31 +65,37 @@ module _ {T : Type 0} (first : List T) where
       → ((n : ℕ) → IsOut (pool_of first acts) n → IsOut (pool_of first (act ∷ acts)) n) → HasHolders first acts
       → HasHolders first (act ∷ acts)
   holders-empty act acts before after was stays holders = record {
-    some = λ n out. let (a, value, holds) = holders.some n (was n out) in (a, value, keeps-holding act acts a n value before holds);
+    some = λ n out. let (a, value, holds) = holders.some n (was n out) in
+        (a, value, keeps-holding act acts a n value before holds);
     out = λ n a value holds. stays n (holders.out n a value (held-before act acts a n value after holds));
-    one = λ n a b v w p q. holders.one n a b v w (held-before act acts a n v after p) (held-before act acts b n w after q);
+    one = λ n a b v w p q. holders.one n a b v w (held-before act acts a n v after p)
+        (held-before act acts b n w after q);
   }
 
   -- a write changes the value of what its agent holds
-  wrote-before : (acts : List (Act T)) (b : ℕ) (new : T) (m : ℕ) (old : T) → stage_of acts b ≡ Holds m old → (a n : ℕ) (value : T)
+  wrote-before : (acts : List (Act T)) (b : ℕ) (new : T) (m : ℕ) (old : T) → stage_of acts b ≡ Holds m old
+      → (a n : ℕ) (value : T)
       → stage_of (Writes b new ∷ acts) a ≡ Holds n value → (before : T) × (stage_of acts a ≡ Holds n before)
   wrote-before acts b new m old held a n value holds =
       elim (cases_eq b a) [
         | inl same ↦
             let at : stage_of acts a ≡ Holds m old = sym (ap (stage_of acts) same) ∙ held in
-            let now : after_write (stage_of acts a) new ≡ Holds n value = sym (stage_of-own (Writes b new) acts a same) ∙ holds in
+            let now : after_write (stage_of acts a) new ≡ Holds n value =
+            sym (stage_of-own (Writes b new) acts a same) ∙ holds in
             let written : Holds m new ≡ Holds n value = rw at at now in
             let number : m ≡ n = cc in
             (old, at ∙ ap (λ k. Holds k old) number)
         | inr other ↦ (value, sym (stage_of-other (Writes b new) acts a other) ∙ holds)
       ]
 
-  wrote-after : (acts : List (Act T)) (b : ℕ) (new : T) (m : ℕ) (old : T) → stage_of acts b ≡ Holds m old → (a n : ℕ) (value : T)
+  wrote-after : (acts : List (Act T)) (b : ℕ) (new : T) (m : ℕ) (old : T) → stage_of acts b ≡ Holds m old
+      → (a n : ℕ) (value : T)
       → stage_of acts a ≡ Holds n value → (later : T) × (stage_of (Writes b new ∷ acts) a ≡ Holds n later)
   wrote-after acts b new m old held a n value holds =
       elim (cases_eq b a) [
         | inl same ↦
-            let at : stage_of (Writes b new ∷ acts) a ≡ after_write (stage_of acts a) new = stage_of-own (Writes b new) acts a same in
+            let at : stage_of (Writes b new ∷ acts) a ≡ after_write (stage_of acts a) new =
+            stage_of-own (Writes b new) acts a same in
             (new, at ∙ ap (λ stage. after_write stage new) holds)
         | inr other ↦ (value, stage_of-other (Writes b new) acts a other ∙ holds)
       ]
@@ -89,8 +103,10 @@ module _ {T : Type 0} (first : List T) where
   holders-write : (acts : List (Act T)) (b : ℕ) (new : T) (m : ℕ) (old : T) → stage_of acts b ≡ Holds m old
       → HasHolders first acts → HasHolders first (Writes b new ∷ acts)
   holders-write acts b new m old held holders = record {
-    some = λ n out. let (a, value, holds) = holders.some n out in let (later, is) = wrote-after acts b new m old held a n value holds in (a, later, is);
-    out = λ n a value holds. let (before, was) = wrote-before acts b new m old held a n value holds in holders.out n a before was;
+    some = λ n out. let (a, value, holds) = holders.some n out in let (later, is) =
+        wrote-after acts b new m old held a n value holds in (a, later, is);
+    out = λ n a value holds. let (before, was) = wrote-before acts b new m old held a n value holds in
+        holders.out n a before was;
     one = λ n a c v w p q.
         let (before, was) = wrote-before acts b new m old held a n v p in
         let (other, too) = wrote-before acts b new m old held c n w q in
@@ -114,7 +130,8 @@ module _ {T : Type 0} (first : List T) where
       → (a : ℕ) (value : T) → stage_of acts a ≢ Holds m value
   not-held acts m new free holders a value holds = let out = holders.out m a value holds in cc
 
-  holders-pull : (acts : List (Act T)) (b m : ℕ) (new : T) → IsFree (pool_of first acts) m new → stage_of acts b ≡ Looking
+  holders-pull : (acts : List (Act T)) (b m : ℕ) (new : T) → IsFree (pool_of first acts) m new
+      → stage_of acts b ≡ Looking
       → HasHolders first acts → HasHolders first (Moves b (Pull m new) ∷ acts)
   holders-pull acts b m new free looking holders = record {
     some = λ n out. elim (cases_eq n m) [
@@ -125,9 +142,11 @@ module _ {T : Type 0} (first : List T) where
           (a, value, keeps-holding (Moves b (Pull m new)) acts a n value (looking-empty _ looking) holds)
     ];
     out = λ n a value holds. elim (pulled acts b m new a n value holds) [
-      | inl own ↦ ap (λ k. (with_place (pool_of first acts) m Out).at k) (sym own.1) ∙ with_place-same (pool_of first acts) m Out
+      | inl own ↦ ap (λ k. (with_place (pool_of first acts) m Out).at k) (sym own.1)
+          ∙ with_place-same (pool_of first acts) m Out
       | inr other ↦ elim (cases_eq n m) [
-        | inl same ↦ ap (λ k. (with_place (pool_of first acts) m Out).at k) same ∙ with_place-same (pool_of first acts) m Out
+        | inl same ↦ ap (λ k. (with_place (pool_of first acts) m Out).at k) same
+            ∙ with_place-same (pool_of first acts) m Out
         | inr apart ↦ with_place-other (pool_of first acts) m n Out apart ∙ holders.out n a value other.1
       ]
     ];
@@ -144,7 +163,8 @@ module _ {T : Type 0} (first : List T) where
   }
 
   -- a return leaves its number without a holder
-  holders-return : (acts : List (Act T)) (b m : ℕ) (value kept : T) → stage_of acts b ≡ Holds m value → HasHolders first acts
+  holders-return : (acts : List (Act T)) (b m : ℕ) (value kept : T) → stage_of acts b ≡ Holds m value
+      → HasHolders first acts
       → HasHolders first (Moves b (Return m kept) ∷ acts)
   holders-return acts b m value kept held holders =
       let act = Moves b (Return m kept) in
@@ -155,10 +175,13 @@ module _ {T : Type 0} (first : List T) where
               absurd (free_with-in (Some kept) (sym (with_place-same (pool_of first acts) m (Free kept))
               ∙ ap (λ k. (with_place (pool_of first acts) m (Free kept)).at k) (sym same) ∙ out))
           | inr other ↦
-              let before : IsOut (pool_of first acts) n = sym (with_place-other (pool_of first acts) m n (Free kept) other) ∙ out in
+              let before : IsOut (pool_of first acts) n =
+              sym (with_place-other (pool_of first acts) m n (Free kept) other) ∙ out in
               let (a, v, holds) = holders.some n before in
               elim (cases_eq b a) [
-                | inl same ↦ absurd (other (same-number n m v value (stage_of acts a) holds (sym (ap (stage_of acts) same) ∙ held)))
+                | inl same ↦
+                    absurd
+                    (other (same-number n m v value (stage_of acts a) holds (sym (ap (stage_of acts) same) ∙ held)))
                 | inr apart ↦ (a, v, stage_of-other act acts a apart ∙ holds)
               ]
         ];
@@ -170,11 +193,13 @@ module _ {T : Type 0} (first : List T) where
                   absurd (ended n v (sym (stage_of-own act acts b refl) ∙ ap (stage_of (act ∷ acts)) (sym who) ∙ holds))
               | inr other ↦ with_place-other (pool_of first acts) m n (Free kept) other ∙ holders.out n a v before
             ];
-        one = λ n a c v w p q. holders.one n a c v w (held-before act acts a n v ended p) (held-before act acts c n w ended q);
+        one = λ n a c v w p q. holders.one n a c v w (held-before act acts a n v ended p)
+            (held-before act acts c n w ended q);
       }
 
   -- a number that is out is a number of the pages
-  out-inside : (limit : Option ℕ) (acts : List (Act T)) → IsWhole first limit acts → (n : ℕ) → IsOut (pool_of first acts) n
+  out-inside : (limit : Option ℕ) (acts : List (Act T)) → IsWhole first limit acts → (n : ℕ)
+      → IsOut (pool_of first acts) n
       → n < 32 * (pool_of first acts).pages
   out-inside limit acts whole n out =
       elim (cases_lt n (32 * (pool_of first acts).pages)) [
@@ -190,7 +215,8 @@ module _ {T : Type 0} (first : List T) where
       holders-empty act acts (looking-empty _ looking) (looking-empty _ looking)
       (λ n out. elim (cases_lt n (32 * pool.pages)) [
         | inl below ↦ sym (grown-old pool values n below) ∙ out
-        | inr past ↦ absurd (free_with-in (slice_get values (n - 32 * pool.pages)) (sym (grown-new pool values n past) ∙ out))
+        | inr past ↦
+            absurd (free_with-in (slice_get values (n - 32 * pool.pages)) (sym (grown-new pool values n past) ∙ out))
       ])
       (λ n out. grown-old pool values n (out-inside limit acts whole n out) ∙ out)
       holders
@@ -223,7 +249,9 @@ module _ {T : Type 0} (first : List T) where
       let pages : (after pool move).pages ≡ pool.pages = ap (λ p. p.pages) same in
       record {
         inside = λ n below absent. elim (cases_eq n m) [
-          | inl is ↦ there (sym (with_place-same pool m place) ∙ ap (λ k. (with_place pool m place).at k) (sym is) ∙ sym (at n) ∙ absent)
+          | inl is ↦
+              there (sym (with_place-same pool m place) ∙ ap (λ k. (with_place pool m place).at k) (sym is)
+              ∙ sym (at n) ∙ absent)
           | inr other ↦ whole.inside n (omega arith) (sym (with_place-other pool m n place other) ∙ sym (at n) ∙ absent)
         ];
         past = λ n past. elim (cases_eq n m) [
@@ -241,9 +269,11 @@ module _ {T : Type 0} (first : List T) where
       record {
         inside = λ n below absent. elim (cases_lt n (32 * pool.pages)) [
           | inl old ↦ whole.inside n old (sym (grown-old pool values n old) ∙ absent)
-          | inr new ↦ full-inside values full (n - 32 * pool.pages) (omega arith) (sym (grown-new pool values n new) ∙ absent)
+          | inr new ↦ full-inside values full (n - 32 * pool.pages) (omega arith)
+              (sym (grown-new pool values n new) ∙ absent)
         ];
-        past = λ n past. grown-new pool values n (omega arith) ∙ full-past values full (n - 32 * pool.pages) (omega arith);
+        past = λ n past. grown-new pool values n (omega arith)
+            ∙ full-past values full (n - 32 * pool.pages) (omega arith);
         allowed = allowed;
       }
 
@@ -261,7 +291,7 @@ module _ {T : Type 0} (first : List T) where
       record { inside = all.0; past = all.1; allowed = all.2 }
 
 module _ {T : Type 0} (Leaves : T → T → Type 0) (limit : Option ℕ) (first : List T) where
-  sound-move : (acts : List (Act T)) (a : ℕ) (move : Move T) → IsLawful limit (pool_of first acts) move
+  sound-move : (acts : List (Act T)) (a : ℕ) (move : Move T) → IsLegal limit (pool_of first acts) move
       → MayMove Leaves limit first acts a move → IsSound first limit acts → IsSound first limit (Moves a move ∷ acts)
   sound-move acts a (Pull n value) free looking sound = record {
     holders = holders-pull first acts a n value free looking sound.holders;
@@ -276,21 +306,26 @@ module _ {T : Type 0} (Leaves : T → T → Type 0) (limit : Option ℕ) (first 
     whole = whole-growth first limit acts a values fits.0 fits.1 sound.whole;
   }
   sound-move acts a (Refusal Limit) may found_out sound = record {
-    holders = holders-empty first (Moves a (Refusal Limit)) acts (looking-empty _ found_out.0) (λ n v is. cc) (λ n out. out) (λ n out. out) sound.holders;
+    holders = holders-empty first (Moves a (Refusal Limit)) acts (looking-empty _ found_out.0) (λ n v is. cc)
+        (λ n out. out) (λ n out. out) sound.holders;
     whole = same-whole first limit (Moves a (Refusal Limit)) acts refl sound.whole;
   }
   sound-move acts a (Refusal Memory) may looking sound = record {
-    holders = holders-empty first (Moves a (Refusal Memory)) acts (looking-empty _ looking) (λ n v is. cc) (λ n out. out) (λ n out. out) sound.holders;
+    holders = holders-empty first (Moves a (Refusal Memory)) acts (looking-empty _ looking) (λ n v is. cc)
+        (λ n out. out) (λ n out. out) sound.holders;
     whole = same-whole first limit (Moves a (Refusal Memory)) acts refl sound.whole;
   }
   sound-move acts a (Refusal Init) may looking sound = record {
-    holders = holders-empty first (Moves a (Refusal Init)) acts (looking-empty _ looking) (λ n v is. cc) (λ n out. out) (λ n out. out) sound.holders;
+    holders = holders-empty first (Moves a (Refusal Init)) acts (looking-empty _ looking) (λ n v is. cc)
+        (λ n out. out) (λ n out. out) sound.holders;
     whole = same-whole first limit (Moves a (Refusal Init)) acts refl sound.whole;
   }
 
-  sound-act : (act : Act T) (acts : List (Act T)) → MayCome Leaves limit first acts act → IsSound first limit acts → IsSound first limit (act ∷ acts)
+  sound-act : (act : Act T) (acts : List (Act T)) → MayCome Leaves limit first acts act → IsSound first limit acts
+      → IsSound first limit (act ∷ acts)
   sound-act (Opens a) acts none sound = record {
-    holders = holders-empty first (Opens a) acts (begun-not-empty _ none) (λ n v is. cc) (λ n out. out) (λ n out. out) sound.holders;
+    holders = holders-empty first (Opens a) acts (begun-not-empty _ none) (λ n v is. cc) (λ n out. out)
+        (λ n out. out) sound.holders;
     whole = same-whole first limit (Opens a) acts refl sound.whole;
   }
   sound-act (Writes a value) acts held sound = record {
@@ -300,14 +335,22 @@ module _ {T : Type 0} (Leaves : T → T → Type 0) (limit : Option ℕ) (first 
   sound-act (Moves a move) acts may sound = sound-move acts a move may.0 may.1 sound
 
   -- every run keeps them
-  pub sound-run : length first ≡ 32 → AllowsPages limit 1 → (acts : List (Act T)) → Run Leaves limit first acts → IsSound first limit acts
-  sound-run full allowed [] run = record { holders = holders-opening first; whole = whole-opening first limit full allowed }
+  pub sound-run : length first ≡ 32 → AllowsPages limit 1 → (acts : List (Act T)) → Run Leaves limit first acts
+      → IsSound first limit acts
+  sound-run full allowed [] run = record {
+    holders = holders-opening first;
+    whole = whole-opening first limit full allowed;
+  }
   sound-run full allowed (act ∷ acts) run = sound-act act acts run.0 (sound-run full allowed acts run.1)
 
-  pub holders-run : length first ≡ 32 → AllowsPages limit 1 → (acts : List (Act T)) → Run Leaves limit first acts → AtEachPlace (HasHolders first) acts
+  pub holders-run : length first ≡ 32 → AllowsPages limit 1 → (acts : List (Act T)) → Run Leaves limit first acts
+      → AtEachPlace (HasHolders first) acts
   holders-run full allowed [] run = holders-opening first
-  holders-run full allowed (act ∷ acts) run = ((sound-run full allowed (act ∷ acts) run).holders, holders-run full allowed acts run.1)
+  holders-run full allowed (act ∷ acts) run =
+      ((sound-run full allowed (act ∷ acts) run).holders, holders-run full allowed acts run.1)
 
-  pub whole-run : length first ≡ 32 → AllowsPages limit 1 → (acts : List (Act T)) → Run Leaves limit first acts → AtEachPlace (IsWhole first limit) acts
+  pub whole-run : length first ≡ 32 → AllowsPages limit 1 → (acts : List (Act T)) → Run Leaves limit first acts
+      → AtEachPlace (IsWhole first limit) acts
   whole-run full allowed [] run = whole-opening first limit full allowed
-  whole-run full allowed (act ∷ acts) run = ((sound-run full allowed (act ∷ acts) run).whole, whole-run full allowed acts run.1)
+  whole-run full allowed (act ∷ acts) run =
+      ((sound-run full allowed (act ∷ acts) run).whole, whole-run full allowed acts run.1)

@@ -4,35 +4,41 @@ use Rattle.std.specs.List.{slice_get}
 use Rattle.object_pool_cores.specs.Pool.{Pool, Out, IsFree, IsSame, free_with}
 use Rattle.object_pool_cores.specs.Move.{Pull, after, grown}
 use Rattle.object_pool_cores.specs.LeastChoice.{IsExhausted, PullsLeast, TakesLeast}
-use Rattle.object_pool_cores.specs.Numbered.{Grows}
+use Rattle.object_pool_cores.specs.Inside.Numbered.{Grows}
 use Rattle.object_pool_cores.specs.Laws.PoolSteps.{grown-new, IsSame-trans, IsSame-with_place}
 
 module _ {T : Type 0} (limit : Option ℕ) (answers : Option T → Type 0) where
   -- the first number of a page more is free
   pub IsFree-grown : (old middle : Pool T) → Grows limit answers old middle → (v : T) × IsFree middle (32 * old.pages) v
-  IsFree-grown old middle grows = first grows.values grows.lawful.0 (grows.grown.places (32 * old.pages)
+  IsFree-grown old middle grows = first grows.values grows.legal.0 (grows.grown.places (32 * old.pages)
       ∙ grown-new old grows.values (32 * old.pages) (omega arith))
     where
       first : (values : List T) → length values ≡ 32
           → middle.at (32 * old.pages) ≡ free_with (slice_get values (32 * old.pages - 32 * old.pages))
           → (v : T) × IsFree middle (32 * old.pages) v
       first [] count e = absurd (omega arith)
-      first (v ∷ values) count e = let none : 32 * old.pages - 32 * old.pages ≡ 0 = omega arith in (v, e ∙ ap (λ n. free_with (slice_get (v ∷ values) n)) none)
+      first (v ∷ values) count e = let none : 32 * old.pages - 32 * old.pages ≡ 0 = omega arith in
+          (v, e ∙ ap (λ n. free_with (slice_get (v ∷ values) n)) none)
 
   -- a number that is the least of one pool is so of a pool that is the same
-  TakesLeast-same : (a b : Pool T) (n : ℕ) (v : T) (new : Pool T) → IsSame a b → TakesLeast a n v new → TakesLeast b n v new
+  TakesLeast-same : (a b : Pool T) (n : ℕ) (v : T) (new : Pool T) → IsSame a b → TakesLeast a n v new
+      → TakesLeast b n v new
   TakesLeast-same a b n v new same takes = record {
-    least = record { free = sym (same.places n) ∙ takes.least.free; least = λ m w free. takes.least.least m w (same.places m ∙ free) };
+    least = record {
+      free = sym (same.places n) ∙ takes.least.free;
+      least = λ m w free. takes.least.least m w (same.places m ∙ free);
+    };
     taken = IsSame-trans new (after a (Pull n v)) (after b (Pull n v)) takes.taken (IsSame-with_place a b n Out same);
   }
 
   -- the least number of a page more was pulled, where none was free before
-  pub PullsLeast-grown : (old middle : Pool T) (n : ℕ) (v : T) (new : Pool T) → IsExhausted old → Grows limit answers old middle
+  pub PullsLeast-grown : (old middle : Pool T) (n : ℕ) (v : T) (new : Pool T) → IsExhausted old
+      → Grows limit answers old middle
       → TakesLeast middle n v new → PullsLeast limit answers old (Ok (n, v)) new
   PullsLeast-grown old middle n v new exhausted grows takes = inr (record {
     exhausted = exhausted;
     values = grows.values;
     answered = grows.answered;
-    lawful = grows.lawful;
+    legal = grows.legal;
     takes = TakesLeast-same middle (grown old grows.values) n v new grows.grown takes;
   })

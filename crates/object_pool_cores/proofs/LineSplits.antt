@@ -1,5 +1,6 @@
 -- Bytes that go on, and their lines.
-use Rattle.std.proofs.Common.{◌≡◌, ◌≢◌, ℕ, ◌+◌, ◌<◌, List, [], ◌∷◌, ◌++◌, length, get_or, take, refl, sym, ap, ◌∙◌, append_assoc, append-nil}
+use Rattle.std.proofs.Common.{◌≡◌, ◌≢◌, ℕ, ◌+◌, ◌<◌, List, [], ◌∷◌, ◌++◌, length, get_or, take, refl, sym, ap, ◌∙◌}
+use Rattle.std.proofs.Common.{append_assoc, append-nil}
 use Rattle.std.proofs.lemmas.List.{take_more}
 use Rattle.std.specs.Prelude.{flat_map}
 use Rattle.std.proofs.lemmas.List.Elements.{All-nil, All-push, All-append}
@@ -14,7 +15,8 @@ pub IsLines-rest : (rest : List ℕ) → HasNoLineFeed rest → IsLines rest [] 
 IsLines-rest rest clear = record { whole = refl; each = All-nil HasNoLineFeed; open_end = clear }
 
 -- a byte that is no line feed goes to the rest
-pub IsLines-byte : (bytes : List ℕ) (lines : List (List ℕ)) (rest : List ℕ) (byte : ℕ) → IsLines bytes lines rest → byte ≢ 10
+pub IsLines-byte : (bytes : List ℕ) (lines : List (List ℕ)) (rest : List ℕ) (byte : ℕ)
+    → IsLines bytes lines rest → byte ≢ 10
     → IsLines (bytes ++ byte ∷ []) lines (rest ++ byte ∷ [])
 IsLines-byte bytes lines rest byte split other = record {
   whole = ap (λ all. all ++ byte ∷ []) split.whole ∙ append_assoc (flat_map ended lines) rest (byte ∷ []);
@@ -23,7 +25,8 @@ IsLines-byte bytes lines rest byte split other = record {
 }
 
 -- a line feed makes a line of the rest
-pub IsLines-feed : (bytes : List ℕ) (lines : List (List ℕ)) (rest : List ℕ) → IsLines bytes lines rest → IsLines (bytes ++ 10 ∷ []) (lines ++ rest ∷ []) []
+pub IsLines-feed : (bytes : List ℕ) (lines : List (List ℕ)) (rest : List ℕ) → IsLines bytes lines rest
+    → IsLines (bytes ++ 10 ∷ []) (lines ++ rest ∷ []) []
 IsLines-feed bytes lines rest split = record {
   whole =
       ap (λ all. all ++ 10 ∷ []) split.whole ∙ append_assoc (flat_map ended lines) rest (10 ∷ [])
@@ -46,10 +49,11 @@ IsLines-join bytes more lines others rest last split next = record {
   open_end = next.open_end;
 }
 
--- a beginning of what comes behind the lines of some bytes
+-- a prefix of what comes behind the lines of some bytes
 pub IsLines-front : (bytes more front back : List ℕ) (lines others : List (List ℕ)) (rest last : List ℕ)
     → IsLines bytes lines rest → rest ++ more ≡ front ++ back → IsLines front others last
-    → IsLines (flat_map ended lines ++ front) (lines ++ others) last × (bytes ++ more ≡ (flat_map ended lines ++ front) ++ back)
+    → IsLines (flat_map ended lines ++ front) (lines ++ others) last
+    × (bytes ++ more ≡ (flat_map ended lines ++ front) ++ back)
 IsLines-front bytes more front back lines others rest last split cut next = (
   record {
     whole =
@@ -67,4 +71,5 @@ IsLines-front bytes more front back lines others rest last split cut next = (
 pub take_behind : (front bytes : List ℕ) (i byte : ℕ) → i < length bytes → get_or bytes i 0 ≡ byte
     → front ++ take (i + 1) bytes ≡ (front ++ take i bytes) ++ byte ∷ []
 take_behind front bytes i byte within here =
-    ap (λ all. front ++ all) (take_more bytes i 0 within ∙ ap (λ b. take i bytes ++ b ∷ []) here) ∙ sym (append_assoc front (take i bytes) (byte ∷ []))
+    ap (λ all. front ++ all) (take_more bytes i 0 within ∙ ap (λ b. take i bytes ++ b ∷ []) here)
+    ∙ sym (append_assoc front (take i bytes) (byte ∷ []))

@@ -1,5 +1,6 @@
 -- A run of commands with their replies goes on by one.
-use Rattle.std.proofs.Common.{◌≡◌, ◌≢◌, List, [], ◌∷◌, ◌++◌, length, Result, IsErr, Ok, Err, OnOk, OnErr, refl, sym, ap, subst, ◌∙◌, append_assoc, arith, ℕ, ◌+◌, ◌≤◌, length-append}
+use Rattle.std.proofs.Common.{◌≡◌, ◌≢◌, List, [], ◌∷◌, ◌++◌, length, Result, IsErr, Ok, Err, OnOk, OnErr, refl, sym, ap}
+use Rattle.std.proofs.Common.{subst, ◌∙◌, append_assoc, arith, ℕ, ◌+◌, ◌≤◌, length-append}
 use Rattle.lockfree_object_pool.specs.declared.pull_error.PullError.{PullError}
 use Rattle.object_pool_cores.specs.declared.sequential.item.Item.{Item}
 use Rattle.object_pool_cores.specs.declared.sequential.attach_error.AttachError.{AttachError}
@@ -18,11 +19,14 @@ use Rattle.object_pool_cores.specs.Replies.{Plays, Replies}
 pub taken_front : {X A : Type 0} (first : IntoIter X A) (taken : List X) (last : IntoIter X A)
     → Yields into_iter_steps first taken last → into_iter_items first ≡ taken ++ into_iter_items last
 taken_front first [] last yields = ap into_iter_items yields
-taken_front first (x ∷ taken) last yields = yields.1.0 ∙ ap (λ rest. x ∷ rest) (taken_front yields.0 taken last yields.2)
+taken_front first (x ∷ taken) last yields = yields.1.0
+    ∙ ap (λ rest. x ∷ rest) (taken_front yields.0 taken last yields.2)
 
 -- a list that goes on from another does so with one element more
-pub appended : {X : Type 0} (old more middle new : List X) (x : X) → middle ≡ old ++ more → new ≡ middle ++ x ∷ [] → new ≡ old ++ (more ++ x ∷ [])
-appended old more middle new x so_far last = last ∙ ap (λ items. items ++ x ∷ []) so_far ∙ append_assoc old more (x ∷ [])
+pub appended : {X : Type 0} (old more middle new : List X) (x : X) → middle ≡ old ++ more → new ≡ middle ++ x ∷ []
+    → new ≡ old ++ (more ++ x ∷ [])
+appended old more middle new x so_far last = last ∙ ap (λ items. items ++ x ∷ []) so_far
+    ∙ append_assoc old more (x ∷ [])
 
 -- where there is a next element, some are left
 pub some_left : {X : Type 0} (left rest : List X) (next : X) → left ≡ next ∷ rest → left ≢ []
@@ -37,7 +41,8 @@ next_meets P all (x ∷ taken) left rest next begins split meet =
     next_meets P (taken ++ left) taken left rest next refl split (All-rest P x (taken ++ left) all begins meet)
 
 -- where there is room for a reply to each command, there is room for the next one
-pub room_for_next : {C R : Type 0} (all taken left rest : List C) (next : C) (before replies gathered : List R) (room : ℕ)
+pub room_for_next : {C R : Type 0} (all taken left rest : List C) (next : C)
+    (before replies gathered : List R) (room : ℕ)
     → all ≡ taken ++ left → left ≡ next ∷ rest → gathered ≡ before ++ replies → length replies ≡ length taken
     → length before + length all ≤ room → length gathered + 1 ≤ room
 room_for_next all taken left rest next before replies gathered room begins split goes_on each enough =
@@ -84,6 +89,7 @@ OnErr-always (Ok v) p = tt
 OnErr-always (Err e) p = p
 
 -- a result is an Ok or an error
-pub by_result : {V E : Type 0} {A B : Type 0} (C : Type 0) (result : Result V E) → OnOk result A → OnErr result B → (A → C) → (B → C) → C
+pub by_result : {V E : Type 0} {A B : Type 0} (C : Type 0) (result : Result V E) → OnOk result A → OnErr result B
+    → (A → C) → (B → C) → C
 by_result C (Ok v) ok err from_ok from_err = from_ok ok
 by_result C (Err e) ok err from_ok from_err = from_err err

@@ -21,10 +21,12 @@ module _ {T : Type 0} where
   other-opens act a other opens = other (ap agent_of opens)
 
   -- an act moves its own agent, and no other
-  pub stage_of-own : (act : Act T) (acts : List (Act T)) (a : ℕ) → agent_of act ≡ a → stage_of (act ∷ acts) a ≡ after_act (stage_of acts a) act
+  pub stage_of-own : (act : Act T) (acts : List (Act T)) (a : ℕ) → agent_of act ≡ a
+      → stage_of (act ∷ acts) a ≡ after_act (stage_of acts a) act
   stage_of-own act acts a own = rw (eq-eqb (agent_of act) a own) refl
 
-  pub stage_of-other : (act : Act T) (acts : List (Act T)) (a : ℕ) → agent_of act ≢ a → stage_of (act ∷ acts) a ≡ stage_of acts a
+  pub stage_of-other : (act : Act T) (acts : List (Act T)) (a : ℕ) → agent_of act ≢ a
+      → stage_of (act ∷ acts) a ≡ stage_of acts a
   stage_of-other act acts a other = rw (ne_eqb (agent_of act) a other) refl
 
   -- a value that there may be isn't out

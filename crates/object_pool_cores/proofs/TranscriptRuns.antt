@@ -1,5 +1,6 @@
 -- What was served goes on.
-use Rattle.std.proofs.Common.{◌≡◌, ◌≢◌, ℕ, Option, Some, List, [], ◌∷◌, ◌++◌, Result, refl, sym, ap, subst, ◌∙◌, append_assoc, append-nil}
+use Rattle.std.proofs.Common.{◌≡◌, ◌≢◌, ℕ, Option, Some, List, [], ◌∷◌, ◌++◌, Result, refl, sym, ap, subst, ◌∙◌}
+use Rattle.std.proofs.Common.{append_assoc, append-nil}
 use Rattle.std.specs.Prelude.{flat_map}
 use Rattle.std.specs.Io.KnownBytes.{Appends, Keeps}
 use Rattle.std.proofs.KnownBytes.{Appends-nil, Appends-trans, Appends-kept}
@@ -8,8 +9,9 @@ use Rattle.object_pool_cores.specs.declared.sequential.item.Item.{Item}
 use Rattle.object_pool_cores.specs.declared.sequential.attach_error.AttachError.{AttachError}
 use Rattle.object_pool_cores.specs.Held.{Playing}
 use Rattle.object_pool_cores.specs.Lines.{ended, HasNoLineFeed, with_last_line}
-use Rattle.object_pool_cores.specs.Transcript.{Answers, Transcript}
-use Rattle.object_pool_cores.specs.Served.{AppendsPart, Serves, ServesAll, ServesFront, ServesPart, ServesAllInPart, AnswersLast, AnswersLastInPart}
+use Rattle.object_pool_cores.specs.Transcript.{AnswersLine, Transcript}
+use Rattle.object_pool_cores.specs.Served.{AppendsPart, Serves, ServesAll, ServesFront, ServesPart, ServesAllInPart}
+use Rattle.object_pool_cores.specs.Served.{AnswersLast, AnswersLastInPart}
 use Rattle.object_pool_cores.proofs.LineSplits.{IsLines-rest, IsLines-byte, IsLines-feed, IsLines-join, IsLines-front}
 
 -- a part of what comes behind a text
@@ -23,7 +25,8 @@ AppendsPart-behind first before after text bytes written part = record {
 }
 
 -- a last line joins the lines before it
-with_last_line-join : (lines others : List (List ℕ)) (rest : List ℕ) → with_last_line (lines ++ others) rest ≡ lines ++ with_last_line others rest
+with_last_line-join : (lines others : List (List ℕ)) (rest : List ℕ) → with_last_line (lines ++ others) rest ≡ lines
+    ++ with_last_line others rest
 with_last_line-join lines others [] = refl
 with_last_line-join lines others (byte ∷ rest) = append_assoc lines others ((byte ∷ rest) ∷ [])
 
@@ -45,7 +48,7 @@ module _ {P : Type 0} (pulls : P → Result (Item ℕ) PullError → P → Type 
   )
 
   -- the transcript of one line
-  Transcript-line : (old new : Playing P ℕ) (line text : List ℕ) → Answers pulls gives attaches old line text new
+  Transcript-line : (old new : Playing P ℕ) (line text : List ℕ) → AnswersLine pulls gives attaches old line text new
       → Transcript pulls gives attaches old (line ∷ []) text new
   Transcript-line old new line text answer = (text, [], new, sym (append-nil text), answer, (refl, refl))
 
@@ -62,13 +65,15 @@ module _ {P : Type 0} (pulls : P → Result (Item ℕ) PullError → P → Type 
     }
 
     pub Serves-line : (bytes rest text : List ℕ) (middle new : Playing P ℕ) (between after : Option (List ℕ))
-        → Serves pulls gives attaches old before bytes rest middle between → Answers pulls gives attaches middle rest text new
+        → Serves pulls gives attaches old before bytes rest middle between
+        → AnswersLine pulls gives attaches middle rest text new
         → Appends between after text → Serves pulls gives attaches old before (bytes ++ 10 ∷ []) [] new after
     Serves-line bytes rest text middle new between after served answer written = record {
       lines = served.lines ++ rest ∷ [];
       text = served.text ++ text;
       split = IsLines-feed bytes served.lines rest served.split;
-      told = Transcript-join old middle new served.lines (rest ∷ []) served.text text served.told (Transcript-line middle new rest text answer);
+      told = Transcript-join old middle new served.lines (rest ∷ []) served.text text served.told
+          (Transcript-line middle new rest text answer);
       written = Appends-trans before between after served.text text served.written written;
     }
 
@@ -108,7 +113,8 @@ module _ {P : Type 0} (pulls : P → Result (Item ℕ) PullError → P → Type 
         → ServesPart pulls gives attaches middle between (rest ++ more) after
         → ServesPart pulls gives attaches old before (bytes ++ more) after
     ServesPart-join bytes more rest middle between after served part =
-        let behind = IsLines-front bytes more part.front part.back served.lines part.lines rest part.rest served.split part.cut part.split in
+        let behind = IsLines-front bytes more part.front part.back served.lines part.lines rest part.rest served.split
+        part.cut part.split in
         record {
           front = flat_map ended served.lines ++ part.front;
           back = part.back;
@@ -118,7 +124,8 @@ module _ {P : Type 0} (pulls : P → Result (Item ℕ) PullError → P → Type 
           last = part.last;
           cut = behind.1;
           split = behind.0;
-          told = Transcript-join old middle part.last served.lines part.lines served.text part.text served.told part.told;
+          told = Transcript-join old middle part.last served.lines part.lines served.text part.text
+              served.told part.told;
           written = AppendsPart-behind before between after served.text part.text served.written part.written;
         }
 
@@ -127,7 +134,8 @@ module _ {P : Type 0} (pulls : P → Result (Item ℕ) PullError → P → Type 
         → ServesFront pulls gives attaches middle between (rest ++ more) after
         → ServesFront pulls gives attaches old before (bytes ++ more) after
     ServesFront-join bytes more rest middle between after served part =
-        let behind = IsLines-front bytes more part.front part.back served.lines part.served.lines rest part.rest served.split part.cut part.served.split in
+        let behind = IsLines-front bytes more part.front part.back served.lines part.served.lines rest part.rest
+        served.split part.cut part.served.split in
         record {
           front = flat_map ended served.lines ++ part.front;
           back = part.back;
@@ -138,18 +146,22 @@ module _ {P : Type 0} (pulls : P → Result (Item ℕ) PullError → P → Type 
             lines = served.lines ++ part.served.lines;
             text = served.text ++ part.served.text;
             split = behind.0;
-            told = Transcript-join old middle part.last served.lines part.served.lines served.text part.served.text served.told part.served.told;
-            written = Appends-trans before between after served.text part.served.text served.written part.served.written;
+            told = Transcript-join old middle part.last served.lines part.served.lines served.text part.served.text
+                served.told part.served.told;
+            written = Appends-trans before between after served.text part.served.text served.written
+                part.served.written;
           };
         }
 
     -- a last line joins the lines before it
     last_line : (lines : List (List ℕ)) (rest : List ℕ) → with_last_line lines rest ≡ lines ++ with_last_line [] rest
-    last_line lines rest = ap (λ all. with_last_line all rest) (sym (append-nil lines)) ∙ with_last_line-join lines [] rest
+    last_line lines rest = ap (λ all. with_last_line all rest) (sym (append-nil lines))
+        ∙ with_last_line-join lines [] rest
 
     pub ServesAll-last : (bytes rest : List ℕ) (middle : Playing P ℕ) (between after : Option (List ℕ))
         → Serves pulls gives attaches old before bytes rest middle between
-        → AnswersLast pulls gives attaches middle between rest after → ServesAll pulls gives attaches old before bytes after
+        → AnswersLast pulls gives attaches middle between rest after
+        → ServesAll pulls gives attaches old before bytes after
     ServesAll-last bytes rest middle between after served last = record {
       lines = served.lines;
       rest = rest;
@@ -157,8 +169,10 @@ module _ {P : Type 0} (pulls : P → Result (Item ℕ) PullError → P → Type 
       last = last.last;
       split = served.split;
       told =
-          subst (λ (lines : List (List ℕ)). Transcript pulls gives attaches old lines (served.text ++ last.text) last.last) (sym (last_line served.lines rest))
-          (Transcript-join old middle last.last served.lines (with_last_line [] rest) served.text last.text served.told last.told);
+          subst (λ (lines : List (List ℕ)). Transcript pulls gives attaches old lines
+          (served.text ++ last.text) last.last) (sym (last_line served.lines rest))
+          (Transcript-join old middle last.last served.lines (with_last_line [] rest) served.text last.text
+          served.told last.told);
       written = Appends-trans before between after served.text last.text served.written last.written;
     }
 
@@ -173,8 +187,10 @@ module _ {P : Type 0} (pulls : P → Result (Item ℕ) PullError → P → Type 
       last = last.last;
       split = served.split;
       told =
-          subst (λ (lines : List (List ℕ)). Transcript pulls gives attaches old lines (served.text ++ last.text) last.last) (sym (last_line served.lines rest))
-          (Transcript-join old middle last.last served.lines (with_last_line [] rest) served.text last.text served.told last.told);
+          subst (λ (lines : List (List ℕ)). Transcript pulls gives attaches old lines
+          (served.text ++ last.text) last.last) (sym (last_line served.lines rest))
+          (Transcript-join old middle last.last served.lines (with_last_line [] rest) served.text last.text
+          served.told last.told);
       written = AppendsPart-behind before between after served.text last.text served.written last.written;
     }
 
@@ -185,21 +201,32 @@ module _ {P : Type 0} (pulls : P → Result (Item ℕ) PullError → P → Type 
 
     -- a last line that has a byte was answered
     pub AnswersLast-line : (rest text : List ℕ) (last : Playing P ℕ) (after : Option (List ℕ)) → rest ≢ []
-        → Answers pulls gives attaches old rest text last → Appends before after text
+        → AnswersLine pulls gives attaches old rest text last → Appends before after text
         → AnswersLast pulls gives attaches old before rest after
     AnswersLast-line [] text last after some answer written = absurd (some refl)
     AnswersLast-line (byte ∷ rest) text last after some answer written =
-        record { text = text; last = last; told = Transcript-line old last (byte ∷ rest) text answer; written = written }
+        record {
+          text = text;
+          last = last;
+          told = Transcript-line old last (byte ∷ rest) text answer;
+          written = written;
+        }
 
     pub AnswersLastInPart-line : (rest text : List ℕ) (last : Playing P ℕ) (after : Option (List ℕ)) → rest ≢ []
-        → Answers pulls gives attaches old rest text last → AppendsPart before after text
+        → AnswersLine pulls gives attaches old rest text last → AppendsPart before after text
         → AnswersLastInPart pulls gives attaches old before rest after
     AnswersLastInPart-line [] text last after some answer written = absurd (some refl)
     AnswersLastInPart-line (byte ∷ rest) text last after some answer written =
-        record { text = text; last = last; told = Transcript-line old last (byte ∷ rest) text answer; written = written }
+        record {
+          text = text;
+          last = last;
+          told = Transcript-line old last (byte ∷ rest) text answer;
+          written = written;
+        }
 
     -- a rest without a line feed has no line to serve
-    pub Serves-none : (rest : List ℕ) → HasNoLineFeed rest → Serves pulls gives attaches old before (rest ++ []) rest old before
+    pub Serves-none : (rest : List ℕ) → HasNoLineFeed rest
+        → Serves pulls gives attaches old before (rest ++ []) rest old before
     Serves-none rest clear = record {
       lines = [];
       text = [];

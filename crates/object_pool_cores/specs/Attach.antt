@@ -1,4 +1,4 @@
--- What an attach that was refused gives back.
+-- What a refused attach gives back.
 use Rattle.std.specs.Prelude.{◌≡◌, Result, Err}
 use Rattle.object_pool_cores.specs.declared.sequential.item.Item.{Item}
 use Rattle.object_pool_cores.specs.declared.sequential.attach_error.AttachError.{AttachError}

@@ -1,23 +1,23 @@
--- What the pools of one owner have in common: a bag of kept values.
+-- What the sequential pools have in common: a bag of kept values.
 use Rattle.std.specs.Prelude.{◌≡◌, Option, Some, List, [], ◌∷◌, ◌++◌, All, Result, Ok, Err, ◌⊎◌}
 use Rattle.lockfree_object_pool.specs.declared.pull_error.PullError.{PullError}
 use Rattle.object_pool_cores.specs.declared.sequential.item.Item.{Item}
-use Rattle.object_pool_cores.specs.Item.{item_value}
+use Rattle.object_pool_cores.specs.Inside.SequentialItem.{item_value}
 
 module _ {T : Type 0} where
-  -- the value of the item that a pull gave, or why it gave none
+  -- the value of the item that a pull gave, or why it was refused
   abbrev pub pulled_value : Result (Item T) PullError → Result T PullError
   pulled_value (Ok item) = Ok (item_value item)
   pulled_value (Err cause) = Err cause
 
-  -- the large bag is the small one with this value put in somewhere
+  -- the large bag is the small one and this value, which stands somewhere in it
   pub record IsPutIn (v : T) (small large : List T) : Type 0 where
     pub front : List T
     pub back : List T
     pub without : small ≡ front ++ back
     pub within : large ≡ front ++ v ∷ back
 
-  -- an answer of init is given only where no value is kept, and further answers may enter the bag
+  -- the value is an answer of init: given only where none is kept; further answers may enter the bag
   pub record IsFresh (answers : Option T → Type 0) (old : List T) (v : T) (new : List T) : Type 0 where
     pub none : old ≡ []
     pub answer : answers (Some v)

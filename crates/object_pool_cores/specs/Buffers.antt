@@ -1,7 +1,8 @@
 -- What a buffer pool and its buffers show.
 use Rattle.std.specs.Prelude.{ℕ, List, Option, vec_capacity}
 use Rattle.std.specs.Global.{Vec}
-use Rattle.lockfree_object_pool.specs.LinearPool.{pool_init, pool_limit, reusable_item, reusable_page, reusable_number, IsOnPage}
+use Rattle.lockfree_object_pool.specs.LinearPool.{pool_init, pool_limit, reusable_item, reusable_page, reusable_number}
+use Rattle.lockfree_object_pool.specs.LinearPool.{IsOnPage}
 use Rattle.lockfree_object_pool.specs.declared.linear_reusable.LinearReusable.{LinearReusable}
 use Rattle.object_pool_cores.specs.declared.buffers.BufferPool.{BufferPool}
 use Rattle.object_pool_cores.specs.declared.buffers.buffer.Buffer.{Buffer}
@@ -19,7 +20,7 @@ module _ {I R K : Type 0} where
   abbrev pub item_of : Buffer I R (Vec ℕ) K → LinearReusable (Vec ℕ) I R K
   item_of buffer = buffer.item
 
-  -- the buffer is of the pool's page of the number that it tells
+  -- the buffer is of the pool's page of the number that it shows
   abbrev pub IsOnItsPage : BufferPool I R (Vec ℕ) K → Buffer I R (Vec ℕ) K → Type 0
   IsOnItsPage buffers buffer = IsOnPage buffers.pool (reusable_page (item_of buffer)) (reusable_item (item_of buffer))
 
@@ -28,8 +29,8 @@ module _ {I R K : Type 0} where
   bytes_of buffer = (reusable_item buffer.item).value.items
 
   -- how many bytes the buffer has room for, those in it counted too
-  abbrev pub room_of : Buffer I R (Vec ℕ) K → ℕ
-  room_of buffer = vec_capacity (reusable_item buffer.item).value
+  abbrev pub capacity_of : Buffer I R (Vec ℕ) K → ℕ
+  capacity_of buffer = vec_capacity (reusable_item buffer.item).value
 
   -- the number of the buffer's page in the pool
   abbrev pub page_of : Buffer I R (Vec ℕ) K → ℕ

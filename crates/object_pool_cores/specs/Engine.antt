@@ -1,7 +1,8 @@
--- What an engine wrote, told by the replies of commands on a new pool of numbers.
+-- What an engine read and wrote: the replies of its commands on a new pool of numbers. Begin with `Ends`, at the end.
 use Rattle.std.specs.Prelude.{◌≡◌, ◌≤◌, ℕ, Option, Some, None, List, [], Result, Err, OnOk, replicate, ⊤}
 use Rattle.std.specs.Io.KnownBytes.{Consumes, IsAtEnd}
 use Rattle.lockfree_object_pool.specs.declared.pull_error.PullError.{PullError}
+use Rattle.lockfree_object_pool.specs.declared.page.TheConstants.{PAGE_ITEMS}
 use Rattle.object_pool_cores.specs.declared.engine.engine_error.EngineError.{EngineError}
 use Rattle.object_pool_cores.specs.declared.engine.engine_error.EngineError.TheVariants.{Read, Write, Memory}
 use Rattle.object_pool_cores.specs.declared.engine.kind.Kind.{Kind}
@@ -41,21 +42,22 @@ makes_zero answer = answer ≡ Some 0
 
 -- a pool of one page of zeros, of which nothing is held
 pub record IsFirst (first : Playing (Pool ℕ) ℕ) : Type 0 where
-  pub pool : IsSame first.pool (opening (replicate 32 0))
+  pub pool : IsSame first.pool (opening (replicate PAGE_ITEMS 0))
   pub held : first.held ≡ []
 
--- what is told of the steps of a pool and of what is played first
+-- a statement about the three steps of a pool, and about the pool and the table with which a play begins
 abbrev pub Telling : Type 1
 Telling = (P : Type 0) → (P → Result (Item ℕ) PullError → P → Type 0) → (P → Item ℕ → P → Type 0)
     → (P → ℕ → Result (Item ℕ) (AttachError ℕ) → P → Type 0) → Playing P ℕ → Type 0
 
 module _ (leaves : ℕ → ℕ → Type 0) where
-  -- told of a linear pool within a limit: its pulls are by least choice
+  -- the statement holds of a linear pool within a limit: its pulls are by least choice
   abbrev pub OnLinear : Option ℕ → Telling → Type 0
   OnLinear limit tells = (first : Playing (Pool ℕ) ℕ) × IsFirst first
       × tells (Pool ℕ) (PullsItem limit makes_zero) (ReturnsItem leaves) RefusesAttach first
 
-  -- told of the pool of a kind: the stack begins with nothing kept, and without a pool each item is fresh
+  -- the statement holds of the pool of a kind: the stack begins with nothing kept, and without a pool each item is
+  -- fresh
   abbrev pub OnKind : Kind → Telling → Type 0
   OnKind kind.Linear tells = OnLinear None tells
   OnKind (kind.Bounded pages) tells = OnLinear (Some pages) tells
@@ -74,7 +76,7 @@ module _ (before : Option (List ℕ)) (bytes : List ℕ) (after : Option (List �
   tells_lines P pulls gives attaches first =
       (rest : List ℕ) × (last : Playing P ℕ) × Serves pulls gives attaches first before bytes rest last after
 
-  -- the replies to the lines of a beginning were written
+  -- the replies to the lines of a prefix of the bytes were written
   abbrev pub tells_front : Telling
   tells_front P pulls gives attaches first = ServesFront pulls gives attaches first before bytes after
 
@@ -93,12 +95,12 @@ module _ (kind : Kind) (leaves : ℕ → ℕ → Type 0) (before : Option (List 
   abbrev pub WroteLines : Type 0
   WroteLines = OnKind leaves kind (tells_lines before bytes after)
 
-  -- the replies to the lines of a beginning of the bytes
+  -- the replies to the lines of a prefix of the bytes
   abbrev pub WroteFront : Type 0
   WroteFront = OnKind leaves kind (tells_front before bytes after)
 
-  -- a beginning of the replies to the lines whose line feed is in a
-  -- beginning of the bytes, or, only where all was read, to all lines
+  -- a prefix of the replies to the lines whose line feed is in a prefix
+  -- of the bytes, or, only where all was read, to all lines
   abbrev pub WrotePart : Type 0 → Type 0
   WrotePart all_read = OnKind leaves kind (tells_part before bytes after all_read)
 

@@ -1,7 +1,7 @@
 -- The items that a player holds, by their indexes.
 use Rattle.std.specs.Prelude.{Option, Some, None, List, ℕ, slice_get, slice_set, unwrap_or, Bool, true, false, ◌≡◌}
 use Rattle.object_pool_cores.specs.declared.sequential.item.Item.{Item}
-use Rattle.object_pool_cores.specs.Item.{item_value, with_value}
+use Rattle.object_pool_cores.specs.Inside.SequentialItem.{item_value, with_value}
 
 module _ {T : Type 0} where
   -- the item that is held at an index, if there is one

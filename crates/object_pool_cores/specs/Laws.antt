@@ -1,4 +1,4 @@
--- Proofs of the laws of a pool of one owner. An impl names them, so they stand here and not below proofs/.
+-- Proofs of the laws of a sequential pool. An impl names them, so they stand here and not below proofs/.
 pub mod PoolSteps
 pub mod NumberedPlaces
 pub mod FreeValues

@@ -4,9 +4,9 @@ use Rattle.std.specs.Prelude.{◌≡◌, ℕ, ◌+◌, ◌≤◌, Option, Some, 
 use Rattle.lockfree_object_pool.specs.declared.pull_error.PullError.{PullError}
 use Rattle.lockfree_object_pool.specs.declared.pull_error.PullError.TheVariants.{Memory, Init, Limit}
 use Rattle.object_pool_cores.specs.declared.sequential.item.Item.{Item}
-use Rattle.object_pool_cores.specs.Item.{item_value, item_number}
+use Rattle.object_pool_cores.specs.Inside.SequentialItem.{item_value, item_number}
 use Rattle.object_pool_cores.specs.Pool.{Pool, IsFree, IsOut, IsSame, AllowsPages}
-use Rattle.object_pool_cores.specs.Move.{Pull, Return, Growth, IsLawful, after}
+use Rattle.object_pool_cores.specs.Move.{Pull, Return, Growth, IsLegal, after}
 
 module _ {T : Type 0} where
   -- no number is free
@@ -30,7 +30,7 @@ module _ {T : Type 0} (limit : Option ℕ) (answers : Option T → Type 0) where
     pub exhausted : IsExhausted old
     pub values : List T
     pub answered : All (λ w. answers (Some w)) values
-    pub lawful : IsLawful limit old (Growth values)
+    pub legal : IsLegal limit old (Growth values)
     pub takes : TakesLeast (after old (Growth values)) n v new
 
   -- the limit is the cause where the pool has as many pages

@@ -1,29 +1,30 @@
--- The steps of the linear core: a pull by least choice, and a return.
-use Rattle.std.specs.Prelude.{◌≡◌, ℕ, ◌+◌, ◌-◌, ◌/◌, ◌≤◌, min, Option, Some, IfSome, List, Result, slice_get, length, All}
+-- The steps of the linear core, by the pool that it stands for: a pull by least choice, and a return.
+use Rattle.std.specs.Prelude.{◌≡◌, ℕ, ◌+◌, ◌-◌, ◌/◌, ◌≤◌, min, Option, Some, IfSome, List, Result, slice_get}
 use Rattle.lockfree_object_pool.specs.declared.pull_error.PullError.{PullError}
 use Rattle.object_pool_cores.specs.declared.sequential.item.Item.{Item}
 use Rattle.object_pool_cores.specs.declared.sequential.linear_core.LinearCore.{LinearCore}
-use Rattle.object_pool_cores.specs.Item.{item_number}
+use Rattle.object_pool_cores.specs.Inside.SequentialItem.{item_number}
 use Rattle.object_pool_cores.specs.Pool.{Pool, IsOut, IsPool, IsSame, opening}
 use Rattle.object_pool_cores.specs.LeastChoice.{PullsItem, ReturnsItem}
-use Rattle.object_pool_cores.specs.Looks.{LooksAtEach}
-use Rattle.object_pool_cores.specs.Numbered as numbered
+use Rattle.object_pool_cores.specs.OnePage.{ArePageAnswers}
+use Rattle.object_pool_cores.specs.PageProbes.{ProbesEach}
+use Rattle.object_pool_cores.specs.Inside.Numbered as numbered
 use Rattle.lockfree_object_pool.specs.declared.page.TheConstants.{PAGE_ITEMS}
 
 module _ {T I R K : Type 0} where
-  -- the pool that a core is
-  abbrev pub pool_of : LinearCore T I R K → Pool T
-  pool_of core = numbered.pool_of core.items
+  -- the pool that a core stands for
+  abbrev pub core_pool : LinearCore T I R K → Pool T
+  core_pool core = numbered.listed_pool core.items
 
   -- how many pages a core may have
   abbrev pub limit_of : LinearCore T I R K → Option ℕ
   limit_of core = core.items.limit
 
-  -- how many pages its pulls looked at
+  -- how many pages its pulls probed
   abbrev pub looked_of : LinearCore T I R K → ℕ
   looked_of core = core.items.looked
 
-  -- the page at which its next pull starts to look
+  -- the page at which its next pull starts to probe
   abbrev pub start_of : LinearCore T I R K → ℕ
   start_of core = core.items.start
 
@@ -35,43 +36,43 @@ module _ {T I R K : Type 0} where
   abbrev pub reset_of : LinearCore T I R K → R
   reset_of core = core.reset
 
-  -- both are pools within the limit, and what makes and resets their values stays
+  -- both stand for pools within the limit, and what makes and resets their values stays
   pub record IsStep (old new : LinearCore T I R K) : Type 0 where
-    pub before : IsPool (limit_of old) (pool_of old)
-    pub after : IsPool (limit_of new) (pool_of new)
+    pub before : IsPool (limit_of old) (core_pool old)
+    pub after : IsPool (limit_of new) (core_pool new)
     pub limit : limit_of new ≡ limit_of old
     pub init : init_of new ≡ init_of old
     pub reset : reset_of new ≡ reset_of old
 
   -- the number of an item is out
   abbrev pub IsOutOf : LinearCore T I R K → Item T → Type 0
-  IsOutOf core item = (n : ℕ) × (item_number item ≡ Some n) × IsOut (pool_of core) n
+  IsOutOf core item = (n : ℕ) × (item_number item ≡ Some n) × IsOut (core_pool core) n
 
   -- a pull is by least choice
   pub record Pulls (answers : Option T → Type 0) (old : LinearCore T I R K)
       (answer : Result (Item T) PullError) (new : LinearCore T I R K) : Type 0 where
     pub step : IsStep old new
-    pub pulled : PullsItem (limit_of old) answers (pool_of old) answer (pool_of new)
+    pub pulled : PullsItem (limit_of old) answers (core_pool old) answer (core_pool new)
 
   -- a return leaves at the item's number what reset may make of its value
   pub record Gives (leaves : T → T → Type 0) (old : LinearCore T I R K) (item : Item T)
       (new : LinearCore T I R K) : Type 0 where
     pub step : IsStep old new
-    pub returned : ReturnsItem leaves (pool_of old) item (pool_of new)
+    pub returned : ReturnsItem leaves (core_pool old) item (core_pool new)
 
-  -- a pull looked at each page from its start up to that of the item that it took, where the next pull starts
-  pub record LooksUpTo (old : LinearCore T I R K) (item : Item T) (new : LinearCore T I R K) : Type 0 where
+  -- a pull that took an item probed each page from its start up to the item's, where the next pull starts
+  pub record ProbesUpTo (old : LinearCore T I R K) (item : Item T) (new : LinearCore T I R K) : Type 0 where
     pub onward : start_of old ≤ start_of new
     pub stops : IfSome (item_number item) (λ n. start_of new ≡ n / PAGE_ITEMS)
-    pub each : LooksAtEach (start_of new - start_of old + 1) (looked_of old) (looked_of new)
+    pub each : ProbesEach (start_of new - start_of old + 1) (looked_of old) (looked_of new)
 
-  -- a pull that took none looked at each page from its start on, and the next pull starts behind them
-  pub record LooksAtTheRest (old new : LinearCore T I R K) : Type 0 where
+  -- a pull that took none probed each page from its start on, and the next pull starts behind them
+  pub record ProbesTheRest (old new : LinearCore T I R K) : Type 0 where
     pub onward : start_of old ≤ start_of new
-    pub stops : start_of new ≡ (pool_of old).pages
-    pub each : LooksAtEach (start_of new - start_of old) (looked_of old) (looked_of new)
+    pub stops : start_of new ≡ (core_pool old).pages
+    pub each : ProbesEach (start_of new - start_of old) (looked_of old) (looked_of new)
 
-  -- the next pull starts no further than at the page of an item that was returned
+  -- the next pull starts at the page of the returned item, or before it
   abbrev pub StartsNoFurther : LinearCore T I R K → Item T → LinearCore T I R K → Type 0
   StartsNoFurther old item new = IfSome (item_number item) (λ n. start_of new ≡ min (start_of old) (n / PAGE_ITEMS))
 
@@ -85,7 +86,6 @@ module _ {T I R K : Type 0} where
   pub record IsOpening (answers : Option T → Type 0) (limit : Option ℕ)
       (core : LinearCore T I R K) : Type 0 where
     pub values : List T
-    pub count : length values ≡ PAGE_ITEMS
-    pub answered : All (λ v. answers (Some v)) values
-    pub pool : IsSame (pool_of core) (opening values)
+    pub answered : ArePageAnswers answers values
+    pub pool : IsSame (core_pool core) (opening values)
     pub most : limit_of core ≡ limit

@@ -9,13 +9,13 @@ ended line = line ++ 10 ∷ []
 abbrev pub HasNoLineFeed : List ℕ → Type 0
 HasNoLineFeed bytes = All (λ byte. byte ≢ 10) bytes
 
--- the bytes are these lines, each ended by a line feed, and then a rest that has none
+-- the bytes are these lines, each ended by a line feed, and then an unterminated final line, which may be empty
 pub record IsLines (bytes : List ℕ) (lines : List (List ℕ)) (rest : List ℕ) : Type 0 where
   pub whole : bytes ≡ flat_map ended lines ++ rest
   pub each : All HasNoLineFeed lines
   pub open_end : HasNoLineFeed rest
 
--- a last line without a line feed is a line where it has any bytes
+-- the unterminated final line is a line where it has any bytes
 abbrev pub with_last_line : List (List ℕ) → List ℕ → List (List ℕ)
 with_last_line lines [] = lines
 with_last_line lines (byte ∷ rest) = lines ++ (byte ∷ rest) ∷ []

@@ -29,11 +29,11 @@ module _ {T : Type 0} where
   MayRefuse limit pool Init = ⊤
 
   -- a pull is of a free number, a return of one that is out, a growth brings 32 values and keeps to the limit
-  abbrev pub IsLawful : Option ℕ → Pool T → Move T → Type 0
-  IsLawful limit pool (Pull n value) = IsFree pool n value
-  IsLawful limit pool (Return n kept) = IsOut pool n
-  IsLawful limit pool (Growth values) = (length values ≡ PAGE_ITEMS) × AllowsPages limit (pool.pages + 1)
-  IsLawful limit pool (Refusal cause) = MayRefuse limit pool cause
+  abbrev pub IsLegal : Option ℕ → Pool T → Move T → Type 0
+  IsLegal limit pool (Pull n value) = IsFree pool n value
+  IsLegal limit pool (Return n kept) = IsOut pool n
+  IsLegal limit pool (Growth values) = (length values ≡ PAGE_ITEMS) × AllowsPages limit (pool.pages + 1)
+  IsLegal limit pool (Refusal cause) = MayRefuse limit pool cause
 
   -- the pool that a move leaves
   abbrev pub after : Pool T → Move T → Pool T

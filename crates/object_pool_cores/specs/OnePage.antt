@@ -1,6 +1,5 @@
--- A page of one owner: a map from free ids to values. It is
--- written as the list of what lies at each of its 32 ids.
-use Rattle.std.specs.Prelude.{◌≡◌, ℕ, ◌<◌, ◌↔◌, Option, Some, None, List, slice_get, slice_set}
+-- A sequential page: a map from free ids to values, written as the list of what lies at each of its 32 ids.
+use Rattle.std.specs.Prelude.{◌≡◌, ℕ, ◌<◌, ◌↔◌, Option, Some, None, List, All, length, map, slice_get, slice_set}
 use Rattle.std.specs.Int.{bit_at}
 use Rattle.lockfree_object_pool.specs.declared.page.TheConstants.{PAGE_ITEMS}
 
@@ -27,3 +26,16 @@ module _ {T : Type 0} where
   -- the set bits of the word are the free ids
   abbrev pub IsMask : List (Option T) → ℕ → Type 0
   IsMask page word = (id : ℕ) → id < PAGE_ITEMS → (bit_at word id ≡ 1) ↔ ((v : T) × IsFreeId page id v)
+
+-- 32 answers of init
+pub record ArePageAnswers {T : Type 0} (answers : Option T → Type 0) (values : List T) : Type 0 where
+  pub count : length values ≡ PAGE_ITEMS
+  pub each : All (λ v. answers (Some v)) values
+
+-- a new page: 32 answers of init that meet the condition, each free
+pub record IsMadePage {T : Type 0} (answers : Option T → Type 0) (meets : T → Type 0)
+    (page : List (Option T)) : Type 0 where
+  pub values : List T
+  pub answered : ArePageAnswers answers values
+  pub clean : All meets values
+  pub free : page ≡ map Some values

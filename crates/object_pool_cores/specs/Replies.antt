@@ -1,15 +1,18 @@
 -- The replies of commands: the fold of a pool's steps over
 -- a list of commands, with the table of what is held.
-use Rattle.std.specs.Prelude.{◌≡◌, ◌≢◌, ℕ, Option, Some, None, List, [], ◌∷◌, ◌++◌, length, slice_set, Result, Ok, Err, OnOk, OnErr, ⊤}
+use Rattle.std.specs.Prelude.{◌≡◌, ◌≢◌, ℕ, Option, Some, None, List, [], ◌∷◌, ◌++◌, length, slice_set, Result, Ok, Err}
+use Rattle.std.specs.Prelude.{OnOk, OnErr, ⊤}
 use Rattle.lockfree_object_pool.specs.declared.pull_error.PullError.{PullError}
 use Rattle.object_pool_cores.specs.declared.sequential.item.Item.{Item}
 use Rattle.object_pool_cores.specs.declared.sequential.attach_error.AttachError.{AttachError}
 use Rattle.object_pool_cores.specs.declared.sequential.command.Command.{Command}
 use Rattle.object_pool_cores.specs.declared.sequential.command.Command.TheVariants.{Pull, Write, Return, Forget, Attach}
 use Rattle.object_pool_cores.specs.declared.sequential.reply.Reply.{Reply}
-use Rattle.object_pool_cores.specs.declared.sequential.reply.Reply.TheVariants.{Pulled, Refused, Written, Returned, Forgotten, Attached, AttachRefused, NoSuchHolder}
+use Rattle.object_pool_cores.specs.declared.sequential.reply.Reply.TheVariants.{Pulled, Refused, Written, Returned}
+use Rattle.object_pool_cores.specs.declared.sequential.reply.Reply.TheVariants.{Forgotten, Attached, AttachRefused}
+use Rattle.object_pool_cores.specs.declared.sequential.reply.Reply.TheVariants.{NoSuchHolder}
 use Rattle.object_pool_cores.specs.declared.run_error.RunError.{RunError}
-use Rattle.object_pool_cores.specs.Item.{item_number, with_value}
+use Rattle.object_pool_cores.specs.Inside.SequentialItem.{item_number, with_value}
 use Rattle.object_pool_cores.specs.Held.{Playing, held_at}
 
 module _ {T : Type 0} where
@@ -26,13 +29,13 @@ module _ {T : Type 0} where
   AfterAttach old (Ok item) reply new = (reply ≡ Attached (length old)) × (new ≡ old ++ Some item ∷ [])
   AfterAttach old (Err error) reply new = (reply ≡ AttachRefused error) × (new ≡ old)
 
-  -- only a pull and an attach may want room in the table
-  abbrev pub NeedsRoom : Command T → Type 0
-  NeedsRoom Pull = ⊤
-  NeedsRoom (Attach value) = ⊤
-  NeedsRoom (Write index value) = ⊥
-  NeedsRoom (Return index) = ⊥
-  NeedsRoom (Forget index) = ⊥
+  -- only a pull and an attach may take memory, for the table
+  abbrev pub MayTakeMemory : Command T → Type 0
+  MayTakeMemory Pull = ⊤
+  MayTakeMemory (Attach value) = ⊤
+  MayTakeMemory (Write index value) = ⊥
+  MayTakeMemory (Return index) = ⊥
+  MayTakeMemory (Forget index) = ⊥
 
 module _ {P T : Type 0} (pulls : P → Result (Item T) PullError → P → Type 0) (gives : P → Item T → P → Type 0)
     (attaches : P → T → Result (Item T) (AttachError T) → P → Type 0) where
@@ -49,7 +52,7 @@ module _ {P T : Type 0} (pulls : P → Result (Item T) PullError → P → Type 
   AfterReturn old index (Some item) reply new =
       (reply ≡ Returned) × gives old.pool item new.pool × (new.held ≡ slice_set old.held index None)
 
-  -- the held item leaves the table, and doesn't go back
+  -- the held item leaves the table and is leaked: it doesn't go back
   abbrev pub AfterForget : Playing P T → ℕ → Option (Item T) → Reply T → Playing P T → Type 0
   AfterForget old index None reply new = (reply ≡ NoSuchHolder) × (new ≡ old)
   AfterForget old index (Some item) reply new =
@@ -75,8 +78,8 @@ module _ {P T : Type 0} (pulls : P → Result (Item T) PullError → P → Type 
   Replies old [] (reply ∷ replies) new = ⊥
   Replies old (command ∷ commands) [] new = ⊥
 
-  -- the commands that were done are a beginning of all, their replies come
-  -- after those before; after Ok all are done, and after an error not all
+  -- the commands that were done are a prefix of all, and their replies come
+  -- behind those before; after Ok all are done, and after an error not all
   pub record Ran (old : Playing P T) (commands : List (Command T)) (before : List (Reply T))
       (result : Result (Unit {0}) RunError) (after : List (Reply T)) (new : Playing P T) : Type 0 where
     pub done : List (Command T)

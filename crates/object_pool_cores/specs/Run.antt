@@ -2,7 +2,7 @@
 use Rattle.std.specs.Prelude.{◌≡◌, ◌≢◌, ◌⊎◌, ℕ, ◌*◌, ◌<◌, ◌≤◌, ◌==◌, if◌then◌else◌, Option, List, [], ◌∷◌, ⊤}
 use Rattle.lockfree_object_pool.specs.declared.pull_error.PullError.TheVariants.{Memory, Init, Limit}
 use Rattle.object_pool_cores.specs.Pool.{Pool, IsOut, IsPool, opening}
-use Rattle.object_pool_cores.specs.Move.{Move, Pull, Return, Growth, Refusal, IsLawful, after}
+use Rattle.object_pool_cores.specs.Move.{Move, Pull, Return, Growth, Refusal, IsLegal, after}
 use Rattle.lockfree_object_pool.specs.declared.page.TheConstants.{PAGE_ITEMS}
 
 -- an agent opens, writes the value that it holds, or makes a move of the pool
@@ -94,7 +94,7 @@ module _ {T : Type 0} (Leaves : T → T → Type 0) (limit : Option ℕ) (first 
   abbrev pub MayCome : List (Act T) → Act T → Type 0
   MayCome acts (Opens a) = stage_of acts a ≡ NotBegun
   MayCome acts (Writes a value) = (n : ℕ) × (old : T) × (stage_of acts a ≡ Holds n old)
-  MayCome acts (Moves a move) = IsLawful limit (pool_of first acts) move × MayMove acts a move
+  MayCome acts (Moves a move) = IsLegal limit (pool_of first acts) move × MayMove acts a move
 
   -- the acts are a run: each may come after those before it
   abbrev pub Run : List (Act T) → Type 0

@@ -1,5 +1,5 @@
--- What an engine wrote for the bytes that it read; the
--- bytes that a writer holds are said where they are known.
+-- What an engine wrote for the bytes that it read. `before` and `after` are
+-- the bytes that the writer holds, for a writer of which they are known.
 use Rattle.std.specs.Prelude.{◌≡◌, ℕ, Option, List, ◌++◌, [], Result, ◌⊎◌}
 use Rattle.std.specs.Io.KnownBytes.{Appends}
 use Rattle.lockfree_object_pool.specs.declared.pull_error.PullError.{PullError}
@@ -9,7 +9,7 @@ use Rattle.object_pool_cores.specs.Held.{Playing}
 use Rattle.object_pool_cores.specs.Lines.{IsLines, with_last_line}
 use Rattle.object_pool_cores.specs.Transcript.{Transcript}
 
--- a beginning of the bytes was written
+-- a prefix of the bytes was written
 pub record AppendsPart (before after : Option (List ℕ)) (bytes : List ℕ) : Type 0 where
   pub front : List ℕ
   pub back : List ℕ
@@ -38,7 +38,7 @@ module _ {P : Type 0} (pulls : P → Result (Item ℕ) PullError → P → Type 
     pub told : Transcript pulls gives attaches old (with_last_line lines rest) text last
     pub written : Appends before after text
 
-  -- the lines of a beginning of the bytes were answered
+  -- the lines of a prefix of the bytes were answered
   pub record ServesFront (old : Playing P ℕ) (before : Option (List ℕ)) (bytes : List ℕ)
       (after : Option (List ℕ)) : Type 0 where
     pub front : List ℕ
@@ -48,8 +48,7 @@ module _ {P : Type 0} (pulls : P → Result (Item ℕ) PullError → P → Type 
     pub cut : bytes ≡ front ++ back
     pub served : Serves old before front rest last after
 
-  -- a beginning of the answers to the lines of a beginning of
-  -- the bytes was written; each line's line feed is in the bytes
+  -- a prefix of the answers to the lines of a prefix of the bytes was written; each of these lines ends in it
   pub record ServesPart (old : Playing P ℕ) (before : Option (List ℕ)) (bytes : List ℕ)
       (after : Option (List ℕ)) : Type 0 where
     pub front : List ℕ
@@ -63,7 +62,7 @@ module _ {P : Type 0} (pulls : P → Result (Item ℕ) PullError → P → Type 
     pub told : Transcript pulls gives attaches old lines text last
     pub written : AppendsPart before after text
 
-  -- a beginning of the answers to all lines of the bytes was written, a last line without a line feed too
+  -- a prefix of the answers to all lines of the bytes was written, a last line without a line feed too
   pub record ServesAllInPart (old : Playing P ℕ) (before : Option (List ℕ)) (bytes : List ℕ)
       (after : Option (List ℕ)) : Type 0 where
     pub lines : List (List ℕ)
@@ -80,7 +79,7 @@ module _ {P : Type 0} (pulls : P → Result (Item ℕ) PullError → P → Type 
   StopsWriting all_read old before bytes after =
       ServesPart old before bytes after ⊎ (all_read × ServesAllInPart old before bytes after)
 
-  -- what stands behind the last line feed was answered, where there is anything
+  -- the unterminated final line was answered, where it has any bytes
   pub record AnswersLast (old : Playing P ℕ) (before : Option (List ℕ)) (rest : List ℕ)
       (after : Option (List ℕ)) : Type 0 where
     pub text : List ℕ
@@ -88,7 +87,7 @@ module _ {P : Type 0} (pulls : P → Result (Item ℕ) PullError → P → Type 
     pub told : Transcript pulls gives attaches old (with_last_line [] rest) text last
     pub written : Appends before after text
 
-  -- a beginning of that answer was written
+  -- a prefix of that answer was written
   pub record AnswersLastInPart (old : Playing P ℕ) (before : Option (List ℕ)) (rest : List ℕ)
       (after : Option (List ℕ)) : Type 0 where
     pub text : List ℕ

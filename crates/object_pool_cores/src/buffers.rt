@@ -1,6 +1,6 @@
 //! A pool of byte buffers of so many pages at most, which threads share without a lock.
 //!
-//! A pulled buffer is empty, whatever was done with it before, and it returns to its pool by itself.
+//! A pulled buffer is empty, whatever was done with it before, and it returns to its pool when it is dropped.
 ghost use Rattle.std.specs.Prelude.{◌≡◌, ◌≤◌, ◌<◌, [], None, Some, IfOk, IfErr, IsSome, IfSome, vec_capacity};
 
 use lockfree_object_pool::clean::Clean;
@@ -12,11 +12,11 @@ use std::fmt::{self, Debug, Formatter, Write};
 mod buffer;
 
 pub use buffer::Buffer;
-/// The condition of a buffer that nobody has: no bytes.
+/// The condition that each buffer meets while it lies in its pool: it has no bytes.
 pub use lockfree_object_pool::clean::Empty;
 pub use lockfree_object_pool::closures::{Clear, WithCapacity};
 
-/// An empty buffer with room for so many bytes, or `None` where there is no memory for it.
+/// An empty buffer with room for `capacity` bytes, or `None` where there is no memory for it.
 pub fn fresh(alloc: Global, capacity: usize) -> Option<Vec<u8>>
     ensures empty { IfSome result (λ bytes. bytes.items ≡ []) }
     ensures room { IfSome result (λ bytes. capacity ≤ vec_capacity bytes) }
@@ -32,7 +32,13 @@ pub fn clear(bytes: &mut Vec<u8>)
     Clear.reset(bytes);
 }
 
-/// A pool of byte buffers. What makes and resets them leaves each one empty.
+/// A pool of byte buffers. Its initializer and its reset leave each one empty.
+///
+/// ```rust
+/// let pool = BufferPool::new(alloc, WithCapacity::new(alloc, 512), Clear, 4)?;
+/// let mut buffer = pool.pull()?;
+/// buffer.append(b"hello")?;
+/// ```
 ///
 /// `T` and `K` are always as they stand here: a type with a pool in it is checked where
 /// what its pool's values are, and which condition they meet, are parameters of it.
@@ -49,7 +55,7 @@ impl<I: Init<Vec<u8>, Empty>, R: Reset<Vec<u8>, Empty>> BufferPool<I, R> {
     ///
     /// # Errors
     ///
-    /// As `LinearObjectPool::new`.
+    /// `Memory`, or `Init` at the first `None` of `init`. The buffers that were made are dropped.
     pub fn new(
         alloc: Global,
         init: I,
@@ -69,7 +75,8 @@ impl<I: Init<Vec<u8>, Empty>, R: Reset<Vec<u8>, Empty>> BufferPool<I, R> {
     ///
     /// # Errors
     ///
-    /// As `LinearObjectPool::pull`, with its cause.
+    /// Where each page was found full and no further one comes: `Limit`, where the pool may have no
+    /// more pages; `Memory`; or `Init`, where `init` answers `None`.
     pub fn pull(&self) -> Result<Buffer<'_, I, R>, PullError>
         ensures empty { IfOk result (λ buffer. bytes_of buffer ≡ []) }
         ensures on_page { IfOk result (IsOnItsPage self.now) }

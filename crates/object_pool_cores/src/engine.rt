@@ -1,9 +1,9 @@
 //! Lines of commands in, lines of replies out, on a pool of numbers.
-ghost use Rattle.std.specs.Prelude.{◌≡◌, ◌≤◌, ℕ, List, [], Err, IfSome, OnOk};
-ghost use Rattle.std.specs.Io.KnownBytes.{Consumes, IsAtEnd};
-ghost use Rattle.object_pool_cores.specs.Engine.{Ends, IsPlayable, leaves_of, linear_kind, WroteAll, WroteLines, WroteFront, WrotePart};
-ghost use Rattle.object_pool_cores.specs.Opens.{Opens};
+ghost use Rattle.std.specs.Prelude.{◌≡◌, ◌≤◌, [], IfSome};
+ghost use Rattle.object_pool_cores.specs.Engine.{Ends, IsPlayable, leaves_of, linear_kind};
+ghost use Rattle.object_pool_cores.specs.Inside.EngineCore.{IsEngineCore};
 
+mod answer;
 mod command_text;
 mod engine_error;
 mod kind;
@@ -24,12 +24,13 @@ use std::io::{Read, Write};
 use std::sync::Wait;
 
 /// Plays the lines of `input` on a new pool whose items are made as 0, and writes
-/// a reply for each line to `output`. The replies to the lines of one read go out
+/// a reply for each line to `output`. The replies to the lines of one read are written
 /// before the next read. It reads until there is no more, so it may wait.
 ///
 /// # Errors
 ///
-/// `Read` or `Write`, where a device fails; `Memory`, where the pool or its player has none. What was written till then stands.
+/// `Read`, where a read fails. `Write`, where a write fails or takes nothing. `Memory`, where there is none
+/// for the pool or for its player. The replies that were written till then stand.
 pub fn run<H: Wait, R: Read, W: Write>(
     rt: &H,
     alloc: Global,
@@ -39,20 +40,8 @@ pub fn run<H: Wait, R: Read, W: Write>(
     output: &mut W,
 ) -> Result<(), EngineError>
     requires { IsPlayable kind }
-    ensures ok { OnOk result ((bytes : List ℕ)
-        × Consumes (R.remaining input.old) (R.remaining input.new) bytes
-        × IsAtEnd (R.remaining input.new)
-        × WroteAll kind (leaves_of reset) (W.contents output.old) bytes (W.contents output.new)) }
-    ensures read { result ≡ Err EngineError.Read
-        → (bytes : List ℕ) × Consumes (R.remaining input.old) (R.remaining input.new) bytes
-        × WroteLines kind (leaves_of reset) (W.contents output.old) bytes (W.contents output.new) }
-    ensures write { result ≡ Err EngineError.Write
-        → (bytes : List ℕ) × Consumes (R.remaining input.old) (R.remaining input.new) bytes
-        × WrotePart kind (leaves_of reset) (W.contents output.old) bytes (W.contents output.new)
-        (IsAtEnd (R.remaining input.new)) }
-    ensures memory { result ≡ Err EngineError.Memory
-        → (bytes : List ℕ) × Consumes (R.remaining input.old) (R.remaining input.new) bytes
-        × WroteFront kind (leaves_of reset) (W.contents output.old) bytes (W.contents output.new) }
+    ensures { Ends kind (leaves_of reset) result (R.remaining input.old) (R.remaining input.new)
+        (W.contents output.old) (W.contents output.new) }
 {
     match reset {
         Reset::Zero => run_on(rt, alloc, kind, Copied::new(0), input, output),
@@ -91,7 +80,8 @@ fn run_linear<H: Wait, S: closures::Reset<u32, AnyValue>, R: Read, W: Write>(
     output: &mut W,
 ) -> Result<(), EngineError>
     requires { IfSome limit (λ pages. 1 ≤ pages) }
-    ensures { Ends (linear_kind limit) (S.leaves reset) result (R.remaining input.old) (R.remaining input.new)
+    ensures { Ends (linear_kind limit) (S.leaves reset) result (R.remaining input.old)
+        (R.remaining input.new)
         (W.contents output.old) (W.contents output.new) }
 {
     let Some(mut player) = player_of(alloc, limit, reset) else {
@@ -107,7 +97,7 @@ fn player_of<S: closures::Reset<u32, AnyValue>>(
     reset: S,
 ) -> Option<Player<u32, LinearCore<u32, Copied<u32, AnyValue>, S, AnyValue>>>
     requires { IfSome limit (λ pages. 1 ≤ pages) }
-    ensures opens { IfSome result (λ player. Opens limit reset player.pool) }
+    ensures opens { IfSome result (λ player. IsEngineCore limit reset player.pool) }
     ensures held { IfSome result (λ player. player.held ≡ []) }
 {
     let init = Copied::new(0);
@@ -130,7 +120,8 @@ fn run_stack<H: Wait, S: closures::Reset<u32, AnyValue>, R: Read, W: Write>(
     input: &mut R,
     output: &mut W,
 ) -> Result<(), EngineError>
-    ensures { Ends Kind.Stack (S.leaves reset) result (R.remaining input.old) (R.remaining input.new)
+    ensures { Ends Kind.Stack (S.leaves reset) result (R.remaining input.old)
+        (R.remaining input.new)
         (W.contents output.old) (W.contents output.new) }
 {
     let core = StackCore::<u32, _, _, AnyValue>::new(alloc, Copied::new(0), reset);

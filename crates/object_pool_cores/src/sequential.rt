@@ -1,4 +1,4 @@
-//! Pools that one owner uses, and a player of commands on them.
+//! Sequential pools, each for one owner, and a player of commands on them.
 
 mod attach_error;
 mod command;

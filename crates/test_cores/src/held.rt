@@ -1,15 +1,11 @@
 //! Items while they are held, of a running pool or of a core.
 use crate::value::Value;
-use lockfree_object_pool::clean::{AnyValue, Clean};
+use lockfree_object_pool::clean::Clean;
 use lockfree_object_pool::closures::{Init, Reset};
-use lockfree_object_pool::free_list::FreeList;
-use lockfree_object_pool::made_or_reset::MadeOrReset;
+use lockfree_object_pool::fixed_reusable::{FixedReusableOf, SharedFixedPool};
 use lockfree_object_pool::page::PageId;
-use lockfree_object_pool::stack_owned_reusable::StackOwnedReusable;
-use lockfree_object_pool::stack_reusable::StackReusable;
-use lockfree_object_pool::{
-    FixedOwnedReusable, FixedReusable, LinearOwnedReusable, LinearReusable, NoneReusable,
-};
+use lockfree_object_pool::stack_reusable::{SharedStackPool, StackReusable};
+use lockfree_object_pool::{LinearOwnedReusable, LinearReusable, NoneReusable};
 use object_pool_cores::sequential::Item;
 use std::sync::Wait;
 
@@ -73,8 +69,7 @@ impl<T: Value, I: Init<T, K>, R: Reset<T, K>, K: Clean<T>> Pulled
     }
 }
 
-impl<T: Value, I: Init<T, K>, R: Reset<T, K>, K: Clean<T>> Pulled
-    for FixedReusable<'_, T, I, R, K> {
+impl<T: Value, P: SharedFixedPool<T>> Pulled for FixedReusableOf<T, P> {
     fn shown(&self) -> u64 {
         T::content(&**self)
     }
@@ -84,52 +79,11 @@ impl<T: Value, I: Init<T, K>, R: Reset<T, K>, K: Clean<T>> Pulled
     }
 
     fn number(&self) -> Option<u128> {
-        Some(FixedReusable::number(self) as u128)
+        Some(FixedReusableOf::number(self) as u128)
     }
 }
 
-impl<T: Value, I: Init<T, K>, R: Reset<T, K>, K: Clean<T>> Pulled
-    for FixedOwnedReusable<T, I, R, K> {
-    fn shown(&self) -> u64 {
-        T::content(&**self)
-    }
-
-    fn overwrite(&mut self, content: u64) {
-        T::write(&mut **self, content);
-    }
-
-    fn number(&self) -> Option<u128> {
-        Some(FixedOwnedReusable::number(self) as u128)
-    }
-}
-
-impl<
-    T: Value,
-    I: Init<T, AnyValue>,
-    R: Reset<T, AnyValue>,
-    F: FreeList<T, MadeOrReset<I, R, AnyValue>>,
-    W: Wait + Copy,
-> Pulled for StackReusable<'_, T, I, R, AnyValue, F, W> {
-    fn shown(&self) -> u64 {
-        T::content(&**self)
-    }
-
-    fn overwrite(&mut self, content: u64) {
-        T::write(&mut **self, content);
-    }
-
-    fn number(&self) -> Option<u128> {
-        None
-    }
-}
-
-impl<
-    T: Value,
-    I: Init<T, AnyValue>,
-    R: Reset<T, AnyValue>,
-    F: FreeList<T, MadeOrReset<I, R, AnyValue>>,
-    W: Wait + Copy,
-> Pulled for StackOwnedReusable<T, I, R, AnyValue, F, W> {
+impl<T: Value, P: SharedStackPool<T>, W: Wait + Copy> Pulled for StackReusable<T, P, W> {
     fn shown(&self) -> u64 {
         T::content(&**self)
     }

@@ -11,7 +11,6 @@ use lockfree_object_pool::clean::AnyValue;
 use lockfree_object_pool::free_list::FreeList;
 use lockfree_object_pool::made_or_reset::MadeOrReset;
 use lockfree_object_pool::stack_object_pool::StackObjectPool;
-use lockfree_object_pool::stack_owned_reusable::StackOwnedReusable;
 use lockfree_object_pool::stack_reusable::StackReusable;
 use lockfree_object_pool::{MutexObjectPool, PullError, SpinLockObjectPool};
 use object_pool_cores::sequential::StackCore;
@@ -25,9 +24,9 @@ type Pool<T, F> = StackObjectPool<T, Maker, Traces, AnyValue, F>;
 
 type Core<T> = StackCore<T, Maker, Traces, AnyValue>;
 
-type Borrowed<'p, T, F, W> = StackReusable<'p, T, Maker, Traces, AnyValue, F, W>;
+type Borrowed<'p, T, F, W> = StackReusable<T, &'p Pool<T, F>, W>;
 
-type Owned<T, F, W> = StackOwnedReusable<T, Maker, Traces, AnyValue, F, W>;
+type Owned<T, F, W> = StackReusable<T, Arc<Pool<T, F>>, W>;
 
 /// The session's calls on a mutex pool.
 pub fn compare_mutex<T: Value, W: Wait + Copy>(
@@ -108,13 +107,13 @@ impl<'p, T: Value, F: FreeList<T, Kept>, W: Wait + Copy> Gives<
         match asked {
             Ask::Pull => Ok(Held::Borrowed(self.pool.pull(self.rt)?)),
             Ask::PullOwned => Ok(Held::Owned(self.pool.pull_owned(self.rt)?)),
-            Ask::Attach(value) => match StackReusable::new(self.rt, self.pool, value) {
+            Ask::Attach(value) => match StackReusable::new(self.rt, &**self.pool, value) {
                 Ok(item) => Ok(Held::Borrowed(item)),
                 Err(_) => Err(PullError::Memory),
             },
             Ask::AttachOwned(value) => {
                 let owner = Arc::try_clone(self.pool)?;
-                match StackOwnedReusable::new(self.rt, owner, value) {
+                match StackReusable::new(self.rt, owner, value) {
                     Ok(item) => Ok(Held::Owned(item)),
                     Err(_) => Err(PullError::Memory),
                 }

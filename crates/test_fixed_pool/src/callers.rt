@@ -4,12 +4,12 @@ ghost use Rattle.lockfree_object_pool.specs.FullSeen.{full_since, full_history};
 ghost use Rattle.lockfree_object_pool.specs.FixedPool.{pool_identity, pool_items, pool_opening};
 ghost use Rattle.lockfree_object_pool.specs.FixedReusable.{reusable_item};
 ghost use Rattle.lockfree_object_pool.specs.Note.{note_page, note_history};
-ghost use Rattle.lockfree_object_pool.specs.PageHistory.{History, IsBeginningOf, WasOutBetween};
-ghost use Rattle.lockfree_object_pool.specs.declared.page.history.PageAct.TheVariants.{Gave};
+ghost use Rattle.lockfree_object_pool.specs.Ledger.{History, IsPrefixOf, WasOutBetween};
+ghost use Rattle.lockfree_object_pool.specs.declared.page.history.Operation.TheVariants.{Return};
 ghost use Rattle.lockfree_object_pool.specs.declared.pull_error.PullError.TheVariants.{Limit};
 ghost use Rattle.test_fixed_pool.specs.Returned.{EndsWithReturn, EndsWithReturnOf, WasReturnedBefore, WasUsedSince};
 
-use crate::values::{NumberItem, NumberPool, held, new_calls, new_pool};
+use crate::numbers::{NumberItem, NumberPool, held, new_pool};
 use lockfree_object_pool::PullError;
 use lockfree_object_pool::fixed_object_pool::{BusySeen, PoolNote};
 use lockfree_object_pool::page::PullPass;
@@ -17,12 +17,13 @@ use std::sync::Arc;
 use std::test::Fail;
 use std::thread;
 use std::thread::Threads;
+use test_values::zeros::new_calls;
 
 /// A pull by a note stands after all that the note knew.
 pub fn pulled_after<'p>(pool: &'p NumberPool, note: PoolNote<usize>) -> Option<NumberItem<'p>>
     requires { note_page note ≡ pool_identity pool.now }
     ensures pool { IfSome result (λ item. (reusable_item item).page ≡ pool_identity pool.now) }
-    ensures after { IfSome result (λ item. IsBeginningOf (note_history note) (reusable_item item).history) }
+    ensures after { IfSome result (λ item. IsPrefixOf (note_history note) (reusable_item item).history) }
 {
     let pass = PullPass::new();
     match pool.try_pull_from(&pass, note) {
@@ -108,8 +109,8 @@ fn work(pool: &NumberPool, rounds: usize) -> Result<usize, PullError>
 /// One thread returns 5 on page 0, another 6 on page 2, each with a note. A pull by the first note, then told the second,
 /// stands after both returns.
 fn handed_on<'p, R: Threads + Sync>(rt: &R, pool: &'p NumberPool) -> Option<NumberItem<'p>>
-    ensures first { IfSome result (λ item. (user id : ℕ) × (before : History ℕ) × IsBeginningOf (Gave user id 5 ∷ before) (reusable_item item).history) }
-    ensures second { IfSome result (λ item. (user id : ℕ) × (before : History ℕ) × IsBeginningOf (Gave user id 6 ∷ before) (reusable_item item).history) }
+    ensures first { IfSome result (λ item. (user id : ℕ) × (before : History ℕ) × IsPrefixOf (Return user id 5 ∷ before) (reusable_item item).history) }
+    ensures second { IfSome result (λ item. (user id : ℕ) × (before : History ℕ) × IsPrefixOf (Return user id 6 ∷ before) (reusable_item item).history) }
 {
     let (first, second) = thread::join(
         rt,
@@ -133,8 +134,8 @@ pub fn pulled_after_both<'p>(
 ) -> Option<NumberItem<'p>>
     requires first { note_page first ≡ pool_identity pool.now }
     requires second { note_page second ≡ pool_identity pool.now }
-    ensures after_first { IfSome result (λ item. IsBeginningOf (note_history first) (reusable_item item).history) }
-    ensures after_second { IfSome result (λ item. IsBeginningOf (note_history second) (reusable_item item).history) }
+    ensures after_first { IfSome result (λ item. IsPrefixOf (note_history first) (reusable_item item).history) }
+    ensures after_second { IfSome result (λ item. IsPrefixOf (note_history second) (reusable_item item).history) }
 {
     let mut both = first;
     pool.tell(&mut both, second.into_witness());

@@ -1,11 +1,15 @@
 //! Values that count their drops, in pools that are refused and in pools that end.
-use crate::values::{CountedPool, CountedValues, Counts, NEVER};
+use lockfree_object_pool::clean::AnyValue;
 use lockfree_object_pool::closures::Keep;
 use lockfree_object_pool::{FixedObjectPool, PullError};
 use std::alloc::Global;
 use std::mem;
 use std::sync::Arc;
 use std::test::Fail;
+use test_values::counted::{Counted, CountedValues, Counts, NEVER};
+
+/// A pool of values that are counted.
+type CountedPool<'c> = FixedObjectPool<Counted<'c>, CountedValues<'c>, Keep, AnyValue>;
 
 fn counted<'c>(
     alloc: Global,

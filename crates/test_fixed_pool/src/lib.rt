@@ -10,6 +10,8 @@ mod messages;
 #[cfg(test)]
 mod near;
 #[cfg(test)]
+mod numbers;
+#[cfg(test)]
 mod owners;
 #[cfg(test)]
 mod resets;
@@ -19,5 +21,3 @@ mod sends;
 mod sizes;
 #[cfg(test)]
 mod threads;
-#[cfg(test)]
-mod values;

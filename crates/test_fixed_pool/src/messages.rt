@@ -4,15 +4,16 @@ ghost use Rattle.std.specs.Arc.{arc_value};
 ghost use Rattle.lockfree_object_pool.specs.FixedPool.{pool_identity};
 ghost use Rattle.lockfree_object_pool.specs.Note.{note_page, note_history};
 ghost use Rattle.lockfree_object_pool.specs.OneProof.{same_page};
-ghost use Rattle.lockfree_object_pool.specs.PageHistory.{IsBeginningOf};
+ghost use Rattle.lockfree_object_pool.specs.Ledger.{IsPrefixOf};
 
 use crate::callers::{pulled_after, returned_near};
-use crate::values::{NumberPool, new_calls, new_pool};
+use crate::numbers::{NumberPool, new_pool};
 use crossbeam_channel::{Receiver, Sender, unbounded};
 use lockfree_object_pool::fixed_object_pool::PoolNote;
 use std::sync::{Arc, Wait};
 use std::test::Fail;
 use std::thread;
+use test_values::zeros::new_calls;
 
 /// A thread that still waits after so many turns gives up, and its test fails.
 const MOST_TURNS: u32 = 10_000_000;
@@ -39,7 +40,7 @@ fn receive<W: Wait>(rt: &W, from: &Receiver<Message>) -> Option<Message> {
 /// Pulls after all that the sender of a message knew, returns the item, and tells so by a message of its own.
 fn answered(message: Message) -> Option<Message>
     ensures pool { IfSome result (λ answer. pool_identity (arc_value answer.pool) ≡ pool_identity (arc_value message.pool)) }
-    ensures after { IfSome result (λ answer. IsBeginningOf (note_history message.note) (note_history answer.note)) }
+    ensures after { IfSome result (λ answer. IsPrefixOf (note_history message.note) (note_history answer.note)) }
 {
     let Message { pool, note } = message;
     let Some(item) = pulled_after(&pool, note) else {

@@ -2,12 +2,13 @@
 ghost use Rattle.std.specs.Prelude.{◌≤◌};
 
 use crate::callers::pulled_after;
-use crate::values::{NumberPool, held, new_calls, new_pool};
+use crate::numbers::{NumberPool, held, new_pool};
 use lockfree_object_pool::PullError;
 use std::alloc::Global;
 use std::mem;
 use std::sync::Arc;
 use std::test::Fail;
+use test_values::zeros::new_calls;
 
 /// The number of an item that was pulled near a page, and is never returned.
 fn number_near(pool: &NumberPool, page: usize) -> Option<usize> {

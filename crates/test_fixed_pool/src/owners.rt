@@ -4,10 +4,11 @@ ghost use Rattle.std.specs.Arc.{arc_value};
 ghost use Rattle.lockfree_object_pool.specs.FixedPool.{pool_identity};
 ghost use Rattle.lockfree_object_pool.specs.Note.{note_page};
 
-use crate::values::{NumberOwnedItem, NumberPool, held, new_calls, new_pool};
+use crate::numbers::{NumberOwnedItem, NumberPool, held, new_pool};
 use lockfree_object_pool::fixed_object_pool::PoolNote;
 use std::sync::Arc;
 use std::test::Fail;
+use test_values::zeros::new_calls;
 
 /// A pull by an owner that knows what it knows at this moment.
 fn pulled_by(

@@ -1,5 +1,5 @@
 //! How often a value is reset: once at its return, borrowed and owned, and not at a pull.
-use crate::values::{Numbers, new_calls};
+use crate::numbers::Numbers;
 use lockfree_object_pool::clean::AnyValue;
 use lockfree_object_pool::closures::Reset;
 use lockfree_object_pool::{FixedObjectPool, PullError};
@@ -7,6 +7,7 @@ use std::alloc::Global;
 use std::ops::Deref;
 use std::sync::Arc;
 use std::test::Fail;
+use test_values::zeros::new_calls;
 
 /// A reset that shows how often it ran.
 #[derive(Drop)]

@@ -1,7 +1,7 @@
 //! Pools of many sizes: each item is pulled once, then none, and then what came back.
 ghost use Rattle.std.specs.Prelude.{◌≤◌};
 
-use crate::values::{NumberItem, held, new_calls, new_pool};
+use crate::numbers::{NumberItem, held, new_pool};
 use lockfree_object_pool::clean::AnyValue;
 use lockfree_object_pool::closures::{Copied, Init, Keep};
 use lockfree_object_pool::{FixedObjectPool, PullError};
@@ -9,6 +9,7 @@ use std::alloc::Global;
 use std::mem::size_of;
 use std::sync::atomic::Ordering::SeqCst;
 use std::test::Fail;
+use test_values::zeros::new_calls;
 
 /// Whether item `i` of the list has the number `i`, and the value of call `i`.
 fn are_in_order(items: &[NumberItem<'_>]) -> bool {

@@ -1,7 +1,7 @@
 //! Threads that share one pool. Each runs to its end, and a wait for others has a limit.
 ghost use Rattle.std.specs.Prelude.{◌≤◌};
 
-use crate::values::{NumberPool, held, new_calls, new_pool};
+use crate::numbers::{NumberPool, held, new_pool};
 use lockfree_object_pool::PullError;
 use std::alloc::Global;
 use std::sync::Arc;
@@ -10,6 +10,7 @@ use std::sync::atomic::Ordering::SeqCst;
 use std::test::Fail;
 use std::thread;
 use std::thread::{JoinHandle, Threads};
+use test_values::zeros::new_calls;
 
 /// A thread that still waits after so many turns gives up, and its test fails.
 const MOST_TURNS: u32 = 10_000_000;

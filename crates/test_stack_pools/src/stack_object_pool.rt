@@ -7,7 +7,6 @@ use lockfree_object_pool::made_or_reset::MadeOrReset;
 use lockfree_object_pool::spin_lock::SpinLock;
 use lockfree_object_pool::stack::Stack;
 use lockfree_object_pool::stack_object_pool::StackObjectPool;
-use lockfree_object_pool::stack_owned_reusable::StackOwnedReusable;
 use lockfree_object_pool::stack_reusable::StackReusable;
 use lockfree_object_pool::{MutexObjectPool, PullError, SpinLockObjectPool};
 use std::alloc::Global;

@@ -1,7 +1,7 @@
 //! Closures as what makes and resets values: two traits that every fitting closure meets, and an adapter for each
 //! that keeps what a pool has to know of it.
 ghost use Rattle.std.specs.Prelude.{◌≡◌, Option, IfSome};
-ghost use denote.Ref.{MutBor};
+ghost use Rattle.lockfree_object_pool.specs.Answers.{LeavesByLoan};
 
 use crate::clean::Clean;
 use crate::closures::{Init, Reset};
@@ -47,7 +47,7 @@ pub trait ResetBy<T>: Drop {
 impl<T, F: Fn(&mut T)> ResetBy<T> for F {
     ghost may_reset = { λ f. F.IsAlwaysCallable f };
 
-    ghost resets = { λ f old new. (before after : MutBor T) × F.post f before tt after × (before.now ≡ old) × (after.now ≡ new) };
+    ghost resets = { λ f old new. LeavesByLoan F.post f old new };
 
     fn reset_by(&self, value: &mut T) {
         self(value);
@@ -66,7 +66,9 @@ impl<T, F: InitBy<T>, K: Clean<T>> Model for Makes<T, F, K> {
 
     ghost view = { λ made. made.closure };
 
-    ghost invariant = { λ made. F.may_make made.closure × ((answer : Option T) → F.makes made.closure answer → IfSome answer K.meets) };
+    ghost invariant = { λ made.
+        F.may_make made.closure
+        × ((answer : Option T) → F.makes made.closure answer → IfSome answer K.meets) };
 }
 
 impl<T, F: InitBy<T>, K: Clean<T>> Makes<T, F, K> {
@@ -102,7 +104,9 @@ impl<T, F: ResetBy<T>, K: Clean<T>> Model for Resets<T, F, K> {
 
     ghost view = { λ reset. reset.closure };
 
-    ghost invariant = { λ reset. F.may_reset reset.closure × ((old new : T) → F.resets reset.closure old new → K.meets new) };
+    ghost invariant = { λ reset.
+        F.may_reset reset.closure
+        × ((old new : T) → F.resets reset.closure old new → K.meets new) };
 }
 
 impl<T, F: ResetBy<T>, K: Clean<T>> Resets<T, F, K> {

@@ -21,7 +21,8 @@ impl WithCapacity {
 }
 
 impl<X> Init<Vec<X>, Empty> for WithCapacity {
-    ghost answers = { λ maker answer. IfSome answer (λ vector. maker.capacity ≤ vec_capacity vector) };
+    ghost answers = { λ maker answer.
+        IfSome answer (λ vector. maker.capacity ≤ vec_capacity vector) };
 
     fn make(&self) -> Option<Vec<X>> {
         Vec::with_capacity(self.alloc, self.capacity).ok()

@@ -54,14 +54,14 @@ impl<T, K: Clean<T>> FixedItems<T, K> {
     ghost use Rattle.lockfree_object_pool.specs.Answers.{MayMake};
     ghost use Rattle.lockfree_object_pool.specs.FixedAnswer.{IsPulledOf, IsPulledWith, IsBusyOf, IsBusyAfter, IsBusyNote, busy_steps, note_steps};
     ghost use Rattle.lockfree_object_pool.specs.FixedPool.{fixed_identity, fixed_opening};
-    ghost use Rattle.lockfree_object_pool.specs.FixedReusable.{pulled_item, pulled_view};
+    ghost use Rattle.lockfree_object_pool.specs.FixedItem.{pulled_item, pulled_view};
     ghost use Rattle.lockfree_object_pool.specs.FixedRule.{MissesAll, TakesOne, IsWithin, no_steps, steps_of};
     ghost use Rattle.lockfree_object_pool.specs.Holding.{holding_page, holding_view};
     ghost use Rattle.lockfree_object_pool.specs.Items.{IsFilled};
     ghost use Rattle.lockfree_object_pool.specs.Note.{note_page};
     ghost use Rattle.lockfree_object_pool.specs.PageRule.{GoesOn, KnowsOut, IsSound, item_of};
     ghost use Rattle.lockfree_object_pool.specs.Refusal.{RefusesMaking};
-    ghost use Rattle.lockfree_object_pool.specs.declared.page.history.PageAct.TheVariants.{Gave};
+    ghost use Rattle.lockfree_object_pool.specs.declared.page.history.Operation.TheVariants.{Return};
 
     /// So many free items: item `i` is the answer of call `i` of `init`, counted from 0.
     ///
@@ -74,11 +74,12 @@ impl<T, K: Clean<T>> FixedItems<T, K> {
     where
         T: Drop,
         requires some_item { 1 ≤ count }
-        requires may_make { MayMake (I.pre init.now) (λ answer. I.post init.now answer) K.meets }
+        requires may_make { MayMake I.pre I.post K.meets init.now }
         ensures refused { IfErr result (RefusesMaking (I.post init.now None)) }
         ensures count { IfOk result (λ fixed. (fixed_identity fixed).slots ≡ count) }
         ensures pages { IfOk result (λ fixed. (fixed_identity fixed).words ≡ (count + 31) / 32) }
-        ensures opened { IfOk result (λ fixed. IsFilled count (λ made. I.post init.now (Some made)) (fixed_opening fixed)) }
+        ensures opened { IfOk result
+            (λ fixed. IsFilled count (λ made. I.post init.now (Some made)) (fixed_opening fixed)) }
     {
         let Some(_) = count.checked_add(PAGE_ITEMS - 1) else {
             return Err(PullError::Memory);
@@ -122,7 +123,7 @@ impl<T, K: Clean<T>> FixedItems<T, K> {
         }
     }
 
-    /// An item, or what the pull has seen where it found each one out.
+    /// An item, or what the pull has seen where it observed each one taken.
     ///
     /// It begins at one page, goes on to the last and then from page 0 on. Each word is read once at most, and each bit that
     /// was set in it is cleared, lowest first, until one was still set.
@@ -132,11 +133,16 @@ impl<T, K: Clean<T>> FixedItems<T, K> {
         pass: &'p PullPass,
     ) -> Result<PulledItem<T>, BusySeen<'p, T>>
         requires { start < (fixed_identity self.now).words }
-        ensures pulled { IfOk result (λ pulled. IsPulledOf (fixed_identity self.now) (fixed_opening self.now) (pulled_item pulled)) }
+        ensures pulled { IfOk result
+            (λ pulled. IsPulledOf (fixed_identity self.now) (fixed_opening self.now)
+            (pulled_item pulled)) }
         ensures meets { IfOk result (λ pulled. K.meets pulled.value) }
-        ensures brief { IfOk result (λ pulled. IsWithin (fixed_identity self.now).words no_steps (steps_of (pulled_view pulled))) }
+        ensures brief { IfOk result
+            (λ pulled. IsWithin (fixed_identity self.now).words no_steps
+            (steps_of (pulled_view pulled))) }
         ensures busy { IfErr result (IsBusyOf (fixed_identity self.now) (fixed_opening self.now)) }
-        ensures busy_brief { IfErr result (λ busy. IsWithin (fixed_identity self.now).words no_steps (busy_steps busy)) }
+        ensures busy_brief { IfErr result
+            (λ busy. IsWithin (fixed_identity self.now).words no_steps (busy_steps busy)) }
     {
         let (word, mut seat) = self.shared.look(start);
         match self.take(&mut seat, start, word) {
@@ -156,11 +162,16 @@ impl<T, K: Clean<T>> FixedItems<T, K> {
         &self,
         pass: &'p PullPass,
     ) -> Result<PulledItem<T>, BusySeen<'p, T>>
-        ensures pulled { IfOk result (λ pulled. IsPulledOf (fixed_identity self.now) (fixed_opening self.now) (pulled_item pulled)) }
+        ensures pulled { IfOk result
+            (λ pulled. IsPulledOf (fixed_identity self.now) (fixed_opening self.now)
+            (pulled_item pulled)) }
         ensures meets { IfOk result (λ pulled. K.meets pulled.value) }
-        ensures brief { IfOk result (λ pulled. IsWithin (fixed_identity self.now).words no_steps (steps_of (pulled_view pulled))) }
+        ensures brief { IfOk result
+            (λ pulled. IsWithin (fixed_identity self.now).words no_steps
+            (steps_of (pulled_view pulled))) }
         ensures busy { IfErr result (IsBusyOf (fixed_identity self.now) (fixed_opening self.now)) }
-        ensures busy_brief { IfErr result (λ busy. IsWithin (fixed_identity self.now).words no_steps (busy_steps busy)) }
+        ensures busy_brief { IfErr result
+            (λ busy. IsWithin (fixed_identity self.now).words no_steps (busy_steps busy)) }
     {
         let pulled = self.pull(self.hinted(), pass)?;
         self.set_hint(pulled.holding.number / PAGE_ITEMS);
@@ -174,11 +185,15 @@ impl<T, K: Clean<T>> FixedItems<T, K> {
         note: PoolNote<T>,
     ) -> Result<PulledItem<T>, BusySeen<'p, T>>
         requires { note_page note ≡ fixed_identity self.now }
-        ensures pulled { IfOk result (λ pulled. IsPulledWith (fixed_identity self.now) note (pulled_item pulled)) }
+        ensures pulled { IfOk result
+            (λ pulled. IsPulledWith (fixed_identity self.now) note (pulled_item pulled)) }
         ensures meets { IfOk result (λ pulled. K.meets pulled.value) }
-        ensures brief { IfOk result (λ pulled. IsWithin (fixed_identity self.now).words (note_steps note) (steps_of (pulled_view pulled))) }
+        ensures brief { IfOk result
+            (λ pulled. IsWithin (fixed_identity self.now).words (note_steps note)
+            (steps_of (pulled_view pulled))) }
         ensures busy { IfErr result (IsBusyAfter (fixed_identity self.now) note) }
-        ensures busy_brief { IfErr result (λ busy. IsWithin (fixed_identity self.now).words (note_steps note) (busy_steps busy)) }
+        ensures busy_brief { IfErr result
+            (λ busy. IsWithin (fixed_identity self.now).words (note_steps note) (busy_steps busy)) }
     {
         let PageNote { mut seat } = note;
         let start = self.hinted();
@@ -205,11 +220,16 @@ impl<T, K: Clean<T>> FixedItems<T, K> {
     ) -> Result<PulledItem<T>, PoolNote<T>>
         requires page { page < (fixed_identity self.now).words }
         requires note { note_page note ≡ fixed_identity self.now }
-        ensures pulled { IfOk result (λ pulled. IsPulledWith (fixed_identity self.now) note (pulled_item pulled)) }
+        ensures pulled { IfOk result
+            (λ pulled. IsPulledWith (fixed_identity self.now) note (pulled_item pulled)) }
         ensures meets { IfOk result (λ pulled. K.meets pulled.value) }
-        ensures brief { IfOk result (λ pulled. IsWithin (fixed_identity self.now).words (note_steps note) (steps_of (pulled_view pulled))) }
+        ensures brief { IfOk result
+            (λ pulled. IsWithin (fixed_identity self.now).words (note_steps note)
+            (steps_of (pulled_view pulled))) }
         ensures busy { IfErr result (IsBusyNote (fixed_identity self.now) note) }
-        ensures busy_brief { IfErr result (λ later. IsWithin (fixed_identity self.now).words (note_steps note) (note_steps later)) }
+        ensures busy_brief { IfErr result
+            (λ later. IsWithin (fixed_identity self.now).words (note_steps note)
+            (note_steps later)) }
     {
         let PageNote { mut seat } = note;
         let word = self.shared.look_again(&mut seat, page);
@@ -234,7 +254,8 @@ impl<T, K: Clean<T>> FixedItems<T, K> {
         ensures carries_none { result.me.1 ≡ [] }
         ensures holds_none { result.me.0.held ≡ None }
         ensures here { result.me.0.gone ≡ false }
-        ensures returned { GoesOn (Gave result.me.0.user holding.number value ∷ []) (holding_view holding) result.me.0 }
+        ensures returned { GoesOn (Return result.me.0.user holding.number value ∷ [])
+            (holding_view holding) result.me.0 }
     {
         let page = holding.number / PAGE_ITEMS;
         let (seat, was_full) = self.shared.give(holding, value);
@@ -252,11 +273,17 @@ impl<T, K: Clean<T>> FixedItems<T, K> {
         requires holds_none { seat.old.me.0.held ≡ None }
         requires here { seat.old.me.0.gone ≡ false }
         requires sound { IsSound seat.old.me.0 }
-        requires found { (bit : ℕ) → bit < 32 → bit_at word bit ≡ 0 → KnowsOut seat.old.me.0 (item_of start bit) }
+        requires found { (bit : ℕ) → bit < 32 → bit_at word bit ≡ 0
+            → KnowsOut seat.old.me.0 (item_of start bit) }
         ensures pool { seat.new.table_id ≡ seat.old.table_id }
-        ensures loads { seat.new.me.0.looks + 1 ≤ seat.old.me.0.looks + (fixed_identity self.now).words }
-        ensures tries { seat.new.me.0.tries ≤ seat.old.me.0.tries + 32 * (fixed_identity self.now).words }
-        ensures outcome { MatchOption result (MissesAll 0 (fixed_identity self.now).slots seat.old.me seat.new.me) (λ taken. TakesOne K.meets (fixed_identity self.now).slots taken.number taken.value seat.old.me seat.new.me) }
+        ensures loads { seat.new.me.0.loads + 1 ≤ seat.old.me.0.loads +
+            (fixed_identity self.now).words }
+        ensures tries { seat.new.me.0.tries ≤ seat.old.me.0.tries + 32 *
+            (fixed_identity self.now).words }
+        ensures outcome { MatchOption result
+            (MissesAll 0 (fixed_identity self.now).slots seat.old.me seat.new.me) (λ taken.
+            TakesOne K.meets (fixed_identity self.now).slots taken.number taken.value seat.old.me
+            seat.new.me) }
     {
         if let Some(taken) = self.shared.take_lowest(seat, start, word) {
             return Some(taken);
@@ -281,7 +308,10 @@ impl<T, K: Clean<T>> FixedItems<T, K> {
         requires sound { IsSound seat.old.me.0 }
         ensures pool { seat.new.table_id ≡ seat.old.table_id }
         ensures steps { IsWithin (to - from) (steps_of seat.old.me.0) (steps_of seat.new.me.0) }
-        ensures outcome { MatchOption result (MissesAll (32 * from) (32 * to) seat.old.me seat.new.me) (λ taken. TakesOne K.meets (fixed_identity self.now).slots taken.number taken.value seat.old.me seat.new.me) }
+        ensures outcome { MatchOption result
+            (MissesAll (32 * from) (32 * to) seat.old.me seat.new.me) (λ taken.
+            TakesOne K.meets (fixed_identity self.now).slots taken.number taken.value seat.old.me
+            seat.new.me) }
     {
         for page in from..to {
             let word = self.shared.look_on(seat, page);

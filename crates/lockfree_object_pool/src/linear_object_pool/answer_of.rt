@@ -1,11 +1,11 @@
-//! The condition that a value is an answer of a pool's maker.
+//! The condition that a value is an answer of a pool's initializer.
 ghost use Rattle.lockfree_object_pool.specs.Answers.{IsAnswer};
 
 use crate::clean::Clean;
 use crate::closures::Init;
 use std::marker::PhantomData;
 
-/// What the pages of a pool open with: answers that a maker of its type may give. Contracts alone name it.
+/// What the pages of a pool open with: answers that an initializer of its type may give. Contracts alone name it.
 pub struct AnswerOf<I, K> {
     init: PhantomData<I>,
     condition: PhantomData<K>,

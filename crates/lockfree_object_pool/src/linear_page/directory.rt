@@ -112,7 +112,9 @@ impl<T: Drop, K: Clean<T>, O: Clean<T>> Directory<T, K, O> {
     /// The page with this number, where one is linked, and a note of its link.
     pub(super) fn linked(&self, number: usize) -> Option<(&OpenedPage<T, K, O>, LinkNote<T, K, O>)>
         requires { 0 < number }
-        ensures { IfSome result (λ linked. IsKnownAt self.now number linked.1 (page_identity (arc_value linked.0.now))) }
+        ensures { IfSome result
+            (λ linked. IsKnownAt self.now number linked.1
+            (page_identity (arc_value linked.0.now))) }
     {
         let place = self.place(number);
         let mut note = place.known_row()?;
@@ -282,8 +284,11 @@ impl<'c, T: Drop, K: Clean<T>, O: Clean<T>> LinkPlace<'c, T, K, O> {
         ensures link { known_link note.new ≡ known_link note.old }
         ensures none { IfNone result (known_next note.old ≡ None) }
         ensures unlearned { IfNone result (known_next note.new ≡ known_next note.old) }
-        ensures known { IfSome result (λ page. known_next note.new ≡ Some (page_identity (arc_value page.now))) }
-        ensures agrees { IfSome result (λ page. IfSome (known_next note.old) (λ known. known ≡ page_identity (arc_value page.now))) }
+        ensures known { IfSome result
+            (λ page. known_next note.new ≡ Some (page_identity (arc_value page.now))) }
+        ensures agrees { IfSome result
+            (λ page. IfSome (known_next note.old)
+            (λ known. known ≡ page_identity (arc_value page.now))) }
     {
         self.link(note).get_as(&mut note.link)
     }
@@ -292,7 +297,8 @@ impl<'c, T: Drop, K: Clean<T>, O: Clean<T>> LinkPlace<'c, T, K, O> {
     pub(super) fn link(&self, note: &mut LinkNote<T, K, O>) -> &'c OnceBox<OpenedPage<T, K, O>>
         requires { known_link note.old ≡ link_at self.now }
         ensures row { note.new.row.cell ≡ note.old.row.cell }
-        ensures rest { (note.new.link ≡ note.old.link) × (note.new.offset.value ≡ note.old.offset.value) }
+        ensures rest { (note.new.link ≡ note.old.link)
+            × (note.new.offset.value ≡ note.old.offset.value) }
         ensures cell { cell_name result.now ≡ link_cell note.old }
     {
         let Some(row) = self.row.get_as(&mut note.row) else {

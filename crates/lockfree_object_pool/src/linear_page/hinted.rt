@@ -11,15 +11,14 @@ ghost use Rattle.std.specs.Prelude.{◌≡◌, ◌≤◌, ◌<◌, None, IfSome,
 ghost use Rattle.std.specs.Arc.{arc_value};
 ghost use Rattle.lockfree_object_pool.specs.Answers.{MayOpen};
 ghost use Rattle.lockfree_object_pool.specs.FullSeen.{full_page};
-ghost use Rattle.lockfree_object_pool.specs.Item.{IsItemOf, HasOrigin};
 ghost use Rattle.lockfree_object_pool.specs.LinearPage.{first_page};
 ghost use Rattle.lockfree_object_pool.specs.Page.{page_identity};
 ghost use Rattle.lockfree_object_pool.specs.Refusal.{RefusesPull};
 ghost use Rattle.lockfree_object_pool.specs.Slot.{slot_item};
-ghost use Rattle.lockfree_object_pool.specs.Walk.{start_of, number_of, IsAnsweredBy, IsKnownAt, IsReached};
+ghost use Rattle.lockfree_object_pool.specs.Walk.{start_of, number_of, IsAnsweredBy, IsKnownAt, IsTaken};
 
 use super::opened_page::OpenedPage;
-use super::walk::{KnownFull, Reached};
+use super::walk::{KnownFull, WalkEnd};
 use super::{Chain, LinkNote, PageNumber};
 use crate::PullError;
 use crate::clean::Clean;
@@ -40,22 +39,19 @@ impl<T: Drop, K: Clean<T>, O: Clean<T>> Chain<T, K, O> {
         PageNumber::of_start(self.directory.allocator(), 0)
     }
 
-    /// An item of a page that a hint names, or of the first page that has one, where the first page of the chain was found full in this
-    /// pull. Apart, so that a pull of the first page is short.
-    #[inline(never)]
+    /// An item of a page that a hint names, or of the first page that has one, where the first page of the chain was found full
+    /// in this pull.
     pub(crate) fn pull_further<I: Fn() -> Option<T>>(
         &self,
         seen: FullSeen<'_, T>,
         limit: Option<usize>,
         init: &I,
-    ) -> Result<Reached<'_, T, K, O>, PullError>
+    ) -> Result<WalkEnd<'_, T, K, O>, PullError>
         requires of_first { full_page seen ≡ first_page self.now }
         requires some_page { IfSome limit (λ pages. 1 ≤ pages) }
-        requires opens { MayOpen (I.pre init.now) (λ answer. I.post init.now answer) K.meets O.meets }
-        ensures item { IfOk result (λ reached. IsItemOf K.meets (page_identity (arc_value reached.page.now)) (slot_item reached.slot)) }
-        ensures history { IfOk result (λ reached. HasOrigin O.meets (slot_item reached.slot)) }
-        ensures number { IfOk result (λ reached. IsReached (start_of self.now) reached.number (page_identity (arc_value reached.page.now))) }
-        ensures within { IfOk result (λ reached. IfSome limit (λ pages. number_of reached.number < pages)) }
+        requires opens { MayOpen I.pre I.post K.meets O.meets init.now }
+        ensures taken { IfOk result (λ reached.
+            IsTaken K.meets O.meets (start_of self.now) limit reached.number (slot_item reached.slot)) }
         ensures refused { IfErr result (RefusesPull (record {
           limited = IsSome limit;
           init_refuses = I.post init.now None;
@@ -69,7 +65,7 @@ impl<T: Drop, K: Clean<T>, O: Clean<T>> Chain<T, K, O> {
             }
             match taken.answer {
                 Allocated::Slot(slot) => {
-                    return Ok(Reached {
+                    return Ok(WalkEnd {
                         slot,
                         page: page.owner(),
                         number: PageNumber::of_link(number, note),
@@ -92,7 +88,9 @@ impl<T: Drop, K: Clean<T>, O: Clean<T>> Chain<T, K, O> {
         &self,
         limit: Option<usize>,
     ) -> Option<(usize, &OpenedPage<T, K, O>, LinkNote<T, K, O>)>
-        ensures known { IfSome result (λ hinted. IsKnownAt self.now.directory hinted.0 hinted.2 (page_identity (arc_value hinted.1.now))) }
+        ensures known { IfSome result
+            (λ hinted. IsKnownAt self.now.directory hinted.0 hinted.2
+            (page_identity (arc_value hinted.1.now))) }
         ensures past_first { IfSome result (λ hinted. 0 < hinted.0) }
         ensures within { IfSome result (λ hinted. IfSome limit (λ pages. hinted.0 < pages)) }
     {

@@ -27,7 +27,8 @@ impl<T, K: Clean<T>, O: Clean<T>> LinkNote<T, K, O> {
         requires { known_link other ≡ known_link self.old }
         ensures link { known_link self.new ≡ known_link self.old }
         ensures next { known_next self.new ≡ known_next self.old }
-        ensures agree { IfSome (known_next other) (λ page. IfSome (known_next self.old) (λ known. known ≡ page)) }
+        ensures agree { IfSome (known_next other)
+            (λ page. IfSome (known_next self.old) (λ known. known ≡ page)) }
     {
         let LinkNote {
             row,

@@ -2,7 +2,7 @@
 ghost use Rattle.std.specs.Prelude.{◌≡◌, ◌<◌};
 ghost use Rattle.lockfree_object_pool.specs.Holding.{holding_page};
 ghost use Rattle.lockfree_object_pool.specs.Page.{page_identity};
-ghost use Rattle.lockfree_object_pool.specs.Walk.{start_of, IsReached};
+ghost use Rattle.lockfree_object_pool.specs.Walk.{start_of, IsWalkedTo};
 ghost use Rattle.lockfree_object_pool.specs.declared.page.TheConstants.{PAGE_ITEMS};
 
 use super::{Chain, PageNumber};
@@ -14,7 +14,7 @@ impl<T: Drop, K: Clean<T>, O: Clean<T>> Chain<T, K, O> {
     /// The value of an item goes home to the page of this number, and its id is free again. Where the page was full, the next pulls are
     /// told of it.
     pub(crate) fn free(&self, number: PageNumber<T, K, O>, holding: Holding<T>, value: T)
-        requires on_page { ∥ IsReached (start_of self.now) number (holding_page holding) ∥₁ }
+        requires on_page { ∥ IsWalkedTo (start_of self.now) number (holding_page holding) ∥₁ }
         requires in_page { holding.number < PAGE_ITEMS }
         requires meets { K.meets value }
     {
@@ -27,7 +27,7 @@ impl<T: Drop, K: Clean<T>, O: Clean<T>> Chain<T, K, O> {
 
     /// The page of an item, by the page's number. The first one needs no look.
     fn page_of(&self, number: PageNumber<T, K, O>, holding: &Holding<T>) -> &Page<T, K>
-        requires { ∥ IsReached (start_of self.now) number (holding_page holding.now) ∥₁ }
+        requires { ∥ IsWalkedTo (start_of self.now) number (holding_page holding.now) ∥₁ }
         ensures { page_identity result.now ≡ holding_page holding.now }
     {
         if number.get() == 0 {

@@ -58,7 +58,8 @@ impl<T: Drop, K: Clean<T>, O: Clean<T>> PageNumber<T, K, O> {
         requires { cell_in_row self.row.known place.now.offset ≡ Some self.link.cell }
         ensures row { (known_link result).0 ≡ self.row.cell }
         ensures offset { (known_link result).1 ≡ place.now.offset }
-        ensures next { known_next result ≡ option_map (λ page. page_identity (arc_value page)) self.link.known }
+        ensures next { known_next result ≡ option_map
+            (λ page. page_identity (arc_value page)) self.link.known }
     {
         let PageNumber {
             number: _,

@@ -3,13 +3,13 @@ ghost use Rattle.std.specs.Prelude.{◌≡◌, ◌+◌, ◌-◌, ◌≤◌, ◌<
 ghost use Rattle.std.specs.Arc.{arc_value};
 ghost use Rattle.lockfree_object_pool.specs.Answers.{MayOpen};
 ghost use Rattle.lockfree_object_pool.specs.FullSeen.{full_page};
-ghost use Rattle.lockfree_object_pool.specs.Item.{IsItemOf, HasOrigin};
+ghost use Rattle.lockfree_object_pool.specs.Item.{HasOrigin};
 ghost use Rattle.lockfree_object_pool.specs.LinearPage.{shown_page, page_number, IsItemFrom};
 ghost use Rattle.lockfree_object_pool.specs.OwnedSlot.{owned_slot_item};
 ghost use Rattle.lockfree_object_pool.specs.Page.{page_identity};
 ghost use Rattle.lockfree_object_pool.specs.Refusal.{RefusesMaking, RefusesPull};
 ghost use Rattle.lockfree_object_pool.specs.Slot.{slot_item};
-ghost use Rattle.lockfree_object_pool.specs.Walk.{start_at, number_of, IsAnsweredBy, IsFullAt, IsKnownAt, IsLinkedAt, IsReached};
+ghost use Rattle.lockfree_object_pool.specs.Walk.{start_at, IsAnsweredBy, IsFullAt, IsKnownAt, IsTaken};
 ghost use Rattle.lockfree_object_pool.specs.declared.pull_error.PullError.TheVariants.{Limit};
 
 use super::opened_page::OpenedPage;
@@ -21,7 +21,7 @@ use std::sync::Arc;
 
 /// The item that a walk took, and the page at which it stopped.
 #[derive(Drop)]
-pub(crate) struct Reached<'c, T, K: Clean<T>, O: Clean<T>> {
+pub(crate) struct WalkEnd<'c, T, K: Clean<T>, O: Clean<T>> {
     pub(crate) slot: PageSlot<'c, T, K>,
     /// The slot's page.
     pub(crate) page: &'c Arc<Page<T, K>>,
@@ -40,7 +40,8 @@ pub(super) struct KnownFull<'p, T, K: Clean<T>, O: Clean<T>> {
 impl<'c, T: Drop, K: Clean<T>, O: Clean<T>> LinearPage<'c, T, K, O> {
     /// An item of the first page from this one on that has one, and that page's number, counted from this one.
     ///
-    /// It goes on only from a page that said in this call that each of its ids was found out. Behind the last page it links a new one.
+    /// It goes on only from a page that said in this call that each of its ids was observed taken. Behind the last page it
+    /// links a new one.
     ///
     /// # Errors
     ///
@@ -49,8 +50,9 @@ impl<'c, T: Drop, K: Clean<T>, O: Clean<T>> LinearPage<'c, T, K, O> {
         &self,
         init: &I,
     ) -> Result<(PageSlot<'c, T, K>, usize), PullError>
-        requires { MayOpen (I.pre init.now) (λ answer. I.post init.now answer) K.meets O.meets }
-        ensures item { IfOk result (λ reached. IsItemFrom K.meets (shown_page self.now) (slot_item reached.0) reached.1) }
+        requires { MayOpen I.pre I.post K.meets O.meets init.now }
+        ensures item { IfOk result
+            (λ reached. IsItemFrom K.meets (shown_page self.now) (slot_item reached.0) reached.1) }
         ensures history { IfOk result (λ reached. HasOrigin O.meets (slot_item reached.0)) }
         ensures refused { IfErr result (RefusesPull (record {
           limited = ⊥;
@@ -66,15 +68,16 @@ impl<'c, T: Drop, K: Clean<T>, O: Clean<T>> LinearPage<'c, T, K, O> {
     ///
     /// # Errors
     ///
-    /// As `alloc`; `Limit`, where each item of these pages was found out in this call.
+    /// As `alloc`; `Limit`, where each item of these pages was observed taken in this call.
     pub fn alloc_within<I: Fn() -> Option<T>>(
         &self,
         pages: usize,
         init: &I,
     ) -> Result<(PageSlot<'c, T, K>, usize), PullError>
         requires some_page { 1 ≤ pages }
-        requires opens { MayOpen (I.pre init.now) (λ answer. I.post init.now answer) K.meets O.meets }
-        ensures item { IfOk result (λ reached. IsItemFrom K.meets (shown_page self.now) (slot_item reached.0) reached.1) }
+        requires opens { MayOpen I.pre I.post K.meets O.meets init.now }
+        ensures item { IfOk result
+            (λ reached. IsItemFrom K.meets (shown_page self.now) (slot_item reached.0) reached.1) }
         ensures history { IfOk result (λ reached. HasOrigin O.meets (slot_item reached.0)) }
         ensures within { IfOk result (λ reached. reached.1 < pages) }
         ensures refused { IfErr result (RefusesPull (record {
@@ -96,8 +99,10 @@ impl<'c, T: Drop, K: Clean<T>, O: Clean<T>> LinearPage<'c, T, K, O> {
         &self,
         init: &I,
     ) -> Result<(OwnedSlot<T, K>, usize), PullError>
-        requires { MayOpen (I.pre init.now) (λ answer. I.post init.now answer) K.meets O.meets }
-        ensures item { IfOk result (λ reached. IsItemFrom K.meets (shown_page self.now) (owned_slot_item reached.0) reached.1) }
+        requires { MayOpen I.pre I.post K.meets O.meets init.now }
+        ensures item { IfOk result
+            (λ reached. IsItemFrom K.meets (shown_page self.now)
+            (owned_slot_item reached.0) reached.1) }
         ensures history { IfOk result (λ reached. HasOrigin O.meets (owned_slot_item reached.0)) }
         ensures refused { IfErr result (RefusesPull (record {
           limited = ⊥;
@@ -112,15 +117,17 @@ impl<'c, T: Drop, K: Clean<T>, O: Clean<T>> LinearPage<'c, T, K, O> {
     ///
     /// # Errors
     ///
-    /// As `alloc_owned`; `Limit`, where each item of these pages was found out in this call.
+    /// As `alloc_owned`; `Limit`, where each item of these pages was observed taken in this call.
     pub fn alloc_owned_within<I: Fn() -> Option<T>>(
         &self,
         pages: usize,
         init: &I,
     ) -> Result<(OwnedSlot<T, K>, usize), PullError>
         requires some_page { 1 ≤ pages }
-        requires opens { MayOpen (I.pre init.now) (λ answer. I.post init.now answer) K.meets O.meets }
-        ensures item { IfOk result (λ reached. IsItemFrom K.meets (shown_page self.now) (owned_slot_item reached.0) reached.1) }
+        requires opens { MayOpen I.pre I.post K.meets O.meets init.now }
+        ensures item { IfOk result
+            (λ reached. IsItemFrom K.meets (shown_page self.now)
+            (owned_slot_item reached.0) reached.1) }
         ensures history { IfOk result (λ reached. HasOrigin O.meets (owned_slot_item reached.0)) }
         ensures within { IfOk result (λ reached. reached.1 < pages) }
         ensures refused { IfErr result (RefusesPull (record {
@@ -137,15 +144,13 @@ impl<'c, T: Drop, K: Clean<T>, O: Clean<T>> LinearPage<'c, T, K, O> {
         &self,
         limit: Option<usize>,
         init: &I,
-    ) -> Result<Reached<'c, T, K, O>, PullError>
+    ) -> Result<WalkEnd<'c, T, K, O>, PullError>
         requires some_page { IfSome limit (λ pages. 1 ≤ pages) }
-        requires opens { MayOpen (I.pre init.now) (λ answer. I.post init.now answer) K.meets O.meets }
-        ensures item { IfOk result (λ reached. IsItemOf K.meets (page_identity (arc_value reached.page.now)) (slot_item reached.slot)) }
-        ensures history { IfOk result (λ reached. HasOrigin O.meets (slot_item reached.slot)) }
-        ensures from_start { IfOk result (λ reached. page_number self.now ≤ number_of reached.number) }
-        ensures number { IfOk result (λ reached. IsReached (start_at self.now) reached.number (page_identity (arc_value reached.page.now))) }
-        ensures at_start { IfOk result (λ reached. number_of reached.number ≡ page_number self.now → page_identity (arc_value reached.page.now) ≡ shown_page self.now) }
-        ensures within { IfOk result (λ reached. IfSome limit (λ pages. number_of reached.number - page_number self.now < pages)) }
+        requires opens { MayOpen I.pre I.post K.meets O.meets init.now }
+        ensures taken { IfOk result (λ reached.
+            IsTaken K.meets O.meets (start_at self.now) limit reached.number (slot_item reached.slot)) }
+        ensures page { IfOk result (λ reached.
+            (slot_item reached.slot).page ≡ page_identity (arc_value reached.page.now)) }
         ensures refused { IfErr result (RefusesPull (record {
           limited = IsSome limit;
           init_refuses = I.post init.now None;
@@ -155,7 +160,7 @@ impl<'c, T: Drop, K: Clean<T>, O: Clean<T>> LinearPage<'c, T, K, O> {
         match self.page.take(&pass).answer {
             Allocated::Slot(slot) => {
                 let number = PageNumber::of_start(self.directory.allocator(), self.number);
-                Ok(Reached {
+                Ok(WalkEnd {
                     slot,
                     page: self.page.owner(),
                     number,
@@ -174,16 +179,15 @@ impl<'c, T: Drop, K: Clean<T>, O: Clean<T>> LinearPage<'c, T, K, O> {
         hinted: Option<KnownFull<'p, T, K, O>>,
         limit: Option<usize>,
         init: &I,
-    ) -> Result<Reached<'c, T, K, O>, PullError>
+    ) -> Result<WalkEnd<'c, T, K, O>, PullError>
         requires of_page { full_page seen ≡ shown_page self.now }
         requires hinted { IfSome hinted (IsFullAt self.now.directory.now) }
         requires some_page { IfSome limit (λ pages. 1 ≤ pages) }
-        requires opens { MayOpen (I.pre init.now) (λ answer. I.post init.now answer) K.meets O.meets }
-        ensures item { IfOk result (λ reached. IsItemOf K.meets (page_identity (arc_value reached.page.now)) (slot_item reached.slot)) }
-        ensures history { IfOk result (λ reached. HasOrigin O.meets (slot_item reached.slot)) }
-        ensures past_start { IfOk result (λ reached. page_number self.now < number_of reached.number) }
-        ensures number { IfOk result (λ reached. IsLinkedAt self.now.directory.now reached.number (page_identity (arc_value reached.page.now))) }
-        ensures within { IfOk result (λ reached. IfSome limit (λ pages. number_of reached.number - page_number self.now < pages)) }
+        requires opens { MayOpen I.pre I.post K.meets O.meets init.now }
+        ensures taken { IfOk result (λ reached.
+            IsTaken K.meets O.meets (start_at self.now) limit reached.number (slot_item reached.slot)) }
+        ensures page { IfOk result (λ reached.
+            (slot_item reached.slot).page ≡ page_identity (arc_value reached.page.now)) }
         ensures refused { IfErr result (RefusesPull (record {
           limited = IsSome limit;
           init_refuses = I.post init.now None;
@@ -201,7 +205,7 @@ impl<'c, T: Drop, K: Clean<T>, O: Clean<T>> LinearPage<'c, T, K, O> {
             hinted = rest;
             match self.ask(linked, next, &mut note, known, pass) {
                 Allocated::Slot(slot) => {
-                    return Ok(Reached {
+                    return Ok(WalkEnd {
                         slot,
                         page: linked.owner(),
                         number: PageNumber::of_link(next, note),
@@ -226,8 +230,10 @@ impl<'c, T: Drop, K: Clean<T>, O: Clean<T>> LinearPage<'c, T, K, O> {
     ) -> Result<(&'c OpenedPage<T, K, O>, LinkNote<T, K, O>), PullError>
         requires past_first { 0 < number }
         requires of_page { full_page seen ≡ page_identity (arc_value before.now) }
-        requires opens { MayOpen (I.pre init.now) (λ answer. I.post init.now answer) K.meets O.meets }
-        ensures known { IfOk result (λ next. IsKnownAt self.now.directory.now number next.1 (page_identity (arc_value next.0.now))) }
+        requires opens { MayOpen I.pre I.post K.meets O.meets init.now }
+        ensures known { IfOk result
+            (λ next. IsKnownAt self.now.directory.now number next.1
+            (page_identity (arc_value next.0.now))) }
         ensures refused { IfErr result (RefusesMaking (I.post init.now None)) }
     {
         let before = LinearPage::new(self.directory, before, number - 1);
@@ -245,10 +251,12 @@ impl<'c, T: Drop, K: Clean<T>, O: Clean<T>> LinearPage<'c, T, K, O> {
         known: Option<KnownFull<'p, T, K, O>>,
         pass: &'p PullPass,
     ) -> Allocated<'c, 'p, T, K>
-        requires linked { IsKnownAt self.now.directory.now number note.old (page_identity (arc_value page.now)) }
+        requires linked { IsKnownAt self.now.directory.now number note.old
+            (page_identity (arc_value page.now)) }
         requires full { IfSome known (IsFullAt self.now.directory.now) }
         requires here { IfSome known (λ known. known.number ≡ number) }
-        ensures linked { IsKnownAt self.now.directory.now number note.new (page_identity (arc_value page.now)) }
+        ensures linked { IsKnownAt self.now.directory.now number note.new
+            (page_identity (arc_value page.now)) }
         ensures answer { IsAnsweredBy K.meets O.meets (page_identity (arc_value page.now)) result }
     {
         match known {
@@ -295,18 +303,19 @@ fn one_more(limit: Option<usize>, passed: usize) -> Result<(), PullError>
     }
 }
 
-impl<T: Drop, K: Clean<T>, O: Clean<T>> Reached<'_, T, K, O> {
+impl<T: Drop, K: Clean<T>, O: Clean<T>> WalkEnd<'_, T, K, O> {
     /// The same item, with an owner of its page in place of the borrow, and its page's number.
     ///
     /// Where the page can have no more owners, the item goes home again.
     pub(crate) fn into_owned(self) -> Result<(OwnedSlot<T, K>, PageNumber<T, K, O>), PullError>
         requires of_page { (slot_item self.slot).page ≡ page_identity (arc_value self.page.now) }
         requires meets { K.meets (slot_item self.slot).value }
-        ensures item { IfOk result (λ reached. owned_slot_item reached.0 ≡ slot_item self.entry.slot) }
+        ensures item { IfOk result
+            (λ reached. owned_slot_item reached.0 ≡ slot_item self.entry.slot) }
         ensures number { IfOk result (λ reached. reached.1 ≡ self.entry.number) }
         ensures refused { IfErr result (RefusesMaking ⊥) }
     {
-        let Reached { slot, page, number } = self;
+        let WalkEnd { slot, page, number } = self;
         match Arc::try_clone(page) {
             Ok(owner) => Ok((slot.into_owned(owner), number)),
             Err(_) => {

@@ -1,4 +1,4 @@
-//! What a pull has when each id of a page, or each item of a fixed pool, was found out.
+//! What a pull has when each id of a page, or each item of a fixed pool, was observed taken.
 use super::PageSlot;
 use super::user_view::UserSeat;
 use crate::clean::Clean;
@@ -8,14 +8,14 @@ use crate::clean::Clean;
 pub struct PullPass;
 
 impl PullPass {
-    /// Opens a pull. The evidence that a page was full borrows it, so it can't be kept past the pull.
+    /// A new pull. The evidence that a page was full borrows it, and so ends with it at the latest.
     pub fn new() -> PullPass {
         PullPass
     }
 }
 
-/// Each id of one page was found out since the pass was made: by the word that was read, or by a step of its own. Of a fixed pool
-/// each item.
+/// Each id of one page was observed taken since the pass was made: by the word that was read, or by a step of its own.
+/// Of a fixed pool each item was.
 ///
 /// It borrows its pass, so it can't be kept past the pull.
 #[derive(Drop)]
@@ -30,7 +30,7 @@ pub struct FullSeen<'p, T> {
 pub enum Allocated<'s, 'p, T, K: Clean<T>> {
     /// An item of the page.
     Slot(PageSlot<'s, T, K>),
-    /// No item: each id was found out.
+    /// No item: each id was observed taken.
     Full(FullSeen<'p, T>),
 }
 

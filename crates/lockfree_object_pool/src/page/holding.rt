@@ -9,7 +9,7 @@ use crate::clean::Clean;
 
 /// The number of an item that was taken, and the seat of the user that has it.
 #[derive(Drop)]
-pub(crate) struct Holding<T> {
+pub struct Holding<T> {
     pub(crate) seat: UserSeat<T>,
     /// A whole word, so that an item on its way up is moved by words.
     pub(crate) number: usize,
@@ -27,7 +27,7 @@ impl<T> Holding<T> {
     pub(crate) fn witness<K: Clean<T>>(&mut self, items: &Items<T, K>) -> Witness<T>
         requires { holding_page self.old ≡ items_identity items.now }
         ensures page { witness_page result ≡ holding_page self.old }
-        ensures history { witness_history result ≡ (holding_view self.old).acts }
+        ensures history { witness_history result ≡ (holding_view self.old).operations }
         ensures same_page { holding_page self.new ≡ holding_page self.old }
         ensures same_view { holding_view self.new ≡ holding_view self.old }
         ensures same_number { self.new.number ≡ self.old.number }

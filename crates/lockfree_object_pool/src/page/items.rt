@@ -52,10 +52,11 @@ impl<T, K: Clean<T>> Items<T, K> {
         requires some_item { 1 ≤ count }
         requires small { count + 31 < 2 ^ 64 }
         requires all_free { IsAllFree count words.now }
-        requires may_make { MayMake (I.pre init.now) (λ answer. I.post init.now answer) K.meets }
+        requires may_make { MayMake I.pre I.post K.meets init.now }
         ensures refused { IfErr result (RefusesMaking (I.post init.now None)) }
         ensures count { IfOk result (λ items. (items_identity items).slots ≡ count) }
-        ensures opened { IfOk result (λ items. IsFilled count (λ made. I.post init.now (Some made)) (items_opening items)) }
+        ensures opened { IfOk result
+            (λ items. IsFilled count (λ made. I.post init.now (Some made)) (items_opening items)) }
     {
         let items = Items::<T, K>::make_items(alloc, count, init)?;
         let opening = Snapshot::of(&items);
@@ -72,9 +73,10 @@ impl<T, K: Clean<T>> Items<T, K> {
     ) -> Result<Vec<Option<T>>, PullError>
     where
         T: Drop,
-        requires { MayMake (I.pre init.now) (λ answer. I.post init.now answer) K.meets }
+        requires { MayMake I.pre I.post K.meets init.now }
         ensures all { IfOk result (λ items. IsFilled count K.meets items.items) }
-        ensures answers { IfOk result (λ items. IsFilled count (λ made. I.post init.now (Some made)) items.items) }
+        ensures answers { IfOk result
+            (λ items. IsFilled count (λ made. I.post init.now (Some made)) items.items) }
         ensures refused { IfErr result (RefusesMaking (I.post init.now None)) }
     {
         let mut items = Vec::with_capacity(alloc, count)?;
@@ -111,7 +113,7 @@ impl<T, K: Clean<T>> Items<T, K> {
     pub(crate) fn witness(&self, seat: &mut UserSeat<T>) -> Witness<T>
         requires { seat.old.table_id ≡ items_identity self.now }
         ensures items { witness_page result ≡ items_identity self.now }
-        ensures history { witness_history result ≡ seat.old.me.0.acts }
+        ensures history { witness_history result ≡ seat.old.me.0.operations }
         ensures same_items { seat.new.table_id ≡ seat.old.table_id }
         ensures same_user { seat.new.me ≡ seat.old.me }
     {
@@ -133,10 +135,15 @@ impl<T, K: Clean<T>> Items<T, K> {
         requires holds_none { seat.old.me.0.held ≡ None }
         requires here { seat.old.me.0.gone ≡ false }
         requires sound { IsSound seat.old.me.0 }
-        requires found { (bit : ℕ) → bit < 32 → bit_at word bit ≡ 0 → KnowsOut seat.old.me.0 (item_of page bit) }
+        requires found { (bit : ℕ) → bit < 32 → bit_at word bit ≡ 0
+            → KnowsOut seat.old.me.0 (item_of page bit) }
         ensures items { seat.new.table_id ≡ seat.old.table_id }
-        ensures steps { (seat.new.me.0.looks ≡ seat.old.me.0.looks) × (seat.new.me.0.tries ≤ seat.old.me.0.tries + 32) }
-        ensures outcome { MatchOption result (MissesAll (32 * page) (32 * page + 32) seat.old.me seat.new.me) (λ taken. TakesOne K.meets (items_identity self.now).slots taken.number taken.value seat.old.me seat.new.me) }
+        ensures steps { (seat.new.me.0.loads ≡ seat.old.me.0.loads)
+            × (seat.new.me.0.tries ≤ seat.old.me.0.tries + 32) }
+        ensures outcome { MatchOption result
+            (MissesAll (32 * page) (32 * page + 32) seat.old.me seat.new.me) (λ taken.
+            TakesOne K.meets (items_identity self.now).slots taken.number taken.value seat.old.me
+            seat.new.me) }
     {
         let mut untried = word;
         while let Some((rest, bit)) = take_least(untried) {

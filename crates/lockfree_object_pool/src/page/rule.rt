@@ -13,7 +13,7 @@ use std::snapshot::Snapshot;
 pub type Opening<T> = Snapshot<Vec<Option<T>>>;
 
 /// The rule of a page: each free item is at home and meets the condition, each item that is out has one holder at most,
-/// and the page stands where one lawful history has led.
+/// and the page stands where one legal history has led.
 pub struct PageRule<K> {
     condition: PhantomData<K>,
 }
@@ -30,27 +30,27 @@ impl<T, K: Clean<T>> TableRule<Option<T>, UserView<T>, Snapshot<Vec<Option<T>>>>
 pub struct Look;
 
 impl<T> Play<Option<T>, UserView<T>> for Look {
-    ghost use Rattle.lockfree_object_pool.specs.PageRule.{Looks};
+    ghost use Rattle.lockfree_object_pool.specs.PageRule.{Loads};
 
-    ghost then = { λ step first word new. Looks first.0 step.word word new };
+    ghost then = { λ step first word new. Loads first.0 step.word word new };
 }
 
 /// A load of one word by a user that knows something already: what it finds out from there on starts anew.
 pub struct LookAgain;
 
 impl<T> Play<Option<T>, UserView<T>> for LookAgain {
-    ghost use Rattle.lockfree_object_pool.specs.PageRule.{LooksAgain};
+    ghost use Rattle.lockfree_object_pool.specs.PageRule.{LoadsAgain};
 
-    ghost then = { λ step old word new. LooksAgain step.word old word new };
+    ghost then = { λ step old word new. LoadsAgain step.word old word new };
 }
 
 /// A load of a further word by the same call: what it finds out goes on from its first load.
 pub struct LookOn;
 
 impl<T> Play<Option<T>, UserView<T>> for LookOn {
-    ghost use Rattle.lockfree_object_pool.specs.PageRule.{LooksOn};
+    ghost use Rattle.lockfree_object_pool.specs.PageRule.{LoadsOn};
 
-    ghost then = { λ step old word new. LooksOn step.word old word new };
+    ghost then = { λ step old word new. LoadsOn step.word old word new };
 }
 
 /// A user leaves a witness of what it knows.
@@ -83,7 +83,8 @@ pub struct ClearBit<K> {
 impl<T, K: Clean<T>> Play<Option<T>, UserView<T>> for ClearBit<K> {
     ghost use Rattle.lockfree_object_pool.specs.PageRule.{Clears};
 
-    ghost then = { λ step old word new. Clears K.meets step.slots step.word step.first old word new };
+    ghost then = { λ step old word new.
+        Clears K.meets step.slots step.word step.first old word new };
 }
 
 /// A step that sets one bit of the word, once its value is back home.

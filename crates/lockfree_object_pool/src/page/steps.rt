@@ -1,6 +1,6 @@
 //! The steps on the words of a page or of a fixed pool, and the move of a value out and home.
 ghost use Rattle.std.specs.Prelude.{◌≡◌, ◌<◌, [], ◌∷◌, Some, None, MatchOption, false};
-ghost use Rattle.lockfree_object_pool.specs.declared.page.history.PageAct.TheVariants.{Gave};
+ghost use Rattle.lockfree_object_pool.specs.declared.page.history.Operation.TheVariants.{Return};
 
 use super::holding::Holding;
 use super::items::Items;
@@ -12,13 +12,13 @@ use crate::clean::Clean;
 impl<T, K: Clean<T>> Items<T, K> {
     ghost use Rattle.lockfree_object_pool.specs.Holding.{holding_page, holding_view};
     ghost use Rattle.lockfree_object_pool.specs.Items.{items_identity, items_opening};
-    ghost use Rattle.lockfree_object_pool.specs.PageRule.{Looks, LooksAgain, LooksOn, Misses, MovesOut, GoesOn, first_view, item_of};
+    ghost use Rattle.lockfree_object_pool.specs.PageRule.{Loads, LoadsAgain, LoadsOn, Misses, MovesOut, GoesOn, first_view, item_of};
 
     /// A word at this moment, and a new user that knows of the items that are out in it.
     pub(crate) fn look(&self, page: usize) -> (u32, UserSeat<T>)
         requires { page < (items_identity self.now).words }
         ensures items { result.1.table_id ≡ items_identity self.now }
-        ensures found { Looks (first_view (items_opening self.now)) page result.0 result.1.me }
+        ensures found { Loads (first_view (items_opening self.now)) page result.0 result.1.me }
         ensures carries_none { result.1.me.1 ≡ [] }
     {
         let (word, seat) = self.table.shared.load_new_seat::<Look>(page);
@@ -31,7 +31,7 @@ impl<T, K: Clean<T>> Items<T, K> {
         requires in_items { page < (items_identity self.now).words }
         requires here { seat.old.me.0.gone ≡ false }
         ensures items { seat.new.table_id ≡ seat.old.table_id }
-        ensures found { LooksOn page seat.old.me result seat.new.me }
+        ensures found { LoadsOn page seat.old.me result seat.new.me }
     {
         self.table.shared.load::<LookOn>(seat, page) as u32
     }
@@ -42,7 +42,7 @@ impl<T, K: Clean<T>> Items<T, K> {
         requires in_items { page < (items_identity self.now).words }
         requires here { seat.old.me.0.gone ≡ false }
         ensures items { seat.new.table_id ≡ seat.old.table_id }
-        ensures found { LooksAgain page seat.old.me result seat.new.me }
+        ensures found { LoadsAgain page seat.old.me result seat.new.me }
     {
         self.table.shared.load::<LookAgain>(seat, page) as u32
     }
@@ -60,7 +60,9 @@ impl<T, K: Clean<T>> Items<T, K> {
         requires holds_none { seat.old.me.0.held ≡ None }
         requires here { seat.old.me.0.gone ≡ false }
         ensures items { seat.new.table_id ≡ seat.old.table_id }
-        ensures outcome { MatchOption result (Misses (item_of page bit) seat.old.me seat.new.me) (λ taken. (item_of page bit < (items_identity self.now).slots) × K.meets taken.0 × MovesOut (item_of page bit) taken.0 seat.old.me seat.new.me) }
+        ensures outcome { MatchOption result (Misses (item_of page bit) seat.old.me seat.new.me)
+            (λ taken. (item_of page bit < (items_identity self.now).slots) × K.meets taken.0
+            × MovesOut (item_of page bit) taken.0 seat.old.me seat.new.me) }
     {
         let words = &self.table.shared;
         let word = words.fetch_and::<ClearBit<K>>(seat, page, without_bit(u32::MAX, bit) as u64);
@@ -74,6 +76,9 @@ impl<T, K: Clean<T>> Items<T, K> {
     }
 
     /// Moves the value home, then sets its bit. Whether no other bit of its word was set then.
+    ///
+    /// The bit of an item that is out is clear, so to add it sets it: an addition that answers the old word is one locked
+    /// instruction, where an or that does is a loop.
     pub(crate) fn give(&self, holding: Holding<T>, value: T) -> (UserSeat<T>, bool)
         requires items { holding_page holding ≡ items_identity self.now }
         requires in_items { holding.number < (items_identity self.now).slots }
@@ -82,7 +87,8 @@ impl<T, K: Clean<T>> Items<T, K> {
         ensures carries_none { result.0.me.1 ≡ [] }
         ensures holds_none { result.0.me.0.held ≡ None }
         ensures here { result.0.me.0.gone ≡ false }
-        ensures returned { GoesOn (Gave result.0.me.0.user holding.number value ∷ []) (holding_view holding) result.0.me.0 }
+        ensures returned { GoesOn (Return result.0.me.0.user holding.number value ∷ [])
+            (holding_view holding) result.0.me.0 }
     {
         let words = &self.table.shared;
         let Holding { mut seat, number } = holding;
@@ -91,7 +97,7 @@ impl<T, K: Clean<T>> Items<T, K> {
             Some(_) => unreachable!(),
         }
         let bit = with_bit(0, (number % PAGE_ITEMS) as PageId);
-        let word = words.fetch_or::<SetBit>(&mut seat, number / PAGE_ITEMS, bit as u64);
+        let word = words.fetch_add::<SetBit>(&mut seat, number / PAGE_ITEMS, bit as u64);
         (seat, word == 0)
     }
 }

@@ -23,7 +23,8 @@ impl<'s, T> Model for Turn<'s, T> {
 
     ghost view = { λ turn. (turn.seat.table_id, turn.seat.id) };
 
-    ghost invariant = { λ turn. (turn.seat.table_id ≡ turn.lock.now) × (turn.seat.me ≡ (Holder, (0, None) ∷ [])) };
+    ghost invariant = { λ turn.
+        (turn.seat.table_id ≡ turn.lock.now) × (turn.seat.me ≡ (Holder, (0, None) ∷ [])) };
 }
 
 impl<'s, T> Turn<'s, T> {

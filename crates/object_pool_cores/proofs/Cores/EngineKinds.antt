@@ -1,5 +1,6 @@
--- What an engine played on a core of each kind, told of the pool that the core is.
-use Rattle.std.proofs.Common.{◌≡◌, ℕ, Option, Some, None, List, [], ◌∷◌, length, Result, refl, sym, ap, subst, ◌∙◌, arith, suc, zero}
+-- What an engine played on a core of each kind, said of the pool that the core stands for.
+use Rattle.std.proofs.Common.{◌≡◌, ℕ, Option, Some, None, List, [], ◌∷◌, length, Result, refl, sym, ap, subst, ◌∙◌}
+use Rattle.std.proofs.Common.{arith, suc, zero}
 use Rattle.std.specs.Prelude.{All, replicate}
 use Rattle.std.proofs.KnownBytes.{Appends-nil}
 use Rattle.std.proofs.lemmas.List.Elements.{All-head, All-tail}
@@ -19,7 +20,7 @@ use Rattle.object_pool_cores.specs.LeastChoice.{PullsItem, ReturnsItem}
 use Rattle.object_pool_cores.specs.Linear as linear
 use Rattle.object_pool_cores.specs.Stack as stack
 use Rattle.object_pool_cores.specs.NoPool as fresh
-use Rattle.object_pool_cores.specs.Opens.{Opens}
+use Rattle.object_pool_cores.specs.Inside.EngineCore.{IsEngineCore}
 use Rattle.object_pool_cores.specs.Pool.{Pool, IsSame, opening}
 use Rattle.object_pool_cores.proofs.LineSplits.{IsLines-none}
 
@@ -27,7 +28,8 @@ abbrev by_copy : ℕ → Option ℕ → Type 0
 by_copy copied answer = answer ≡ Some copied
 
 -- a list of zeros
-zeros : (values : List ℕ) (count : ℕ) → length values ≡ count → All (λ v. makes_zero (Some v)) values → values ≡ replicate count 0
+zeros : (values : List ℕ) (count : ℕ) → length values ≡ count → All (λ v. makes_zero (Some v)) values
+    → values ≡ replicate count 0
 zeros [] zero counted each = refl
 zeros [] (suc count) counted each = absurd (omega arith)
 zeros (v ∷ values) zero counted each = absurd (omega arith)
@@ -43,7 +45,8 @@ module _ (leaves : ℕ → ℕ → Type 0) where
   by_limit (Some pages) tells told = told
 
   -- nothing was read, and nothing written
-  pub WroteFront-none : (limit : Option ℕ) (before : Option (List ℕ)) → WroteFront (linear_kind limit) leaves before [] before
+  pub WroteFront-none : (limit : Option ℕ) (before : Option (List ℕ))
+      → WroteFront (linear_kind limit) leaves before [] before
   WroteFront-none limit before = by_limit limit (tells_front before [] before) (
     record { pool = opening (replicate 32 0); held = [] },
     record { pool = record { pages = refl; places = λ n. refl }; held = refl },
@@ -53,7 +56,13 @@ module _ (leaves : ℕ → ℕ → Type 0) where
       rest = [];
       last = record { pool = opening (replicate 32 0); held = [] };
       cut = refl;
-      served = record { lines = []; text = []; split = IsLines-none; told = (refl, refl); written = Appends-nil before };
+      served = record {
+        lines = [];
+        text = [];
+        split = IsLines-none;
+        told = (refl, refl);
+        written = Appends-nil before;
+      };
     },
   )
 
@@ -66,37 +75,55 @@ module _ {R K : Type 0} (leaves : R → ℕ → ℕ → Type 0) (limit : Option 
 
   pub linear_pull : (old new : LinearCore ℕ ℕ R K) (answer : Result (Item ℕ) PullError) → IsSetLinear old
       → linear.Pulls (by_copy (linear.init_of old)) old answer new
-      → PullsItem limit makes_zero (linear.pool_of old) answer (linear.pool_of new) × IsSetLinear new
+      → PullsItem limit makes_zero (linear.core_pool old) answer (linear.core_pool new) × IsSetLinear new
   linear_pull old new answer set pulled = (
-    subst (λ (by : ℕ). PullsItem limit (by_copy by) (linear.pool_of old) answer (linear.pool_of new)) set.init
-        (subst (λ (most : Option ℕ). PullsItem most (by_copy (linear.init_of old)) (linear.pool_of old) answer (linear.pool_of new)) set.limited pulled.pulled),
-    record { limited = pulled.step.limit ∙ set.limited; init = pulled.step.init ∙ set.init; kept = pulled.step.reset ∙ set.kept },
+    subst (λ (by : ℕ). PullsItem limit (by_copy by) (linear.core_pool old) answer (linear.core_pool new)) set.init
+        (subst
+        (λ (most : Option ℕ). PullsItem most (by_copy (linear.init_of old)) (linear.core_pool old) answer
+        (linear.core_pool new)) set.limited pulled.pulled),
+    record {
+      limited = pulled.step.limit ∙ set.limited;
+      init = pulled.step.init ∙ set.init;
+      kept = pulled.step.reset ∙ set.kept;
+    },
   )
 
   pub linear_give : (old new : LinearCore ℕ ℕ R K) (item : Item ℕ) → IsSetLinear old
       → linear.Gives (leaves (linear.reset_of old)) old item new
-      → ReturnsItem (leaves reset) (linear.pool_of old) item (linear.pool_of new) × IsSetLinear new
+      → ReturnsItem (leaves reset) (linear.core_pool old) item (linear.core_pool new) × IsSetLinear new
   linear_give old new item set gave = (
-    subst (λ (by : R). ReturnsItem (leaves by) (linear.pool_of old) item (linear.pool_of new)) set.kept gave.returned,
-    record { limited = gave.step.limit ∙ set.limited; init = gave.step.init ∙ set.init; kept = gave.step.reset ∙ set.kept },
+    subst (λ (by : R). ReturnsItem (leaves by) (linear.core_pool old) item (linear.core_pool new)) set.kept
+        gave.returned,
+    record {
+      limited = gave.step.limit ∙ set.limited;
+      init = gave.step.init ∙ set.init;
+      kept = gave.step.reset ∙ set.kept;
+    },
   )
 
-  pub linear_attach : (old new : LinearCore ℕ ℕ R K) (value : ℕ) (answer : Result (Item ℕ) (AttachError ℕ)) → IsSetLinear old
-      → RefusesAttach old value answer new → RefusesAttach (linear.pool_of old) value answer (linear.pool_of new)
+  pub linear_attach : (old new : LinearCore ℕ ℕ R K) (value : ℕ) (answer : Result (Item ℕ) (AttachError ℕ))
+      → IsSetLinear old
+      → RefusesAttach old value answer new → RefusesAttach (linear.core_pool old) value answer (linear.core_pool new)
       × IsSetLinear new
-  linear_attach old new value answer set refused = ((refused.0, ap linear.pool_of refused.1), subst IsSetLinear (sym refused.1) set)
+  linear_attach old new value answer set refused =
+      ((refused.0, ap linear.core_pool refused.1), subst IsSetLinear (sym refused.1) set)
 
-  pub linear_set : (core : LinearCore ℕ ℕ R K) → Opens limit reset core → IsSetLinear core
+  pub linear_set : (core : LinearCore ℕ ℕ R K) → IsEngineCore limit reset core → IsSetLinear core
   linear_set core opens = record { limited = opens.opening.most; init = opens.init; kept = opens.kept }
 
-  pub on_linear : (old : Playing (LinearCore ℕ ℕ R K) ℕ) → Opens limit reset old.pool → old.held ≡ [] → (tells : Telling)
+  pub on_linear : (old : Playing (LinearCore ℕ ℕ R K) ℕ) → IsEngineCore limit reset old.pool → old.held ≡ []
+      → (tells : Telling)
       → tells (Pool ℕ) (PullsItem limit makes_zero) (ReturnsItem (leaves reset)) RefusesAttach
-      (record { pool = linear.pool_of old.pool; held = old.held }) → OnKind (leaves reset) (linear_kind limit) tells
+      (record { pool = linear.core_pool old.pool; held = old.held }) → OnKind (leaves reset) (linear_kind limit) tells
   on_linear old opens none tells told =
-      let values = zeros opens.opening.values 32 opens.opening.count opens.opening.answered in
+      let first = opens.opening in
+      let values = zeros first.values 32 first.answered.count first.answered.each in
       by_limit (leaves reset) limit tells (
-        record { pool = linear.pool_of old.pool; held = old.held },
-        record { pool = subst (λ (vs : List ℕ). IsSame (linear.pool_of old.pool) (opening vs)) values opens.opening.pool; held = none },
+        record { pool = linear.core_pool old.pool; held = old.held },
+        record {
+          pool = subst (λ (vs : List ℕ). IsSame (linear.core_pool old.pool) (opening vs)) values first.pool;
+          held = none;
+        },
         told,
       )
 
@@ -122,15 +149,18 @@ module _ {R K : Type 0} (leaves : R → ℕ → ℕ → Type 0) (reset : R) wher
     record { init = gave.step.init ∙ set.init; kept = gave.step.reset ∙ set.kept },
   )
 
-  pub stack_attach : (old new : StackCore ℕ ℕ R K) (value : ℕ) (answer : Result (Item ℕ) (AttachError ℕ)) → IsSetStack old
-      → stack.Attaches old value answer new → AttachesLast (stack.kept_of old) value answer (stack.kept_of new) × IsSetStack new
+  pub stack_attach : (old new : StackCore ℕ ℕ R K) (value : ℕ) (answer : Result (Item ℕ) (AttachError ℕ))
+      → IsSetStack old
+      → stack.Attaches old value answer new → AttachesLast (stack.kept_of old) value answer (stack.kept_of new)
+      × IsSetStack new
   stack_attach old new value answer set attached = (attached.attached, subst IsSetStack (sym attached.same) set)
 
   pub on_stack : (old : Playing (StackCore ℕ ℕ R K) ℕ) → stack.kept_of old.pool ≡ [] → old.held ≡ [] → (tells : Telling)
       → tells (List ℕ) (PullsLast makes_zero) (ReturnsLast (leaves reset)) AttachesLast
       (record { pool = stack.kept_of old.pool; held = old.held }) → OnKind (leaves reset) kind.Stack tells
   on_stack old none_kept none tells told =
-      subst (λ (held : List (Option (Item ℕ))). tells (List ℕ) (PullsLast makes_zero) (ReturnsLast (leaves reset)) AttachesLast
+      subst (λ (held : List (Option (Item ℕ))). tells (List ℕ) (PullsLast makes_zero) (ReturnsLast (leaves reset))
+      AttachesLast
       (record { pool = []; held = held })) none
       (subst (λ (values : List ℕ). tells (List ℕ) (PullsLast makes_zero) (ReturnsLast (leaves reset)) AttachesLast
       (record { pool = values; held = old.held })) none_kept told)
@@ -144,7 +174,8 @@ no_pool core = tt
 
 pub none_pull : (old new : NoneCore ℕ ℕ) (answer : Result (Item ℕ) PullError) → IsSetNone old
     → fresh.Pulls (by_copy (fresh.init_of old)) old answer new → PullsFresh makes_zero answer × IsSetNone new
-none_pull old new answer set pulled = (subst (λ (by : ℕ). PullsFresh (by_copy by) answer) set pulled.1, ap fresh.init_of pulled.0 ∙ set)
+none_pull old new answer set pulled =
+    (subst (λ (by : ℕ). PullsFresh (by_copy by) answer) set pulled.1, ap fresh.init_of pulled.0 ∙ set)
 
 pub none_attach : (old new : NoneCore ℕ ℕ) (value : ℕ) (answer : Result (Item ℕ) (AttachError ℕ)) → IsSetNone old
     → RefusesAttach old value answer new → RefusesAttach (no_pool old) value answer (no_pool new) × IsSetNone new

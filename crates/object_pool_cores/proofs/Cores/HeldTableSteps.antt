@@ -1,13 +1,14 @@
 -- What changes in the table where the map changes at one index.
-use Rattle.std.proofs.Common.{◌≡◌, ◌≢◌, ℕ, ◌+◌, ◌<◌, ◌≤◌, suc, zero, Option, Some, None, List, [], ◌∷◌, ◌++◌, length, slice_set, refl, sym, ap, ◌∙◌, arith, inl, inr, length-append}
+use Rattle.std.proofs.Common.{◌≡◌, ◌≢◌, ℕ, ◌+◌, ◌<◌, ◌≤◌, suc, zero, Option, Some, None, List, [], ◌∷◌, ◌++◌, length}
+use Rattle.std.proofs.Common.{slice_set, refl, sym, ap, ◌∙◌, arith, inl, inr, length-append}
 use Rattle.std.specs.Prelude.{Bool, unwrap_or, OnSome, is_some, option_map}
 use Rattle.object_pool_cores.specs.declared.sequential.item.Item.{Item}
-use Rattle.object_pool_cores.specs.Item.{with_value}
+use Rattle.object_pool_cores.specs.Inside.SequentialItem.{with_value}
 use Rattle.object_pool_cores.specs.Held.{held_at, IsReplaced}
 use Rattle.std.specs.List.{slice_get}
 use Rattle.std.proofs.lemmas.Bool.{cases_lt, cases_eq}
 use Rattle.std.proofs.lemmas.Option.{slice_get_past}
-use Rattle.object_pool_cores.specs.HeldTable.{listed}
+use Rattle.object_pool_cores.specs.Inside.HeldTable.{listed}
 use Rattle.object_pool_cores.specs.Laws.NumberedPlaces.{slice_get-append_front, slice_get-append_back}
 
 module _ {X : Type 0} where
@@ -19,17 +20,22 @@ module _ {X : Type 0} where
   slice_get-listed : (at : ℕ → Option X) (n i : ℕ) → i < n → slice_get (listed at n) i ≡ Some (at i)
   slice_get-listed at zero i within = absurd (omega arith)
   slice_get-listed at (suc n) i within = elim (cases_lt i n) [
-    | inl before ↦ slice_get-append_front (listed at n) (at n ∷ []) i (omega (arith, before, length-listed at n)) ∙ slice_get-listed at n i before
+    | inl before ↦ slice_get-append_front (listed at n) (at n ∷ []) i (omega (arith, before, length-listed at n))
+        ∙ slice_get-listed at n i before
     | inr last ↦
         let same : i ≡ n = omega arith in
         let end : i ≡ 0 + length (listed at n) = omega (arith, length-listed at n) in
-        ap (slice_get (listed at n ++ at n ∷ [])) end ∙ slice_get-append_back (listed at n) (at n ∷ []) 0 ∙ ap (λ k. Some (at k)) (sym same)
+        ap (slice_get (listed at n ++ at n ∷ [])) end ∙ slice_get-append_back (listed at n) (at n ∷ []) 0
+        ∙ ap (λ k. Some (at k)) (sym same)
   ]
 
-  pub unwrap_or-listed : (at : ℕ → Option X) (n i : ℕ) → ((k : ℕ) → n ≤ k → at k ≡ None) → unwrap_or (slice_get (listed at n) i) None ≡ at i
+  pub unwrap_or-listed : (at : ℕ → Option X) (n i : ℕ) → ((k : ℕ) → n ≤ k → at k ≡ None)
+      → unwrap_or (slice_get (listed at n) i) None ≡ at i
   unwrap_or-listed at n i past = elim (cases_lt i n) [
     | inl within ↦ ap (λ o. unwrap_or o None) (slice_get-listed at n i within)
-    | inr behind ↦ ap (λ o. unwrap_or o None) (slice_get_past (listed at n) i (omega (arith, behind, length-listed at n))) ∙ sym (past i behind)
+    | inr behind ↦
+        ap (λ o. unwrap_or o None) (slice_get_past (listed at n) i (omega (arith, behind, length-listed at n)))
+        ∙ sym (past i behind)
   ]
 
   -- the same at each index is the same table
@@ -39,7 +45,8 @@ module _ {X : Type 0} where
       let front = listed-same at other n (λ k within. same k (omega arith)) in
       let last = same n (omega arith) in cc
 
-  slice_set-front : (xs : List X) (x y : X) (i : ℕ) → i < length xs → slice_set (xs ++ x ∷ []) i y ≡ slice_set xs i y ++ x ∷ []
+  slice_set-front : (xs : List X) (x y : X) (i : ℕ) → i < length xs
+      → slice_set (xs ++ x ∷ []) i y ≡ slice_set xs i y ++ x ∷ []
   slice_set-front [] x y i within = absurd (omega arith)
   slice_set-front (z ∷ xs) x y zero within = refl
   slice_set-front (z ∷ xs) x y (suc i) within = ap (λ rest. z ∷ rest) (slice_set-front xs x y i (omega arith))
@@ -57,7 +64,8 @@ module _ {X : Type 0} where
 
 module _ {X : Type 0} where
   -- another thing at one index
-  pub listed-set : (at other : ℕ → Option X) (n i : ℕ) (place : Option X) → other i ≡ place → ((k : ℕ) → k ≢ i → other k ≡ at k)
+  pub listed-set : (at other : ℕ → Option X) (n i : ℕ) (place : Option X) → other i ≡ place
+      → ((k : ℕ) → k ≢ i → other k ≡ at k)
       → listed other n ≡ slice_set (listed at n) i place
   listed-set at other zero i place here apart = refl
   listed-set at other (suc n) i place here apart = elim (cases_lt i n) [
@@ -73,7 +81,8 @@ module _ {X : Type 0} where
       | inr differ ↦
           let front = listed-same at other n (λ k within. apart k (omega arith)) in
           let last = apart n (omega arith) in
-          let set = slice_set-past (listed at n ++ at n ∷ []) place i (omega (arith, behind, length-listed at (suc n))) in cc
+          let set =
+          slice_set-past (listed at n ++ at n ∷ []) place i (omega (arith, behind, length-listed at (suc n))) in cc
     ]
   ]
 
@@ -95,7 +104,8 @@ module _ {T : Type 0} where
   pub IsReplaced-listed : (at other : ℕ → Option (Item T)) (n index : ℕ) (value : T) (there : Bool)
       → ((k : ℕ) → n ≤ k → at k ≡ None) → there ≡ is_some (at index)
       → other index ≡ option_map (λ item. with_value item value) (at index)
-      → ((k : ℕ) → k ≢ index → other k ≡ at k) → IsReplaced (listed at n) index value (held_at (listed at n) index) there (listed other n)
+      → ((k : ℕ) → k ≢ index → other k ≡ at k)
+      → IsReplaced (listed at n) index value (held_at (listed at n) index) there (listed other n)
   IsReplaced-listed at other n index value there past lookup here apart =
       rw (unwrap_or-listed at n index past) (by_item (at index) refl lookup here)
     where
@@ -109,4 +119,5 @@ module _ {T : Type 0} where
           | inr differ ↦ apart k differ
         ]),
       )
-      by_item (Some item) some lookup same = (lookup, listed-set at other n index (Some (with_value item value)) same apart)
+      by_item (Some item) some lookup same =
+          (lookup, listed-set at other n index (Some (with_value item value)) same apart)

@@ -1,5 +1,6 @@
 -- A page's word and its places change together.
-use Rattle.std.proofs.Common.{◌≡◌, ℕ, ◌<◌, ◌^◌, suc, zero, Option, Some, None, List, [], ◌∷◌, length, map, get_or, slice_set, refl, sym, ap, subst, ◌∙◌, arith, inl, inr, length-set}
+use Rattle.std.proofs.Common.{◌≡◌, ℕ, ◌<◌, ◌^◌, suc, zero, Option, Some, None, List, [], ◌∷◌, length, map, get_or}
+use Rattle.std.proofs.Common.{slice_set, refl, sym, ap, subst, ◌∙◌, arith, inl, inr, length-set}
 use Rattle.std.specs.List.{slice_get}
 use Rattle.std.specs.Int.{bit_at, w32, trailing_zeros}
 use Rattle.std.proofs.lemmas.Bool.{cases_lt}
@@ -7,15 +8,15 @@ use Rattle.std.proofs.lemmas.List.{length-map}
 use Rattle.std.proofs.lemmas.Nat.Bits.{bit_at-zero, bit_at_ones, bit_at-trailing_zeros}
 use Rattle.std.proofs.lemmas.Option.{get_or_from_slice_get, slice_get_within}
 use Rattle.lockfree_object_pool.specs.Word.{IsLeastBit, ClearsBit}
-use Rattle.object_pool_cores.specs.MadePage.{IsMadePage}
-use Rattle.object_pool_cores.specs.OnePage.{IsFreeId, HasNoFreeId, IsMask, TakesLeastId}
-use Rattle.object_pool_cores.specs.PageWord.{IsKept}
+use Rattle.object_pool_cores.specs.OnePage.{IsMadePage, IsFreeId, HasNoFreeId, IsMask, TakesLeastId}
+use Rattle.object_pool_cores.specs.Inside.PageWord.{IsKept}
 use Rattle.object_pool_cores.specs.Laws.HeldItems.{slice_get-from_set}
 use Rattle.object_pool_cores.specs.Laws.NumberedPlaces.{value_of-page}
 
 module _ {T : Type 0} where
   -- an id below 32 is out, or free with a value
-  place_at : (page : List (Option T)) (id : ℕ) → id < length page → (place : Option T) × (slice_get page id ≡ Some place)
+  place_at : (page : List (Option T)) (id : ℕ) → id < length page → (place : Option T)
+      × (slice_get page id ≡ Some place)
   place_at [] id within = absurd (omega arith)
   place_at (place ∷ page) zero within = (place, refl)
   place_at (place ∷ page) (suc id) within = place_at page id (omega arith)
@@ -54,10 +55,12 @@ module _ {T : Type 0} (meets : T → Type 0) (word : ℕ) (page : List (Option T
   ]
 
   -- what lies at the id of the lowest bit
-  pub IsFreeId-lowest : (id : ℕ) (place : Option T) (v : T) → IsLeastBit word id → place ≡ get_or page id place → Some v ≡ place → IsFreeId page id v
+  pub IsFreeId-lowest : (id : ℕ) (place : Option T) (v : T) → IsLeastBit word id → place ≡ get_or page id place
+      → Some v ≡ place → IsFreeId page id v
   IsFreeId-lowest id place v lowest here some =
       let free = free_at id lowest.in_page lowest.set in
-      let value : Some free.0 ≡ Some v = sym (get_or_from_slice_get page id (Some free.0) place free.1) ∙ sym here ∙ sym some in
+      let value : Some free.0 ≡ Some v = sym (get_or_from_slice_get page id (Some free.0) place free.1) ∙ sym here
+      ∙ sym some in
       free.1 ∙ ap Some value
 
   -- the lowest bit is cleared, and its value is taken
@@ -78,11 +81,13 @@ module _ {T : Type 0} (meets : T → Type 0) (word : ℕ) (page : List (Option T
     ];
   }
 
-  pub TakesLeastId-lowest : (id : ℕ) (v : T) → IsLeastBit word id → IsFreeId page id v → TakesLeastId page id v (slice_set page id None)
+  pub TakesLeastId-lowest : (id : ℕ) (v : T) → IsLeastBit word id → IsFreeId page id v
+      → TakesLeastId page id v (slice_set page id None)
   TakesLeastId-lowest id v lowest free = record {
     in_page = lowest.in_page;
     free = free;
-    least = λ lower w below there. let set = kept.set lower w there in let clear = lowest.lowest lower below in absurd (omega arith);
+    least = λ lower w below there. let set = kept.set lower w there in let clear = lowest.lowest lower below in
+        absurd (omega arith);
     taken = refl;
   }
 
@@ -90,25 +95,28 @@ module _ {T : Type 0} (meets : T → Type 0) (word : ℕ) (page : List (Option T
 pub IsKept-made : {T : Type 0} (answers : Option T → Type 0) (meets : T → Type 0) (page : List (Option T))
     → IsMadePage answers meets page → IsKept meets 4294967295 page
 IsKept-made answers meets page made = rw made.free (record {
-  whole = length-map made.values Some ∙ made.count;
+  whole = length-map made.values Some ∙ made.answered.count;
   set = λ id v free.
       let value = value_of-page made.values id v free in
       let within = slice_get_within made.values id v value in
-      let count = made.count in
+      let count = made.answered.count in
       bit_at_ones 32 id (omega arith);
   clear = λ id out. absurd (never_out made.values id out);
   clean = λ id v free.
       let value = value_of-page made.values id v free in
-      subst meets (get_or_from_slice_get made.values id v v value) (made.clean id v (slice_get_within made.values id v value));
+      subst meets (get_or_from_slice_get made.values id v v value)
+      (made.clean id v (slice_get_within made.values id v value));
 })
 
--- what init answered, told by other words
+-- what init answered, said in other words
 pub IsMadePage-map : {T : Type 0} (answers others : Option T → Type 0) (meets : T → Type 0) (page : List (Option T))
     → ((v : T) → answers (Some v) → others (Some v)) → IsMadePage answers meets page → IsMadePage others meets page
 IsMadePage-map answers others meets page leads made = record {
   values = made.values;
-  count = made.count;
-  answered = λ k d within. leads (get_or made.values k d) (made.answered k d within);
+  answered = record {
+    count = made.answered.count;
+    each = λ k d within. leads (get_or made.values k d) (made.answered.each k d within);
+  };
   clean = made.clean;
   free = made.free;
 }

@@ -1,4 +1,4 @@
--- What was played on a core, told of the pool that the core is.
+-- What was played on a core, said of the pool that the core stands for.
 use Rattle.std.proofs.Common.{◌≡◌, ℕ, Option, Some, None, List, [], ◌∷◌, Result, sym, ap, subst, inl, inr}
 use Rattle.lockfree_object_pool.specs.declared.pull_error.PullError.{PullError}
 use Rattle.object_pool_cores.specs.declared.sequential.item.Item.{Item}
@@ -10,7 +10,7 @@ use Rattle.object_pool_cores.specs.Held.{Playing, held_at}
 use Rattle.object_pool_cores.specs.Lines.{with_last_line}
 use Rattle.object_pool_cores.specs.Replies.{Plays, AfterWrite, AfterReturn, AfterForget}
 use Rattle.object_pool_cores.specs.Served.{Serves, ServesAll, ServesAllInPart, ServesFront, ServesPart, StopsWriting}
-use Rattle.object_pool_cores.specs.Transcript.{Answers, Transcript}
+use Rattle.object_pool_cores.specs.Transcript.{AnswersLine, Transcript}
 use Rattle.std.specs.Prelude.{OnOk}
 use Rattle.std.proofs.Common.{Err}
 use Rattle.std.specs.Io.KnownBytes.{Consumes, IsAtEnd}
@@ -32,10 +32,13 @@ abbrev AttachStep : Type 0 → Type 1
 AttachStep P = P → ℕ → Result (Item ℕ) (AttachError ℕ) → P → Type 0
 
 -- A core shows a pool, as long as it is set so: each of its steps is a step of the pool, and it stays set.
-module _ {C P : Type 0} (show : C → P) (IsSet : C → Type 0) (pulls : PullStep C) (gives : ReturnStep C) (attaches : AttachStep C)
+module _ {C P : Type 0} (show : C → P) (IsSet : C → Type 0) (pulls : PullStep C) (gives : ReturnStep C)
+    (attaches : AttachStep C)
     (shown_pulls : PullStep P) (shown_gives : ReturnStep P) (shown_attaches : AttachStep P)
-    (pull_shown : (old new : C) (answer : Result (Item ℕ) PullError) → IsSet old → pulls old answer new → shown_pulls (show old) answer (show new) × IsSet new)
-    (give_shown : (old new : C) (item : Item ℕ) → IsSet old → gives old item new → shown_gives (show old) item (show new) × IsSet new)
+    (pull_shown : (old new : C) (answer : Result (Item ℕ) PullError) → IsSet old → pulls old answer new
+    → shown_pulls (show old) answer (show new) × IsSet new)
+    (give_shown : (old new : C) (item : Item ℕ) → IsSet old → gives old item new
+    → shown_gives (show old) item (show new) × IsSet new)
     (attach_shown : (old new : C) (value : ℕ) (answer : Result (Item ℕ) (AttachError ℕ)) → IsSet old
     → attaches old value answer new → shown_attaches (show old) value answer (show new) × IsSet new) where
   abbrev pub shown : Playing C ℕ → Playing P ℕ
@@ -46,7 +49,8 @@ module _ {C P : Type 0} (show : C → P) (IsSet : C → Type 0) (pulls : PullSte
 
   write_shown : (old new : Playing C ℕ) (index value : ℕ) (held : Option (Item ℕ)) (reply : Reply ℕ) → IsSet old.pool
       → AfterWrite pulls gives attaches old index value held reply new
-      → AfterWrite shown_pulls shown_gives shown_attaches (shown old) index value held reply (shown new) × IsSet new.pool
+      → AfterWrite shown_pulls shown_gives shown_attaches (shown old) index value held reply (shown new)
+      × IsSet new.pool
   write_shown old new index value None reply set played = ((played.0, ap shown played.1), kept old new played.1 set)
   write_shown old new index value (Some item) reply set played =
       ((played.0, ap shown played.1), subst (λ (state : Playing C ℕ). IsSet state.pool) (sym played.1) set)
@@ -62,24 +66,45 @@ module _ {C P : Type 0} (show : C → P) (IsSet : C → Type 0) (pulls : PullSte
       → AfterReturn pulls gives attaches old index held reply new
       → AfterReturn shown_pulls shown_gives shown_attaches (shown old) index held reply (shown new) × IsSet new.pool
   return_shown old new index None reply set played = ((played.0, ap shown played.1), kept old new played.1 set)
-  return_shown old new index (Some item) reply set played = let gave = give_shown old.pool new.pool item set played.1 in ((played.0, gave.0, played.2), gave.1)
+  return_shown old new index (Some item) reply set played = let gave =
+      give_shown old.pool new.pool item set played.1 in ((played.0, gave.0, played.2), gave.1)
 
   plays_shown : (old new : Playing C ℕ) (command : Command ℕ) (reply : Reply ℕ) → IsSet old.pool
       → Plays pulls gives attaches old command reply new
       → Plays shown_pulls shown_gives shown_attaches (shown old) command reply (shown new) × IsSet new.pool
-  plays_shown old new Pull reply set played = let pulled = pull_shown old.pool new.pool played.0 set played.1 in ((played.0, pulled.0, played.2), pulled.1)
-  plays_shown old new (Write index value) reply set played = write_shown old new index value (held_at old.held index) reply set played
-  plays_shown old new (Return index) reply set played = return_shown old new index (held_at old.held index) reply set played
-  plays_shown old new (Forget index) reply set played = forget_shown old new index (held_at old.held index) reply set played
+  plays_shown old new Pull reply set played = let pulled = pull_shown old.pool new.pool played.0 set played.1 in
+      ((played.0, pulled.0, played.2), pulled.1)
+  plays_shown old new (Write index value) reply set played =
+      write_shown old new index value (held_at old.held index) reply set played
+  plays_shown old new (Return index) reply set played =
+      return_shown old new index (held_at old.held index) reply set played
+  plays_shown old new (Forget index) reply set played =
+      forget_shown old new index (held_at old.held index) reply set played
   plays_shown old new (Attach value) reply set played =
-      let attached = attach_shown old.pool new.pool value played.0 set played.1 in ((played.0, attached.0, played.2), attached.1)
+      let attached = attach_shown old.pool new.pool value played.0 set played.1 in
+      ((played.0, attached.0, played.2), attached.1)
 
-  answers_shown : (old new : Playing C ℕ) (line text : List ℕ) → IsSet old.pool → Answers pulls gives attaches old line text new
-      → Answers shown_pulls shown_gives shown_attaches (shown old) line text (shown new) × IsSet new.pool
+  answers_shown : (old new : Playing C ℕ) (line text : List ℕ) → IsSet old.pool
+      → AnswersLine pulls gives attaches old line text new
+      → AnswersLine shown_pulls shown_gives shown_attaches (shown old) line text (shown new) × IsSet new.pool
   answers_shown old new line text set (inl answer) =
-      let played = plays_shown old new answer.command answer.reply set answer.played in
-      (inl (record { command = answer.command; reply = answer.reply; written = answer.written; played = played.0; said = answer.said }), played.1)
-  answers_shown old new line text set (inr bad) = (inr (record { bad = bad.bad; same = ap shown bad.same; said = bad.said }), kept old new bad.same set)
+      let answered = answer.answered in
+      let played = plays_shown old new answer.command answered.reply set answered.played in (
+        inl (record {
+          command = answer.command;
+          written = answer.written;
+          answered = record {
+            reply = answered.reply;
+            words = answered.words;
+            played = played.0;
+            said = answered.said;
+            whole = answered.whole;
+          };
+        }),
+        played.1,
+      )
+  answers_shown old new line text set (inr bad) =
+      (inr (record { bad = bad.bad; same = ap shown bad.same; said = bad.said }), kept old new bad.same set)
 
   transcript_shown : (old new : Playing C ℕ) (lines : List (List ℕ)) (text : List ℕ) → IsSet old.pool
       → Transcript pulls gives attaches old lines text new
@@ -89,8 +114,10 @@ module _ {C P : Type 0} (show : C → P) (IsSet : C → Type 0) (pulls : PullSte
       let answer = answers_shown old told.2 line told.0 set told.4 in
       (told.0, told.1, shown told.2, told.3, answer.0, transcript_shown told.2 new lines told.1 answer.1 told.5)
 
-  module _ (old : Playing C ℕ) (set : IsSet old.pool) (before : Option (List ℕ)) (bytes : List ℕ) (after : Option (List ℕ)) where
-    ServesAll-shown : ServesAll pulls gives attaches old before bytes after → ServesAll shown_pulls shown_gives shown_attaches (shown old) before bytes after
+  module _ (old : Playing C ℕ) (set : IsSet old.pool) (before : Option (List ℕ)) (bytes : List ℕ)
+      (after : Option (List ℕ)) where
+    ServesAll-shown : ServesAll pulls gives attaches old before bytes after
+        → ServesAll shown_pulls shown_gives shown_attaches (shown old) before bytes after
     ServesAll-shown served = record {
       lines = served.lines;
       rest = served.rest;
@@ -111,7 +138,8 @@ module _ {C P : Type 0} (show : C → P) (IsSet : C → Type 0) (pulls : PullSte
       written = served.written;
     }
 
-    part_shown : ServesPart pulls gives attaches old before bytes after → ServesPart shown_pulls shown_gives shown_attaches (shown old) before bytes after
+    part_shown : ServesPart pulls gives attaches old before bytes after
+        → ServesPart shown_pulls shown_gives shown_attaches (shown old) before bytes after
     part_shown served = record {
       front = served.front;
       back = served.back;
@@ -142,7 +170,8 @@ module _ {C P : Type 0} (show : C → P) (IsSet : C → Type 0) (pulls : PullSte
     StopsWriting-shown all_read (inl served) = inl (part_shown served)
     StopsWriting-shown all_read (inr served) = inr (served.0, all_in_part_shown served.1)
 
-  module _ (old : Playing C ℕ) (set : IsSet old.pool) (before : Option (List ℕ)) (bytes : List ℕ) (after : Option (List ℕ)) where
+  module _ (old : Playing C ℕ) (set : IsSet old.pool) (before : Option (List ℕ)) (bytes : List ℕ)
+      (after : Option (List ℕ)) where
     ServesFront-shown : ServesFront pulls gives attaches old before bytes after
         → ServesFront shown_pulls shown_gives shown_attaches (shown old) before bytes after
     ServesFront-shown served = record {
@@ -154,15 +183,22 @@ module _ {C P : Type 0} (show : C → P) (IsSet : C → Type 0) (pulls : PullSte
       served = Serves-shown old set before served.front after served.rest served.last served.served;
     }
 
-  -- what was served ends as the kind's definition tells
+  -- what was served ends as the kind's definition says
   module _ (old : Playing C ℕ) (set : IsSet old.pool) (kind : Kind) (leaves : ℕ → ℕ → Type 0)
-      (on_kind : (tells : Telling) → tells P shown_pulls shown_gives shown_attaches (shown old) → OnKind leaves kind tells)
+      (on_kind : (tells : Telling) → tells P shown_pulls shown_gives shown_attaches (shown old)
+      → OnKind leaves kind tells)
       (result : Result (Unit {0}) EngineError) (unread left before after : Option (List ℕ)) where
-    pub Ends-served : OnOk result ((bytes : List ℕ) × Consumes unread left bytes × IsAtEnd left × ServesAll pulls gives attaches old before bytes after)
+    pub Ends-served : OnOk result
+        ((bytes : List ℕ) × Consumes unread left bytes × IsAtEnd left
+        × ServesAll pulls gives attaches old before bytes after)
         → (result ≡ Err Read → (bytes rest : List ℕ) × (last : Playing C ℕ) × Consumes unread left bytes
         × Serves pulls gives attaches old before bytes rest last after)
-        → (result ≡ Err engine.Write → (bytes : List ℕ) × Consumes unread left bytes × StopsWriting pulls gives attaches (IsAtEnd left) old before bytes after)
-        → (result ≡ Err Memory → (bytes : List ℕ) × Consumes unread left bytes × ServesFront pulls gives attaches old before bytes after)
+        →
+        (result ≡ Err engine.Write → (bytes : List ℕ) × Consumes unread left bytes
+        × StopsWriting pulls gives attaches (IsAtEnd left) old before bytes after)
+        →
+        (result ≡ Err Memory → (bytes : List ℕ) × Consumes unread left bytes
+        × ServesFront pulls gives attaches old before bytes after)
         → Ends kind leaves result unread left before after
     Ends-served ok read write memory = record {
       ok = OnOk-map result (λ served. (

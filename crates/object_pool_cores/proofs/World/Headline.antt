@@ -1,5 +1,6 @@
 -- The steps of a world, one after another, are a run of one pool.
-use Rattle.std.proofs.Common.{◌≡◌, inl, inr, ℕ, ◌-◌, ◌^◌, ◌<◌, Option, Some, None, List, [], ◌∷◌, length, slice_get, Ok, Err, refl, ap, sym, ◌∙◌, subst, arith, lit<}
+use Rattle.std.proofs.Common.{◌≡◌, inl, inr, ℕ, ◌-◌, ◌^◌, ◌<◌, Option, Some, None, List, [], ◌∷◌, length, slice_get, Ok}
+use Rattle.std.proofs.Common.{Err, refl, ap, sym, ◌∙◌, subst, arith, lit<}
 use Rattle.std.proofs.lemmas.List.{length-map}
 use Rattle.object_pool_cores.specs.declared.interleave.event.Event.{Event}
 use Rattle.object_pool_cores.specs.declared.interleave.event.Event.TheVariants as event
@@ -10,17 +11,18 @@ use Rattle.object_pool_cores.specs.declared.interleave.point.Point.TheVariants.{
 use Rattle.object_pool_cores.specs.Pool.{Pool, Absent, IsSame, AllowsPages, free_with, opening, number}
 use Rattle.object_pool_cores.specs.Move.{grown}
 use Rattle.object_pool_cores.specs.Run.{Act, Holds, stage_of}
-use Rattle.object_pool_cores.specs.World.State.{State}
-use Rattle.object_pool_cores.specs.World.Machine.{Row, Steps, item_of, number_out, linked_page, opening_world}
-use Rattle.object_pool_cores.specs.World.Reading.{reading}
-use Rattle.object_pool_cores.specs.World.Visible.{Log, made_by}
-use Rattle.object_pool_cores.specs.World.Headline.{IsRun, Ran, IsNew}
-use Rattle.object_pool_cores.specs.World.Invariant.{HoldsAt, Agrees}
+use Rattle.object_pool_cores.specs.World.State.{WorldState}
+use Rattle.object_pool_cores.specs.World.Machine.{Transition, Steps, agent_item, number_out, linked_page, opening_world}
+use Rattle.object_pool_cores.specs.World.AbstractPool.{abstract_pool}
+use Rattle.object_pool_cores.specs.World.Trace.{Log, made_by}
+use Rattle.object_pool_cores.specs.World.Headline.{IsRun, Executes, IsNew}
+use Rattle.object_pool_cores.specs.World.Inside.Invariant.{HoldsAt, Agrees}
 use Rattle.object_pool_cores.specs.Laws.PoolSteps.{grown-new}
 use Rattle.object_pool_cores.proofs.Holders.{holders-run, whole-run}
-use Rattle.object_pool_cores.proofs.World.Reading.{same-grown, pushed-all}
+use Rattle.object_pool_cores.proofs.World.AbstractPool.{same-grown, pushed-all}
 use Rattle.object_pool_cores.proofs.World.Invariant.{GoesOn, idle, pages-some, allows-fewer}
-use Rattle.object_pool_cores.proofs.World.WordSteps.{read_mask-goes, read_hinted-goes, clear_bit-goes, or_mask-goes, known}
+use Rattle.object_pool_cores.proofs.World.WordSteps.{read_mask-goes, read_hinted-goes, clear_bit-goes, or_mask-goes}
+use Rattle.object_pool_cores.proofs.World.WordSteps.{known}
 use Rattle.object_pool_cores.proofs.World.ValueSteps.{move_out-goes, write-goes, move_home-goes, begin-goes}
 use Rattle.object_pool_cores.proofs.World.LinkSteps.{read_next-goes, make_page-goes, exchange_next-goes}
 
@@ -41,8 +43,9 @@ module _ {T : Type 0} where
   nothing-made (event.OrMask a) b = refl
 
 module _ {T : Type 0} (Leaves : T → T → Type 0) (first : List T) (full : length first ≡ 32) where
-  row-goes : (log : Log T) (acts : List (Act T)) (old : State T) → Agrees Leaves first log acts old
-      → (e : Event T) (answer : Seen) (new : State T) → Row Leaves old e answer new → GoesOn Leaves first log e answer new
+  row-goes : (log : Log T) (acts : List (Act T)) (old : WorldState T) → Agrees Leaves first log acts old
+      → (e : Event T) (answer : Seen) (new : WorldState T) → Transition Leaves old e answer new
+      → GoesOn Leaves first log e answer new
   row-goes log acts old agrees event.Begin answer new row = begin-goes Leaves first log acts old agrees answer new row
   row-goes log acts old agrees (event.ReadMask a) answer new row =
       read_mask-goes Leaves first log acts old agrees a (slice_get old.agents a) refl answer new row
@@ -66,21 +69,23 @@ module _ {T : Type 0} (Leaves : T → T → Type 0) (first : List T) (full : len
       or_mask-goes Leaves first log acts old agrees full a (slice_get old.agents a) refl answer new row
 
   -- a step keeps the invariant
-  step-goes : (log : Log T) (acts : List (Act T)) (old : State T) → Agrees Leaves first log acts old
-      → (e : Event T) (answer : Seen) (new : State T) → Steps Leaves old e answer new → GoesOn Leaves first log e answer new
+  step-goes : (log : Log T) (acts : List (Act T)) (old : WorldState T) → Agrees Leaves first log acts old
+      → (e : Event T) (answer : Seen) (new : WorldState T) → Steps Leaves old e answer new
+      → GoesOn Leaves first log e answer new
   step-goes log acts old agrees e answer new (inl row) = row-goes log acts old agrees e answer new row
   step-goes log acts old agrees e answer new (inr (may, lacks, same)) =
       let P : Seen → Type 0 = λ seen. GoesOn Leaves first log e seen old in
-      let Q : State T → Type 0 = λ world. GoesOn Leaves first log e answer world in
-      subst Q (sym same) (subst P (sym lacks) (idle Leaves first log acts old e seen.NoMemory agrees tt (nothing-made e)))
+      let Q : WorldState T → Type 0 = λ world. GoesOn Leaves first log e answer world in
+      subst Q (sym same)
+      (subst P (sym lacks) (idle Leaves first log acts old e seen.NoMemory agrees tt (nothing-made e)))
 
   -- the first page reads as the opening pool
-  opening-reads : (limit : Option ℕ) → IsSame (opening first) (reading (opening_world first limit))
+  opening-reads : (limit : Option ℕ) → IsSame (opening first) (abstract_pool (opening_world first limit))
   opening-reads limit =
       let none : Pool T = record { pages = 0; at = λ n. Absent } in
-      let empty : State T = record { pages = []; agents = []; limit = limit } in
+      let empty : WorldState T = record { pages = []; agents = []; limit = limit } in
       let grows : IsSame (grown none first)
-      (reading (opening_world first limit)) =
+      (abstract_pool (opening_world first limit)) =
       same-grown none empty (opening_world first limit) first full (record { pages = refl; places = λ n. refl }) refl in
       record {
         pages = refl;
@@ -96,19 +101,21 @@ module _ {T : Type 0} (Leaves : T → T → Type 0) (first : List T) (full : len
     found_out = tt;
     same = opening-reads limit;
     words = pushed-all (λ page. page.word < 2 ^ 32) [] (linked_page first) (lit< tt) (λ j page lookup. cc);
-    places = pushed-all (λ page. length page.places ≡ 32) [] (linked_page first) (length-map first Some ∙ full) (λ j page lookup. cc);
+    places = pushed-all (λ page. length page.places ≡ 32) [] (linked_page first) (length-map first Some ∙ full)
+        (λ j page lookup. cc);
     allowed = allowed;
     agents = λ a. refl;
   }
 
   -- the acts that the steps so far show, which agree with the world
-  pub record Agreement (log : Log T) (world : State T) : Type 0 where
+  pub record Agreement (log : Log T) (world : WorldState T) : Type 0 where
     pub acts : List (Act T)
     pub agrees : Agrees Leaves first log acts world
 
-  pub ran-agrees : (limit : Option ℕ) → AllowsPages limit 1 → (log : Log T) (new : State T) → Ran Leaves (opening_world first limit) log new → Agreement log new
+  pub ran-agrees : (limit : Option ℕ) → AllowsPages limit 1 → (log : Log T) (new : WorldState T)
+      → Executes Leaves (opening_world first limit) log new → Agreement log new
   ran-agrees limit allowed [] new same =
-      let P : State T → Type 0 = Agreement [] in
+      let P : WorldState T → Type 0 = Agreement [] in
       subst P (sym same) (record { acts = []; agrees = opening-agrees limit allowed })
   ran-agrees limit allowed ((e, answer) ∷ log) new (between, ran, step, exact) =
       let before = ran-agrees limit allowed log between ran in
@@ -116,8 +123,9 @@ module _ {T : Type 0} (Leaves : T → T → Type 0) (first : List T) (full : len
       record { acts = goes.acts; agrees = goes.agrees }
 
   -- an agent that has an item in the world holds it in the run
-  held-is : (log : Log T) (acts : List (Act T)) (world : State T) → Agrees Leaves first log acts world
-      → (a n : ℕ) (value : T) (lookup : Option (Point T)) → slice_get world.agents a ≡ lookup → item_of lookup ≡ Some (n, value)
+  held-is : (log : Log T) (acts : List (Act T)) (world : WorldState T) → Agrees Leaves first log acts world
+      → (a n : ℕ) (value : T) (lookup : Option (Point T)) → slice_get world.agents a ≡ lookup
+      → agent_item lookup ≡ Some (n, value)
       → stage_of acts a ≡ Holds n value
   held-is log acts world agrees a n value (Some (Holding k id has)) at held =
       let holds : HoldsAt acts world a k id has = known Leaves first log acts world agrees a (Holding k id has) at in
@@ -126,7 +134,7 @@ module _ {T : Type 0} (Leaves : T → T → Type 0) (first : List T) (full : len
   held-is log acts world agrees a n value _ at held = absurd (cc)
 
   -- an agent that has a number out in the world holds it in the run
-  out-is : (log : Log T) (acts : List (Act T)) (world : State T) → Agrees Leaves first log acts world
+  out-is : (log : Log T) (acts : List (Act T)) (world : WorldState T) → Agrees Leaves first log acts world
       → (a n : ℕ) (lookup : Option (Point T)) → slice_get world.agents a ≡ lookup → number_out lookup ≡ Some n
       → (value : T) × (stage_of acts a ≡ Holds n value)
   out-is log acts world agrees a n (Some (Taken k id)) at out =
@@ -134,7 +142,8 @@ module _ {T : Type 0} (Leaves : T → T → Type 0) (first : List T) (full : len
       let is : number k id ≡ n = cc in
       (value, holds.stage ∙ ap (λ m. Holds m value) is)
   out-is log acts world agrees a n (Some (Holding k id value)) at out =
-      let holds : HoldsAt acts world a k id value = known Leaves first log acts world agrees a (Holding k id value) at in
+      let holds : HoldsAt acts world a k id value =
+      known Leaves first log acts world agrees a (Holding k id value) at in
       let is : number k id ≡ n = cc in
       (value, holds.stage ∙ ap (λ m. Holds m value) is)
   out-is log acts world agrees a n (Some (Home k id)) at out =
@@ -143,7 +152,8 @@ module _ {T : Type 0} (Leaves : T → T → Type 0) (first : List T) (full : len
       (value, holds.stage ∙ ap (λ m. Holds m value) is)
   out-is log acts world agrees a n _ at out = absurd (cc)
 
-  agrees-run : (log : Log T) (acts : List (Act T)) (world : State T) → Agrees Leaves first log acts world → IsRun Leaves first log world
+  agrees-run : (log : Log T) (acts : List (Act T)) (world : WorldState T) → Agrees Leaves first log acts world
+      → IsRun Leaves first log world
   agrees-run log acts world agrees =
       let some = pages-some first acts in
       let pages = agrees.same.pages in
@@ -162,9 +172,10 @@ module _ {T : Type 0} (Leaves : T → T → Type 0) (first : List T) (full : len
       }
 
 -- from a world in which no agent has begun the steps are a run
-pub ran-is_run : {T : Type 0} (Leaves : T → T → Type 0) (old : State T) (start : IsNew old) (log : Log T) (new : State T)
-    → Ran Leaves old log new → IsRun Leaves start.first log new
+pub ran-is_run : {T : Type 0} (Leaves : T → T → Type 0) (old : WorldState T) (start : IsNew old) (log : Log T)
+    (new : WorldState T)
+    → Executes Leaves old log new → IsRun Leaves start.first log new
 ran-is_run {T} Leaves old start log new ran =
-    let P : State T → Type 0 = λ world. Ran Leaves world log new in
+    let P : WorldState T → Type 0 = λ world. Executes Leaves world log new in
     let agreed = ran-agrees Leaves start.first start.full old.limit start.allowed log new (subst P start.same ran) in
     agrees-run Leaves start.first start.full log agreed.acts new agreed.agrees

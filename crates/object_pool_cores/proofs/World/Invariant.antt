@@ -1,31 +1,36 @@
 -- What is known of an agent stays known while others step.
-use Rattle.std.proofs.Common.{◌≡◌, ◌≢◌, inl, inr, ℕ, ◌+◌, ◌^◌, ◌<◌, ◌≤◌, Bool, true, false, if◌then◌else◌, Option, Some, None, List, [], ◌∷◌, length, slice_get, slice_set, refl, ap, sym, ◌∙◌, subst, arith}
+use Rattle.std.proofs.Common.{◌≡◌, ◌≢◌, inl, inr, ℕ, ◌+◌, ◌^◌, ◌<◌, ◌≤◌, Bool, true, false, if◌then◌else◌, Option, Some}
+use Rattle.std.proofs.Common.{None, List, [], ◌∷◌, length, slice_get, slice_set, refl, ap, sym, ◌∙◌, subst, arith}
 use Rattle.std.proofs.lemmas.Bool.{cases_eq}
 use Rattle.object_pool_cores.specs.declared.interleave.event.Event.{Event}
 use Rattle.object_pool_cores.specs.declared.interleave.event.Seen.{Seen}
 use Rattle.object_pool_cores.specs.declared.interleave.point.Point.{Point}
-use Rattle.object_pool_cores.specs.declared.interleave.point.Point.TheVariants.{Reading, Clearing, AtLink, ClearingHinted, Making, Linking, Taken, Holding, Home, Ended}
+use Rattle.object_pool_cores.specs.declared.interleave.point.Point.TheVariants.{Reading, Clearing, AtLink}
+use Rattle.object_pool_cores.specs.declared.interleave.point.Point.TheVariants.{ClearingHinted, Making, Linking, Taken}
+use Rattle.object_pool_cores.specs.declared.interleave.point.Point.TheVariants.{Holding, Home, Ended}
 use Rattle.object_pool_cores.specs.Pool.{Pool, IsSame, IsOut, AllowsPages, number}
 use Rattle.object_pool_cores.specs.Move.{Pull, Return, Growth, Refusal}
-use Rattle.object_pool_cores.specs.Run.{Act, Opens, Writes, Moves, Holds, agent_of, stage_of, pool_of, FoundOut, HadPages, MayCome, FoundOutBefore}
-use Rattle.object_pool_cores.specs.World.PageState.{PageState}
-use Rattle.object_pool_cores.specs.World.State.{State}
-use Rattle.object_pool_cores.specs.World.Machine.{Outcome, IsOutcome, value_at}
-use Rattle.object_pool_cores.specs.World.Reading.{reading}
-use Rattle.object_pool_cores.specs.World.Visible.{Log, IsHidden, made_by, or_else, last_made, Shows}
-use Rattle.object_pool_cores.specs.World.Invariant.{FoundAsked, LooksOn, IsPast, IsAtEnd, TriesBits, HoldsAt, Knows, KnowsIf, Agrees}
+use Rattle.object_pool_cores.specs.Run.{Act, Opens, Writes, Moves, Holds, agent_of, stage_of, pool_of, FoundOut}
+use Rattle.object_pool_cores.specs.Run.{HadPages, MayCome, FoundOutBefore}
+use Rattle.object_pool_cores.specs.World.State.{WorldPageState, WorldState}
+use Rattle.object_pool_cores.specs.World.Machine.{Outcome, IsOutcome, page_value}
+use Rattle.object_pool_cores.specs.World.AbstractPool.{abstract_pool}
+use Rattle.object_pool_cores.specs.World.Trace.{Log, IsHidden, made_by, or_else, last_made, Shows}
+use Rattle.object_pool_cores.specs.World.Inside.Invariant.{FoundAsked, LooksOn, IsPast, IsAtLastPage, TriesBits}
+use Rattle.object_pool_cores.specs.World.Inside.Invariant.{HoldsAt, Knows, KnowsIf, Agrees}
 use Rattle.object_pool_cores.proofs.Runs.{since-later, other-opens, stage_of-other}
 use Rattle.object_pool_cores.proofs.Holders.{IsSound, sound-run}
-use Rattle.object_pool_cores.proofs.World.Reading.{get-set_same, get-set_other}
+use Rattle.object_pool_cores.proofs.World.AbstractPool.{get-set_same, get-set_other}
 
 -- fewer pages are allowed too
-pub allows-fewer : (limit : Option ℕ) (fewer pages : ℕ) → fewer ≤ pages → AllowsPages limit pages → AllowsPages limit fewer
+pub allows-fewer : (limit : Option ℕ) (fewer pages : ℕ) → fewer ≤ pages → AllowsPages limit pages
+    → AllowsPages limit fewer
 allows-fewer None fewer pages less allowed = tt
 allows-fewer (Some limit) fewer pages less allowed = omega arith
 
 module _ {T : Type 0} (first : List T) where
   -- what an agent knows is carried from one log, run and world to another
-  pub record Carries (log later : Log T) (acts more : List (Act T)) (old new : State T) (b : ℕ) : Type 0 where
+  pub record Carries (log later : Log T) (acts more : List (Act T)) (old new : WorldState T) (b : ℕ) : Type 0 where
     pub stage : stage_of more b ≡ stage_of acts b
     pub out : (n : ℕ) → FoundOut first acts b n → FoundOut first more b n
     pub had : (count : ℕ) → HadPages first acts b count → HadPages first more b count
@@ -33,11 +38,13 @@ module _ {T : Type 0} (first : List T) where
     pub limit : new.limit ≡ old.limit
     pub made : last_made later b ≡ last_made log b
     pub values : (k id : ℕ) (value : T) → k < length old.pages → id < 32 → stage_of acts b ≡ Holds (number k id) value
-        → value_at new.pages k id ≡ value_at old.pages k id
+        → page_value new.pages k id ≡ page_value old.pages k id
 
 module _ {T : Type 0} (Leaves : T → T → Type 0) (first : List T) where
-  module _ (log later : Log T) (acts more : List (Act T)) (old new : State T) (b : ℕ) (carries : Carries first log later acts more old new b) where
-    asked-carried : (asked : Option ℕ) → FoundAsked first acts (length old.pages) b asked → FoundAsked first more (length new.pages) b asked
+  module _ (log later : Log T) (acts more : List (Act T)) (old new : WorldState T) (b : ℕ)
+      (carries : Carries first log later acts more old new b) where
+    asked-carried : (asked : Option ℕ) → FoundAsked first acts (length old.pages) b asked
+        → FoundAsked first more (length new.pages) b asked
     asked-carried None full = tt
     asked-carried (Some hint) full = record {
       linked = let below = full.linked in let more_pages = carries.pages in omega arith;
@@ -67,11 +74,12 @@ module _ {T : Type 0} (Leaves : T → T → Type 0) (first : List T) where
       asked_full = asked-carried asked past.asked_full;
     }
 
-    end-carried : (k : ℕ) → IsAtEnd first acts old b k → IsAtEnd first more new b k
+    end-carried : (k : ℕ) → IsAtLastPage first acts old b k → IsAtLastPage first more new b k
     end-carried k end = record {
       past = past-carried k None end.past;
       last = carries.had (k + 1) end.last;
-      allowed = let P : Option ℕ → Type 0 = λ limit. AllowsPages limit (k + 1 + 1) in subst P (sym carries.limit) end.allowed;
+      allowed = let P : Option ℕ → Type 0 = λ limit. AllowsPages limit (k + 1 + 1) in
+          subst P (sym carries.limit) end.allowed;
     }
 
     holds-carried : (k id : ℕ) (value : T) → HoldsAt acts old b k id value → HoldsAt more new b k id value
@@ -81,7 +89,8 @@ module _ {T : Type 0} (Leaves : T → T → Type 0) (first : List T) where
       stage = carries.stage ∙ holds.stage;
     }
 
-    knows-carried : (point : Point T) → Knows Leaves first log acts old b point → Knows Leaves first later more new b point
+    knows-carried : (point : Point T) → Knows Leaves first log acts old b point
+        → Knows Leaves first later more new b point
     knows-carried (Reading k asked) knows = looks-carried k asked knows
     knows-carried (Clearing k mask asked) knows = (looks-carried k asked knows.0, bits-carried k mask knows.1)
     knows-carried (AtLink k asked) knows = past-carried k asked knows
@@ -96,11 +105,17 @@ module _ {T : Type 0} (Leaves : T → T → Type 0) (first : List T) where
     knows-carried (Taken k id) (value, holds, lies) =
         (value, holds-carried k id value holds, carries.values k id value holds.linked holds.in_page holds.stage ∙ lies)
     knows-carried (Holding k id value) knows = holds-carried k id value knows
-    knows-carried (Home k id) (value, kept, holds, leaves, lies) =
-        (value, kept, holds-carried k id value holds, leaves, carries.values k id value holds.linked holds.in_page holds.stage ∙ lies)
+    knows-carried (Home k id) (value, kept, holds, leaves, lies) = (
+      value,
+      kept,
+      holds-carried k id value holds,
+      leaves,
+      carries.values k id value holds.linked holds.in_page holds.stage ∙ lies,
+    )
     knows-carried Ended knows = tt
 
-    pub known-carried : (lookup : Option (Point T)) → KnowsIf Leaves first log acts old b lookup → KnowsIf Leaves first later more new b lookup
+    pub known-carried : (lookup : Option (Point T)) → KnowsIf Leaves first log acts old b lookup
+        → KnowsIf Leaves first later more new b lookup
     known-carried None knows = carries.stage ∙ knows
     known-carried (Some point) knows = knows-carried point knows
 
@@ -117,32 +132,38 @@ module _ {T : Type 0} (first : List T) where
 
 module _ {T : Type 0} (Leaves : T → T → Type 0) (first : List T) where
   -- the run of a world keeps its holders and its numbers
-  pub sound-of : (log : Log T) (acts : List (Act T)) (world : State T) → length first ≡ 32 → Agrees Leaves first log acts world → IsSound first world.limit acts
+  pub sound-of : (log : Log T) (acts : List (Act T)) (world : WorldState T) → length first ≡ 32
+      → Agrees Leaves first log acts world → IsSound first world.limit acts
   sound-of log acts world full agrees =
       let some = pages-some first acts in
       let pages = agrees.same.pages in
-      sound-run Leaves world.limit first full (allows-fewer world.limit 1 (length world.pages) (omega arith) agrees.allowed) acts agrees.run
+      sound-run Leaves world.limit first full
+      (allows-fewer world.limit 1 (length world.pages) (omega arith) agrees.allowed) acts agrees.run
 
   -- the world with other pages and an agent at another point
-  abbrev pub moved : State T → List (PageState T) → ℕ → Point T → State T
+  abbrev pub moved : WorldState T → List (WorldPageState T) → ℕ → Point T → WorldState T
   moved world pages a point = record { pages = pages; agents = slice_set world.agents a point; limit = world.limit }
 
   -- pages that an agent may leave by a step: they read as the pool, and what others left lies where it was
-  pub record StepsPages (acts more : List (Act T)) (world : State T) (pages : List (PageState T)) (a : ℕ) : Type 0 where
+  pub record StepsPages (acts more : List (Act T)) (world : WorldState T) (pages : List (WorldPageState T))
+      (a : ℕ) : Type 0 where
     pub count : length world.pages ≤ length pages
-    pub same : IsSame (pool_of first more) (reading (record { pages = pages; agents = world.agents; limit = world.limit }))
-    pub words : (k : ℕ) (page : PageState T) → slice_get pages k ≡ Some page → page.word < 2 ^ 32
-    pub places : (k : ℕ) (page : PageState T) → slice_get pages k ≡ Some page → length page.places ≡ 32
+    pub same : IsSame (pool_of first more)
+        (abstract_pool (record { pages = pages; agents = world.agents; limit = world.limit }))
+    pub words : (k : ℕ) (page : WorldPageState T) → slice_get pages k ≡ Some page → page.word < 2 ^ 32
+    pub places : (k : ℕ) (page : WorldPageState T) → slice_get pages k ≡ Some page → length page.places ≡ 32
     pub allowed : AllowsPages world.limit (length pages)
-    pub values : (b k id : ℕ) (value : T) → a ≢ b → k < length world.pages → id < 32 → stage_of acts b ≡ Holds (number k id) value
-        → value_at pages k id ≡ value_at world.pages k id
+    pub values : (b k id : ℕ) (value : T) → a ≢ b → k < length world.pages → id < 32
+        → stage_of acts b ≡ Holds (number k id) value
+        → page_value pages k id ≡ page_value world.pages k id
 
   -- the pages stay
-  pub pages-stay : (log : Log T) (acts more : List (Act T)) (world : State T) (a : ℕ) → Agrees Leaves first log acts world
+  pub pages-stay : (log : Log T) (acts more : List (Act T)) (world : WorldState T) (a : ℕ)
+      → Agrees Leaves first log acts world
       → pool_of first more ≡ pool_of first acts → StepsPages acts more world world.pages a
   pages-stay log acts more world a agrees pool = record {
     count = omega arith;
-    same = let P : Pool T → Type 0 = λ p. IsSame p (reading world) in subst P (sym pool) agrees.same;
+    same = let P : Pool T → Type 0 = λ p. IsSame p (abstract_pool world) in subst P (sym pool) agrees.same;
     words = agrees.words;
     places = agrees.places;
     allowed = agrees.allowed;
@@ -150,7 +171,7 @@ module _ {T : Type 0} (Leaves : T → T → Type 0) (first : List T) where
   }
 
   -- the agents after one of them moved
-  agents-moved : (log later : Log T) (acts more : List (Act T)) (old new : State T) (a : ℕ) (from point : Point T)
+  agents-moved : (log later : Log T) (acts more : List (Act T)) (old new : WorldState T) (a : ℕ) (from point : Point T)
       → slice_get old.agents a ≡ Some from → Knows Leaves first later more new a point
       → ((b : ℕ) → a ≢ b → Carries first log later acts more old new b)
       → ((b : ℕ) → KnowsIf Leaves first log acts old b (slice_get old.agents b)) → (b : ℕ)
@@ -164,15 +185,19 @@ module _ {T : Type 0} (Leaves : T → T → Type 0) (first : List T) where
             let P : ℕ → Type 0 = λ c. Knows Leaves first later more new c point in
             subst Known (sym is) (subst P same own)
         | inr other ↦
-            let is : slice_get (slice_set old.agents a point) b ≡ slice_get old.agents b = get-set_other old.agents a b point (λ e. other (sym e)) in
-            subst Known (sym is) (known-carried Leaves first log later acts more old new b (others b other) (slice_get old.agents b) (before b))
+            let is : slice_get (slice_set old.agents a point) b ≡ slice_get old.agents b =
+            get-set_other old.agents a b point (λ e. other (sym e)) in
+            subst Known (sym is)
+            (known-carried Leaves first log later acts more old new b (others b other)
+            (slice_get old.agents b) (before b))
       ]
 
   -- a step whose answer shows nothing
-  pub hidden-step : (log : Log T) (acts : List (Act T)) (world : State T) (e : Event T) (answer : Seen) (a : ℕ)
-      (from point : Point T) (pages : List (PageState T)) → Agrees Leaves first log acts world
+  pub hidden-step : (log : Log T) (acts : List (Act T)) (world : WorldState T) (e : Event T) (answer : Seen) (a : ℕ)
+      (from point : Point T) (pages : List (WorldPageState T)) → Agrees Leaves first log acts world
       → slice_get world.agents a ≡ Some from → IsHidden answer → ((b : ℕ) → a ≢ b → made_by e answer b ≡ None)
-      → StepsPages acts acts world pages a → Knows Leaves first ((e, answer) ∷ log) acts (moved world pages a point) a point
+      → StepsPages acts acts world pages a
+      → Knows Leaves first ((e, answer) ∷ log) acts (moved world pages a point) a point
       → Agrees Leaves first ((e, answer) ∷ log) acts (moved world pages a point)
   hidden-step log acts world e answer a from point pages agrees at hidden made left own = record {
     reads = inl (hidden, agrees.reads);
@@ -196,59 +221,64 @@ module _ {T : Type 0} (Leaves : T → T → Type 0) (first : List T) where
   }
 
   -- a step whose answer shows an act
-  pub visible-step : (log : Log T) (acts : List (Act T)) (world : State T) (e : Event T) (answer : Seen) (a : ℕ)
-      (from point : Point T) (pages : List (PageState T)) (act : Act T) → Agrees Leaves first log acts world
+  pub visible-step : (log : Log T) (acts : List (Act T)) (world : WorldState T) (e : Event T) (answer : Seen) (a : ℕ)
+      (from point : Point T) (pages : List (WorldPageState T)) (act : Act T) → Agrees Leaves first log acts world
       → slice_get world.agents a ≡ Some from → Shows log e answer act → MayCome Leaves world.limit first acts act
       → FoundOutBefore first acts act → agent_of act ≡ a → ((b : ℕ) → a ≢ b → made_by e answer b ≡ None)
       → StepsPages acts (act ∷ acts) world pages a
       → Knows Leaves first ((e, answer) ∷ log) (act ∷ acts) (moved world pages a point) a point
       → Agrees Leaves first ((e, answer) ∷ log) (act ∷ acts) (moved world pages a point)
-  visible-step log acts world e answer a from point pages act agrees at shows may found_out agent made left own = record {
-    reads = inr (act, acts, refl, shows, agrees.reads);
-    run = (may, agrees.run);
-    found_out = (found_out, agrees.found_out);
-    same = record { pages = left.same.pages; places = left.same.places };
-    words = left.words;
-    places = left.places;
-    allowed = left.allowed;
-    agents = agents-moved log ((e, answer) ∷ log) acts (act ∷ acts) world (moved world pages a point) a from point at own
-        (λ b other.
-        let apart : agent_of act ≢ b = λ is. other (sym agent ∙ is) in
-        record {
-          stage = stage_of-other act acts b apart;
-          out = λ n out. since-later first act acts b (λ pool. IsOut pool n) (other-opens act b apart) out;
-          had = λ count had. since-later first act acts b (λ pool. pool.pages ≡ count) (other-opens act b apart) had;
-          pages = left.count;
-          limit = refl;
-          made = ap (λ lookup. or_else lookup (last_made log b)) (made b other);
-          values = λ k id value linked within holds. left.values b k id value other linked within holds;
-        })
-        agrees.agents;
-  }
+  visible-step log acts world e answer a from point pages act agrees at shows may found_out agent made left
+      own = record {
+        reads = inr (act, acts, refl, shows, agrees.reads);
+        run = (may, agrees.run);
+        found_out = (found_out, agrees.found_out);
+        same = record { pages = left.same.pages; places = left.same.places };
+        words = left.words;
+        places = left.places;
+        allowed = left.allowed;
+        agents = agents-moved log ((e, answer) ∷ log) acts (act ∷ acts) world (moved world pages a point) a from
+            point at own
+            (λ b other.
+            let apart : agent_of act ≢ b = λ is. other (sym agent ∙ is) in
+            record {
+              stage = stage_of-other act acts b apart;
+              out = λ n out. since-later first act acts b (λ pool. IsOut pool n) (other-opens act b apart) out;
+              had = λ count had. since-later first act acts b (λ pool. pool.pages ≡ count)
+                  (other-opens act b apart) had;
+              pages = left.count;
+              limit = refl;
+              made = ap (λ lookup. or_else lookup (last_made log b)) (made b other);
+              values = λ k id value linked within holds. left.values b k id value other linked within holds;
+            })
+            agrees.agents;
+      }
 
   -- the acts go on with what a step shows
-  pub record GoesOn (log : Log T) (e : Event T) (answer : Seen) (new : State T) : Type 0 where
+  pub record GoesOn (log : Log T) (e : Event T) (answer : Seen) (new : WorldState T) : Type 0 where
     pub acts : List (Act T)
     pub agrees : Agrees Leaves first ((e, answer) ∷ log) acts new
 
   -- an answer and a world are those of an outcome
-  pub from-outcome : (log : Log T) (e : Event T) (outcome : Outcome T) (answer : Seen) (new : State T)
+  pub from-outcome : (log : Log T) (e : Event T) (outcome : Outcome T) (answer : Seen) (new : WorldState T)
       → GoesOn log e outcome.0 outcome.1 → IsOutcome outcome answer new → GoesOn log e answer new
   from-outcome log e outcome answer new goes row =
       let P : Seen → Type 0 = λ seen. GoesOn log e seen outcome.1 in
-      let Q : State T → Type 0 = λ world. GoesOn log e answer world in
+      let Q : WorldState T → Type 0 = λ world. GoesOn log e answer world in
       subst Q (sym row.1) (subst P (sym row.0) goes)
 
-  pub from-if : (log : Log T) (e : Event T) (test : Bool) (one other : Outcome T) (answer : Seen) (new : State T)
+  pub from-if : (log : Log T) (e : Event T) (test : Bool) (one other : Outcome T) (answer : Seen) (new : WorldState T)
       → (test ≡ true → IsOutcome one answer new → GoesOn log e answer new)
-      → (test ≡ false → IsOutcome other answer new → GoesOn log e answer new) → IsOutcome (if test then one else other) answer new
+      → (test ≡ false → IsOutcome other answer new → GoesOn log e answer new)
+      → IsOutcome (if test then one else other) answer new
       → GoesOn log e answer new
   from-if log e true one other answer new then_goes else_goes row = then_goes refl row
   from-if log e false one other answer new then_goes else_goes row = else_goes refl row
 
   -- nothing happens
-  pub idle : (log : Log T) (acts : List (Act T)) (world : State T) (e : Event T) (answer : Seen)
-      → Agrees Leaves first log acts world → IsHidden answer → ((b : ℕ) → made_by e answer b ≡ None) → GoesOn log e answer world
+  pub idle : (log : Log T) (acts : List (Act T)) (world : WorldState T) (e : Event T) (answer : Seen)
+      → Agrees Leaves first log acts world → IsHidden answer → ((b : ℕ) → made_by e answer b ≡ None)
+      → GoesOn log e answer world
   idle log acts world e answer agrees hidden made = record {
     acts = acts;
     agrees = record {

@@ -1,11 +1,12 @@
 -- The values in a list of places.
 use Rattle.std.proofs.Common.{◌≡◌, Some, None, Option, List, [], ◌∷◌, ◌++◌, map, refl, ap, sym, ◌∙◌}
 use Rattle.std.proofs.lemmas.List.{map-append}
-use Rattle.object_pool_cores.specs.World.Prepared.{values_of}
+use Rattle.object_pool_cores.specs.World.Inside.Prepared.{values_of}
 
 module _ {T : Type 0} where
   -- one place more with its value
-  pub values_of-push : (places : List (Option T)) (value : T) → values_of (places ++ Some value ∷ []) ≡ values_of places ++ value ∷ []
+  pub values_of-push : (places : List (Option T)) (value : T)
+      → values_of (places ++ Some value ∷ []) ≡ values_of places ++ value ∷ []
   values_of-push [] value = refl
   values_of-push (None ∷ places) value = values_of-push places value
   values_of-push (Some first ∷ places) value = ap (λ rest. first ∷ rest) (values_of-push places value)

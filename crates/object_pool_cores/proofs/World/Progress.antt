@@ -1,15 +1,20 @@
 -- How far an agent is that looks: each of its steps counts, and its page.
-use Rattle.std.proofs.Common.{◌≡◌, inl, inr, ℕ, ◌+◌, ◌*◌, ◌^◌, ◌<◌, ◌≤◌, nat_lt, false, if◌then◌else◌, Option, Some, None, List, refl, ap, sym, ◌∙◌, subst, arith}
+use Rattle.std.proofs.Common.{◌≡◌, inl, inr, ℕ, ◌+◌, ◌*◌, ◌^◌, ◌<◌, ◌≤◌, nat_lt, false, Option, Some}
+use Rattle.std.proofs.Common.{None, List, refl, ap, sym, ◌∙◌, subst, arith}
 use Rattle.std.specs.Int.{w32, bit_at}
 use Rattle.std.proofs.lemmas.Bool.{eq-eqb, ne_eqb, eqb-false, lt-ltb, ltb-true, cases_eq, cases_lt, cases_Bool}
 use Rattle.std.proofs.lemmas.Nat.Bits.{bit_at-trailing_zeros}
 use Rattle.lockfree_object_pool.proofs.WordBits.{clears_least}
 use Rattle.object_pool_cores.specs.declared.interleave.point.Point.{Point}
-use Rattle.object_pool_cores.specs.declared.interleave.point.Point.TheVariants.{Reading, Clearing, AtLink, ClearingHinted, Making, Linking}
+use Rattle.object_pool_cores.specs.declared.interleave.point.Point.TheVariants.{Reading, Clearing, AtLink}
+use Rattle.object_pool_cores.specs.declared.interleave.point.Point.TheVariants.{ClearingHinted, Making, Linking}
+use Rattle.object_pool_cores.specs.World.Inside.Progress.{taken_early, link_position, progress, position, Rises}
+use Rattle.object_pool_cores.specs.World.Inside.Progress.{MovesOn}
 use Rattle.object_pool_cores.specs.World.Machine.{lowest, without_lowest, tries, tries_hinted, comes_to, was_asked}
 
 -- ---- the bits that are tried go up
-pub lowest-grows : (mask : ℕ) → 0 < mask → mask < 2 ^ 32 → without_lowest mask < 2 ^ 32 → 0 < without_lowest mask → lowest mask < lowest (without_lowest mask)
+pub lowest-grows : (mask : ℕ) → 0 < mask → mask < 2 ^ 32 → without_lowest mask < 2 ^ 32 → 0 < without_lowest mask
+    → lowest mask < lowest (without_lowest mask)
 lowest-grows mask some fits rest_fits more =
     let lowest_bit = bit_at-trailing_zeros w32 mask some fits in
     let rest = bit_at-trailing_zeros w32 (without_lowest mask) more rest_fits in
@@ -19,7 +24,8 @@ lowest-grows mask some fits rest_fits more =
       | inr above ↦ elim (cases_eq (lowest (without_lowest mask)) (lowest mask)) [
         | inl same ↦
             let gone = cleared.clear in
-            let set : bit_at (without_lowest mask) (lowest mask) ≡ 1 = ap (bit_at (without_lowest mask)) (sym same) ∙ rest.1 in
+            let set : bit_at (without_lowest mask) (lowest mask) ≡ 1 =
+            ap (bit_at (without_lowest mask)) (sym same) ∙ rest.1 in
             absurd (omega arith)
         | inr other ↦
             let was = cleared.others (lowest (without_lowest mask)) other in
@@ -29,14 +35,10 @@ lowest-grows mask some fits rest_fits more =
       ]
     ]
 
--- the steps on a page further on to which a hint led, as far as they came beforehand
-abbrev pub taken_early : Option ℕ → ℕ → ℕ
-taken_early None k = 0
-taken_early (Some hint) k = if nat_lt k hint then 33 else 0
-
 pub early-most : (asked : Option ℕ) (k : ℕ) → taken_early asked k ≤ 33
 early-most None k = omega arith
-early-most (Some hint) k = elim (cases_Bool (nat_lt k hint)) [ inl is ↦ rw is (omega arith) | inr not ↦ rw not (omega arith) ]
+early-most (Some hint) k =
+    elim (cases_Bool (nat_lt k hint)) [ inl is ↦ rw is (omega arith) | inr not ↦ rw not (omega arith) ]
 
 -- on the page before it they are all taken, on itself none any more
 pub early-before : (hint k : ℕ) → k < hint → taken_early (Some hint) k ≡ 33
@@ -49,102 +51,83 @@ early-past hint k past = elim (cases_Bool (nat_lt k hint)) [
 ]
 
 -- on to the next page, which the hint didn't name, they stay
-pub early-next : (asked : Option ℕ) (k : ℕ) → was_asked asked (k + 1) ≡ false → taken_early asked (k + 1) ≡ taken_early asked k
+pub early-next : (asked : Option ℕ) (k : ℕ) → was_asked asked (k + 1) ≡ false
+    → taken_early asked (k + 1) ≡ taken_early asked k
 early-next None k not = refl
 early-next (Some hint) k not =
     let other = eqb-false hint (k + 1) not in
     elim (cases_lt k hint) [
-      | inl less ↦ let further : k + 1 < hint = omega arith in early-before hint (k + 1) further ∙ sym (early-before hint k less)
+      | inl less ↦ let further : k + 1 < hint = omega arith in early-before hint (k + 1) further
+          ∙ sym (early-before hint k less)
       | inr past ↦ early-past hint (k + 1) (omega arith) ∙ sym (early-past hint k past)
     ]
 
--- how far an agent is at the link of page k by its page, before a hint and after
-abbrev pub link_position : ℕ → Option ℕ → ℕ
-link_position k None = 69 * k + 33
-link_position k (Some hint) = 69 * k + 66
-
-pub link-between : (k : ℕ) (asked : Option ℕ) → (69 * k + 33 ≤ link_position k asked) × (link_position k asked ≤ 69 * k + 66)
+pub link-between : (k : ℕ) (asked : Option ℕ) → (69 * k + 33 ≤ link_position k asked)
+    × (link_position k asked ≤ 69 * k + 66)
 link-between k None = (omega arith, omega arith)
 link-between k (Some hint) = (omega arith, omega arith)
 
 module _ {T : Type 0} where
-  -- how far an agent is that looks: 36 for each page before, what it did on this one, and on the one further on that a hint named
-  abbrev pub progress : Point T → Option ℕ
-  progress (Reading k asked) = Some (36 * k + taken_early asked k)
-  progress (Clearing k mask asked) = Some (36 * k + 1 + lowest mask + taken_early asked k)
-  progress (AtLink k asked) = Some (36 * k + 33 + taken_early asked k)
-  progress (ClearingHinted hint mask) = Some (34 + lowest mask)
-  progress (Making k) = Some (36 * k + 34)
-  progress (Linking k values) = Some (36 * k + 35)
-  progress _ = None
-
-  -- how far it is by its page: room for a page that a hint names is left at each
-  abbrev pub position : Point T → Option ℕ
-  position (Reading k asked) = Some (69 * k)
-  position (Clearing k mask asked) = Some (69 * k + 1 + lowest mask)
-  position (AtLink k asked) = Some (link_position k asked)
-  position (ClearingHinted hint mask) = Some (34 + lowest mask)
-  position (Making k) = Some (69 * k + 67)
-  position (Linking k values) = Some (69 * k + 68)
-  position _ = None
-
-  -- one step further, as this counts
-  abbrev pub Rises : (Point T → Option ℕ) → Point T → Point T → Type 0
-  Rises measure from point = (later : ℕ) → measure point ≡ Some later → (sooner : ℕ) × (measure from ≡ Some sooner) × (sooner + 1 ≤ later)
-
-  -- one step further
-  pub record Advances (from point : Point T) : Type 0 where
-    pub steps : Rises progress from point
-    pub pages : Rises position from point
-
-  pub rises-to : (measure : Point T → Option ℕ) (from point : Point T) (sooner later : ℕ) → measure from ≡ Some sooner → measure point ≡ Some later
+  pub rises-to : (measure : Point T → Option ℕ) (from point : Point T) (sooner later : ℕ) → measure from ≡ Some sooner
+      → measure point ≡ Some later
       → sooner + 1 ≤ later → Rises measure from point
   rises-to measure from point sooner later is to less other lookup =
       let same : Some later ≡ Some other = sym to ∙ lookup in
       let equal : later ≡ other = cc in
       (sooner, is, omega arith)
 
-  pub rises-past : (measure : Point T → Option ℕ) (from point : Point T) → measure point ≡ None → Rises measure from point
+  pub rises-past : (measure : Point T → Option ℕ) (from point : Point T) → measure point ≡ None
+      → Rises measure from point
   rises-past measure from point none later lookup = absurd (let both : None ≡ Some later = sym none ∙ lookup in cc)
 
-  pub advances-past : (from point : Point T) → progress point ≡ None → position point ≡ None → Advances from point
-  advances-past from point none nowhere = record { steps = rises-past progress from point none; pages = rises-past position from point nowhere }
+  pub advances-past : (from point : Point T) → progress point ≡ None → position point ≡ None → MovesOn from point
+  advances-past from point none nowhere = record {
+    steps = rises-past progress from point none;
+    pages = rises-past position from point nowhere;
+  }
 
   -- on a page of the chain, with these bits to try
-  pub advances-tries : (from : Point T) (k mask : ℕ) (asked : Option ℕ) (sooner on_page : ℕ) → progress from ≡ Some (sooner + taken_early asked k)
+  pub advances-tries : (from : Point T) (k mask : ℕ) (asked : Option ℕ) (sooner on_page : ℕ)
+      → progress from ≡ Some (sooner + taken_early asked k)
       → position from ≡ Some on_page → sooner + 1 ≤ 36 * k + 33 → on_page + 1 ≤ 69 * k + 33
-      → (0 < mask → (sooner + 1 ≤ 36 * k + 1 + lowest mask) × (on_page + 1 ≤ 69 * k + 1 + lowest mask)) → Advances from (tries k mask asked)
+      → (0 < mask → (sooner + 1 ≤ 36 * k + 1 + lowest mask) × (on_page + 1 ≤ 69 * k + 1 + lowest mask))
+      → MovesOn from (tries k mask asked)
   advances-tries from k mask asked sooner on_page is here link page bits =
-      let P : Point T → Type 0 = Advances from in
+      let P : Point T → Type 0 = MovesOn from in
       let early = taken_early asked k in
       elim (cases_eq mask 0) [
         | inl none ↦
             let at : tries {T = T} k mask asked ≡ AtLink k asked = rw (eq-eqb mask 0 none) refl in
             let (least, most) = link-between k asked in
             subst P (sym at) (record {
-              steps = rises-to progress from (AtLink k asked) (sooner + early) (36 * k + 33 + early) is refl (omega arith);
+              steps = rises-to progress from (AtLink k asked) (sooner + early) (36 * k + 33 + early) is refl
+                  (omega arith);
               pages = rises-to position from (AtLink k asked) on_page (link_position k asked) here refl (omega arith);
             })
         | inr some ↦
             let at : tries {T = T} k mask asked ≡ Clearing k mask asked = rw (ne_eqb mask 0 some) refl in
             let (up, up_page) = bits (omega arith) in
             subst P (sym at) (record {
-              steps = rises-to progress from (Clearing k mask asked) (sooner + early) (36 * k + 1 + lowest mask + early) is refl (omega arith);
-              pages = rises-to position from (Clearing k mask asked) on_page (69 * k + 1 + lowest mask) here refl (omega arith);
+              steps = rises-to progress from (Clearing k mask asked) (sooner + early)
+                  (36 * k + 1 + lowest mask + early) is refl (omega arith);
+              pages = rises-to position from (Clearing k mask asked) on_page (69 * k + 1 + lowest mask) here refl
+                  (omega arith);
             })
       ]
 
   -- on a page that a hint named
-  pub advances-hinted : (from : Point T) (hint mask sooner : ℕ) → progress from ≡ Some sooner → position from ≡ Some sooner → 0 < hint
-      → sooner + 1 ≤ 66 → (0 < mask → sooner + 1 ≤ 34 + lowest mask) → Advances from (tries_hinted hint mask)
+  pub advances-hinted : (from : Point T) (hint mask sooner : ℕ) → progress from ≡ Some sooner
+      → position from ≡ Some sooner → 0 < hint
+      → sooner + 1 ≤ 66 → (0 < mask → sooner + 1 ≤ 34 + lowest mask) → MovesOn from (tries_hinted hint mask)
   advances-hinted from hint mask sooner is here further link bits =
-      let P : Point T → Type 0 = Advances from in
+      let P : Point T → Type 0 = MovesOn from in
       let early = early-before hint 0 further in
       elim (cases_eq mask 0) [
         | inl none ↦
             let at : tries_hinted {T = T} hint mask ≡ AtLink 0 (Some hint) = rw (eq-eqb mask 0 none) refl in
             subst P (sym at) (record {
-              steps = rises-to progress from (AtLink 0 (Some hint)) sooner (36 * 0 + 33 + taken_early (Some hint) 0) is refl (omega arith);
+              steps = rises-to progress from (AtLink 0 (Some hint)) sooner (36 * 0 + 33 + taken_early (Some hint) 0)
+                  is refl (omega arith);
               pages = rises-to position from (AtLink 0 (Some hint)) sooner 66 here refl (omega arith);
             })
         | inr some ↦
@@ -152,14 +135,15 @@ module _ {T : Type 0} where
             let up = bits (omega arith) in
             subst P (sym at) (record {
               steps = rises-to progress from (ClearingHinted hint mask) sooner (34 + lowest mask) is refl (omega arith);
-              pages = rises-to position from (ClearingHinted hint mask) sooner (34 + lowest mask) here refl (omega arith);
+              pages = rises-to position from (ClearingHinted hint mask) sooner (34 + lowest mask) here refl
+                  (omega arith);
             })
       ]
 
   -- over the link to the next page, or past it where a hint led there in vain
-  pub advances-next : (k : ℕ) (asked : Option ℕ) → Advances (AtLink k asked) (comes_to (k + 1) asked)
+  pub advances-next : (k : ℕ) (asked : Option ℕ) → MovesOn {T = T} (AtLink k asked) (comes_to (k + 1) asked)
   advances-next k asked =
-      let P : Point T → Type 0 = Advances (AtLink k asked) in
+      let P : Point T → Type 0 = MovesOn (AtLink k asked) in
       let (least, most) = link-between k asked in
       let early = taken_early asked k in
       elim (cases_Bool (was_asked asked (k + 1))) [
@@ -170,7 +154,8 @@ module _ {T : Type 0} where
             subst P (sym at) (record {
               steps = rises-to progress (AtLink k asked) (AtLink (k + 1) asked) (36 * k + 33 + early)
                   (36 * (k + 1) + 33 + taken_early asked (k + 1)) refl refl (omega arith);
-              pages = rises-to position (AtLink k asked) (AtLink (k + 1) asked) (link_position k asked) (link_position (k + 1) asked) refl refl (omega arith);
+              pages = rises-to position (AtLink k asked) (AtLink (k + 1) asked) (link_position k asked)
+                  (link_position (k + 1) asked) refl refl (omega arith);
             })
         | inr not ↦
             let at : comes_to {T = T} (k + 1) asked ≡ Reading (k + 1) asked = rw not refl in
@@ -178,27 +163,33 @@ module _ {T : Type 0} where
             subst P (sym at) (record {
               steps = rises-to progress (AtLink k asked) (Reading (k + 1) asked) (36 * k + 33 + early)
                   (36 * (k + 1) + taken_early asked (k + 1)) refl refl (omega arith);
-              pages = rises-to position (AtLink k asked) (Reading (k + 1) asked) (link_position k asked) (69 * (k + 1)) refl refl (omega arith);
+              pages = rises-to position (AtLink k asked) (Reading (k + 1) asked) (link_position k asked)
+                  (69 * (k + 1)) refl refl (omega arith);
             })
       ]
 
   -- at the end of the chain, behind each page that a hint may have named
-  pub advances-end : (k : ℕ) (asked : Option ℕ) → taken_early asked k ≡ 0 → Advances (AtLink k asked) (Making k)
+  pub advances-end : (k : ℕ) (asked : Option ℕ) → taken_early asked k ≡ 0
+      → MovesOn {T = T} (AtLink k asked) (Making k)
   advances-end k asked none =
       let (least, most) = link-between k asked in
       record {
-        steps = rises-to progress (AtLink k asked) (Making k) (36 * k + 33 + taken_early asked k) (36 * k + 34) refl refl (omega arith);
-        pages = rises-to position (AtLink k asked) (Making k) (link_position k asked) (69 * k + 67) refl refl (omega arith);
+        steps = rises-to progress (AtLink k asked) (Making k) (36 * k + 33 + taken_early asked k)
+            (36 * k + 34) refl refl (omega arith);
+        pages = rises-to position (AtLink k asked) (Making k) (link_position k asked) (69 * k + 67) refl refl
+            (omega arith);
       }
 
-  pub advances-made : (k : ℕ) (values : List T) → Advances (Making k) (Linking k values)
+  pub advances-made : (k : ℕ) (values : List T) → MovesOn (Making k) (Linking k values)
   advances-made k values = record {
     steps = rises-to progress (Making k) (Linking k values) (36 * k + 34) (36 * k + 35) refl refl (omega arith);
     pages = rises-to position (Making k) (Linking k values) (69 * k + 67) (69 * k + 68) refl refl (omega arith);
   }
 
-  pub advances-linked : (k : ℕ) (values : List T) → Advances (Linking k values) (Reading (k + 1) None)
+  pub advances-linked : (k : ℕ) (values : List T) → MovesOn (Linking k values) (Reading (k + 1) None)
   advances-linked k values = record {
-    steps = rises-to progress (Linking k values) (Reading (k + 1) None) (36 * k + 35) (36 * (k + 1) + 0) refl refl (omega arith);
-    pages = rises-to position (Linking k values) (Reading (k + 1) None) (69 * k + 68) (69 * (k + 1)) refl refl (omega arith);
+    steps = rises-to progress (Linking k values) (Reading (k + 1) None) (36 * k + 35) (36 * (k + 1) + 0) refl refl
+        (omega arith);
+    pages = rises-to position (Linking k values) (Reading (k + 1) None) (69 * k + 68) (69 * (k + 1)) refl refl
+        (omega arith);
   }

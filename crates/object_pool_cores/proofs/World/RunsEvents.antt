@@ -1,31 +1,35 @@
 -- Events that are done one after another.
-use Rattle.std.proofs.Common.{◌≡◌, ◌⊎◌, inl, inr, ℕ, ◌+◌, ◌-◌, ◌*◌, ◌<◌, ◌≤◌, Option, Some, None, slice_get, List, [], ◌∷◌, ◌++◌, length, map, reverse, Result, Ok, Err, IsErr, OnOk, arith, refl, ap, sym, ◌∙◌, subst, append_assoc}
+use Rattle.std.proofs.Common.{◌≡◌, ◌⊎◌, inl, inr, ℕ, ◌+◌, ◌-◌, ◌*◌, ◌<◌, ◌≤◌, Option, Some, None, slice_get, List, []}
+use Rattle.std.proofs.Common.{◌∷◌, ◌++◌, length, map, reverse, Result, Ok, Err, IsErr, OnOk, arith, refl, ap, sym, ◌∙◌}
+use Rattle.std.proofs.Common.{subst, append_assoc}
 use Rattle.std.proofs.lemmas.List.{map-append, reverse-append, append-nil}
 use Rattle.object_pool_cores.specs.declared.interleave.event.Event.{Event}
 use Rattle.object_pool_cores.specs.declared.interleave.event.Seen.{Seen}
 use Rattle.object_pool_cores.specs.declared.run_error.RunError.{RunError}
-use Rattle.object_pool_cores.specs.World.State.{State}
+use Rattle.object_pool_cores.specs.World.State.{WorldState}
 use Rattle.object_pool_cores.specs.World.Machine.{Steps, lowest}
-use Rattle.object_pool_cores.specs.World.Visible.{Log}
-use Rattle.object_pool_cores.specs.World.Headline.{IsNew, Ran, Stretch, Advances, SinceNew, RunsEvents}
-use Rattle.object_pool_cores.specs.World.Reached.{IsReached}
-use Rattle.object_pool_cores.specs.World.Rows.{IsExact}
-use Rattle.object_pool_cores.specs.World.OwnSteps.{own_steps, IsOnPage, IsOnHinted, IsLooking}
-use Rattle.object_pool_cores.specs.World.Invariant.{FoundAsked}
+use Rattle.object_pool_cores.specs.World.Trace.{Log}
+use Rattle.object_pool_cores.specs.World.Headline.{IsNew, Executes, Segment, Advances, SinceNew, RunsEvents}
+use Rattle.object_pool_cores.specs.World.Reachable.{IsReachable}
+use Rattle.object_pool_cores.specs.World.Enabled.{IsExact}
+use Rattle.object_pool_cores.specs.World.OwnSteps.{own_steps, IsAtPage, IsAtHintedPage, IsLooking}
+use Rattle.object_pool_cores.specs.World.Inside.Invariant.{FoundAsked}
 use Rattle.object_pool_cores.specs.declared.interleave.point.Point.{Point}
-use Rattle.object_pool_cores.specs.declared.interleave.point.Point.TheVariants.{Reading, Clearing, AtLink, ClearingHinted, Making, Linking}
+use Rattle.object_pool_cores.specs.declared.interleave.point.Point.TheVariants.{Reading, Clearing, AtLink}
+use Rattle.object_pool_cores.specs.declared.interleave.point.Point.TheVariants.{ClearingHinted, Making, Linking}
 use Rattle.object_pool_cores.specs.Pool.{AllowsPages}
 use Rattle.object_pool_cores.specs.Run.{Act}
 use Rattle.std.proofs.lemmas.Bool.{cases_lt}
 use Rattle.object_pool_cores.proofs.World.Bits.{lowest-lt}
 use Rattle.object_pool_cores.proofs.World.Headline.{ran-is_run}
-use Rattle.object_pool_cores.proofs.World.Rows.{reached-new, reached-agrees, known-reached}
-use Rattle.object_pool_cores.proofs.World.Alone.{unhinted-is, ran-stands, stands-alone}
-use Rattle.object_pool_cores.proofs.World.AloneByHint.{ran-alone_by_hint}
-use Rattle.object_pool_cores.proofs.World.Reached.{ran-append, ran-reached, ran-advances}
+use Rattle.object_pool_cores.proofs.World.Enabled.{reached-new, reached-agrees, known-reached}
+use Rattle.object_pool_cores.proofs.World.Solo.{unhinted-is, ran-stands, stands-alone}
+use Rattle.object_pool_cores.proofs.World.SoloByHint.{ran-alone_by_hint}
+use Rattle.object_pool_cores.proofs.World.Reachable.{ran-append, ran-reached, ran-advances}
 use Rattle.object_pool_cores.proofs.World.InOrder.{ran-in_order, none-in_order}
 use Rattle.object_pool_cores.proofs.World.OwnSteps.{start_of, AdvancedTo}
-use Rattle.object_pool_cores.proofs.World.Progress.{progress, position, taken_early, early-most, early-past}
+use Rattle.object_pool_cores.specs.World.Inside.Progress.{progress, position, taken_early}
+use Rattle.object_pool_cores.proofs.World.Progress.{early-most, early-past}
 
 -- an error isn't Ok
 pub on-err : {A E : Type 0} (result : Result A E) (P : Type 0) → IsErr result → OnOk result P
@@ -47,15 +51,17 @@ module _ {T : Type 0} where
   no-steps : (later part earlier : Log T) (a : ℕ) → later ++ part ++ earlier ≡ [] → own_steps part a ≡ 0
   no-steps later part earlier a none = ap (λ log. own_steps log a) (no-events later part earlier none)
 
-  allowed-under : (new : State T) → IsReached new → (limit : ℕ) → new.limit ≡ Some limit → length new.pages ≤ limit
+  allowed-under : (new : WorldState T) → IsReachable new → (limit : ℕ) → new.limit ≡ Some limit
+      → length new.pages ≤ limit
   allowed-under new reached limit is =
       let P : Option ℕ → Type 0 = λ limit. AllowsPages limit (length new.pages) in
       subst P is (reached-agrees new reached).agrees.allowed
 
   -- the steps on one page
-  page-steps-at : (start : Option (Point T)) (new : State T) (log : Log T) (a k : ℕ) (asked : Option ℕ) → IsReached new
+  page-steps-at : (start : Option (Point T)) (new : WorldState T) (log : Log T) (a k : ℕ) (asked : Option ℕ)
+      → IsReachable new
       → start ≡ Some (Reading k asked) → (lookup : Option (Point T)) → slice_get new.agents a ≡ lookup
-      → AdvancedTo position start (own_steps log a) lookup → IsOnPage k lookup → own_steps log a < 33
+      → AdvancedTo position start (own_steps log a) lookup → IsAtPage k lookup → own_steps log a < 33
   page-steps-at start new log a k asked reached is (Some (Reading j later)) at advanced here =
       let (sooner, start_is, few) = advanced (69 * j) refl in
       let same : Some (69 * k) ≡ Some sooner = sym (ap (start_of position) is) ∙ start_is in
@@ -71,9 +77,11 @@ module _ {T : Type 0} where
   page-steps-at start new log a k asked reached is _ at advanced here = absurd here
 
   -- the steps on the page that a hint names
-  hint-steps-at : (start : Option (Point T)) (new : State T) (log : Log T) (a : ℕ) → IsReached new → start ≡ Some (AtLink 0 None)
-      → (lookup : Option (Point T)) → slice_get new.agents a ≡ lookup → AdvancedTo position start (own_steps log a) lookup
-      → IsOnHinted lookup → own_steps log a < 33
+  hint-steps-at : (start : Option (Point T)) (new : WorldState T) (log : Log T) (a : ℕ) → IsReachable new
+      → start ≡ Some (AtLink 0 None)
+      → (lookup : Option (Point T)) → slice_get new.agents a ≡ lookup
+      → AdvancedTo position start (own_steps log a) lookup
+      → IsAtHintedPage lookup → own_steps log a < 33
   hint-steps-at start new log a reached is (Some (ClearingHinted hint mask)) at advanced here =
       let knows = known-reached new reached a (ClearingHinted hint mask) at in
       let within = lowest-lt mask knows.bits.some knows.bits.in_word in
@@ -84,7 +92,8 @@ module _ {T : Type 0} where
   hint-steps-at start new log a reached is _ at advanced here = absurd here
 
   -- the steps of an agent that began
-  since-begun : (start : Option (Point T)) (n later : ℕ) → start ≡ None → (sooner : ℕ) → start_of progress start ≡ Some sooner
+  since-begun : (start : Option (Point T)) (n later : ℕ) → start ≡ None → (sooner : ℕ)
+      → start_of progress start ≡ Some sooner
       → sooner + n ≤ later → n ≤ later
   since-begun start n later none sooner is few =
       let same : Some 0 ≡ Some sooner = sym (ap (start_of progress) none) ∙ is in
@@ -92,7 +101,8 @@ module _ {T : Type 0} where
       omega arith
 
   -- those that were taken early, on a page that is linked, are within the limit
-  early-within : (asked : Option ℕ) (first : List T) (acts : List (Act T)) (pages a k : ℕ) → FoundAsked first acts pages a asked
+  early-within : (asked : Option ℕ) (first : List T) (acts : List (Act T)) (pages a k : ℕ)
+      → FoundAsked first acts pages a asked
       → k < pages → 36 * k + taken_early asked k + 36 ≤ 36 * pages
   early-within None first acts pages a k full linked = omega arith
   early-within (Some hint) first acts pages a k full linked =
@@ -102,7 +112,8 @@ module _ {T : Type 0} where
         | inr past ↦ let none = early-past hint k past in omega arith
       ]
 
-  limit-steps-at : (start : Option (Point T)) (new : State T) (log : Log T) (a limit : ℕ) → IsReached new → new.limit ≡ Some limit
+  limit-steps-at : (start : Option (Point T)) (new : WorldState T) (log : Log T) (a limit : ℕ) → IsReachable new
+      → new.limit ≡ Some limit
       → start ≡ None → (lookup : Option (Point T)) → slice_get new.agents a ≡ lookup
       → AdvancedTo progress start (own_steps log a) lookup → IsLooking lookup → own_steps log a < 36 * limit - 2
   limit-steps-at start new log a limit reached is none (Some (Reading k asked)) at advanced looks =
@@ -154,31 +165,37 @@ module _ {T : Type 0} where
   limit-steps-at start new log a limit reached is none _ at advanced looks = absurd looks
 
 module _ {T : Type 0} (Leaves : T → T → Type 0) where
-  none-goes : (old new : State T) (a : ℕ) (log : Log T) → log ≡ [] → Ran Leaves old log new → slice_get new.agents a ≡ slice_get old.agents a
+  none-goes : (old new : WorldState T) (a : ℕ) (log : Log T) → log ≡ [] → Executes Leaves old log new
+      → slice_get new.agents a ≡ slice_get old.agents a
   none-goes old new a [] none same = ap (λ world. slice_get world.agents a) same
   none-goes old new a (entry ∷ log) none ran = absurd (cc)
 
   -- what own steps come to, from a world that can be reached
-  reached-leads : (whole : Stretch T) → IsReached whole.from → Advances Leaves whole
+  reached-leads : (whole : Segment T) → IsReachable whole.from → Advances Leaves whole
   reached-leads whole reached = record {
     per_page = λ part is a k asked at here.
         let there = ran-reached Leaves whole.from reached is.earlier part.from is.before in
         let end = ran-reached Leaves part.from there part.log part.to is.steps in
         page-steps-at (slice_get part.from.agents a) part.to part.log a k asked end at (slice_get part.to.agents a) refl
-        (ran-advances Leaves position (λ from point further. further.pages) part.from there a part.log part.to is.steps) here;
+        (ran-advances Leaves position (λ from point further. further.pages) part.from there a part.log part.to
+        is.steps) here;
     per_hint = λ part is a at here.
         let there = ran-reached Leaves whole.from reached is.earlier part.from is.before in
         let end = ran-reached Leaves part.from there part.log part.to is.steps in
         hint-steps-at (slice_get part.from.agents a) part.to part.log a end at (slice_get part.to.agents a) refl
-        (ran-advances Leaves position (λ from point further. further.pages) part.from there a part.log part.to is.steps) here;
+        (ran-advances Leaves position (λ from point further. further.pages) part.from there a part.log part.to
+        is.steps) here;
     bounded = λ part is a limit none limited looks.
         let there = ran-reached Leaves whole.from reached is.earlier part.from is.before in
         let end = ran-reached Leaves part.from there part.log part.to is.steps in
-        limit-steps-at (slice_get part.from.agents a) part.to part.log a limit end limited none (slice_get part.to.agents a) refl
-        (ran-advances Leaves progress (λ from point further. further.steps) part.from there a part.log part.to is.steps) looks;
+        limit-steps-at (slice_get part.from.agents a) part.to part.log a limit end limited none
+        (slice_get part.to.agents a) refl
+        (ran-advances Leaves progress (λ from point further. further.steps) part.from there a part.log part.to
+        is.steps) looks;
     alone = λ part is a at only unhinted.
         let there = ran-reached Leaves whole.from reached is.earlier part.from is.before in
-        stands-alone part.from part.log part.to a (ran-stands Leaves part.from there a at part.log part.to is.steps (unhinted-is a part.log only unhinted));
+        stands-alone part.from part.log part.to a
+        (ran-stands Leaves part.from there a at part.log part.to is.steps (unhinted-is a part.log only unhinted));
     in_order = λ part is a at only unhinted.
         let there = ran-reached Leaves whole.from reached is.earlier part.from is.before in
         ran-in_order Leaves part.from there a at part.log part.to is.steps (unhinted-is a part.log only unhinted);
@@ -188,21 +205,29 @@ module _ {T : Type 0} (Leaves : T → T → Type 0) where
   }
 
   -- where no steps were done there is none on any part
-  nothing-leads : (whole : Stretch T) → whole.log ≡ [] → Advances Leaves whole
+  nothing-leads : (whole : Segment T) → whole.log ≡ [] → Advances Leaves whole
   nothing-leads whole empty = record {
-    per_page = λ part is a k asked at here. let none = no-steps is.later part.log is.earlier a (is.logs ∙ empty) in omega arith;
+    per_page = λ part is a k asked at here. let none = no-steps is.later part.log is.earlier a (is.logs ∙ empty) in
+        omega arith;
     per_hint = λ part is a at here. let none = no-steps is.later part.log is.earlier a (is.logs ∙ empty) in omega arith;
     bounded = λ part is a limit begins limited looks.
         let P : Option (Point T) → Type 0 = IsLooking in
-        absurd (subst P (none-goes part.from part.to a part.log (no-events is.later part.log is.earlier (is.logs ∙ empty)) is.steps ∙ begins) looks);
+        absurd
+        (subst P
+        (none-goes part.from part.to a part.log (no-events is.later part.log is.earlier (is.logs ∙ empty))
+        is.steps ∙ begins) looks);
     alone = λ part is a at only unhinted.
         let none = no-steps is.later part.log is.earlier a (is.logs ∙ empty) in
         record {
           takes = λ k free. record { answered = λ many. absurd (omega arith); held = λ now. absurd (omega arith) };
-          links = λ all unlimited brings. record { answered = λ many. absurd (omega arith); held = λ now. absurd (omega arith) };
+          links = λ all unlimited brings. record {
+            answered = λ many. absurd (omega arith);
+            held = λ now. absurd (omega arith);
+          };
           refused = λ all limited many. let some = all.some in absurd (omega arith);
         };
-    in_order = λ part is a at only unhinted. none-in_order part.from part.log part.to a (no-events is.later part.log is.earlier (is.logs ∙ empty));
+    in_order = λ part is a at only unhinted. none-in_order part.from part.log part.to a
+        (no-events is.later part.log is.earlier (is.logs ∙ empty));
     alone_by_hint = λ part is a at only.
         let none = no-steps is.later part.log is.earlier a (is.logs ∙ empty) in
         record {
@@ -213,11 +238,12 @@ module _ {T : Type 0} (Leaves : T → T → Type 0) where
   }
 
   -- an agent that hadn't begun
-  new-limit : (start : State T) → IsNew start → (a : ℕ) → slice_get start.agents a ≡ None
+  new-limit : (start : WorldState T) → IsNew start → (a : ℕ) → slice_get start.agents a ≡ None
   new-limit start is_new a = ap (λ world. slice_get world.agents a) is_new.same
 
   -- all that was done since the world was new
-  ran-since_new : (start : State T) (is_new : IsNew start) (log : Log T) (new : State T) → Ran Leaves start log new
+  ran-since_new : (start : WorldState T) (is_new : IsNew start) (log : Log T) (new : WorldState T)
+      → Executes Leaves start log new
       → SinceNew Leaves is_new.first (record { from = start; log = log; to = new })
   ran-since_new start is_new log new ran =
       let reached = reached-new start is_new in
@@ -226,18 +252,20 @@ module _ {T : Type 0} (Leaves : T → T → Type 0) where
         headline = ran-is_run Leaves start is_new log new ran;
         bounded = λ a limit is looks.
             limit-steps-at (slice_get start.agents a) new log a limit end is (new-limit start is_new a)
-            (slice_get new.agents a) refl (ran-advances Leaves progress (λ from point further. further.steps) start reached a log new ran) looks;
+            (slice_get new.agents a) refl
+            (ran-advances Leaves progress (λ from point further. further.steps) start reached a log new ran) looks;
         advances = reached-leads (record { from = start; log = log; to = new }) reached;
       }
 
-module _ {T : Type 0} (Leaves : T → T → Type 0) (old : State T) (events : List (Event T)) (before : List Seen) where
+module _ {T : Type 0} (Leaves : T → T → Type 0) (old : WorldState T) (events : List (Event T))
+    (before : List Seen) where
   -- the events but the rest were done
-  pub record Replayed (rest : List (Event T)) (after : List Seen) (new : State T) : Type 0 where
+  pub record Replayed (rest : List (Event T)) (after : List Seen) (new : WorldState T) : Type 0 where
     pub log : Log T
     pub done : map (λ entry. entry.0) (reverse log) ++ rest ≡ events
     pub answers : before ++ map (λ entry. entry.1) (reverse log) ≡ after
-    pub steps : Ran Leaves old log new
-    pub reached : ((log ≡ []) × (new ≡ old)) ⊎ IsReached old
+    pub steps : Executes Leaves old log new
+    pub reached : ((log ≡ []) × (new ≡ old)) ⊎ IsReachable old
 
   pub replayed-none : Replayed events before old
   replayed-none = record {
@@ -249,15 +277,18 @@ module _ {T : Type 0} (Leaves : T → T → Type 0) (old : State T) (events : Li
   }
 
   -- the first world can be reached, since the one before a step can
-  first-reached : (log : Log T) (between : State T) → (((log ≡ []) × (between ≡ old)) ⊎ IsReached old) → IsReached between → IsReached old
+  first-reached : (log : Log T) (between : WorldState T) → (((log ≡ []) × (between ≡ old)) ⊎ IsReachable old)
+      → IsReachable between → IsReachable old
   first-reached log between (inl none) reached =
-      let P : State T → Type 0 = IsReached in
+      let P : WorldState T → Type 0 = IsReachable in
       subst P none.1 reached
   first-reached log between (inr first) reached = first
 
   -- one event more
-  replayed-more : (rest : List (Event T)) (after : List Seen) (between : State T) (e : Event T) (answer : Seen) (new : State T)
-      → Replayed (e ∷ rest) after between → IsReached between → Steps Leaves between e answer new → IsExact between e answer new
+  replayed-more : (rest : List (Event T)) (after : List Seen) (between : WorldState T) (e : Event T) (answer : Seen)
+      (new : WorldState T)
+      → Replayed (e ∷ rest) after between → IsReachable between → Steps Leaves between e answer new
+      → IsExact between e answer new
       → Replayed rest (after ++ answer ∷ []) new
   replayed-more rest after between e answer new replayed reached step exact =
       let log : Log T = replayed.log in
@@ -282,21 +313,27 @@ module _ {T : Type 0} (Leaves : T → T → Type 0) (old : State T) (events : Li
       }
 
   -- the same, of a list whose last event is done next
-  pub replayed-next : (items rest : List (Event T)) (after later : List Seen) (between : State T) (e : Event T) (answer : Seen)
-      (new : State T) → items ≡ rest ++ e ∷ [] → later ≡ after ++ answer ∷ [] → Replayed (reverse items) after between
-      → IsReached between → Steps Leaves between e answer new → IsExact between e answer new → Replayed (reverse rest) later new
+  pub replayed-next : (items rest : List (Event T)) (after later : List Seen) (between : WorldState T) (e : Event T)
+      (answer : Seen)
+      (new : WorldState T) → items ≡ rest ++ e ∷ [] → later ≡ after ++ answer ∷ []
+      → Replayed (reverse items) after between
+      → IsReachable between → Steps Leaves between e answer new → IsExact between e answer new
+      → Replayed (reverse rest) later new
   replayed-next items rest after later between e answer new last answered replayed reached step exact =
       let P : List (Event T) → Type 0 = λ all. Replayed all after between in
       let Q : List Seen → Type 0 = λ all. Replayed (reverse rest) all new in
-      let next : Replayed (e ∷ reverse rest) after between = subst P (ap reverse last ∙ reverse-append rest (e ∷ [])) replayed in
+      let next : Replayed (e ∷ reverse rest) after between =
+      subst P (ap reverse last ∙ reverse-append rest (e ∷ [])) replayed in
       subst Q (sym answered) (replayed-more (reverse rest) after between e answer new next reached step exact)
 
   -- what own steps come to in what was done
-  replayed-leads : (log : Log T) (new : State T) → (((log ≡ []) × (new ≡ old)) ⊎ IsReached old) → Advances Leaves (record { from = old; log = log; to = new })
+  replayed-leads : (log : Log T) (new : WorldState T) → (((log ≡ []) × (new ≡ old)) ⊎ IsReachable old)
+      → Advances Leaves (record { from = old; log = log; to = new })
   replayed-leads log new (inl none) = nothing-leads Leaves (record { from = old; log = log; to = new }) none.0
   replayed-leads log new (inr reached) = reached-leads Leaves (record { from = old; log = log; to = new }) reached
 
-  pub runs_events-from : (rest : List (Event T)) (after : List Seen) (new : State T) (result : Result (Unit {0}) RunError)
+  pub runs_events-from : (rest : List (Event T)) (after : List Seen) (new : WorldState T)
+      (result : Result (Unit {0}) RunError)
       → Replayed rest after new → OnOk result (rest ≡ [])
       → RunsEvents Leaves (record { world = old; events = events; seen = before })
       (record { world = new; seen = after; result = result })

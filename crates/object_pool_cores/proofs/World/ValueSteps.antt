@@ -1,5 +1,6 @@
 -- The moves of values keep the invariant: out of a place, written, and home again; and a new agent.
-use Rattle.std.proofs.Common.{◌≡◌, ◌≢◌, ◌⊎◌, inl, inr, ℕ, ◌^◌, ◌<◌, ◌≤◌, false, Option, Some, None, List, [], ◌∷◌, ◌++◌, length, slice_get, slice_set, refl, ap, sym, ◌∙◌, subst, arith, length-append}
+use Rattle.std.proofs.Common.{◌≡◌, ◌≢◌, ◌⊎◌, inl, inr, ℕ, ◌^◌, ◌<◌, ◌≤◌, false, Option, Some, None, List, [], ◌∷◌, ◌++◌}
+use Rattle.std.proofs.Common.{length, slice_get, slice_set, refl, ap, sym, ◌∙◌, subst, arith, length-append}
 use Rattle.std.proofs.lemmas.Bool.{cases_eq, cases_lt, cases_Bool}
 use Rattle.std.proofs.lemmas.List.{length-set}
 use Rattle.std.proofs.lemmas.Option.{slice_get_past}
@@ -10,39 +11,48 @@ use Rattle.object_pool_cores.specs.declared.interleave.point.Point.{Point}
 use Rattle.object_pool_cores.specs.declared.interleave.point.Point.TheVariants.{Reading, Taken, Holding, Home}
 use Rattle.object_pool_cores.specs.Pool.{IsOut, number}
 use Rattle.object_pool_cores.specs.Run.{Act, Opens, Writes, NotBegun, Holds, after_write, stage_of, pool_of}
-use Rattle.object_pool_cores.specs.World.PageState.{PageState}
-use Rattle.object_pool_cores.specs.World.State.{State}
-use Rattle.object_pool_cores.specs.World.Machine.{IsOutcome, has_bit, value_at, with_value, takes, move_out, write, puts, begin, MovesHome}
-use Rattle.object_pool_cores.specs.World.Reading.{place_of}
-use Rattle.object_pool_cores.specs.World.Visible.{Log}
-use Rattle.object_pool_cores.specs.World.Invariant.{HoldsAt, KnowsIf, Agrees}
+use Rattle.object_pool_cores.specs.World.State.{WorldPageState, WorldState}
+use Rattle.object_pool_cores.specs.World.Machine.{IsOutcome, has_bit, page_value, with_page_value, takes, move_out}
+use Rattle.object_pool_cores.specs.World.Machine.{write, puts, begin, MovesHome}
+use Rattle.object_pool_cores.specs.World.AbstractPool.{place_by_bit}
+use Rattle.object_pool_cores.specs.World.Trace.{Log}
+use Rattle.object_pool_cores.specs.World.Inside.Invariant.{HoldsAt, KnowsIf, Agrees}
 use Rattle.object_pool_cores.proofs.Runs.{stage_of-own, stage_of-other, since-later, other-opens, free_with-in}
-use Rattle.object_pool_cores.proofs.World.Reading.{get-some, get-push_old, get-push_new, length-changed, changed-all, value-put_same, value-put_other, same-moved}
-use Rattle.object_pool_cores.proofs.World.Invariant.{GoesOn, StepsPages, pages-stay, hidden-step, visible-step, from-outcome, sound-of, allows-fewer, pages-some, Carries, known-carried}
+use Rattle.object_pool_cores.proofs.World.AbstractPool.{get-some, get-push_old, get-push_new, length-changed}
+use Rattle.object_pool_cores.proofs.World.AbstractPool.{changed-all, value-put_same, value-put_other, same-moved}
+use Rattle.object_pool_cores.proofs.World.Invariant.{GoesOn, StepsPages, pages-stay, hidden-step, visible-step}
+use Rattle.object_pool_cores.proofs.World.Invariant.{from-outcome, sound-of, allows-fewer, pages-some, Carries}
+use Rattle.object_pool_cores.proofs.World.Invariant.{known-carried}
 use Rattle.object_pool_cores.proofs.World.WordSteps.{known, lies-at, disabled}
 
-module _ {T : Type 0} (Leaves : T → T → Type 0) (first : List T) (log : Log T) (acts : List (Act T)) (old : State T)
+module _ {T : Type 0} (Leaves : T → T → Type 0) (first : List T) (log : Log T) (acts : List (Act T))
+    (old : WorldState T)
     (agrees : Agrees Leaves first log acts old) where
   -- the bit of a number that an agent holds is clear
-  clear-held : length first ≡ 32 → (a k id : ℕ) (value : T) (page : PageState T) → HoldsAt acts old a k id value
+  clear-held : length first ≡ 32 → (a k id : ℕ) (value : T) (page : WorldPageState T) → HoldsAt acts old a k id value
       → slice_get old.pages k ≡ Some page → has_bit page.word id ≡ false
   clear-held full a k id value page holds here =
       let sound = sound-of Leaves first log acts old full agrees in
       let out = sound.holders.out (number k id) a value holds.stage in
       elim (cases_Bool (has_bit page.word id)) [
-        | inl set ↦ absurd (free_with-in (value_at old.pages k id)
+        | inl set ↦ absurd (free_with-in (page_value old.pages k id)
             (sym (lies-at Leaves first log acts old agrees k id page holds.in_page here
-            ∙ ap (λ bit. place_of bit (value_at old.pages k id)) set) ∙ out))
+            ∙ ap (λ bit. place_by_bit bit (page_value old.pages k id)) set) ∙ out))
         | inr clear ↦ clear
       ]
 
   -- the pages after a value came to the place that an agent holds, or went from it
-  placed : length first ≡ 32 → (a k id : ℕ) (held : T) (value : Option T) (page : PageState T) → HoldsAt acts old a k id held
-      → slice_get old.pages k ≡ Some page → StepsPages Leaves first acts acts old (with_value old.pages k id value) a
+  placed : length first ≡ 32 → (a k id : ℕ) (held : T) (value : Option T) (page : WorldPageState T)
+      → HoldsAt acts old a k id held
+      → slice_get old.pages k ≡ Some page
+      → StepsPages Leaves first acts acts old (with_page_value old.pages k id value) a
   placed full a k id held value page holds here =
       let sound = sound-of Leaves first log acts old full agrees in
-      let f : PageState T → PageState T = λ p. record { word = p.word; places = slice_set p.places id value } in
-      let pages = with_value old.pages k id value in
+      let f : WorldPageState T → WorldPageState T = λ p. record {
+        word = p.word;
+        places = slice_set p.places id value;
+      } in
+      let pages = with_page_value old.pages k id value in
       let count : length pages ≡ length old.pages = length-changed f old.pages k page here in
       record {
         count = omega arith;
@@ -50,7 +60,8 @@ module _ {T : Type 0} (Leaves : T → T → Type 0) (first : List T) (log : Log 
             (record { pages = pages; agents = old.agents; limit = old.limit }) k id value page holds.in_page here
             (clear-held full a k id held page holds here) agrees.same refl;
         words = changed-all (λ p. p.word < 2 ^ 32) f old.pages k page here (agrees.words k page here) agrees.words;
-        places = changed-all (λ p. length p.places ≡ 32) f old.pages k page here (length-set page.places id value ∙ agrees.places k page here) agrees.places;
+        places = changed-all (λ p. length p.places ≡ 32) f old.pages k page here
+            (length-set page.places id value ∙ agrees.places k page here) agrees.places;
         allowed = allows-fewer old.limit (length pages) (length old.pages) (omega arith) agrees.allowed;
         values = λ b j i other apart linked within theirs.
             let different : (j ≢ k) ⊎ (i ≢ id) =
@@ -63,18 +74,21 @@ module _ {T : Type 0} (Leaves : T → T → Type 0) (first : List T) (log : Log 
             value-put_other old.pages k id value page here j i different;
       }
 
-  linked-placed : (k id : ℕ) (value : Option T) (page : PageState T) → slice_get old.pages k ≡ Some page → k < length old.pages
-      → k < length (with_value old.pages k id value)
+  linked-placed : (k id : ℕ) (value : Option T) (page : WorldPageState T) → slice_get old.pages k ≡ Some page
+      → k < length old.pages
+      → k < length (with_page_value old.pages k id value)
   linked-placed k id value page here linked =
-      let count : length (with_value old.pages k id value) ≡ length old.pages = length-changed (λ p.
+      let count : length (with_page_value old.pages k id value) ≡ length old.pages = length-changed (λ p.
       record { word = p.word; places = slice_set p.places id value }) old.pages k page here in
       omega arith
 
   -- the value goes to the agent
   moved-out : length first ≡ 32 → (a k id : ℕ) → slice_get old.agents a ≡ Some (Taken k id) → (lookup : Option T)
-      → value_at old.pages k id ≡ lookup → (answer : Seen) (new : State T) → IsOutcome (takes old a k id lookup) answer new
+      → page_value old.pages k id ≡ lookup → (answer : Seen) (new : WorldState T)
+      → IsOutcome (takes old a k id lookup) answer new
       → GoesOn Leaves first log (event.MoveOut a) answer new
-  moved-out full a k id at None none answer new row = disabled Leaves first log acts old agrees (event.MoveOut a) (λ b. refl) answer new row
+  moved-out full a k id at None none answer new row = disabled Leaves first log acts old agrees (event.MoveOut a)
+      (λ b. refl) answer new row
   moved-out full a k id at (Some taken) some answer new row =
       let (value, holds, lies) = known Leaves first log acts old agrees a (Taken k id) at in
       let same : Some value ≡ Some taken = sym lies ∙ some in
@@ -83,8 +97,9 @@ module _ {T : Type 0} (Leaves : T → T → Type 0) (first : List T) (log : Log 
       from-outcome Leaves first log (event.MoveOut a) (takes old a k id (Some taken)) answer new
       (record {
         acts = acts;
-        agrees = hidden-step Leaves first log acts old (event.MoveOut a) (seen.MovedOut a) a (Taken k id) (Holding k id taken)
-            (with_value old.pages k id None) agrees at tt (λ b other. refl)
+        agrees = hidden-step Leaves first log acts old (event.MoveOut a) (seen.MovedOut a) a (Taken k id)
+            (Holding k id taken)
+            (with_page_value old.pages k id None) agrees at tt (λ b other. refl)
             (placed full a k id value None page holds here)
             (record {
               linked = linked-placed k id None page here holds.linked;
@@ -96,13 +111,15 @@ module _ {T : Type 0} (Leaves : T → T → Type 0) (first : List T) (log : Log 
       row
 
   pub move_out-goes : length first ≡ 32 → (a : ℕ) (lookup : Option (Point T)) → slice_get old.agents a ≡ lookup
-      → (answer : Seen) (new : State T) → IsOutcome (move_out old a lookup) answer new
+      → (answer : Seen) (new : WorldState T) → IsOutcome (move_out old a lookup) answer new
       → GoesOn Leaves first log (event.MoveOut a) answer new
-  move_out-goes full a (Some (Taken k id)) at answer new row = moved-out full a k id at (value_at old.pages k id) refl answer new row
-  move_out-goes full a _ at answer new row = disabled Leaves first log acts old agrees (event.MoveOut a) (λ b. refl) answer new row
+  move_out-goes full a (Some (Taken k id)) at answer new row =
+      moved-out full a k id at (page_value old.pages k id) refl answer new row
+  move_out-goes full a _ at answer new row = disabled Leaves first log acts old agrees (event.MoveOut a)
+      (λ b. refl) answer new row
 
   pub write-goes : (a : ℕ) (value : T) (lookup : Option (Point T)) → slice_get old.agents a ≡ lookup
-      → (answer : Seen) (new : State T) → IsOutcome (write old a value lookup) answer new
+      → (answer : Seen) (new : WorldState T) → IsOutcome (write old a value lookup) answer new
       → GoesOn Leaves first log (event.Write a value) answer new
   write-goes a value (Some (Holding k id before)) at answer new row =
       let holds : HoldsAt acts old a k id before = known Leaves first log acts old agrees a (Holding k id before) at in
@@ -111,7 +128,8 @@ module _ {T : Type 0} (Leaves : T → T → Type 0) (first : List T) (log : Log 
       (record {
         acts = act ∷ acts;
         agrees = visible-step Leaves first log acts old (event.Write a value) (seen.Wrote a) a (Holding k id before)
-            (Holding k id value) old.pages act agrees at refl (number k id, before, holds.stage) tt refl (λ b other. refl)
+            (Holding k id value) old.pages act agrees at refl (number k id, before, holds.stage) tt refl
+            (λ b other. refl)
             (pages-stay Leaves first log acts (act ∷ acts) old a agrees refl)
             (record {
               linked = holds.linked;
@@ -121,11 +139,12 @@ module _ {T : Type 0} (Leaves : T → T → Type 0) (first : List T) (log : Log 
             });
       })
       row
-  write-goes a value _ at answer new row = disabled Leaves first log acts old agrees (event.Write a value) (λ b. refl) answer new row
+  write-goes a value _ at answer new row = disabled Leaves first log acts old agrees (event.Write a value)
+      (λ b. refl) answer new row
 
   -- what reset left of the value goes to its place
   pub move_home-goes : length first ≡ 32 → (a : ℕ) (lookup : Option (Point T)) → slice_get old.agents a ≡ lookup
-      → (answer : Seen) (new : State T) → MovesHome Leaves old a lookup answer new
+      → (answer : Seen) (new : WorldState T) → MovesHome Leaves old a lookup answer new
       → GoesOn Leaves first log (event.MoveHome a) answer new
   move_home-goes full a (Some (Holding k id value)) at answer new (kept, leaves, row) =
       let holds : HoldsAt acts old a k id value = known Leaves first log acts old agrees a (Holding k id value) at in
@@ -133,28 +152,41 @@ module _ {T : Type 0} (Leaves : T → T → Type 0) (first : List T) (log : Log 
       from-outcome Leaves first log (event.MoveHome a) (puts old a k id kept) answer new
       (record {
         acts = acts;
-        agrees = hidden-step Leaves first log acts old (event.MoveHome a) (seen.MovedHome a) a (Holding k id value) (Home k id)
-            (with_value old.pages k id (Some kept)) agrees at tt (λ b other. refl)
+        agrees = hidden-step Leaves first log acts old (event.MoveHome a) (seen.MovedHome a) a
+            (Holding k id value) (Home k id)
+            (with_page_value old.pages k id (Some kept)) agrees at tt (λ b other. refl)
             (placed full a k id value (Some kept) page holds here) (
               value,
               kept,
-              record { linked = linked-placed k id (Some kept) page here holds.linked; in_page = holds.in_page; stage = holds.stage },
+              record {
+                linked = linked-placed k id (Some kept) page here holds.linked;
+                in_page = holds.in_page;
+                stage = holds.stage;
+              },
               leaves,
-              value-put_same old.pages k id (Some kept) page here (let many = agrees.places k page here in let below = holds.in_page in omega arith),
+              value-put_same old.pages k id (Some kept) page here
+                  (let many = agrees.places k page here in let below = holds.in_page in omega arith),
             );
       })
       row
-  move_home-goes full a None at answer new row = disabled Leaves first log acts old agrees (event.MoveHome a) (λ b. refl) answer new row
-  move_home-goes full a _ at answer new row = disabled Leaves first log acts old agrees (event.MoveHome a) (λ b. refl) answer new row
+  move_home-goes full a None at answer new row = disabled Leaves first log acts old agrees (event.MoveHome a)
+      (λ b. refl) answer new row
+  move_home-goes full a _ at answer new row = disabled Leaves first log acts old agrees (event.MoveHome a)
+      (λ b. refl) answer new row
 
   -- a new agent begins
-  pub begin-goes : (answer : Seen) (new : State T) → IsOutcome (begin old) answer new → GoesOn Leaves first log event.Begin answer new
+  pub begin-goes : (answer : Seen) (new : WorldState T) → IsOutcome (begin old) answer new
+      → GoesOn Leaves first log event.Begin answer new
   begin-goes answer new row =
       let a = length old.agents in
       let act : Act T = Opens a in
       let seen_now = seen.Began a in
       let later : Log T = (event.Begin, seen_now) ∷ log in
-      let world : State T = record { pages = old.pages; agents = old.agents ++ Reading 0 None ∷ []; limit = old.limit } in
+      let world : WorldState T = record {
+        pages = old.pages;
+        agents = old.agents ++ Reading 0 None ∷ [];
+        limit = old.limit;
+      } in
       let unknown : (b : ℕ) → length old.agents ≤ b → stage_of acts b ≡ NotBegun = λ b past.
       let P : Option (Point T) → Type 0 = KnowsIf Leaves first log acts old b in
       subst P (slice_get_past old.agents b past) (agrees.agents b) in
@@ -185,12 +217,14 @@ module _ {T : Type 0} (Leaves : T → T → Type 0) (first : List T) (log : Log 
               elim (cases_lt b a) [
                 | inl below ↦
                     subst Known (sym (get-push_old old.agents (Reading 0 None) b below))
-                    (known-carried Leaves first log later acts (act ∷ acts) old world b (carries b (λ is. absurd (omega arith)))
+                    (known-carried Leaves first log later acts (act ∷ acts) old world b
+                    (carries b (λ is. absurd (omega arith)))
                     (slice_get old.agents b) (agrees.agents b))
                 | inr past ↦ elim (cases_eq a b) [
                   | inl same ↦
                       let here : slice_get (old.agents ++ Reading 0 None ∷ []) b ≡ Some (Reading 0 None) = ap
-                      (λ c. slice_get (old.agents ++ Reading 0 None ∷ []) c) (sym same) ∙ get-push_new old.agents (Reading 0 None) in
+                      (λ c. slice_get (old.agents ++ Reading 0 None ∷ []) c) (sym same)
+                      ∙ get-push_new old.agents (Reading 0 None) in
                       subst Known (sym here)
                       (record {
                         looking = stage_of-own act acts b same;
@@ -199,7 +233,10 @@ module _ {T : Type 0} (Leaves : T → T → Type 0) (first : List T) (log : Log 
                         asked_full = tt;
                       })
                   | inr other ↦
-                      subst Known (sym (slice_get_past (old.agents ++ Reading 0 None ∷ []) b (omega (arith, length-append old.agents (Reading 0 None ∷ [])))))
+                      subst Known
+                      (sym
+                      (slice_get_past (old.agents ++ Reading 0 None ∷ []) b
+                      (omega (arith, length-append old.agents (Reading 0 None ∷ [])))))
                       (stage_of-other act acts b other ∙ unknown b past)
                 ]
               ];

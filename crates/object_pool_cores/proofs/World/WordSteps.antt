@@ -1,25 +1,33 @@
 -- The steps on a page's word keep the invariant: a read, a clearing, and the bit that is set again.
-use Rattle.std.proofs.Common.{◌≡◌, inl, inr, ℕ, ◌-◌, ◌*◌, ◌^◌, ◌<◌, ◌==◌, nat_lt, Bool, true, false, if◌then◌else◌, Option, Some, None, List, ◌∷◌, length, slice_get, refl, ap, sym, ◌∙◌, subst, arith}
+use Rattle.std.proofs.Common.{◌≡◌, inl, inr, ℕ, ◌-◌, ◌*◌, ◌^◌, ◌<◌, ◌==◌, nat_lt, Bool, true, false, if◌then◌else◌}
+use Rattle.std.proofs.Common.{Option, Some, None, List, ◌∷◌, length, slice_get, refl, ap, sym, ◌∙◌, subst, arith}
 use Rattle.std.proofs.lemmas.Bool.{eq-eqb, ne_eqb, eqb-true, ltb-true, false≢true, cases_eq, cases_lt}
 use Rattle.object_pool_cores.specs.declared.interleave.event.Event.{Event}
 use Rattle.object_pool_cores.specs.declared.interleave.event.Event.TheVariants as event
 use Rattle.object_pool_cores.specs.declared.interleave.event.Seen.{Seen}
 use Rattle.object_pool_cores.specs.declared.interleave.event.Seen.TheVariants as seen
 use Rattle.object_pool_cores.specs.declared.interleave.point.Point.{Point}
-use Rattle.object_pool_cores.specs.declared.interleave.point.Point.TheVariants.{Reading, Clearing, AtLink, ClearingHinted, Taken, Home, Ended}
+use Rattle.object_pool_cores.specs.declared.interleave.point.Point.TheVariants.{Reading, Clearing, AtLink}
+use Rattle.object_pool_cores.specs.declared.interleave.point.Point.TheVariants.{ClearingHinted, Taken, Home, Ended}
 use Rattle.object_pool_cores.specs.Pool.{IsSame, IsFree, IsOut, number}
 use Rattle.object_pool_cores.specs.Move.{Pull, Return}
 use Rattle.object_pool_cores.specs.Run.{Act, Looking, Moves, stage_of, pool_of, FoundOut}
-use Rattle.object_pool_cores.specs.World.PageState.{PageState}
-use Rattle.object_pool_cores.specs.World.State.{State}
-use Rattle.object_pool_cores.specs.World.Machine.{Outcome, IsOutcome, not_enabled, has_bit, with_bit, without_bit, lowest, without_lowest, word_in, word_of, value_at, with_word, tries, tries_hinted, clears, may_name, read_mask, read_hinted, clear_bit, or_mask}
-use Rattle.object_pool_cores.specs.World.Reading.{place_of, reading}
-use Rattle.object_pool_cores.specs.World.Visible.{Log, made_by}
-use Rattle.object_pool_cores.specs.World.Invariant.{LooksOn, IsPast, TriesBits, TriesHinted, Knows, KnowsIf, Agrees}
+use Rattle.object_pool_cores.specs.World.State.{WorldPageState, WorldState}
+use Rattle.object_pool_cores.specs.World.Machine.{Outcome, IsOutcome, not_enabled, has_bit, with_bit, without_bit}
+use Rattle.object_pool_cores.specs.World.Machine.{lowest, without_lowest, word_in, word_of, page_value, with_word}
+use Rattle.object_pool_cores.specs.World.Machine.{tries, tries_hinted, clears, may_name, read_mask, read_hinted}
+use Rattle.object_pool_cores.specs.World.Machine.{clear_bit, or_mask}
+use Rattle.object_pool_cores.specs.World.AbstractPool.{place_by_bit, abstract_pool}
+use Rattle.object_pool_cores.specs.World.Trace.{Log, made_by}
+use Rattle.object_pool_cores.specs.World.Inside.Invariant.{LooksOn, IsPast, TriesBits, TriesHinted, Knows, KnowsIf}
+use Rattle.object_pool_cores.specs.World.Inside.Invariant.{Agrees}
 use Rattle.object_pool_cores.proofs.Runs.{since-now, stage_of-own}
-use Rattle.object_pool_cores.proofs.World.Bits.{has_bit-none, has_bit-without_lowest, lowest-lt, with_bit-lt, without_bit-lt, without_lowest-lt}
-use Rattle.object_pool_cores.proofs.World.Reading.{get-some, length-changed, changed-all, reads-number, value-word, same-cleared, same-set}
-use Rattle.object_pool_cores.proofs.World.Invariant.{GoesOn, StepsPages, moved, pages-stay, hidden-step, visible-step, from-outcome, from-if, idle, sound-of, allows-fewer}
+use Rattle.object_pool_cores.proofs.World.Bits.{has_bit-none, has_bit-without_lowest, lowest-lt, with_bit-lt}
+use Rattle.object_pool_cores.proofs.World.Bits.{without_bit-lt, without_lowest-lt}
+use Rattle.object_pool_cores.proofs.World.AbstractPool.{get-some, length-changed, changed-all, reads-number, value-word}
+use Rattle.object_pool_cores.proofs.World.AbstractPool.{same-cleared, same-set}
+use Rattle.object_pool_cores.proofs.World.Invariant.{GoesOn, StepsPages, moved, pages-stay, hidden-step, visible-step}
+use Rattle.object_pool_cores.proofs.World.Invariant.{from-outcome, from-if, idle, sound-of, allows-fewer}
 
 all-three : (one two three : Bool) → (if one then if two then three else false else false) ≡ true
     → (one ≡ true) × (two ≡ true) × (three ≡ true)
@@ -28,7 +36,7 @@ all-three true false three is = absurd (false≢true is)
 all-three false two three is = absurd (false≢true is)
 
 -- what a hint may name
-pub may_name-is : {T : Type 0} (world : State T) (k hint : ℕ) → may_name world k hint ≡ true
+pub may_name-is : {T : Type 0} (world : WorldState T) (k hint : ℕ) → may_name world k hint ≡ true
     → (k ≡ 0) × (0 < hint) × (hint < length world.pages)
 may_name-is world k hint may =
     let (first_link, further, linked) = all-three (k == 0) (nat_lt 0 hint) (nat_lt hint (length world.pages)) may in
@@ -36,7 +44,8 @@ may_name-is world k hint may =
 
 module _ {T : Type 0} (Leaves : T → T → Type 0) (first : List T) where
   -- an agent that has some bits to try, or none
-  tries-known : (later : Log T) (acts : List (Act T)) (world : State T) (a k mask : ℕ) (asked : Option ℕ) → LooksOn first acts world a k asked
+  tries-known : (later : Log T) (acts : List (Act T)) (world : WorldState T) (a k mask : ℕ) (asked : Option ℕ)
+      → LooksOn first acts world a k asked
       → mask < 2 ^ 32 → ((id : ℕ) → id < 32 → has_bit mask id ≡ false → FoundOut first acts a (number k id))
       → Knows Leaves first later acts world a (tries k mask asked)
   tries-known later acts world a k mask asked looks fits others =
@@ -52,7 +61,9 @@ module _ {T : Type 0} (Leaves : T → T → Type 0) (first : List T) where
                 | inr here ↦
                     let same : number k (n - 32 * k) ≡ n = omega arith in
                     let P : ℕ → Type 0 = FoundOut first acts a in
-                    subst P same (others (n - 32 * k) (omega arith) (ap (λ m. has_bit m (n - 32 * k)) none ∙ has_bit-none (n - 32 * k)))
+                    subst P same
+                    (others (n - 32 * k) (omega arith)
+                    (ap (λ m. has_bit m (n - 32 * k)) none ∙ has_bit-none (n - 32 * k)))
               ];
               asked_full = looks.asked_full;
             } in
@@ -63,7 +74,8 @@ module _ {T : Type 0} (Leaves : T → T → Type 0) (first : List T) where
       ]
 
   -- so it is of an agent on a page that a hint named
-  tries_hinted-known : (later : Log T) (acts : List (Act T)) (world : State T) (a hint mask : ℕ) → IsPast first acts world a 0 None
+  tries_hinted-known : (later : Log T) (acts : List (Act T)) (world : WorldState T) (a hint mask : ℕ)
+      → IsPast first acts world a 0 None
       → 0 < hint → hint < length world.pages → mask < 2 ^ 32
       → ((id : ℕ) → id < 32 → has_bit mask id ≡ false → FoundOut first acts a (number hint id))
       → Knows Leaves first later acts world a (tries_hinted hint mask)
@@ -93,45 +105,52 @@ module _ {T : Type 0} (Leaves : T → T → Type 0) (first : List T) where
             subst Known (sym is) tried
       ]
 
-module _ {T : Type 0} (Leaves : T → T → Type 0) (first : List T) (log : Log T) (acts : List (Act T)) (old : State T)
+module _ {T : Type 0} (Leaves : T → T → Type 0) (first : List T) (log : Log T) (acts : List (Act T))
+    (old : WorldState T)
     (agrees : Agrees Leaves first log acts old) where
   -- what the invariant knows of an agent at its point
   pub known : (a : ℕ) (point : Point T) → slice_get old.agents a ≡ Some point → Knows Leaves first log acts old a point
-  known a point at = let Known : Option (Point T) → Type 0 = KnowsIf Leaves first log acts old a in subst Known at (agrees.agents a)
+  known a point at = let Known : Option (Point T) → Type 0 = KnowsIf Leaves first log acts old a in
+      subst Known at (agrees.agents a)
 
   -- what lies at a number, by its bit and its place
-  pub lies-at : (k id : ℕ) (page : PageState T) → id < 32 → slice_get old.pages k ≡ Some page
-      → (pool_of first acts).at (number k id) ≡ place_of (has_bit page.word id) (value_at old.pages k id)
+  pub lies-at : (k id : ℕ) (page : WorldPageState T) → id < 32 → slice_get old.pages k ≡ Some page
+      → (pool_of first acts).at (number k id) ≡ place_by_bit (has_bit page.word id) (page_value old.pages k id)
   lies-at k id page within at = agrees.same.places (number k id) ∙ reads-number old k id page within at
 
   -- a number whose bit is clear is out
-  out-at : (k id : ℕ) (page : PageState T) → id < 32 → slice_get old.pages k ≡ Some page → has_bit page.word id ≡ false
+  out-at : (k id : ℕ) (page : WorldPageState T) → id < 32 → slice_get old.pages k ≡ Some page
+      → has_bit page.word id ≡ false
       → IsOut (pool_of first acts) (number k id)
-  out-at k id page within at clear = lies-at k id page within at ∙ ap (λ bit. place_of bit (value_at old.pages k id)) clear
+  out-at k id page within at clear = lies-at k id page within at
+      ∙ ap (λ bit. place_by_bit bit (page_value old.pages k id)) clear
 
   -- a number whose bit is set is free with the value at its place
-  free-at : length first ≡ 32 → (k id : ℕ) (page : PageState T) → id < 32 → slice_get old.pages k ≡ Some page
+  free-at : length first ≡ 32 → (k id : ℕ) (page : WorldPageState T) → id < 32 → slice_get old.pages k ≡ Some page
       → k < length old.pages → has_bit page.word id ≡ true
-      → (value : T) × (value_at old.pages k id ≡ Some value) × IsFree (pool_of first acts) (number k id) value
+      → (value : T) × (page_value old.pages k id ≡ Some value) × IsFree (pool_of first acts) (number k id) value
   free-at full k id page within at linked set =
       let sound = sound-of Leaves first log acts old full agrees in
       let pages = agrees.same.pages in
-      let here = lies-at k id page within at ∙ ap (λ bit. place_of bit (value_at old.pages k id)) set in
+      let here = lies-at k id page within at ∙ ap (λ bit. place_by_bit bit (page_value old.pages k id)) set in
       let inside = sound.whole.inside (number k id) (omega arith) in
-      let by : (lookup : Option T) → value_at old.pages k id ≡ lookup
-      → (value : T) × (value_at old.pages k id ≡ Some value) × IsFree (pool_of first acts) (number k id) value = elim [
-        | None ↦ λ is. absurd (inside (here ∙ ap (place_of true) is))
-        | Some value ↦ λ is. (value, is, here ∙ ap (place_of true) is)
+      let by : (lookup : Option T) → page_value old.pages k id ≡ lookup
+      → (value : T) × (page_value old.pages k id ≡ Some value)
+      × IsFree (pool_of first acts) (number k id) value = elim [
+        | None ↦ λ is. absurd (inside (here ∙ ap (place_by_bit true) is))
+        | Some value ↦ λ is. (value, is, here ∙ ap (place_by_bit true) is)
       ] in
-      by (value_at old.pages k id) refl
+      by (page_value old.pages k id) refl
 
   -- an event that isn't enabled
-  pub disabled : (e : Event T) → ((b : ℕ) → made_by e seen.NotEnabled b ≡ None) → (answer : Seen) (new : State T)
+  pub disabled : (e : Event T) → ((b : ℕ) → made_by e seen.NotEnabled b ≡ None) → (answer : Seen) (new : WorldState T)
       → IsOutcome (not_enabled old) answer new → GoesOn Leaves first log e answer new
   disabled e made answer new row =
-      from-outcome Leaves first log e (not_enabled old) answer new (idle Leaves first log acts old e seen.NotEnabled agrees tt made) row
+      from-outcome Leaves first log e (not_enabled old) answer new
+      (idle Leaves first log acts old e seen.NotEnabled agrees tt made) row
 
-  pub read_mask-goes : (a : ℕ) (lookup : Option (Point T)) → slice_get old.agents a ≡ lookup → (answer : Seen) (new : State T)
+  pub read_mask-goes : (a : ℕ) (lookup : Option (Point T)) → slice_get old.agents a ≡ lookup
+      → (answer : Seen) (new : WorldState T)
       → IsOutcome (read_mask old a lookup) answer new → GoesOn Leaves first log (event.ReadMask a) answer new
   read_mask-goes a (Some (Reading k asked)) at answer new row =
       let looks : LooksOn first acts old a k asked = known a (Reading k asked) at in
@@ -141,12 +160,18 @@ module _ {T : Type 0} (Leaves : T → T → Type 0) (first : List T) (log : Log 
       from-outcome Leaves first log (event.ReadMask a) (read_mask old a (Some (Reading k asked))) answer new
       (record {
         acts = acts;
-        agrees = hidden-step Leaves first log acts old (event.ReadMask a) (seen.Word a (word_of old.pages k)) a (Reading k asked)
+        agrees = hidden-step Leaves first log acts old (event.ReadMask a) (seen.Word a (word_of old.pages k)) a
+            (Reading k asked)
             (tries k (word_of old.pages k) asked) old.pages agrees at tt (λ b other. refl)
             (pages-stay Leaves first log acts acts old a agrees refl)
             (tries-known Leaves first ((event.ReadMask a, seen.Word a (word_of old.pages k)) ∷ log) acts
             (moved Leaves first old old.pages a (tries k (word_of old.pages k) asked)) a k (word_of old.pages k) asked
-            (record { looking = looks.looking; linked = looks.linked; found_out = looks.found_out; asked_full = looks.asked_full })
+            (record {
+              looking = looks.looking;
+              linked = looks.linked;
+              found_out = looks.found_out;
+              asked_full = looks.asked_full;
+            })
             (omega arith)
             (λ id within clear. since-now first acts a (λ pool. IsOut pool (number k id)) looks.looking
             (out-at k id page within here (ap (λ w. has_bit w id) (sym word_is) ∙ clear))));
@@ -165,19 +190,24 @@ module _ {T : Type 0} (Leaves : T → T → Type 0) (first : List T) (log : Log 
       let fits = agrees.words hint page here in
       record {
         acts = acts;
-        agrees = hidden-step Leaves first log acts old (event.ReadHinted a hint) (seen.Word a (word_of old.pages hint)) a (AtLink 0 None)
+        agrees = hidden-step Leaves first log acts old (event.ReadHinted a hint)
+            (seen.Word a (word_of old.pages hint)) a (AtLink 0 None)
             (tries_hinted hint (word_of old.pages hint)) old.pages agrees at tt (λ b other. refl)
             (pages-stay Leaves first log acts acts old a agrees refl)
-            (tries_hinted-known Leaves first ((event.ReadHinted a hint, seen.Word a (word_of old.pages hint)) ∷ log) acts
-            (moved Leaves first old old.pages a (tries_hinted hint (word_of old.pages hint))) a hint (word_of old.pages hint)
+            (tries_hinted-known Leaves first
+            ((event.ReadHinted a hint, seen.Word a (word_of old.pages hint)) ∷ log) acts
+            (moved Leaves first old old.pages a (tries_hinted hint (word_of old.pages hint))) a hint
+            (word_of old.pages hint)
             (record { looking = past.looking; linked = past.linked; found_out = past.found_out; asked_full = tt })
             further linked (omega arith)
             (λ id within clear. since-now first acts a (λ pool. IsOut pool (number hint id)) past.looking
             (out-at hint id page within here (ap (λ w. has_bit w id) (sym word_is) ∙ clear))));
       }
 
-  pub read_hinted-goes : (a hint : ℕ) (lookup : Option (Point T)) → slice_get old.agents a ≡ lookup → (answer : Seen) (new : State T)
-      → IsOutcome (read_hinted old a hint lookup) answer new → GoesOn Leaves first log (event.ReadHinted a hint) answer new
+  pub read_hinted-goes : (a hint : ℕ) (lookup : Option (Point T)) → slice_get old.agents a ≡ lookup
+      → (answer : Seen) (new : WorldState T)
+      → IsOutcome (read_hinted old a hint lookup) answer new
+      → GoesOn Leaves first log (event.ReadHinted a hint) answer new
   read_hinted-goes a hint (Some (AtLink k None)) at answer new row =
       let e : Event T = event.ReadHinted a hint in
       let one : Outcome T = (
@@ -187,39 +217,45 @@ module _ {T : Type 0} (Leaves : T → T → Type 0) (first : List T) (log : Log 
       from-if Leaves first log e (may_name old k hint) one (not_enabled old) answer new
       (λ may gave.
       let (is, further, linked) = may_name-is old k hint may in
-      from-outcome Leaves first log e one answer new (hinted a hint (at ∙ ap (λ j. Some (AtLink j None)) is) further linked) gave)
+      from-outcome Leaves first log e one answer new
+      (hinted a hint (at ∙ ap (λ j. Some (AtLink j None)) is) further linked) gave)
       (λ not gave. disabled e (λ b. refl) answer new gave)
       row
   read_hinted-goes a hint _ at answer new row = disabled (event.ReadHinted a hint) (λ b. refl) answer new row
 
   -- the pages after another word was put on one of them
-  worded : (more : List (Act T)) (a k word : ℕ) (page : PageState T) → slice_get old.pages k ≡ Some page → word < 2 ^ 32
+  worded : (more : List (Act T)) (a k word : ℕ) (page : WorldPageState T) → slice_get old.pages k ≡ Some page
+      → word < 2 ^ 32
       → IsSame (pool_of first more)
-      (reading (record { pages = with_word old.pages k word; agents = old.agents; limit = old.limit }))
+      (abstract_pool (record { pages = with_word old.pages k word; agents = old.agents; limit = old.limit }))
       → StepsPages Leaves first acts more old (with_word old.pages k word) a
   worded more a k word page at fits same =
-      let f : PageState T → PageState T = λ p. record { word = word; places = p.places } in
+      let f : WorldPageState T → WorldPageState T = λ p. record { word = word; places = p.places } in
       let count : length (with_word old.pages k word) ≡ length old.pages = length-changed f old.pages k page at in
       record {
         count = omega arith;
         same = same;
         words = changed-all (λ p. p.word < 2 ^ 32) f old.pages k page at fits agrees.words;
         places = changed-all (λ p. length p.places ≡ 32) f old.pages k page at (agrees.places k page at) agrees.places;
-        allowed = allows-fewer old.limit (length (with_word old.pages k word)) (length old.pages) (omega arith) agrees.allowed;
+        allowed = allows-fewer old.limit (length (with_word old.pages k word)) (length old.pages)
+            (omega arith) agrees.allowed;
         values = λ b j i value other linked within holds. value-word old.pages k word page at j i;
       }
 
-  linked-worded : (k j word : ℕ) (page : PageState T) → slice_get old.pages k ≡ Some page → j < length old.pages → j < length (with_word old.pages k word)
+  linked-worded : (k j word : ℕ) (page : WorldPageState T) → slice_get old.pages k ≡ Some page → j < length old.pages
+      → j < length (with_word old.pages k word)
   linked-worded k j word page at linked =
       let count : length (with_word old.pages k word) ≡ length old.pages = length-changed (λ p.
       record { word = word; places = p.places }) old.pages k page at in
       omega arith
 
   -- the bit is set in the word: the agent pulls its number
-  won : length first ≡ 32 → (a k mask : ℕ) (from : Point T) → slice_get old.agents a ≡ Some from → stage_of acts a ≡ Looking
+  won : length first ≡ 32 → (a k mask : ℕ) (from : Point T) → slice_get old.agents a ≡ Some from
+      → stage_of acts a ≡ Looking
       → k < length old.pages → TriesBits first acts a k mask → has_bit (word_of old.pages k) (lowest mask) ≡ true
       → GoesOn Leaves first log (event.ClearBit a) (seen.Pulled a (number k (lowest mask)))
-      (moved Leaves first old (with_word old.pages k (without_bit (word_of old.pages k) (lowest mask))) a (Taken k (lowest mask)))
+      (moved Leaves first old (with_word old.pages k (without_bit (word_of old.pages k) (lowest mask))) a
+      (Taken k (lowest mask)))
   won full a k mask from at looking linked bits set =
       let id = lowest mask in
       let within : id < 32 = lowest-lt mask bits.some bits.in_word in
@@ -228,7 +264,8 @@ module _ {T : Type 0} (Leaves : T → T → Type 0) (first : List T) (log : Log 
       let fits = agrees.words k page here in
       let word = without_bit (word_of old.pages k) id in
       let pages = with_word old.pages k word in
-      let (value, lies, free) = free-at full k id page within here linked (ap (λ w. has_bit w id) (sym word_is) ∙ set) in
+      let (value, lies, free) =
+      free-at full k id page within here linked (ap (λ w. has_bit w id) (sym word_is) ∙ set) in
       let act : Act T = Moves a (Pull (number k id) value) in
       record {
         acts = act ∷ acts;
@@ -239,7 +276,11 @@ module _ {T : Type 0} (Leaves : T → T → Type 0) (first : List T) (log : Log 
             (record { pages = pages; agents = old.agents; limit = old.limit }) k id page within here agrees.same
             (ap (λ w. with_word old.pages k (without_bit w id)) word_is))) (
               value,
-              record { linked = linked-worded k k word page here linked; in_page = within; stage = stage_of-own act acts a refl },
+              record {
+                linked = linked-worded k k word page here linked;
+                in_page = within;
+                stage = stage_of-own act acts a refl;
+              },
               value-word old.pages k word page here k id ∙ lies,
             );
       }
@@ -248,7 +289,8 @@ module _ {T : Type 0} (Leaves : T → T → Type 0) (first : List T) (log : Log 
   lost : (a k : ℕ) (from next : Point T) → slice_get old.agents a ≡ Some from
       → Knows Leaves first ((event.ClearBit a, seen.Found a (word_of old.pages k)) ∷ log) acts
       (moved Leaves first old old.pages a next) a next
-      → GoesOn Leaves first log (event.ClearBit a) (seen.Found a (word_of old.pages k)) (moved Leaves first old old.pages a next)
+      → GoesOn Leaves first log (event.ClearBit a) (seen.Found a (word_of old.pages k))
+      (moved Leaves first old old.pages a next)
   lost a k from next at knows = record {
     acts = acts;
     agrees = hidden-step Leaves first log acts old (event.ClearBit a) (seen.Found a (word_of old.pages k)) a from next
@@ -257,7 +299,8 @@ module _ {T : Type 0} (Leaves : T → T → Type 0) (first : List T) (log : Log 
 
   -- the numbers that it has found out then
   lost-others : (a k mask : ℕ) → stage_of acts a ≡ Looking → k < length old.pages → TriesBits first acts a k mask
-      → has_bit (word_of old.pages k) (lowest mask) ≡ false → (id : ℕ) → id < 32 → has_bit (without_lowest mask) id ≡ false
+      → has_bit (word_of old.pages k) (lowest mask) ≡ false → (id : ℕ) → id < 32
+      → has_bit (without_lowest mask) id ≡ false
       → FoundOut first acts a (number k id)
   lost-others a k mask looking linked bits clear id within gone =
       let (page, here) = get-some old.pages k linked in
@@ -271,30 +314,37 @@ module _ {T : Type 0} (Leaves : T → T → Type 0) (first : List T) (log : Log 
       ]
 
   -- a clearing, which is won, or lost
-  clears-goes : length first ≡ 32 → (a k mask : ℕ) (from next : Point T) → slice_get old.agents a ≡ Some from → stage_of acts a ≡ Looking
+  clears-goes : length first ≡ 32 → (a k mask : ℕ) (from next : Point T) → slice_get old.agents a ≡ Some from
+      → stage_of acts a ≡ Looking
       → k < length old.pages → TriesBits first acts a k mask
       → (has_bit (word_of old.pages k) (lowest mask) ≡ false
       → Knows Leaves first ((event.ClearBit a, seen.Found a (word_of old.pages k)) ∷ log) acts
       (moved Leaves first old old.pages a next) a next)
-      → (answer : Seen) (new : State T)
-      → IsOutcome (if mask == 0 then not_enabled old else clears old a k (lowest mask) (word_of old.pages k) next) answer new
+      → (answer : Seen) (new : WorldState T)
+      → IsOutcome
+      (if mask == 0 then not_enabled old else clears old a k (lowest mask) (word_of old.pages k) next) answer new
       → GoesOn Leaves first log (event.ClearBit a) answer new
   clears-goes full a k mask from next at looking linked bits knows answer new row =
       let e : Event T = event.ClearBit a in
       let id = lowest mask in
       let word = word_of old.pages k in
-      let yes : Outcome T = (seen.Pulled a (number k id), moved Leaves first old (with_word old.pages k (without_bit word id)) a (Taken k id)) in
+      let yes : Outcome T = (
+        seen.Pulled a (number k id),
+        moved Leaves first old (with_word old.pages k (without_bit word id)) a
+            (Taken k id),
+      ) in
       let not : Outcome T = (seen.Found a word, moved Leaves first old old.pages a next) in
       from-if Leaves first log e (mask == 0) (not_enabled old) (clears old a k id word next) answer new
       (λ none given. disabled e (λ b. refl) answer new given)
       (λ some given. from-if Leaves first log e (has_bit word id) yes not answer new
-      (λ set gave. from-outcome Leaves first log e yes answer new (won full a k mask from at looking linked bits set) gave)
+      (λ set gave. from-outcome Leaves first log e yes answer new
+      (won full a k mask from at looking linked bits set) gave)
       (λ clear gave. from-outcome Leaves first log e not answer new (lost a k from next at (knows clear)) gave)
       given)
       row
 
   pub clear_bit-goes : length first ≡ 32 → (a : ℕ) (lookup : Option (Point T)) → slice_get old.agents a ≡ lookup
-      → (answer : Seen) (new : State T) → IsOutcome (clear_bit old a lookup) answer new
+      → (answer : Seen) (new : WorldState T) → IsOutcome (clear_bit old a lookup) answer new
       → GoesOn Leaves first log (event.ClearBit a) answer new
   clear_bit-goes full a (Some (Clearing k mask asked)) at answer new row =
       let (looks, bits) = known a (Clearing k mask asked) at in
@@ -302,7 +352,12 @@ module _ {T : Type 0} (Leaves : T → T → Type 0) (first : List T) (log : Log 
       clears-goes full a k mask (Clearing k mask asked) next at looks.looking looks.linked bits
       (λ clear. tries-known Leaves first ((event.ClearBit a, seen.Found a (word_of old.pages k)) ∷ log) acts
       (moved Leaves first old old.pages a next) a k (without_lowest mask) asked
-      (record { looking = looks.looking; linked = looks.linked; found_out = looks.found_out; asked_full = looks.asked_full })
+      (record {
+        looking = looks.looking;
+        linked = looks.linked;
+        found_out = looks.found_out;
+        asked_full = looks.asked_full;
+      })
       (without_lowest-lt mask bits.in_word) (lost-others a k mask looks.looking looks.linked bits clear))
       answer new row
   clear_bit-goes full a (Some (ClearingHinted hint mask)) at answer new row =
@@ -334,21 +389,27 @@ module _ {T : Type 0} (Leaves : T → T → Type 0) (first : List T) (log : Log 
       let act : Act T = Moves a (Return (number k id) kept) in
       record {
         acts = act ∷ acts;
-        agrees = visible-step Leaves first log acts old (event.OrMask a) (seen.Returned a (number k id)) a (Home k id) Ended pages act agrees at (kept, refl)
-            (sound.holders.out (number k id) a value holds.stage, (value, holds.stage, leaves)) tt refl (λ b other. refl)
+        agrees = visible-step Leaves first log acts old (event.OrMask a) (seen.Returned a (number k id)) a
+            (Home k id) Ended pages act agrees at (kept, refl)
+            (sound.holders.out (number k id) a value holds.stage, (value, holds.stage, leaves)) tt refl
+            (λ b other. refl)
             (worded (act ∷ acts) a k word page here (with_bit-lt (word_of old.pages k) id holds.in_page (omega arith))
             (same-set (pool_of first acts) old
-            (record { pages = pages; agents = old.agents; limit = old.limit }) k id page kept holds.in_page here lies agrees.same
+            (record { pages = pages; agents = old.agents; limit = old.limit }) k id page kept holds.in_page here
+            lies agrees.same
             (ap (λ w. with_word old.pages k (with_bit w id)) word_is)))
             tt;
       }
 
   pub or_mask-goes : length first ≡ 32 → (a : ℕ) (lookup : Option (Point T)) → slice_get old.agents a ≡ lookup
-      → (answer : Seen) (new : State T) → IsOutcome (or_mask old a lookup) answer new
+      → (answer : Seen) (new : WorldState T) → IsOutcome (or_mask old a lookup) answer new
       → GoesOn Leaves first log (event.OrMask a) answer new
   or_mask-goes full a (Some (Home k id)) at answer new row =
       let e : Event T = event.OrMask a in
-      let yes : Outcome T = (seen.Returned a (number k id), moved Leaves first old (with_word old.pages k (with_bit (word_of old.pages k) id)) a Ended) in
+      let yes : Outcome T = (
+        seen.Returned a (number k id),
+        moved Leaves first old (with_word old.pages k (with_bit (word_of old.pages k) id)) a Ended,
+      ) in
       from-if Leaves first log e (nat_lt id 32) yes (not_enabled old) answer new
       (λ within gave. from-outcome Leaves first log e yes answer new (returned full a k id at) gave)
       (λ past gave. disabled e (λ b. refl) answer new gave)

@@ -1,5 +1,6 @@
 -- What a table holds at an index, after one change.
-use Rattle.std.proofs.Common.{◌≡◌, ◌≢◌, ℕ, ◌<◌, suc, zero, Some, List, [], ◌∷◌, ◌++◌, length, slice_set, refl, sym, ap, ◌∙◌, inl, inr, ◌⊎◌, length-set, arith}
+use Rattle.std.proofs.Common.{◌≡◌, ◌≢◌, ℕ, ◌<◌, suc, zero, Some, List, [], ◌∷◌, ◌++◌, length, slice_set, refl, sym, ap}
+use Rattle.std.proofs.Common.{◌∙◌, inl, inr, ◌⊎◌, length-set, arith}
 use Rattle.std.specs.List.{slice_get}
 use Rattle.std.proofs.lemmas.Bool.{cases_eq}
 use Rattle.std.proofs.lemmas.Option.{slice_get_within}

@@ -1,28 +1,30 @@
 -- Each step of the linear core is a case of the common relation.
-use Rattle.std.proofs.Common.{◌≡◌, ℕ, ◌-◌, ◌*◌, ◌<◌, Option, Some, None, [], length, Result, Ok, Err, slice_set, sym, ap, subst, ◌∙◌, inl, inr}
+use Rattle.std.proofs.Common.{◌≡◌, ℕ, ◌-◌, ◌*◌, ◌<◌, Option, Some, None, [], length, Result, Ok, Err, slice_set, sym}
+use Rattle.std.proofs.Common.{ap, subst, ◌∙◌, inl, inr}
 use Rattle.std.specs.List.{slice_get}
 use Rattle.std.proofs.lemmas.Option.{get_or_from_slice_get, slice_get_within}
 use Rattle.lockfree_object_pool.specs.declared.pull_error.PullError.{PullError}
 use Rattle.object_pool_cores.specs.declared.sequential.item.Item.{Item}
 use Rattle.object_pool_cores.specs.declared.sequential.linear_core.LinearCore.{LinearCore}
-use Rattle.object_pool_cores.specs.Item.{item_value}
+use Rattle.object_pool_cores.specs.Inside.SequentialItem.{item_value}
 use Rattle.object_pool_cores.specs.Pool.{Free, Out, IsFree, IsSame, with_place}
 use Rattle.object_pool_cores.specs.Move.{grown}
 use Rattle.object_pool_cores.specs.LeastChoice.{IsExhausted, TakesLeast, GrowsFirst, PullsLeast, PullsItem}
 use Rattle.object_pool_cores.specs.Bag.{IsPutIn, IsFresh, PullsFromBag, ReturnsToBag, pulled_value}
-use Rattle.object_pool_cores.specs.Numbered.{Numbered, pool_of, place_of, free_values}
+use Rattle.object_pool_cores.specs.Inside.Numbered.{Numbered, listed_pool, place_of, free_values}
 use Rattle.object_pool_cores.specs.Linear.{Pulls, Gives}
 use Rattle.object_pool_cores.specs.Laws.PoolSteps.{at-with_place, free-grown}
-use Rattle.object_pool_cores.specs.Laws.NumberedPlaces.{place_of-free, place_of-out, pool_of-set}
-use Rattle.object_pool_cores.specs.Laws.FreeValues.{same_places, free_values-taken, free_values-put, free_values-none, free_values-All}
+use Rattle.object_pool_cores.specs.Laws.NumberedPlaces.{place_of-free, place_of-out, listed_pool-set}
+use Rattle.object_pool_cores.specs.Laws.FreeValues.{same_places, free_values-taken, free_values-put, free_values-none}
+use Rattle.object_pool_cores.specs.Laws.FreeValues.{free_values-All}
 
 module _ {T : Type 0} where
   -- the list of a pool that has another place at one number
   list_of-with_place : (old new : Numbered T) (n : ℕ) (place : Option T) → n < length old.places
-      → IsSame (pool_of new) (with_place (pool_of old) n (place_of (Some place)))
+      → IsSame (listed_pool new) (with_place (listed_pool old) n (place_of (Some place)))
       → new.places ≡ slice_set old.places n place
   list_of-with_place old new n place within same =
-      let set = pool_of-set old n place within in
+      let set = listed_pool-set old n place within in
       same_places new.places (slice_set old.places n place) (λ m. same.places m ∙ sym (set.places m))
 
   within_places : (items : Numbered T) (n : ℕ) (place : Option T) → slice_get items.places n ≡ Some place
@@ -30,12 +32,12 @@ module _ {T : Type 0} where
   within_places items n place e = slice_get_within items.places n place e
 
   -- where no number is free, no value is kept
-  free_values-exhausted : (items : Numbered T) → IsExhausted (pool_of items) → free_values items.places ≡ []
+  free_values-exhausted : (items : Numbered T) → IsExhausted (listed_pool items) → free_values items.places ≡ []
   free_values-exhausted items exhausted =
       free_values-none items.places (λ n v e. exhausted n v (ap place_of e))
 
   -- the least number was pulled
-  IsPutIn-taken : (old new : Numbered T) (n : ℕ) (v : T) → TakesLeast (pool_of old) n v (pool_of new)
+  IsPutIn-taken : (old new : Numbered T) (n : ℕ) (v : T) → TakesLeast (listed_pool old) n v (listed_pool new)
       → IsPutIn v (free_values new.places) (free_values old.places)
   IsPutIn-taken old new n v takes =
       let here = place_of-free (slice_get old.places n) v takes.least.free in
@@ -44,32 +46,32 @@ module _ {T : Type 0} where
 
   -- a page more was pulled from
   IsFresh-grown : (limit : Option ℕ) (answers : Option T → Type 0) (old new : Numbered T) (n : ℕ) (v : T)
-      → GrowsFirst limit answers (pool_of old) n v (pool_of new)
+      → GrowsFirst limit answers (listed_pool old) n v (listed_pool new)
       → IsFresh answers (free_values old.places) v (free_values new.places)
   IsFresh-grown limit answers old new n v grows = record {
     none = free_values-exhausted old grows.exhausted;
     answer = answered n v grows.takes.least.free;
     further = free_values-All (λ w. answers (Some w)) new.places (λ m w e.
-        elim (at-with_place (grown (pool_of old) grows.values) n m Out (Free w)
+        elim (at-with_place (grown (listed_pool old) grows.values) n m Out (Free w)
         (sym (grows.takes.taken.places m) ∙ ap place_of e)) [
           | inl here ↦ let out : Out ≡ Free w = here.1 in absurd cc
           | inr other ↦ answered m w other.1
         ]);
   }
     where
-      answered : (m : ℕ) (w : T) → IsFree (grown (pool_of old) grows.values) m w → answers (Some w)
+      answered : (m : ℕ) (w : T) → IsFree (grown (listed_pool old) grows.values) m w → answers (Some w)
       answered m w free =
-          let there = free-grown (pool_of old) grows.values m w grows.exhausted free in
-          let k = m - 32 * (pool_of old).pages in
+          let there = free-grown (listed_pool old) grows.values m w grows.exhausted free in
+          let k = m - 32 * (listed_pool old).pages in
           subst (λ (x : T). answers (Some x)) (get_or_from_slice_get grows.values k w w there.1)
           (grows.answered k w (slice_get_within grows.values k w there.1))
 
   pulls_from_bag : (limit : Option ℕ) (answers : Option T → Type 0) (old new : Numbered T)
-      (answer : Result (Item T) PullError) → PullsItem limit answers (pool_of old) answer (pool_of new)
+      (answer : Result (Item T) PullError) → PullsItem limit answers (listed_pool old) answer (listed_pool new)
       → PullsFromBag answers (free_values old.places) (pulled_value answer) (free_values new.places)
   pulls_from_bag limit answers old new (Ok item) pulled = by_choice pulled.2
     where
-      by_choice : PullsLeast limit answers (pool_of old) (Ok (pulled.0, item_value item)) (pool_of new)
+      by_choice : PullsLeast limit answers (listed_pool old) (Ok (pulled.0, item_value item)) (listed_pool new)
           → PullsFromBag answers (free_values old.places) (Ok (item_value item)) (free_values new.places)
       by_choice (inl takes) = inl (IsPutIn-taken old new pulled.0 (item_value item) takes)
       by_choice (inr grows) = inr (IsFresh-grown limit answers old new pulled.0 (item_value item) grows)

@@ -1,16 +1,17 @@
 -- Items that are held together of a linear core stay together.
-use Rattle.std.proofs.Common.{◌≡◌, ◌≢◌, ℕ, ◌*◌, Option, Some, None, List, [], ◌∷◌, ◌++◌, Ok, Err, slice_set, refl, sym, ap, subst, ◌∙◌, inl, inr}
+use Rattle.std.proofs.Common.{◌≡◌, ◌≢◌, ℕ, ◌*◌, Option, Some, None, List, [], ◌∷◌, ◌++◌, Ok, Err, slice_set, refl, sym}
+use Rattle.std.proofs.Common.{ap, subst, ◌∙◌, inl, inr}
 use Rattle.std.specs.List.{slice_get}
 use Rattle.std.proofs.lemmas.Bool.{cases_lt}
 use Rattle.lockfree_object_pool.specs.declared.pull_error.PullError.{PullError}
 use Rattle.object_pool_cores.specs.declared.sequential.item.Item.{Item}
 use Rattle.object_pool_cores.specs.declared.sequential.linear_core.LinearCore.{LinearCore}
 use Rattle.object_pool_cores.specs.Attach.{RefusesAttach}
-use Rattle.object_pool_cores.specs.Item.{item_value, item_number, with_value}
+use Rattle.object_pool_cores.specs.Inside.SequentialItem.{item_value, item_number, with_value}
 use Rattle.object_pool_cores.specs.Pool.{Pool, Absent, Free, Out, IsFree, IsOut, IsPool, IsSame, with_place}
 use Rattle.object_pool_cores.specs.Move.{grown}
 use Rattle.object_pool_cores.specs.LeastChoice.{PullsLeast}
-use Rattle.object_pool_cores.specs.Linear.{pool_of, limit_of, Pulls, Gives, HeldTogether, IsOutOf}
+use Rattle.object_pool_cores.specs.Linear.{core_pool, limit_of, Pulls, Gives, HeldTogether, IsOutOf}
 use Rattle.object_pool_cores.specs.Laws.PoolSteps.{with_place-same, with_place-other, grown-old}
 use Rattle.object_pool_cores.specs.Laws.HeldItems.{slice_get-from_set, slice_get-from_push}
 
@@ -55,13 +56,13 @@ module _ {T I R K : Type 0} where
 
   -- an item that is out of one core is out of another that leaves its number out
   IsOutOf-kept : (old new : LinearCore T I R K) (item : Item T)
-      → ((n : ℕ) → item_number item ≡ Some n → IsOut (pool_of old) n → IsOut (pool_of new) n)
+      → ((n : ℕ) → item_number item ≡ Some n → IsOut (core_pool old) n → IsOut (core_pool new) n)
       → IsOutOf old item → IsOutOf new item
   IsOutOf-kept old new item keeps out = (out.0, out.1, keeps out.0 out.1 out.2)
 
   -- one item more, whose number wasn't out
   HeldTogether-push : (old new : LinearCore T I R K) (held : List (Option (Item T))) (item : Item T) (n : ℕ)
-      → HeldTogether old held → item_number item ≡ Some n → LeavesOut (pool_of old) n (pool_of new)
+      → HeldTogether old held → item_number item ≡ Some n → LeavesOut (core_pool old) n (core_pool new)
       → HeldTogether new (held ++ Some item ∷ [])
   HeldTogether-push old new held item n together number leaves = record {
     out = λ index other e. elim (slice_get-from_push held index (Some item) (Some other) e) [
@@ -94,7 +95,7 @@ module _ {T I R K : Type 0} where
           let out = together.out index other e in
           let numbers : Some out.0 ≡ Some n = sym out.1 ∙ same ∙ number in
           let one : out.0 ≡ n = cc in
-          leaves.was_in (subst (λ (m : ℕ). IsOut (pool_of old) m) one out.2)
+          leaves.was_in (subst (λ (m : ℕ). IsOut (core_pool old) m) one out.2)
 
   -- no more items of the table, or the same numbers
   HeldTogether-fewer :
@@ -122,8 +123,8 @@ module _ {T I R K : Type 0} where
   HeldTogether-pulled answers old new held item together pulls =
       let pulled = pulls.pulled in
       HeldTogether-push old new held item pulled.0 together pulled.1
-      (LeavesOut-pulled (limit_of old) answers (pool_of old) pulled.0 (item_value item)
-      (pool_of new) pulls.step.before pulled.2)
+      (LeavesOut-pulled (limit_of old) answers (core_pool old) pulled.0 (item_value item)
+      (core_pool new) pulls.step.before pulled.2)
 
   pub HeldTogether-refused : (answers : Option T → Type 0) (old new : LinearCore T I R K)
       (held : List (Option (Item T))) (cause : PullError) → HeldTogether old held
@@ -148,7 +149,7 @@ module _ {T I R K : Type 0} where
       (together.different other index one item (left other one e).1 here
       (number ∙ ap Some same ∙ sym gives.returned.number)) in
       gives.returned.returned.places n
-      ∙ with_place-other (pool_of old) gives.returned.n n (Free gives.returned.kept) differ ∙ was) out)
+      ∙ with_place-other (core_pool old) gives.returned.n n (Free gives.returned.kept) differ ∙ was) out)
     where
       left : (other : ℕ) (one : Item T) → slice_get (slice_set held index None) other ≡ Some (Some one)
           → (other ≢ index) × (slice_get held other ≡ Some (Some one))

@@ -1,5 +1,7 @@
 -- The places of a list of numbered items, and the pool that the list stands for.
-use Rattle.std.proofs.Common.{◌≡◌, ◌≢◌, ℕ, ◌+◌, ◌-◌, ◌<◌, suc, zero, Option, Some, None, List, [], ◌∷◌, length, refl, sym, ap, subst, ◌∙◌, arith, add-suc, map, slice_set, ◌/◌, ◌++◌, length-append, length-set, inl, inr, ◌*◌}
+use Rattle.std.proofs.Common.{◌≡◌, ◌≢◌, ℕ, ◌+◌, ◌-◌, ◌<◌, suc, zero, Option, Some, None, List, [], ◌∷◌, length, refl}
+use Rattle.std.proofs.Common.{sym, ap, subst, ◌∙◌, arith, add-suc, map, slice_set, ◌/◌, ◌++◌, length-append, length-set}
+use Rattle.std.proofs.Common.{inl, inr, ◌*◌}
 use Rattle.std.specs.Prelude.{All}
 use Rattle.std.specs.List.{slice_get}
 use Rattle.std.proofs.lemmas.Bool.{cases_lt, cases_eq}
@@ -8,7 +10,7 @@ use Rattle.std.proofs.lemmas.Option.{get_or_from_slice_get, slice_get_within, sl
 use Rattle.object_pool_cores.specs.Pool.{IsPool, IsSame, with_place, free_with, AllowsPages, Absent, Free, Out}
 use Rattle.object_pool_cores.specs.Move.{grown}
 use Rattle.object_pool_cores.specs.Laws.PoolSteps.{with_place-same, with_place-other, grown-old, grown-new}
-use Rattle.object_pool_cores.specs.Numbered.{Numbered, IsSound, Grows, place_of, pool_of}
+use Rattle.object_pool_cores.specs.Inside.Numbered.{Numbered, IsSound, Grows, place_of, listed_pool}
 
 module _ {T : Type 0} where
   -- a free place has that value
@@ -106,7 +108,7 @@ module _ {T : Type 0} where
 
   -- sound items are a pool
   pub IsPool-sound :
-      (meets : T → Type 0) (items : Numbered T) → IsSound meets items → IsPool items.limit (pool_of items)
+      (meets : T → Type 0) (items : Numbered T) → IsSound meets items → IsPool items.limit (listed_pool items)
   IsPool-sound meets items sound = record {
     inside = λ n within.
         let whole = sound.whole in
@@ -120,33 +122,33 @@ module _ {T : Type 0} where
   }
 
   -- another place in the list is another place in the pool
-  pub pool_of-set : (items : Numbered T) (n : ℕ) (place : Option T) → n < length items.places
-      → IsSame (pool_of (record items { places = slice_set items.places n place }))
-      (with_place (pool_of items) n (place_of (Some place)))
-  pool_of-set items n place within = record {
+  pub listed_pool-set : (items : Numbered T) (n : ℕ) (place : Option T) → n < length items.places
+      → IsSame (listed_pool (record items { places = slice_set items.places n place }))
+      (with_place (listed_pool items) n (place_of (Some place)))
+  listed_pool-set items n place within = record {
     pages = ap (λ count. count / 32) (length-set items.places n place);
     places = λ m. elim (cases_eq m n) [
       | inl same ↦
           subst (λ (k : ℕ). place_of (slice_get (slice_set items.places n place) k) ≡ (with_place
-          (pool_of items) n (place_of (Some place))).at k) (sym same)
+          (listed_pool items) n (place_of (Some place))).at k) (sym same)
           (ap place_of (slice_get-set_same items.places n place within)
-          ∙ sym (with_place-same (pool_of items) n (place_of (Some place))))
+          ∙ sym (with_place-same (listed_pool items) n (place_of (Some place))))
       | inr differ ↦ ap place_of (slice_get-set_other items.places n m place differ)
-          ∙ sym (with_place-other (pool_of items) n m (place_of (Some place)) differ)
+          ∙ sym (with_place-other (listed_pool items) n m (place_of (Some place)) differ)
     ];
   }
 
   -- a page more in the list is a growth of the pool
-  pool_of-grown : (meets : T → Type 0) (items : Numbered T) (values : List T) → IsSound meets items
-      → length values ≡ 32 → IsSame (pool_of (record items { places = items.places ++ map Some values }))
-      (grown (pool_of items) values)
-  pool_of-grown meets items values sound count = record {
+  listed_pool-grown : (meets : T → Type 0) (items : Numbered T) (values : List T) → IsSound meets items
+      → length values ≡ 32 → IsSame (listed_pool (record items { places = items.places ++ map Some values }))
+      (grown (listed_pool items) values)
+  listed_pool-grown meets items values sound count = record {
     pages = let more = length-grown items values count in omega arith;
     places = λ n. elim (cases_lt n (length items.places)) [
       | inl front ↦
           let whole = sound.whole in
           ap place_of (slice_get-append_front items.places (map Some values) n front)
-          ∙ sym (grown-old (pool_of items) values n (omega arith))
+          ∙ sym (grown-old (listed_pool items) values n (omega arith))
       | inr back ↦
           let whole = sound.whole in
           let first : 32 * (length items.places / 32) ≡ length items.places = omega arith in
@@ -154,7 +156,7 @@ module _ {T : Type 0} where
           let here = sym (ap (slice_get (items.places ++ map Some values)) place)
           ∙ slice_get-append_back items.places (map Some values) (n - length items.places) in
           ap place_of here ∙ free_place values (n - length items.places)
-          ∙ sym (grown-new (pool_of items) values n (omega arith)
+          ∙ sym (grown-new (listed_pool items) values n (omega arith)
           ∙ ap (λ k. free_with (slice_get values (n - k))) first)
     ];
   }
@@ -167,11 +169,11 @@ module _ {T : Type 0} where
   -- what a page of answers behind a sound list is to the pool
   pub Grows-page : (meets : T → Type 0) (answers : Option T → Type 0) (items : Numbered T) (values : List T)
       → IsSound meets items → items.limit ≢ Some (length items.places / 32) → length values ≡ 32
-      → All (λ v. answers (Some v)) values → Grows items.limit answers (pool_of items)
-      (pool_of (record items { places = items.places ++ map Some values }))
+      → All (λ v. answers (Some v)) values → Grows items.limit answers (listed_pool items)
+      (listed_pool (record items { places = items.places ++ map Some values }))
   Grows-page meets answers items values sound below count answered = record {
     values = values;
     answered = answered;
-    lawful = (count, AllowsPages-more items.limit (length items.places / 32) sound.allowed below);
-    grown = pool_of-grown meets items values sound count;
+    legal = (count, AllowsPages-more items.limit (length items.places / 32) sound.allowed below);
+    grown = listed_pool-grown meets items values sound count;
   }

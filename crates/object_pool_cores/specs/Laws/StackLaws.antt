@@ -1,13 +1,14 @@
 -- Each step of the stack core is a case of the common relation,
 -- and items that are held together each bring a room.
-use Rattle.std.proofs.Common.{◌≡◌, ℕ, Option, Some, None, List, [], ◌∷◌, ◌++◌, Result, Ok, Err, slice_set, refl, sym, subst, inl, inr}
+use Rattle.std.proofs.Common.{◌≡◌, ℕ, Option, Some, None, List, [], ◌∷◌, ◌++◌, Result, Ok, Err, slice_set, refl, sym}
+use Rattle.std.proofs.Common.{subst, inl, inr}
 use Rattle.std.specs.Prelude.{All, IsTrue}
 use Rattle.std.specs.List.{slice_get}
 use Rattle.std.proofs.lemmas.List.Elements.{All-nil}
 use Rattle.lockfree_object_pool.specs.declared.pull_error.PullError.{PullError}
 use Rattle.object_pool_cores.specs.declared.sequential.item.Item.{Item}
 use Rattle.object_pool_cores.specs.declared.sequential.stack_core.StackCore.{StackCore}
-use Rattle.object_pool_cores.specs.Item.{item_value, has_room, with_value}
+use Rattle.object_pool_cores.specs.Inside.SequentialItem.{item_value, has_room, with_value}
 use Rattle.object_pool_cores.specs.Bag.{PullsFromBag, ReturnsToBag, pulled_value}
 use Rattle.object_pool_cores.specs.LastIn.{TakesLast, PullsLast}
 use Rattle.object_pool_cores.specs.Stack.{Pulls, Gives, HoldRooms, kept_of}

@@ -1,29 +1,32 @@
--- The headline: what agents do in a world, in any order of their steps, is a run of one pool.
-use Rattle.std.specs.Prelude.{◌≡◌, ℕ, ◌-◌, ◌*◌, ◌<◌, Option, Some, None, List, [], ◌∷◌, ◌++◌, map, reverse, length, slice_get, Result, OnOk}
+-- The main theorem: under every interleaving of their steps, what agents do in a world is a run of one pool.
+-- Begin here, with `IsRun`; `SinceNew` and `RunsEvents` say of which events it holds.
+use Rattle.std.specs.Prelude.{◌≡◌, ℕ, ◌-◌, ◌*◌, ◌<◌, Option, Some, None, List, [], ◌∷◌, ◌++◌, map, reverse, length}
+use Rattle.std.specs.Prelude.{slice_get, Result, OnOk}
 use Rattle.object_pool_cores.specs.declared.interleave.event.Event.{Event}
 use Rattle.object_pool_cores.specs.declared.interleave.event.Seen.{Seen}
 use Rattle.object_pool_cores.specs.declared.interleave.point.Point.TheVariants.{Reading, AtLink}
 use Rattle.object_pool_cores.specs.declared.run_error.RunError.{RunError}
 use Rattle.object_pool_cores.specs.Pool.{IsSame, AllowsPages}
-use Rattle.object_pool_cores.specs.Run.{Act, Holds, stage_of, pool_of, Run, FoundOutBeforeEach, HasHolders, IsWhole, AtEachPlace}
-use Rattle.object_pool_cores.specs.World.State.{State}
-use Rattle.object_pool_cores.specs.World.Machine.{Steps, item_of, number_out, opening_world}
-use Rattle.object_pool_cores.specs.World.Rows.{IsExact}
-use Rattle.object_pool_cores.specs.World.Reading.{reading}
-use Rattle.object_pool_cores.specs.World.Visible.{Log, Reads}
-use Rattle.object_pool_cores.specs.World.Alone.{IsAlone, AsksNoHints, StepsAlone, StepsAloneByHint, StepsInOrder}
-use Rattle.object_pool_cores.specs.World.OwnSteps.{own_steps, IsOnPage, IsOnHinted, IsLooking}
+use Rattle.object_pool_cores.specs.Run.{Act, Holds, stage_of, pool_of, Run, FoundOutBeforeEach, HasHolders, IsWhole}
+use Rattle.object_pool_cores.specs.Run.{AtEachPlace}
+use Rattle.object_pool_cores.specs.World.State.{WorldState}
+use Rattle.object_pool_cores.specs.World.Machine.{Steps, agent_item, number_out, opening_world}
+use Rattle.object_pool_cores.specs.World.Enabled.{IsExact}
+use Rattle.object_pool_cores.specs.World.AbstractPool.{abstract_pool}
+use Rattle.object_pool_cores.specs.World.Trace.{Log, IsTraceOf}
+use Rattle.object_pool_cores.specs.World.Solo.{IsSolo, AsksNoHints, RunsSolo, RunsSoloByHint, StepsInOrder}
+use Rattle.object_pool_cores.specs.World.OwnSteps.{own_steps, IsAtPage, IsAtHintedPage, IsLooking}
 use Rattle.lockfree_object_pool.specs.declared.page.TheConstants.{PAGE_ITEMS}
 
 -- what the events did, from a world of these first values in which no agent had begun, is a run of one pool
 pub record IsRun {T : Type 0} (Leaves : T → T → Type 0) (first : List T) (log : Log T)
-    (world : State T) : Type 0 where
-  -- the visible answers, one after another, are acts
+    (world : WorldState T) : Type 0 where
+  -- the answers that show something of the pool, one after another, are acts
   pub acts : List (Act T)
-  pub visible : Reads log acts
-  -- they are a run from the opening pool, and the world reads as the pool in which it ends
+  pub visible : IsTraceOf log acts
+  -- they are a run from the opening pool, and the world stands for the pool in which it ends
   pub run : Run Leaves world.limit first acts
-  pub ends : IsSame (pool_of first acts) (reading world)
+  pub ends : IsSame (pool_of first acts) (abstract_pool world)
   -- no more pages are linked than are allowed
   pub allowed : AllowsPages world.limit (length world.pages)
   -- at each place of the run the pool has the numbers of its pages, no more than are allowed
@@ -32,7 +35,7 @@ pub record IsRun {T : Type 0} (Leaves : T → T → Type 0) (first : List T) (lo
   pub holders : AtEachPlace (HasHolders first) acts
   -- an agent with an item in the world holds its number with its value there
   pub held :
-      (a n : ℕ) (value : T) → item_of (slice_get world.agents a) ≡ Some (n, value)
+      (a n : ℕ) (value : T) → agent_item (slice_get world.agents a) ≡ Some (n, value)
       → stage_of acts a ≡ Holds n value
   -- so it is of its number from its pull to its return
   pub out :
@@ -43,91 +46,91 @@ pub record IsRun {T : Type 0} (Leaves : T → T → Type 0) (first : List T) (lo
   pub found_out : FoundOutBeforeEach first acts
 
 -- a world of one page of 32 values, in which no agent has begun
-pub record IsNew {T : Type 0} (world : State T) : Type 0 where
+pub record IsNew {T : Type 0} (world : WorldState T) : Type 0 where
   pub first : List T
   pub full : length first ≡ PAGE_ITEMS
   pub allowed : AllowsPages world.limit 1
   pub same : world ≡ opening_world first world.limit
 
 -- events with their answers, between two worlds
-pub record Stretch (T : Type 0) : Type 0 where
-  pub from : State T
+pub record Segment (T : Type 0) : Type 0 where
+  pub from : WorldState T
   pub log : Log T
-  pub to : State T
+  pub to : WorldState T
 
--- a run's beginning: the world, the events that it is given, and the answers that were there
+-- what a call of `run` is given: the world, the events, and the answers that were there
 pub record RunStart (T : Type 0) : Type 0 where
-  pub world : State T
+  pub world : WorldState T
   pub events : List (Event T)
   pub seen : List Seen
 
--- a run's end: the world and the answers that it left, and its result
+-- what it leaves: the world, the answers, and its result
 pub record RunEnd (T : Type 0) : Type 0 where
-  pub world : State T
+  pub world : WorldState T
   pub seen : List Seen
   pub result : Result (Unit {0}) RunError
 
 module _ {T : Type 0} (Leaves : T → T → Type 0) where
   -- these events with these answers lead from one world to another, step by step
-  abbrev pub Ran : State T → Log T → State T → Type 0
-  Ran old [] new = new ≡ old
-  Ran old ((e, answer) ∷ log) new =
-      (between : State T) × Ran old log between × Steps Leaves between e answer new
+  abbrev pub Executes : WorldState T → Log T → WorldState T → Type 0
+  Executes old [] new = new ≡ old
+  Executes old ((e, answer) ∷ log) new =
+      (between : WorldState T) × Executes old log between × Steps Leaves between e answer new
       × IsExact between e answer new
 
   -- what was done before: steps from a world in which no agent had begun
-  pub record Past (world : State T) : Type 0 where
-    pub start : State T
+  pub record Past (world : WorldState T) : Type 0 where
+    pub start : WorldState T
     pub is_new : IsNew start
     pub log : Log T
-    pub ran : Ran start log world
+    pub ran : Executes start log world
 
   -- steps among others: those before them and those after them
-  pub record IsPart (part whole : Stretch T) : Type 0 where
+  pub record IsPart (part whole : Segment T) : Type 0 where
     pub earlier : Log T
     pub later : Log T
     pub logs : later ++ part.log ++ earlier ≡ whole.log
-    pub before : Ran whole.from earlier part.from
-    pub steps : Ran part.from part.log part.to
-    pub after : Ran part.to later whole.to
+    pub before : Executes whole.from earlier part.from
+    pub steps : Executes part.from part.log part.to
+    pub after : Executes part.to later whole.to
 
-  -- what an agent's own steps come to, on each part of a stretch
-  pub record Advances (whole : Stretch T) : Type 0 where
+  -- what an agent's own steps come to, on each part of a segment
+  pub record Advances (whole : Segment T) : Type 0 where
     -- an agent that reads page k is off it by its 33rd own step: while it is on the page it took fewer
     pub per_page :
-        (part : Stretch T) → IsPart part whole → (a k : ℕ) (asked : Option ℕ)
-        → slice_get part.from.agents a ≡ Some (Reading k asked) → IsOnPage k (slice_get part.to.agents a)
+        (part : Segment T) → IsPart part whole → (a k : ℕ) (asked : Option ℕ)
+        → slice_get part.from.agents a ≡ Some (Reading k asked) → IsAtPage k (slice_get part.to.agents a)
         → own_steps part.log a < 33
     -- so it is of the page that a hint names: an agent at the first link is off it by its 33rd own step
     pub per_hint :
-        (part : Stretch T) → IsPart part whole → (a : ℕ)
-        → slice_get part.from.agents a ≡ Some (AtLink 0 None) → IsOnHinted (slice_get part.to.agents a)
+        (part : Segment T) → IsPart part whole → (a : ℕ)
+        → slice_get part.from.agents a ≡ Some (AtLink 0 None) → IsAtHintedPage (slice_get part.to.agents a)
         → own_steps part.log a < 33
     -- under a limit an agent that begins is pulled or refused by its own step 36 * limit - 2: while it looks
     -- it took fewer
     pub bounded :
-        (part : Stretch T) → IsPart part whole → (a limit : ℕ)
+        (part : Segment T) → IsPart part whole → (a limit : ℕ)
         → slice_get part.from.agents a ≡ None → part.to.limit ≡ Some limit
         → IsLooking (slice_get part.to.agents a)
         → own_steps part.log a < 36 * limit - 2
-    -- an agent that has begun, and alone steps, without a hint, has an item or is refused after so many steps
+    -- an agent that has begun, and runs solo without a hint, has an item or is refused after so many steps
     pub alone :
-        (part : Stretch T) → IsPart part whole → (a : ℕ)
-        → slice_get part.from.agents a ≡ Some (Reading 0 None) → IsAlone a part.log → AsksNoHints part.log
-        → StepsAlone part.from part.log part.to a
-    -- so it is where its events come in the order of the table
+        (part : Segment T) → IsPart part whole → (a : ℕ)
+        → slice_get part.from.agents a ≡ Some (Reading 0 None) → IsSolo a part.log → AsksNoHints part.log
+        → RunsSolo part.from part.log part.to a
+    -- so it is where its events come one after another as its points allow them
     pub in_order :
-        (part : Stretch T) → IsPart part whole → (a : ℕ)
-        → slice_get part.from.agents a ≡ Some (Reading 0 None) → IsAlone a part.log → AsksNoHints part.log
+        (part : Segment T) → IsPart part whole → (a : ℕ)
+        → slice_get part.from.agents a ≡ Some (Reading 0 None) → IsSolo a part.log → AsksNoHints part.log
         → StepsInOrder part.from part.log part.to a
-    -- an agent that alone steps, and may ask a page by a hint, has an item or is refused by one step more
+    -- an agent that runs solo, and may ask a page by a hint, has an item or is refused by one step more
     pub alone_by_hint :
-        (part : Stretch T) → IsPart part whole → (a : ℕ)
-        → slice_get part.from.agents a ≡ Some (Reading 0 None) → IsAlone a part.log
-        → StepsAloneByHint part.from part.log a
+        (part : Segment T) → IsPart part whole → (a : ℕ)
+        → slice_get part.from.agents a ≡ Some (Reading 0 None) → IsSolo a part.log
+        → RunsSoloByHint part.from part.log a
 
   -- all that was done since the world was new
-  pub record SinceNew (first : List T) (whole : Stretch T) : Type 0 where
+  pub record SinceNew (first : List T) (whole : Segment T) : Type 0 where
     -- it is a run of one pool
     pub headline : IsRun Leaves first whole.log whole.to
     -- under a limit an agent is pulled or refused by its
@@ -145,12 +148,12 @@ module _ {T : Type 0} (Leaves : T → T → Type 0) where
     pub since_new :
         (past : Past before.world)
         → SinceNew past.is_new.first (record { from = past.start; log = log ++ past.log; to = after.world })
-    -- they are a beginning of the list, and after Ok the whole list
+    -- they are a prefix of the list, and after Ok the whole list
     pub rest : List (Event T)
     pub done : map (λ entry. entry.0) (reverse log) ++ rest ≡ before.events
     pub all : OnOk after.result (rest ≡ [])
     -- their answers follow the ones before
     pub answers : before.seen ++ map (λ entry. entry.1) (reverse log) ≡ after.seen
-    -- each is a step of the machine, which isn't enabled exactly where the table has no row
-    pub steps : Ran before.world log after.world
+    -- each is a step of the machine, and exactly an event that isn't enabled is answered so
+    pub steps : Executes before.world log after.world
     pub advances : Advances (record { from = before.world; log = log; to = after.world })

@@ -1,5 +1,7 @@
--- The table of the world's machine: what each event answers and leaves, by the point of its agent.
-use Rattle.std.specs.Prelude.{◌≡◌, ◌⊎◌, ℕ, ◌+◌, ◌-◌, ◌^◌, ◌==◌, nat_lt, Bool, true, false, bit_and, bit_or, if◌then◌else◌, Option, Some, None, option_map, option_and_then, List, [], ◌∷◌, ◌++◌, map, length, slice_get, slice_set, Result, Ok, Err, ⊤}
+-- The world's transition relation: what each event answers and leaves, by the point of its agent.
+use Rattle.std.specs.Prelude.{◌≡◌, ◌⊎◌, ℕ, ◌+◌, ◌-◌, ◌^◌, ◌==◌, nat_lt, Bool, true, false, bit_and, bit_or}
+use Rattle.std.specs.Prelude.{if◌then◌else◌, Option, Some, None, option_map, option_and_then, List, [], ◌∷◌, ◌++◌, map}
+use Rattle.std.specs.Prelude.{length, slice_get, slice_set, Result, Ok, Err, ⊤}
 use Rattle.std.specs.Int.{w32, bit_at, bit_not, trailing_zeros}
 use Rattle.lockfree_object_pool.specs.declared.pull_error.PullError.{PullError}
 use Rattle.lockfree_object_pool.specs.declared.pull_error.PullError.TheVariants.{Memory, Init, Limit}
@@ -8,10 +10,11 @@ use Rattle.object_pool_cores.specs.declared.interleave.event.Event.TheVariants a
 use Rattle.object_pool_cores.specs.declared.interleave.event.Seen.{Seen}
 use Rattle.object_pool_cores.specs.declared.interleave.event.Seen.TheVariants as seen
 use Rattle.object_pool_cores.specs.declared.interleave.point.Point.{Point}
-use Rattle.object_pool_cores.specs.declared.interleave.point.Point.TheVariants.{Reading, Clearing, AtLink, ClearingHinted, Making, Linking, Taken, Holding, Home, Ended}
+use Rattle.object_pool_cores.specs.declared.interleave.point.Point.TheVariants.{Reading, Clearing, AtLink}
+use Rattle.object_pool_cores.specs.declared.interleave.point.Point.TheVariants.{ClearingHinted, Making, Linking, Taken}
+use Rattle.object_pool_cores.specs.declared.interleave.point.Point.TheVariants.{Holding, Home, Ended}
 use Rattle.object_pool_cores.specs.Pool.{number}
-use Rattle.object_pool_cores.specs.World.PageState.{PageState}
-use Rattle.object_pool_cores.specs.World.State.{State}
+use Rattle.object_pool_cores.specs.World.State.{WorldPageState, WorldState}
 use Rattle.lockfree_object_pool.specs.Word.{all_bits}
 use Rattle.lockfree_object_pool.specs.declared.page.TheConstants.{PAGE_ITEMS}
 
@@ -47,69 +50,69 @@ was_asked (Some hint) k = hint == k
 
 module _ {T : Type 0} where
   -- a page that was just linked with these values: each of its items is free
-  abbrev pub linked_page : List T → PageState T
+  abbrev pub linked_page : List T → WorldPageState T
   linked_page values = record { word = all_bits; places = map Some values }
 
   -- the word of a page, 0 where there is no such page
-  abbrev pub word_in : Option (PageState T) → ℕ
+  abbrev pub word_in : Option (WorldPageState T) → ℕ
   word_in None = 0
   word_in (Some page) = page.word
 
   -- the word of page k
-  abbrev pub word_of : List (PageState T) → ℕ → ℕ
+  abbrev pub word_of : List (WorldPageState T) → ℕ → ℕ
   word_of pages k = word_in (slice_get pages k)
 
   -- the value at a place of a page, if one lies there
-  abbrev pub value_in : Option (PageState T) → ℕ → Option T
+  abbrev pub value_in : Option (WorldPageState T) → ℕ → Option T
   value_in None id = None
   value_in (Some page) id = option_and_then (λ place. place) (slice_get page.places id)
 
   -- the value at place `id` of page k, if one lies there
-  abbrev pub value_at : List (PageState T) → ℕ → ℕ → Option T
-  value_at pages k id = value_in (slice_get pages k) id
+  abbrev pub page_value : List (WorldPageState T) → ℕ → ℕ → Option T
+  page_value pages k id = value_in (slice_get pages k) id
 
   -- the pages with this one in place of page k, if there is one
-  abbrev pub with_page : List (PageState T) → ℕ → Option (PageState T) → List (PageState T)
+  abbrev pub with_page : List (WorldPageState T) → ℕ → Option (WorldPageState T) → List (WorldPageState T)
   with_page pages k None = pages
   with_page pages k (Some page) = slice_set pages k page
 
   -- the pages with another word on page k
-  abbrev pub with_word : List (PageState T) → ℕ → ℕ → List (PageState T)
+  abbrev pub with_word : List (WorldPageState T) → ℕ → ℕ → List (WorldPageState T)
   with_word pages k word =
       with_page pages k
       (option_map (λ page. record { word = word; places = page.places }) (slice_get pages k))
 
   -- the pages with another value, or none, at a place of page k
-  abbrev pub with_value : List (PageState T) → ℕ → ℕ → Option T → List (PageState T)
-  with_value pages k id value =
+  abbrev pub with_page_value : List (WorldPageState T) → ℕ → ℕ → Option T → List (WorldPageState T)
+  with_page_value pages k id value =
       with_page pages k
       (option_map (λ page. record { word = page.word; places = slice_set page.places id value })
       (slice_get pages k))
 
   -- a world of one page of these values, in which no agent has begun
-  abbrev pub opening_world : List T → Option ℕ → State T
+  abbrev pub opening_world : List T → Option ℕ → WorldState T
   opening_world values limit = record { pages = linked_page values ∷ []; agents = []; limit = limit }
 
   -- the world with its agent at another point
-  abbrev pub at_point : State T → ℕ → Point T → State T
+  abbrev pub at_point : WorldState T → ℕ → Point T → WorldState T
   at_point world a point =
       record { pages = world.pages; agents = slice_set world.agents a point; limit = world.limit }
 
   -- the world with other pages
-  abbrev pub with_pages : State T → List (PageState T) → State T
+  abbrev pub with_pages : WorldState T → List (WorldPageState T) → WorldState T
   with_pages world pages = record { pages = pages; agents = world.agents; limit = world.limit }
 
 -- an answer, and the world that is left
 abbrev pub Outcome : Type 0 → Type 0
-Outcome T = Seen × State T
+Outcome T = Seen × WorldState T
 
 module _ {T : Type 0} where
   -- the event isn't enabled, and nothing changes
-  abbrev pub not_enabled : State T → Outcome T
+  abbrev pub not_enabled : WorldState T → Outcome T
   not_enabled world = (seen.NotEnabled, world)
 
   -- the same where page k isn't there, which is so of no agent in a world that can be reached
-  abbrev if_linked : State T → ℕ → Outcome T → Outcome T
+  abbrev if_linked : WorldState T → ℕ → Outcome T → Outcome T
   if_linked world k outcome = if nat_lt k (length world.pages) then outcome else not_enabled world
 
   -- the value that an agent has, from its MoveOut until its MoveHome
@@ -118,9 +121,9 @@ module _ {T : Type 0} where
   held_by _ = None
 
   -- the number and the value of the item that an agent has
-  abbrev pub item_of : Option (Point T) → Option (ℕ × T)
-  item_of (Some (Holding k id value)) = Some (number k id, value)
-  item_of _ = None
+  abbrev pub agent_item : Option (Point T) → Option (ℕ × T)
+  agent_item (Some (Holding k id value)) = Some (number k id, value)
+  agent_item _ = None
 
   -- the number that an agent has out, from its ClearBit until its OrMask
   abbrev pub number_out : Option (Point T) → Option ℕ
@@ -147,18 +150,18 @@ module _ {T : Type 0} where
   comes_to k asked = if was_asked asked k then AtLink k asked else Reading k asked
 
   -- an agent reads the word of its page, and tries the bits that it saw
-  abbrev pub read_mask : State T → ℕ → Option (Point T) → Outcome T
+  abbrev pub read_mask : WorldState T → ℕ → Option (Point T) → Outcome T
   read_mask world a (Some (Reading k asked)) =
       let word = word_of world.pages k in (seen.Word a word, at_point world a (tries k word asked))
   read_mask world a _ = not_enabled world
 
   -- a hint may name any linked page but the first, to an agent at the first link
-  abbrev pub may_name : State T → ℕ → ℕ → Bool
+  abbrev pub may_name : WorldState T → ℕ → ℕ → Bool
   may_name world k hint =
       if k == 0 then if nat_lt 0 hint then nat_lt hint (length world.pages) else false else false
 
   -- an agent at the first link, before any hint, reads the word of a page that a hint names
-  abbrev pub read_hinted : State T → ℕ → ℕ → Option (Point T) → Outcome T
+  abbrev pub read_hinted : WorldState T → ℕ → ℕ → Option (Point T) → Outcome T
   read_hinted world a hint (Some (AtLink k None)) =
       if may_name world k hint
       then (let word = word_of world.pages hint in (seen.Word a word, at_point world a (tries_hinted hint word)))
@@ -166,7 +169,7 @@ module _ {T : Type 0} where
   read_hinted world a hint _ = not_enabled world
 
   -- the bit is set in the word: it is cleared there; or it isn't, and the agent goes on
-  abbrev pub clears : State T → ℕ → ℕ → ℕ → ℕ → Point T → Outcome T
+  abbrev pub clears : WorldState T → ℕ → ℕ → ℕ → ℕ → Point T → Outcome T
   clears world a k id word next =
       if has_bit word id
       then (
@@ -176,7 +179,7 @@ module _ {T : Type 0} where
       else (seen.Found a word, at_point world a next)
 
   -- the same of an agent on a page that a hint named
-  abbrev pub clear_hinted : State T → ℕ → Option (Point T) → Outcome T
+  abbrev pub clear_hinted : WorldState T → ℕ → Option (Point T) → Outcome T
   clear_hinted world a (Some (ClearingHinted hint mask)) =
       if mask == 0
       then not_enabled world
@@ -184,7 +187,7 @@ module _ {T : Type 0} where
   clear_hinted world a _ = not_enabled world
 
   -- an agent clears the lowest bit that it has to try, if it is still set
-  abbrev pub clear_bit : State T → ℕ → Option (Point T) → Outcome T
+  abbrev pub clear_bit : WorldState T → ℕ → Option (Point T) → Outcome T
   clear_bit world a (Some (Clearing k mask asked)) =
       if mask == 0
       then not_enabled world
@@ -192,7 +195,7 @@ module _ {T : Type 0} where
   clear_bit world a lookup = clear_hinted world a lookup
 
   -- an agent that found its page full goes to the next, is refused at the limit, or makes a page
-  abbrev pub read_next : State T → ℕ → Option (Point T) → Outcome T
+  abbrev pub read_next : WorldState T → ℕ → Option (Point T) → Outcome T
   read_next world a (Some (AtLink k asked)) =
       if_linked world k
       (if is_limit world.limit (k + 1) then (seen.Refused a Limit, at_point world a Ended)
@@ -201,7 +204,7 @@ module _ {T : Type 0} where
   read_next world a _ = not_enabled world
 
   -- an agent has the values of a page of its own, or is refused
-  abbrev pub make_page : State T → ℕ → Result (List T) PullError → Option (Point T) → Outcome T
+  abbrev pub make_page : WorldState T → ℕ → Result (List T) PullError → Option (Point T) → Outcome T
   make_page world a (Ok values) (Some (Making k)) =
       if_linked world k (seen.Made a, at_point world a (Linking k values))
   make_page world a (Err Memory) (Some (Making k)) = (seen.Refused a Memory, at_point world a Ended)
@@ -209,7 +212,7 @@ module _ {T : Type 0} where
   make_page world a prepared _ = not_enabled world
 
   -- an agent links its page behind the last one, or lost that to another and goes on to its page
-  abbrev pub exchange_next : State T → ℕ → Option (Point T) → Outcome T
+  abbrev pub exchange_next : WorldState T → ℕ → Option (Point T) → Outcome T
   exchange_next world a (Some (Linking k values)) =
       if_linked world k
       (if length world.pages == k + 1
@@ -221,28 +224,28 @@ module _ {T : Type 0} where
   exchange_next world a _ = not_enabled world
 
   -- the value of the place goes to the agent; one lies there in each world that can be reached
-  abbrev pub takes : State T → ℕ → ℕ → ℕ → Option T → Outcome T
+  abbrev pub takes : WorldState T → ℕ → ℕ → ℕ → Option T → Outcome T
   takes world a k id None = not_enabled world
   takes world a k id (Some value) =
-      (seen.MovedOut a, at_point (with_pages world (with_value world.pages k id None)) a (Holding k id value))
+      (seen.MovedOut a, at_point (with_pages world (with_page_value world.pages k id None)) a (Holding k id value))
 
   -- an agent takes the value out of the place whose bit it cleared
-  abbrev pub move_out : State T → ℕ → Option (Point T) → Outcome T
-  move_out world a (Some (Taken k id)) = takes world a k id (value_at world.pages k id)
+  abbrev pub move_out : WorldState T → ℕ → Option (Point T) → Outcome T
+  move_out world a (Some (Taken k id)) = takes world a k id (page_value world.pages k id)
   move_out world a _ = not_enabled world
 
   -- an agent writes the value that it holds
-  abbrev pub write : State T → ℕ → T → Option (Point T) → Outcome T
+  abbrev pub write : WorldState T → ℕ → T → Option (Point T) → Outcome T
   write world a value (Some (Holding k id old)) = (seen.Wrote a, at_point world a (Holding k id value))
   write world a value _ = not_enabled world
 
   -- what reset left of the agent's value goes to its place
-  abbrev pub puts : State T → ℕ → ℕ → ℕ → T → Outcome T
+  abbrev pub puts : WorldState T → ℕ → ℕ → ℕ → T → Outcome T
   puts world a k id kept =
-      (seen.MovedHome a, at_point (with_pages world (with_value world.pages k id (Some kept))) a (Home k id))
+      (seen.MovedHome a, at_point (with_pages world (with_page_value world.pages k id (Some kept))) a (Home k id))
 
   -- an agent sets the bit of the number that it returns, and is at its end
-  abbrev pub or_mask : State T → ℕ → Option (Point T) → Outcome T
+  abbrev pub or_mask : WorldState T → ℕ → Option (Point T) → Outcome T
   or_mask world a (Some (Home k id)) =
       if nat_lt id PAGE_ITEMS
       then (
@@ -254,17 +257,17 @@ module _ {T : Type 0} where
   or_mask world a _ = not_enabled world
 
   -- one agent more begins, at page 0
-  abbrev pub begin : State T → Outcome T
+  abbrev pub begin : WorldState T → Outcome T
   begin world = (
     seen.Began (length world.agents),
     record { pages = world.pages; agents = world.agents ++ Reading 0 None ∷ []; limit = world.limit },
   )
 
   -- the answer and the world are those of the outcome
-  abbrev pub IsOutcome : Outcome T → Seen → State T → Type 0
+  abbrev pub IsOutcome : Outcome T → Seen → WorldState T → Type 0
   IsOutcome outcome answer new = (answer ≡ outcome.0) × (new ≡ outcome.1)
 
-  -- the tables may have to grow for this event: a new agent, or the room of a page's link
+  -- the world may have to grow for this event: by an agent, or by the room for a page's link
   abbrev pub MayGrow : Event T → Option (Point T) → Type 0
   MayGrow event.Begin point = ⊤
   MayGrow (event.MakePage a (Ok values)) (Some (Making k)) = ⊤
@@ -276,49 +279,49 @@ module _ {T : Type 0} where
   LinksWhole _ _ = ⊤
 
   -- the agent that an event names
-  abbrev pub agent_of : Event T → Option ℕ
-  agent_of event.Begin = None
-  agent_of (event.ReadMask a) = Some a
-  agent_of (event.ReadHinted a hint) = Some a
-  agent_of (event.ClearBit a) = Some a
-  agent_of (event.ReadNext a) = Some a
-  agent_of (event.MakePage a prepared) = Some a
-  agent_of (event.ExchangeNext a) = Some a
-  agent_of (event.MoveOut a) = Some a
-  agent_of (event.Write a value) = Some a
-  agent_of (event.MoveHome a) = Some a
-  agent_of (event.OrMask a) = Some a
+  abbrev pub event_agent : Event T → Option ℕ
+  event_agent event.Begin = None
+  event_agent (event.ReadMask a) = Some a
+  event_agent (event.ReadHinted a hint) = Some a
+  event_agent (event.ClearBit a) = Some a
+  event_agent (event.ReadNext a) = Some a
+  event_agent (event.MakePage a prepared) = Some a
+  event_agent (event.ExchangeNext a) = Some a
+  event_agent (event.MoveOut a) = Some a
+  event_agent (event.Write a value) = Some a
+  event_agent (event.MoveHome a) = Some a
+  event_agent (event.OrMask a) = Some a
 
   -- the point of the agent that an event names
-  abbrev pub point_of : State T → Event T → Option (Point T)
-  point_of world e = option_and_then (λ a. slice_get world.agents a) (agent_of e)
+  abbrev pub point_of : WorldState T → Event T → Option (Point T)
+  point_of world e = option_and_then (λ a. slice_get world.agents a) (event_agent e)
 
 module _ {T : Type 0} (Leaves : T → T → Type 0) where
   -- reset runs on the agent's value, and may leave any value that it leaves of it
-  abbrev pub MovesHome : State T → ℕ → Option (Point T) → Seen → State T → Type 0
+  abbrev pub MovesHome : WorldState T → ℕ → Option (Point T) → Seen → WorldState T → Type 0
   MovesHome old a (Some (Holding k id value)) answer new =
       (kept : T) × Leaves value kept × IsOutcome (puts old a k id kept) answer new
   MovesHome old a _ answer new = IsOutcome (not_enabled old) answer new
 
-  -- the row of the table for an event
-  abbrev pub Row : State T → Event T → Seen → State T → Type 0
-  Row old event.Begin answer new = IsOutcome (begin old) answer new
-  Row old (event.ReadMask a) answer new = IsOutcome (read_mask old a (slice_get old.agents a)) answer new
-  Row old (event.ReadHinted a hint) answer new =
+  -- the transition of an event
+  abbrev pub Transition : WorldState T → Event T → Seen → WorldState T → Type 0
+  Transition old event.Begin answer new = IsOutcome (begin old) answer new
+  Transition old (event.ReadMask a) answer new = IsOutcome (read_mask old a (slice_get old.agents a)) answer new
+  Transition old (event.ReadHinted a hint) answer new =
       IsOutcome (read_hinted old a hint (slice_get old.agents a)) answer new
-  Row old (event.ClearBit a) answer new = IsOutcome (clear_bit old a (slice_get old.agents a)) answer new
-  Row old (event.ReadNext a) answer new = IsOutcome (read_next old a (slice_get old.agents a)) answer new
-  Row old (event.MakePage a prepared) answer new =
+  Transition old (event.ClearBit a) answer new = IsOutcome (clear_bit old a (slice_get old.agents a)) answer new
+  Transition old (event.ReadNext a) answer new = IsOutcome (read_next old a (slice_get old.agents a)) answer new
+  Transition old (event.MakePage a prepared) answer new =
       IsOutcome (make_page old a prepared (slice_get old.agents a)) answer new
-  Row old (event.ExchangeNext a) answer new =
+  Transition old (event.ExchangeNext a) answer new =
       IsOutcome (exchange_next old a (slice_get old.agents a)) answer new
       × LinksWhole answer (prepared_by (slice_get old.agents a))
-  Row old (event.MoveOut a) answer new = IsOutcome (move_out old a (slice_get old.agents a)) answer new
-  Row old (event.Write a value) answer new = IsOutcome (write old a value (slice_get old.agents a)) answer new
-  Row old (event.MoveHome a) answer new = MovesHome old a (slice_get old.agents a) answer new
-  Row old (event.OrMask a) answer new = IsOutcome (or_mask old a (slice_get old.agents a)) answer new
+  Transition old (event.MoveOut a) answer new = IsOutcome (move_out old a (slice_get old.agents a)) answer new
+  Transition old (event.Write a value) answer new = IsOutcome (write old a value (slice_get old.agents a)) answer new
+  Transition old (event.MoveHome a) answer new = MovesHome old a (slice_get old.agents a) answer new
+  Transition old (event.OrMask a) answer new = IsOutcome (or_mask old a (slice_get old.agents a)) answer new
 
-  -- one step: the row of the table; or the tables had to grow and couldn't, and nothing changes
-  abbrev pub Steps : State T → Event T → Seen → State T → Type 0
+  -- one step: the event's transition; or the world had to grow and couldn't, and nothing changes
+  abbrev pub Steps : WorldState T → Event T → Seen → WorldState T → Type 0
   Steps old e answer new =
-      Row old e answer new ⊎ (MayGrow e (point_of old e) × (answer ≡ seen.NoMemory) × (new ≡ old))
+      Transition old e answer new ⊎ (MayGrow e (point_of old e) × (answer ≡ seen.NoMemory) × (new ≡ old))

@@ -4,9 +4,10 @@ use Rattle.object_pool_cores.specs.declared.interleave.event.Event.{Event}
 use Rattle.object_pool_cores.specs.declared.interleave.event.Seen.{Seen}
 use Rattle.object_pool_cores.specs.declared.interleave.event.Seen.TheVariants as seen
 use Rattle.object_pool_cores.specs.declared.interleave.point.Point.{Point}
-use Rattle.object_pool_cores.specs.declared.interleave.point.Point.TheVariants.{Reading, Clearing, AtLink, ClearingHinted, Making, Linking}
-use Rattle.object_pool_cores.specs.World.Machine.{agent_of}
-use Rattle.object_pool_cores.specs.World.Visible.{Log}
+use Rattle.object_pool_cores.specs.declared.interleave.point.Point.TheVariants.{Reading, Clearing, AtLink}
+use Rattle.object_pool_cores.specs.declared.interleave.point.Point.TheVariants.{ClearingHinted, Making, Linking}
+use Rattle.object_pool_cores.specs.World.Machine.{event_agent}
+use Rattle.object_pool_cores.specs.World.Trace.{Log}
 
 -- an answer with which nothing happened
 abbrev pub is_idle : Seen → Bool
@@ -22,7 +23,7 @@ names (Some b) a = b == a
 module _ {T : Type 0} where
   -- the event is a step of the agent: it names it, and something happened
   abbrev pub is_step_of : Event T → Seen → ℕ → Bool
-  is_step_of e answer a = if is_idle answer then false else names (agent_of e) a
+  is_step_of e answer a = if is_idle answer then false else names (event_agent e) a
 
   -- how many steps of the agent there are
   abbrev pub own_steps : Log T → ℕ → ℕ
@@ -30,15 +31,15 @@ module _ {T : Type 0} where
   own_steps ((e, answer) ∷ log) a = if is_step_of e answer a then own_steps log a + 1 else own_steps log a
 
   -- an agent is on page k: it reads the word, or clears bits
-  abbrev pub IsOnPage : ℕ → Option (Point T) → Type 0
-  IsOnPage k (Some (Reading j asked)) = j ≡ k
-  IsOnPage k (Some (Clearing j mask asked)) = j ≡ k
-  IsOnPage k _ = ⊥
+  abbrev pub IsAtPage : ℕ → Option (Point T) → Type 0
+  IsAtPage k (Some (Reading j asked)) = j ≡ k
+  IsAtPage k (Some (Clearing j mask asked)) = j ≡ k
+  IsAtPage k _ = ⊥
 
   -- an agent is on the page that a hint named
-  abbrev pub IsOnHinted : Option (Point T) → Type 0
-  IsOnHinted (Some (ClearingHinted hint mask)) = ⊤
-  IsOnHinted _ = ⊥
+  abbrev pub IsAtHintedPage : Option (Point T) → Type 0
+  IsAtHintedPage (Some (ClearingHinted hint mask)) = ⊤
+  IsAtHintedPage _ = ⊥
 
   -- an agent has neither taken a number nor been refused
   abbrev pub IsLooking : Option (Point T) → Type 0

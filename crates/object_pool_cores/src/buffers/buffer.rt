@@ -8,7 +8,7 @@ use lockfree_object_pool::page::PageId;
 use lockfree_object_pool::{LinearReusable, PullError};
 use std::fmt::{self, Debug, Formatter, Write};
 
-/// A pulled buffer. Its end resets it and brings it back to its pool.
+/// A pulled buffer. When it is dropped it is reset, and goes back to its pool.
 ///
 /// `T` and `K` are always as they stand here, as in [`BufferPool`](crate::buffers::BufferPool).
 #[derive(Drop)]
@@ -17,8 +17,9 @@ pub struct Buffer<'p, I: Init<T, K>, R: Reset<T, K>, T: Drop = Vec<u8>, K: Clean
 }
 
 impl<'p, I: Init<Vec<u8>, Empty>, R: Reset<Vec<u8>, Empty>> Buffer<'p, I, R> {
+    ghost use Rattle.lockfree_object_pool.specs.declared.page.TheConstants.{PAGE_ITEMS};
     ghost use Rattle.lockfree_object_pool.specs.declared.pull_error.PullError.TheVariants.{Memory};
-    ghost use Rattle.object_pool_cores.specs.Buffers.{item_of, bytes_of, room_of, page_of, id_of};
+    ghost use Rattle.object_pool_cores.specs.Buffers.{item_of, bytes_of, capacity_of, page_of, id_of};
 
     pub(super) fn new(item: LinearReusable<'p, Vec<u8>, I, R, Empty>) -> Buffer<'p, I, R>
         ensures { item_of result ≡ item.entry }
@@ -26,6 +27,7 @@ impl<'p, I: Init<Vec<u8>, Empty>, R: Reset<Vec<u8>, Empty>> Buffer<'p, I, R> {
         Buffer { item }
     }
 
+    /// The bytes in the buffer.
     pub fn as_slice(&self) -> &[u8]
         ensures { result.now ≡ bytes_of self.now }
     {
@@ -36,14 +38,15 @@ impl<'p, I: Init<Vec<u8>, Empty>, R: Reset<Vec<u8>, Empty>> Buffer<'p, I, R> {
     ///
     /// # Errors
     ///
-    /// `Memory`, where the buffer has too little room for them and can't grow. It stays as it was.
+    /// `Memory`, where the buffer has too little room for them and can't grow. Its bytes stay as they were.
     pub fn append(&mut self, bytes: &[u8]) -> Result<(), PullError>
         ensures ok { OnOk result (bytes_of self.new ≡ bytes_of self.old ++ bytes.now) }
         ensures err { OnErr result (bytes_of self.new ≡ bytes_of self.old) }
         ensures refused { IfErr result (λ error. error ≡ Memory) }
-        ensures room_is_there { length (bytes_of self.old) + length bytes.now ≤ room_of self.old → IsOk result }
+        ensures room_is_there { length (bytes_of self.old) + length bytes.now
+            ≤ capacity_of self.old → IsOk result }
         ensures nothing { bytes.now ≡ [] → IsOk result }
-        ensures room { room_of self.old ≤ room_of self.new }
+        ensures room { capacity_of self.old ≤ capacity_of self.new }
         ensures page { page_of self.new ≡ page_of self.old }
         ensures id { id_of self.new ≡ id_of self.old }
     {
@@ -63,7 +66,7 @@ impl<'p, I: Init<Vec<u8>, Empty>, R: Reset<Vec<u8>, Empty>> Buffer<'p, I, R> {
     /// The number of the buffer in its page.
     pub fn page_id(&self) -> PageId
         ensures value { result ≡ id_of self.now }
-        ensures in_page { result < 32 }
+        ensures in_page { result < PAGE_ITEMS }
     {
         self.item.page_id()
     }

@@ -2,6 +2,7 @@
 ghost use Rattle.std.specs.Prelude.{◌≡◌, ◌≤◌, ◌<◌, ◌^◌, ◌++◌, ◌∷◌, ℕ, List, All, MatchOption, length, codes};
 ghost use Rattle.std.specs.Char.{IsAsciiDigit};
 ghost use Rattle.std.specs.Str.Parse.{digits_value};
+ghost use Rattle.object_pool_cores.specs.declared.engine.command_text.TheConstants.{MOST_DIGITS};
 ghost use Rattle.object_pool_cores.specs.CommandText.{IsNumber, HasNoSpace, AreNumbers, IsCommand, IsBadLine};
 
 use crate::sequential::Command;
@@ -75,7 +76,7 @@ fn number_of(text: &[u8]) -> Option<u32>
 /// The value of at most ten digits.
 fn value_of(digits: &[u8]) -> u64
     requires digits { All IsAsciiDigit digits.now }
-    requires most { length digits.now ≤ 10 }
+    requires most { length digits.now ≤ MOST_DIGITS }
     ensures { result ≡ digits_value 10 digits.now }
 {
     let mut value = 0u64;

@@ -1,7 +1,7 @@
 //! Why an engine stopped before the end of its input.
 use thiserror::Error;
 
-/// Why an engine stopped. What was done stays done.
+/// Why an engine stopped before the end of its input. What was played and written stands.
 #[derive(Clone, Copy, Debug, PartialEq, Eq, Hash, Error)]
 pub enum EngineError {
     /// A read failed.

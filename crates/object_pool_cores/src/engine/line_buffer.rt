@@ -1,7 +1,7 @@
 //! The line that is being read.
 ghost use Rattle.std.specs.Prelude.{◌≡◌, ◌∷◌, ◌++◌, [], ℕ, List, IsTrue, ◌↔◌, MatchOption};
 ghost use Rattle.object_pool_cores.specs.CommandText.{IsCommand, IsBadLine};
-ghost use Rattle.object_pool_cores.specs.Buffered.{IsBuffered};
+ghost use Rattle.object_pool_cores.specs.Inside.Buffered.{IsBuffered};
 
 use crate::engine::command_text::command_of;
 use crate::sequential::Command;
@@ -27,7 +27,8 @@ impl LineBuffer {
 
     /// One byte more.
     pub(super) fn push(&mut self, byte: u8)
-        ensures { (line : List ℕ) → IsBuffered line self.old → IsBuffered (line ++ byte ∷ []) self.new }
+        ensures { (line : List ℕ) → IsBuffered line self.old
+            → IsBuffered (line ++ byte ∷ []) self.new }
     {
         if let LineBuffer::Short(bytes) = self {
             if bytes.try_push(byte).is_err() {

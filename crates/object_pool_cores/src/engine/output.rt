@@ -12,7 +12,8 @@ pub(super) struct WriteFailed;
 /// Writes all the bytes. A writer that fails, an interrupted one too, or that takes nothing ends it.
 pub(super) fn write_whole<W: Write>(output: &mut W, bytes: &[u8]) -> Result<(), WriteFailed>
     ensures ok { OnOk result (Appends (W.contents output.old) (W.contents output.new) bytes.now) }
-    ensures err { OnErr result (AppendsPart (W.contents output.old) (W.contents output.new) bytes.now) }
+    ensures err { OnErr result
+        (AppendsPart (W.contents output.old) (W.contents output.new) bytes.now) }
 {
     let mut rest = bytes;
     while !rest.is_empty() {

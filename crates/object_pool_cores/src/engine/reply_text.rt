@@ -2,7 +2,8 @@
 ghost use Rattle.std.specs.Prelude.{◌≡◌, ◌≤◌, ◌+◌, ◌++◌, ◌∷◌, [], length, codes};
 ghost use Rattle.std.specs.Fmt.{decimal};
 ghost use Rattle.arrayvec.specs.ArrayString.{array_string_len};
-ghost use Rattle.object_pool_cores.specs.ReplyText.{number_text, refusal_text, attach_refusal_text, reply_text};
+ghost use Rattle.object_pool_cores.specs.Lines.{ended};
+ghost use Rattle.object_pool_cores.specs.ReplyText.{refusal_text, attach_refusal_text, holder_text, pulled_text};
 
 use crate::sequential::{AttachError, Reply};
 use arrayvec::ArrayString;
@@ -15,27 +16,10 @@ pub(super) const LONGEST_REPLY: usize = 92;
 /// A reply with its line feed.
 pub(super) type ReplyText = ArrayString<LONGEST_REPLY>;
 
-/// The text of a reply to a command that names this index, where a pulled item has this value.
-pub(super) fn line_of(reply: &Reply<u32>, index: usize, value: u32) -> ReplyText
-    ensures { result.bytes ≡ reply_text index value reply.now ++ 10 ∷ [] }
-{
-    match reply {
-        Reply::Pulled(holder, number) => pulled_line(*holder, *number, value),
-        Reply::Refused(cause) => plain_line(refusal(*cause)),
-        Reply::Written => indexed_line("written ", index),
-        Reply::Returned => indexed_line("returned ", index),
-        Reply::Forgotten => indexed_line("forgotten ", index),
-        Reply::Attached(holder) => indexed_line("attached ", *holder),
-        Reply::AttachRefused(AttachError::Memory(_)) => plain_line("refused memory"),
-        Reply::AttachRefused(AttachError::NotOffered(_)) => plain_line("not offered"),
-        Reply::NoSuchHolder => plain_line("no such holder"),
-    }
-}
-
 /// A text that has no number in it.
 pub(super) fn plain_line(words: &str) -> ReplyText
     requires { length words.now ≤ 20 }
-    ensures { result.bytes ≡ words.now ++ 10 ∷ [] }
+    ensures { result.bytes ≡ ended words.now }
 {
     let mut line = ReplyText::new();
     line.push_str(words);
@@ -43,7 +27,8 @@ pub(super) fn plain_line(words: &str) -> ReplyText
     line
 }
 
-fn refusal(cause: PullError) -> &'static str
+/// Why a pull was refused.
+pub(super) fn refusal(cause: PullError) -> &'static str
     ensures text { result.now ≡ refusal_text cause }
     ensures short { length result.now ≤ 20 }
 {
@@ -54,10 +39,32 @@ fn refusal(cause: PullError) -> &'static str
     }
 }
 
+/// Why an attach was refused.
+pub(super) fn attach_refusal(error: &AttachError<u32>) -> &'static str
+    ensures text { result.now ≡ attach_refusal_text error.now }
+    ensures short { length result.now ≤ 20 }
+{
+    match error {
+        AttachError::Memory(_) => "refused memory",
+        AttachError::NotOffered(_) => "not offered",
+    }
+}
+
+/// What a command to a holder is answered: what was done there, or that there is none.
+pub(super) fn holder_line(done: &str, index: usize, reply: &Reply<u32>) -> ReplyText
+    requires { length done.now ≤ 20 }
+    ensures { result.bytes ≡ ended (holder_text done.now index reply.now) }
+{
+    match reply {
+        Reply::NoSuchHolder => plain_line("no such holder"),
+        _ => indexed_line(done, index),
+    }
+}
+
 /// A word and an index.
-fn indexed_line(word: &str, index: usize) -> ReplyText
+pub(super) fn indexed_line(word: &str, index: usize) -> ReplyText
     requires { length word.now ≤ 20 }
-    ensures { result.bytes ≡ word.now ++ decimal index ++ 10 ∷ [] }
+    ensures { result.bytes ≡ ended (word.now ++ decimal index) }
 {
     let mut line = ReplyText::new();
     line.push_str(word);
@@ -67,9 +74,8 @@ fn indexed_line(word: &str, index: usize) -> ReplyText
 }
 
 /// The holder, the item's number and its value.
-fn pulled_line(holder: usize, number: Option<u128>, value: u32) -> ReplyText
-    ensures { result.bytes
-        ≡ codes "pulled " ++ decimal holder ++ number_text number ++ codes " value " ++ decimal value ++ 10 ∷ [] }
+pub(super) fn pulled_line(holder: usize, number: Option<u128>, value: u32) -> ReplyText
+    ensures { result.bytes ≡ ended (pulled_text holder number value) }
 {
     let mut line = ReplyText::new();
     line.push_str("pulled ");

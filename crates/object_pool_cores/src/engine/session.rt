@@ -1,15 +1,18 @@
-//! The engine on any pool of one owner: it reads lines, plays their commands and writes the replies.
+//! The engine on any sequential pool: it reads lines, plays their commands and writes the replies.
 ghost use Rattle.std.specs.Prelude.{◌≡◌, ◌≢◌, ◌≤◌, ◌++◌, ℕ, List, [], Some, Err, IfOk, OnOk, OnErr, length};
 ghost use Rattle.std.specs.Io.KnownBytes.{Appends, Consumes, IsAtEnd, Keeps};
-ghost use Rattle.object_pool_cores.specs.Buffered.{IsBuffered, IsOpenLine};
-ghost use Rattle.object_pool_cores.specs.Transcript.{Answers, named_index, pulled_value};
-ghost use Rattle.object_pool_cores.specs.Served.{AnswersLast, AnswersLastInPart, AppendsPart, Serves, ServesAll, ServesFront, ServesPart, StopsWriting};
+ghost use Rattle.object_pool_cores.specs.declared.engine.session.TheConstants.{CHUNK};
+ghost use Rattle.object_pool_cores.specs.Inside.Buffered.{IsBuffered, IsOpenLine};
+ghost use Rattle.object_pool_cores.specs.Transcript.{AnswersLine};
+ghost use Rattle.object_pool_cores.specs.Served.{AnswersLast, AnswersLastInPart, AppendsPart, Serves, ServesAll};
+ghost use Rattle.object_pool_cores.specs.Served.{ServesFront, ServesPart, StopsWriting};
 
 use crate::engine::EngineError;
+use crate::engine::answer::answer_of;
 use crate::engine::line_buffer::LineBuffer;
 use crate::engine::output::write_whole;
-use crate::engine::reply_text::{ReplyText, line_of, plain_line};
-use crate::sequential::{Command, Player, Reply, RunError, SequentialPool};
+use crate::engine::reply_text::{LONGEST_REPLY, ReplyText, plain_line};
+use crate::sequential::{Player, RunError, SequentialPool};
 use arrayvec::ArrayVec;
 use std::io::{Read, Write};
 use std::sync::Wait;
@@ -18,7 +21,7 @@ use std::sync::Wait;
 const CHUNK: usize = 1024;
 
 /// How many bytes the replies to the lines of one read have at most: a longest reply for each byte.
-const GATHERED: usize = 94208;
+const GATHERED: usize = CHUNK * LONGEST_REPLY;
 
 /// The replies to the lines of one read.
 type Replies = ArrayVec<u8, GATHERED>;
@@ -74,16 +77,18 @@ fn serve_chunk<P: SequentialPool<u32>, W: Write>(
     replies: &mut Replies,
     output: &mut W,
 ) -> Result<(), EngineError>
-    requires { length bytes.now ≤ 1024 }
+    requires { length bytes.now ≤ CHUNK }
     ensures ok { OnOk result ((rest : List ℕ) → IsOpenLine rest line.old
         → (more : List ℕ) × IsOpenLine more line.new
         × Serves P.pulls P.gives P.attaches player.old (W.contents output.old)
         (rest ++ bytes.now) more player.new (W.contents output.new)) }
     ensures write { result ≡ Err EngineError.Write → (rest : List ℕ) → IsOpenLine rest line.old
-        → ServesPart P.pulls P.gives P.attaches player.old (W.contents output.old) (rest ++ bytes.now)
+        → ServesPart P.pulls P.gives P.attaches player.old (W.contents output.old)
+        (rest ++ bytes.now)
         (W.contents output.new) }
     ensures memory { result ≡ Err EngineError.Memory → (rest : List ℕ) → IsOpenLine rest line.old
-        → ServesFront P.pulls P.gives P.attaches player.old (W.contents output.old) (rest ++ bytes.now)
+        → ServesFront P.pulls P.gives P.attaches player.old (W.contents output.old)
+        (rest ++ bytes.now)
         (W.contents output.new) }
     ensures read { result ≢ Err EngineError.Read }
 {
@@ -105,7 +110,7 @@ fn feed<P: SequentialPool<u32>>(
     bytes: &[u8],
     replies: &mut Replies,
 ) -> Result<(), RunError>
-    requires bytes { length bytes.now ≤ 1024 }
+    requires bytes { length bytes.now ≤ CHUNK }
     requires replies { replies.old.items ≡ [] }
     ensures ok { OnOk result ((rest : List ℕ) → IsOpenLine rest line.old
         → (more : List ℕ) × IsOpenLine more line.new
@@ -141,7 +146,8 @@ fn serve_last<P: SequentialPool<u32>, W: Write>(
     ensures write { result ≡ Err EngineError.Write → (rest : List ℕ) → IsBuffered rest line.now
         → AnswersLastInPart P.pulls P.gives P.attaches player.old (W.contents output.old) rest
         (W.contents output.new) }
-    ensures memory { result ≡ Err EngineError.Memory → Keeps (W.contents output.old) (W.contents output.new) }
+    ensures memory { result ≡ Err EngineError.Memory
+        → Keeps (W.contents output.old) (W.contents output.new) }
     ensures read { result ≢ Err EngineError.Read }
 {
     if line.is_empty() {
@@ -157,12 +163,14 @@ fn serve_line<P: SequentialPool<u32>, W: Write>(
     output: &mut W,
 ) -> Result<(), EngineError>
     ensures ok { OnOk result ((bytes : List ℕ) → IsBuffered bytes line.now
-        → (text : List ℕ) × Answers P.pulls P.gives P.attaches player.old bytes text player.new
+        → (text : List ℕ) × AnswersLine P.pulls P.gives P.attaches player.old bytes text player.new
         × Appends (W.contents output.old) (W.contents output.new) text) }
     ensures write { result ≡ Err EngineError.Write → (bytes : List ℕ) → IsBuffered bytes line.now
-        → (text : List ℕ) × (last : _) × Answers P.pulls P.gives P.attaches player.old bytes text last
+        → (text : List ℕ) × (last : _)
+        × AnswersLine P.pulls P.gives P.attaches player.old bytes text last
         × AppendsPart (W.contents output.old) (W.contents output.new) text }
-    ensures memory { result ≡ Err EngineError.Memory → Keeps (W.contents output.old) (W.contents output.new) }
+    ensures memory { result ≡ Err EngineError.Memory
+        → Keeps (W.contents output.old) (W.contents output.new) }
     ensures read { result ≢ Err EngineError.Read }
 {
     match answer(player, line) {
@@ -180,34 +188,11 @@ fn answer<P: SequentialPool<u32>>(
     line: &LineBuffer,
 ) -> Result<ReplyText, RunError>
     ensures ok { IfOk result (λ text. (bytes : List ℕ) → IsBuffered bytes line.now
-        → Answers P.pulls P.gives P.attaches player.old bytes text.bytes player.new) }
+        → AnswersLine P.pulls P.gives P.attaches player.old bytes text.bytes player.new) }
     ensures err { OnErr result (player.new ≡ player.old) }
 {
     let Some(command) = line.command() else {
         return Ok(plain_line("bad line"));
     };
-    let index = index_of(&command);
-    let reply = player.play(command)?;
-    let value = value_of(player, &reply);
-    Ok(line_of(&reply, index, value))
-}
-
-/// The index that a command names.
-fn index_of(command: &Command<u32>) -> usize
-    ensures { result ≡ named_index command.now }
-{
-    match command {
-        Command::Write(index, _) | Command::Return(index) | Command::Forget(index) => *index,
-        Command::Pull | Command::Attach(_) => 0,
-    }
-}
-
-/// The value of a pulled item, right after the pull.
-fn value_of<P: SequentialPool<u32>>(player: &Player<u32, P>, reply: &Reply<u32>) -> u32
-    ensures { result ≡ pulled_value player.now.held reply.now }
-{
-    match reply {
-        Reply::Pulled(holder, _) => player.held(*holder).copied().unwrap_or(0),
-        _ => 0,
-    }
+    answer_of(player, command)
 }

@@ -1,9 +1,9 @@
 //! The bits that an agent tries, and where it goes next.
 ghost use Rattle.std.specs.Prelude.{◌≡◌, ◌<◌, ◌==◌, ◌+◌, Option};
 ghost use Rattle.lockfree_object_pool.specs.declared.page.TheConstants.{PAGE_ITEMS};
-ghost use Rattle.object_pool_cores.specs.Pool.{number};
-ghost use Rattle.object_pool_cores.specs.World.Machine.{has_bit, is_limit, lowest, without_lowest, tries, tries_hinted, comes_to};
-ghost use Rattle.object_pool_cores.specs.World.Room.{NeedsNoRoom};
+ghost use Rattle.object_pool_cores.specs.World.Machine.{has_bit, is_limit, lowest, without_lowest, tries, tries_hinted};
+ghost use Rattle.object_pool_cores.specs.World.Machine.{comes_to};
+ghost use Rattle.object_pool_cores.specs.World.Inside.LinkCapacity.{LinksNoPage};
 
 use crate::interleave::point::Point;
 use lockfree_object_pool::page::{PAGE_ITEMS, PageId, take_least};
@@ -36,7 +36,7 @@ pub fn is_last(pages: usize, page: usize) -> bool
 /// Where an agent on a page goes next with these bits to try.
 pub fn tries<T>(page: usize, mask: u32, asked: Option<usize>) -> Point<T>
     ensures value { result ≡ tries page mask asked }
-    ensures room { NeedsNoRoom result }
+    ensures room { LinksNoPage result }
 {
     if mask == 0 {
         Point::AtLink(page, asked)
@@ -48,7 +48,7 @@ pub fn tries<T>(page: usize, mask: u32, asked: Option<usize>) -> Point<T>
 /// Where an agent on a page that a hint named goes next with these bits to try.
 pub fn tries_hinted<T>(hint: usize, mask: u32) -> Point<T>
     ensures value { result ≡ tries_hinted hint mask }
-    ensures room { NeedsNoRoom result }
+    ensures room { LinksNoPage result }
 {
     if mask == 0 {
         Point::AtLink(0, Some(hint))
@@ -60,7 +60,7 @@ pub fn tries_hinted<T>(hint: usize, mask: u32) -> Point<T>
 /// Where an agent goes next that comes to a page: past it, if a hint led there in vain.
 pub fn comes_to<T>(page: usize, asked: Option<usize>) -> Point<T>
     ensures value { result ≡ comes_to page asked }
-    ensures room { NeedsNoRoom result }
+    ensures room { LinksNoPage result }
 {
     if asked == Some(page) {
         Point::AtLink(page, asked)
@@ -80,11 +80,4 @@ pub fn split_lowest(mask: u32) -> (u32, PageId)
         Some(split) => split,
         None => (0, 0),
     }
-}
-
-/// The number of an item.
-pub fn number(page: usize, id: PageId) -> u128
-    ensures { result ≡ number page id }
-{
-    PAGE_ITEMS as u128 * page as u128 + u128::from(id)
 }

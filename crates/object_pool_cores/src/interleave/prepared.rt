@@ -15,7 +15,7 @@ pub struct Prepared<T> {
 
 impl<T> Model for Prepared<T> {
     ghost use Rattle.std.specs.Prelude.{List};
-    ghost use Rattle.object_pool_cores.specs.World.Prepared.{values_of, IsFull};
+    ghost use Rattle.object_pool_cores.specs.World.Inside.Prepared.{values_of, IsFull};
 
     ghost Value = { List T };
 
@@ -25,13 +25,11 @@ impl<T> Model for Prepared<T> {
 }
 
 impl<T: Drop> Prepared<T> {
-    /// The values that `init` gives, in order.
-    ///
-    /// It stops at the first `None`. Where it is refused, the values that were made are dropped.
+    /// The 32 values that `init` makes, in order.
     ///
     /// # Errors
     ///
-    /// `Memory`, or `Init` at the first `None`. The values that were made are dropped.
+    /// `Memory`, or `Init` at the first `None` of `init`. The values that were made are dropped.
     pub fn make<I: Fn() -> Option<T>>(alloc: Global, init: &I) -> Result<Prepared<T>, PullError>
         requires { I.pre init.now }
         ensures values { IfOk result (All (λ value. I.post init.now (Some value))) }

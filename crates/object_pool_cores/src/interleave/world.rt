@@ -2,13 +2,13 @@
 ghost use Rattle.std.specs.Prelude.{◌≡◌, ◌≤◌, Some, None, option_map, option_copied, slice_get, IfOk, IfErr};
 ghost use Rattle.lockfree_object_pool.specs.declared.pull_error.PullError.TheVariants.{Memory};
 ghost use Rattle.object_pool_cores.specs.World.Headline.{IsNew, RunsEvents};
-ghost use Rattle.object_pool_cores.specs.World.Machine.{held_by, opening_world, value_at, Steps};
-ghost use Rattle.object_pool_cores.specs.World.Reached.{IsReached};
-ghost use Rattle.object_pool_cores.specs.World.Rows.{IsExact};
-ghost use Rattle.object_pool_cores.specs.World.Reading.{reading};
-ghost use Rattle.object_pool_cores.specs.World.Shown.{world_reset, world_state};
+ghost use Rattle.object_pool_cores.specs.World.Machine.{held_by, opening_world, page_value, Steps};
+ghost use Rattle.object_pool_cores.specs.World.Reachable.{IsReachable};
+ghost use Rattle.object_pool_cores.specs.World.Enabled.{IsExact};
+ghost use Rattle.object_pool_cores.specs.World.AbstractPool.{abstract_pool};
+ghost use Rattle.object_pool_cores.specs.World.Inside.Shown.{world_reset, world_state};
 
-use crate::interleave::reached::Reached;
+use crate::interleave::reachable_world::ReachableWorld;
 use crate::interleave::{Event, Prepared, RunError, Seen};
 use lockfree_object_pool::PullError;
 use lockfree_object_pool::clean::AnyValue;
@@ -19,7 +19,7 @@ use std::alloc::Global;
 /// The linear core with any number of agents. What an agent returns is reset by `R`.
 #[derive(Drop)]
 pub struct World<T, R: Reset<T, AnyValue>> {
-    reached: Reached<T>,
+    reachable: ReachableWorld<T>,
     reset: R,
 }
 
@@ -28,24 +28,24 @@ impl<T: Drop, R: Reset<T, AnyValue>> World<T, R> {
     ///
     /// # Errors
     ///
-    /// `Memory`.
+    /// `Memory`, where there is none for the page. The values are dropped.
     pub fn new(alloc: Global, first: Prepared<T>, reset: R) -> Result<World<T, R>, PullError>
         ensures world { IfOk result (λ world. world_state world ≡ opening_world first None) }
         ensures is_new { IfOk result (λ world. IsNew (world_state world)) }
         ensures reset { IfOk result (λ world. world_reset world ≡ reset) }
         ensures refused { IfErr result (λ cause. cause ≡ Memory) }
     {
-        match Reached::new(alloc, first, None) {
-            Ok(reached) => Ok(World { reached, reset }),
+        match ReachableWorld::new(alloc, first, None) {
+            Ok(reachable) => Ok(World { reachable, reset }),
             Err(_) => Err(PullError::Memory),
         }
     }
 
-    /// The same with a limit on its pages.
+    /// A world of one page, which never has more pages than this, and in which no agent has begun.
     ///
     /// # Errors
     ///
-    /// `Memory`.
+    /// `Memory`, where there is none for the page. The values are dropped.
     pub fn with_limit(
         alloc: Global,
         first: Prepared<T>,
@@ -53,13 +53,14 @@ impl<T: Drop, R: Reset<T, AnyValue>> World<T, R> {
         pages: usize,
     ) -> Result<World<T, R>, PullError>
         requires { 1 ≤ pages }
-        ensures world { IfOk result (λ world. world_state world ≡ opening_world first (Some pages)) }
+        ensures world { IfOk result
+            (λ world. world_state world ≡ opening_world first (Some pages)) }
         ensures is_new { IfOk result (λ world. IsNew (world_state world)) }
         ensures reset { IfOk result (λ world. world_reset world ≡ reset) }
         ensures refused { IfErr result (λ cause. cause ≡ Memory) }
     {
-        match Reached::new(alloc, first, Some(pages)) {
-            Ok(reached) => Ok(World { reached, reset }),
+        match ReachableWorld::new(alloc, first, Some(pages)) {
+            Ok(reachable) => Ok(World { reachable, reset }),
             Err(_) => Err(PullError::Memory),
         }
     }
@@ -68,35 +69,36 @@ impl<T: Drop, R: Reset<T, AnyValue>> World<T, R> {
     pub fn limit(&self) -> Option<usize>
         ensures { result ≡ (world_state self.now).limit }
     {
-        self.reached.limit()
+        self.reachable.limit()
     }
 
     /// How many pages are linked.
     pub fn pages(&self) -> usize
-        ensures { result ≡ (reading (world_state self.now)).pages }
+        ensures { result ≡ (abstract_pool (world_state self.now)).pages }
     {
-        self.reached.pages()
+        self.reachable.pages()
     }
 
     /// The word of a page, if there is such a page.
     pub fn word(&self, page: usize) -> Option<u32>
-        ensures { result ≡ option_map (λ page. page.word) (slice_get (world_state self.now).pages page) }
+        ensures { result ≡ option_map (λ page. page.word)
+            (slice_get (world_state self.now).pages page) }
     {
-        self.reached.word(page)
+        self.reachable.word(page)
     }
 
     /// The value that lies at a place, if one does.
     pub fn place(&self, page: usize, id: PageId) -> Option<&T>
-        ensures { option_copied result ≡ value_at (world_state self.now).pages page id }
+        ensures { option_copied result ≡ page_value (world_state self.now).pages page id }
     {
-        self.reached.place(page, id)
+        self.reachable.place(page, id)
     }
 
     /// The value of an agent, from its `MoveOut` until its `MoveHome`.
     pub fn held(&self, agent: usize) -> Option<&T>
         ensures { option_copied result ≡ held_by (slice_get (world_state self.now).agents agent) }
     {
-        self.reached.held(agent)
+        self.reachable.held(agent)
     }
 
     /// One atomic step of the agent that the event names.
@@ -104,19 +106,19 @@ impl<T: Drop, R: Reset<T, AnyValue>> World<T, R> {
         ensures step { Steps (R.leaves (world_reset self.old))
             (world_state self.old) event result (world_state self.new) }
         ensures exact { IsExact (world_state self.old) event result (world_state self.new) }
-        ensures reached { IsReached (world_state self.old) }
+        ensures reachable { IsReachable (world_state self.old) }
         ensures reset { world_reset self.new ≡ world_reset self.old }
     {
-        self.reached.step(&self.reset, event)
+        self.reachable.step(&self.reset, event)
     }
 
-    /// The events, one after another, each with its answer at the end of `seen`. An error leaves the answers
-    /// of the events that were done, and the world after them; the others are dropped. What was done before,
-    /// by other runs or by steps, and this list together are one run, so it may go on after an error.
+    /// Does the events, one after another, and puts each answer at the end of `seen`. What was done before,
+    /// by other runs or by steps, and these events together are one run.
     ///
     /// # Errors
     ///
-    /// `Memory`, where there is none for what the next event adds.
+    /// `Memory`, where `seen` can't grow. The events that were done stay done, with their answers, and the
+    /// others are dropped; a later run goes on from there.
     pub fn run(&mut self, mut events: Vec<Event<T>>, seen: &mut Vec<Seen>) -> Result<(), RunError>
         ensures run { RunsEvents (R.leaves (world_reset self.old))
             (record { world = world_state self.old; events = events.items; seen = seen.old.items })

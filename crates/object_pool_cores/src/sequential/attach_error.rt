@@ -1,4 +1,4 @@
-//! Why a value wasn't attached.
+//! Why a pool refused a value from outside.
 
 /// Why a pool didn't make an item of a value that was handed
 /// in. The value comes back, and the pool is as before.

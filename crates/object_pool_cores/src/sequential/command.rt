@@ -1,15 +1,16 @@
-//! What a player is told to do.
+//! What a player can be asked to do.
 
 /// A command to a player. A holder is named by its index,
 /// which counts the pulls and attaches that succeeded, from 0.
 #[derive(Debug, PartialEq, Eq, Drop)]
 pub enum Command<T> {
+    /// An item is pulled.
     Pull,
     /// The holder's value becomes this one.
     Write(usize, T),
     /// The holder gives its item back.
     Return(usize),
-    /// The holder keeps its item for good.
+    /// The holder's item is leaked: it never goes back.
     Forget(usize),
     /// An item is made of this value.
     Attach(T),

@@ -1,9 +1,9 @@
-//! A page of 32 items that one owner uses.
-ghost use Rattle.std.specs.Prelude.{◌≡◌, ◌↔◌, ◌<◌, Option, Some, None, MatchOption, IsTrue, IfOk, IfErr, IfSome, OnSome, map, length, slice_set};
-ghost use Rattle.object_pool_cores.specs.MadePage.{IsMadePage};
+//! A sequential page of 32 items.
+ghost use Rattle.std.specs.Prelude.{◌≡◌, ◌↔◌, ◌<◌, Option, Some, None, MatchOption, IsTrue, IfOk, IfErr, IfSome};
+ghost use Rattle.std.specs.Prelude.{OnSome, map, length, slice_set};
+ghost use Rattle.object_pool_cores.specs.OnePage.{IsMadePage, HasNoFreeId, IsMask, IsOutId, TakesLeastId};
 ghost use Rattle.lockfree_object_pool.specs.Answers.{MayMake};
 ghost use Rattle.lockfree_object_pool.specs.Refusal.{RefusesMaking};
-ghost use Rattle.object_pool_cores.specs.OnePage.{HasNoFreeId, IsMask, IsOutId, TakesLeastId};
 
 use lockfree_object_pool::PullError;
 use lockfree_object_pool::clean::Clean;
@@ -22,7 +22,7 @@ pub struct CorePage<T, K: Clean<T>> {
 
 impl<T, K: Clean<T>> Model for CorePage<T, K> {
     ghost use Rattle.std.specs.Prelude.{List, Option};
-    ghost use Rattle.object_pool_cores.specs.PageWord.{IsKept};
+    ghost use Rattle.object_pool_cores.specs.Inside.PageWord.{IsKept};
 
     ghost Value = { List (Option T) };
 
@@ -34,13 +34,11 @@ impl<T, K: Clean<T>> Model for CorePage<T, K> {
 impl<T: Drop, K: Clean<T>> CorePage<T, K> {
     /// A page of 32 free items: item `i` is the answer of call `i` of `init`, counted from 0.
     ///
-    /// It stops at the first `None`. Where it is refused, the items that were made are dropped.
-    ///
     /// # Errors
     ///
-    /// `Memory`, or `Init` at the first `None`. The items that were made are dropped.
+    /// `Memory`, or `Init` at the first `None` of `init`. The items that were made are dropped.
     pub fn new<I: Fn() -> Option<T>>(alloc: Global, init: &I) -> Result<CorePage<T, K>, PullError>
-        requires { MayMake (I.pre init.now) (λ answer. I.post init.now answer) K.meets }
+        requires { MayMake I.pre I.post K.meets init.now }
         ensures made { IfOk result (IsMadePage (λ answer. I.post init.now answer) K.meets) }
         ensures refused { IfErr result (RefusesMaking (I.post init.now None)) }
     {
@@ -106,8 +104,9 @@ fn made_items<T: Drop, I: Fn() -> Option<T>, K: Clean<T>>(
     alloc: Global,
     init: &I,
 ) -> Result<Vec<Option<T>>, PullError>
-    requires { MayMake (I.pre init.now) (λ answer. I.post init.now answer) K.meets }
-    ensures made { IfOk result (λ page. IsMadePage (λ answer. I.post init.now answer) K.meets page.items) }
+    requires { MayMake I.pre I.post K.meets init.now }
+    ensures made { IfOk result
+        (λ page. IsMadePage (λ answer. I.post init.now answer) K.meets page.items) }
     ensures refused { IfErr result (RefusesMaking (I.post init.now None)) }
 {
     let mut page = Vec::with_capacity(alloc, PAGE_ITEMS)?;

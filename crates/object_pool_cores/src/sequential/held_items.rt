@@ -1,8 +1,9 @@
 //! The items that a player holds, by their indexes.
-ghost use Rattle.std.specs.Prelude.{◌≡◌, ◌≢◌, ◌<◌, ℕ, is_some, nat_eq, option_map, ◌++◌, ◌∷◌, [], length, slice_set, Some, None, IfNone, OnOk, OnSome};
+ghost use Rattle.std.specs.Prelude.{◌≡◌, ◌≢◌, ◌<◌, ℕ, is_some, nat_eq, option_map, ◌++◌, ◌∷◌, [], length, slice_set};
+ghost use Rattle.std.specs.Prelude.{Some, None, IfNone, OnOk, OnSome};
 ghost use Rattle.std.specs.Option.{option_copied};
 ghost use Rattle.std.specs.HashMap.{get};
-ghost use Rattle.object_pool_cores.specs.Item.{with_value};
+ghost use Rattle.object_pool_cores.specs.Inside.SequentialItem.{with_value};
 ghost use Rattle.object_pool_cores.specs.Held.{held_at, value_of, IsReplaced};
 
 use crate::run_error::RunError;
@@ -11,7 +12,7 @@ use std::alloc::Global;
 use std::collections::HashMap;
 use std::marker::Model;
 
-/// A table of what is held. An index is never used again, and what was let go takes no place.
+/// A table of what is held. An index is never used again, and what was taken out of it takes no place.
 #[derive(Drop)]
 pub(crate) struct HeldItems<T> {
     items: HashMap<usize, Item<T>>,
@@ -19,11 +20,14 @@ pub(crate) struct HeldItems<T> {
 }
 
 impl<T> Model for HeldItems<T> {
-    ghost use Rattle.object_pool_cores.specs.HeldTable.{Holding, IsBelow, room_of, table_of};
+    ghost use Rattle.object_pool_cores.specs.Inside.HeldTable.{HeldState, IsBelow, spare_of, table_of};
 
-    ghost Value = { Holding T };
+    ghost Value = { HeldState T };
 
-    ghost view = { λ held. record { items = table_of held.items held.next; room = room_of held.items held.next } };
+    ghost view = { λ held. record {
+      items = table_of held.items held.next;
+      spare = spare_of held.items held.next;
+    } };
 
     ghost invariant = { λ held. IsBelow held.items held.next };
 }
@@ -52,7 +56,7 @@ impl<T: Drop> HeldItems<T> {
     /// Makes room for one item more. There is none where the table can't grow or the indexes are used up.
     pub(crate) fn reserve(&mut self) -> Result<(), RunError>
         ensures same { self.new.items ≡ self.old.items }
-        ensures room { OnOk result (0 < self.new.room) }
+        ensures room { OnOk result (0 < self.new.spare) }
     {
         if self.next == usize::MAX {
             return Err(RunError::Memory);
@@ -63,7 +67,7 @@ impl<T: Drop> HeldItems<T> {
 
     /// Holds an item at the next index, which it answers.
     pub(crate) fn hold(&mut self, item: Item<T>) -> usize
-        requires { 0 < self.old.room }
+        requires { 0 < self.old.spare }
         ensures held { self.new.items ≡ self.old.items ++ Some item ∷ [] }
         ensures index { result ≡ length self.old.items }
     {
@@ -86,7 +90,8 @@ impl<T: Drop> HeldItems<T> {
 
     /// Replaces the value that is held at an index, and answers whether there is one.
     pub(crate) fn replace(&mut self, index: usize, value: T) -> bool
-        ensures { IsReplaced self.old.items index value (held_at self.old.items index) result self.new.items }
+        ensures { IsReplaced self.old.items index value (held_at self.old.items index)
+            result self.new.items }
     {
         replace_value(&mut self.items, index, value)
     }
@@ -97,7 +102,8 @@ fn replace_value<T: Drop>(items: &mut HashMap<usize, Item<T>>, index: usize, val
     ensures there { result ≡ is_some (get nat_eq items.old index) }
     ensures here { get nat_eq items.new index ≡ option_map (λ item. with_value item value)
         (get nat_eq items.old index) }
-    ensures others { (other : ℕ) → other ≢ index → get nat_eq items.new other ≡ get nat_eq items.old other }
+    ensures others { (other : ℕ) → other ≢ index → get nat_eq items.new other
+        ≡ get nat_eq items.old other }
 {
     match items.get_mut(&index) {
         Some(item) => {

@@ -1,12 +1,12 @@
 //! One item, while it is out of its pool.
 ghost use Rattle.std.specs.Prelude.{◌≡◌, IsTrue, IsSome, Some, None};
 ghost use Rattle.std.specs.Borrow.{Lends, sem};
-ghost use Rattle.object_pool_cores.specs.Item.{item_value, item_number, has_room, with_value};
+ghost use Rattle.object_pool_cores.specs.Inside.SequentialItem.{item_value, item_number, has_room, with_value};
 
 use lockfree_object_pool::stack::Room;
 use std::ops::{Deref, DerefMut};
 
-/// An item that a pool of one owner gave.
+/// An item that a sequential pool gave.
 #[derive(Drop)]
 pub struct Item<T> {
     value: T,
@@ -113,7 +113,8 @@ impl<T> DerefMut for Item<T> {
     ghost deref_mut_gives = { λ item value. value ≡ item_value item };
 
     fn deref_mut(&mut self) -> &mut T
-        ensures* writes_back { sem 𝓛 (Lends (the_row T.row) T.row self.entry result (with_value self.old)) }
+        ensures* writes_back { sem 𝓛
+            (Lends (the_row T.row) T.row self.entry result (with_value self.old)) }
         ensures shows { result.now ≡ item_value self.old }
     {
         &mut self.value

@@ -1,9 +1,12 @@
-//! A linear pool of one owner: the least free number first, and a page more where none is free.
-ghost use Rattle.std.specs.Prelude.{◌≡◌, ◌≢◌, ◌≤◌, ◌↔◌, ◌/◌, ℕ, Option, Some, None, List, Result, Ok, Err, IfOk, OnErr, [], IsTrue, IsErrOf, IsErr};
-ghost use Rattle.object_pool_cores.specs.Item.{item_value};
+//! A sequential linear pool: the least free number first, and a page more where none is free.
+ghost use Rattle.std.specs.Prelude.{◌≡◌, ◌≢◌, ◌≤◌, ◌↔◌, ◌/◌, ℕ, Option, Some, None, List, Result, Ok, Err, IfOk, OnErr};
+ghost use Rattle.std.specs.Prelude.{[], IsTrue, IsErrOf, IsErr};
+ghost use Rattle.object_pool_cores.specs.Inside.SequentialItem.{item_value};
 ghost use Rattle.object_pool_cores.specs.Attach.{RefusesAttach};
-ghost use Rattle.object_pool_cores.specs.Looks.{LooksAtFew};
-ghost use Rattle.object_pool_cores.specs.Linear.{pool_of, limit_of, looked_of, start_of, init_of, reset_of, IsOpening, Pulls, Gives, LooksUpTo, LooksAtTheRest, StartsNoFurther, HeldTogether, IsOutOf};
+ghost use Rattle.object_pool_cores.specs.PageProbes.{ProbesFew};
+ghost use Rattle.object_pool_cores.specs.Linear.{core_pool, limit_of, looked_of, start_of, init_of, reset_of};
+ghost use Rattle.object_pool_cores.specs.Linear.{IsOpening, Pulls, Gives, ProbesUpTo, ProbesTheRest, StartsNoFurther};
+ghost use Rattle.object_pool_cores.specs.Linear.{HeldTogether, IsOutOf};
 
 use crate::sequential::numbered_items::NumberedItems;
 use crate::sequential::{AttachError, Item, SequentialPool};
@@ -25,7 +28,7 @@ impl<T: Drop, I: Init<T, K>, R: Reset<T, K>, K: Clean<T>> LinearCore<T, I, R, K>
     ///
     /// # Errors
     ///
-    /// `Memory`, or `Init` at the first `None`.
+    /// `Memory`, or `Init` at the first `None` of `init`. The values that were made are dropped.
     pub fn new(alloc: Global, init: I, reset: R) -> Result<LinearCore<T, I, R, K>, PullError>
         ensures opening { IfOk result (λ core. IsOpening (I.answers init) None core) }
         ensures init { IfOk result (λ core. init_of core ≡ init) }
@@ -42,7 +45,7 @@ impl<T: Drop, I: Init<T, K>, R: Reset<T, K>, K: Clean<T>> LinearCore<T, I, R, K>
     ///
     /// # Errors
     ///
-    /// As `new`.
+    /// `Memory`, or `Init` at the first `None` of `init`. The values that were made are dropped.
     pub fn with_limit(
         alloc: Global,
         init: I,
@@ -91,13 +94,13 @@ impl<T: Drop, I: Init<T, K>, R: Reset<T, K>, K: Clean<T>> LinearCore<T, I, R, K>
 
     /// How many pages the pool has.
     pub fn pages(&self) -> usize
-        ensures { result ≡ (pool_of self.now).pages }
+        ensures { result ≡ (core_pool self.now).pages }
     {
         self.items.pages()
     }
 
-    /// How many pages the pulls have looked at. A pull looks once at each page from the one
-    /// at which it starts, up to the one that it takes from. At `u64::MAX` the count stays.
+    /// How many pages the pulls have probed. A pull probes each page once, from the one at
+    /// which it starts up to the one that it takes from. At `u64::MAX` the count stays.
     pub fn pages_looked(&self) -> u64
         ensures { result ≡ looked_of self.now }
     {
@@ -107,7 +110,7 @@ impl<T: Drop, I: Init<T, K>, R: Reset<T, K>, K: Clean<T>> LinearCore<T, I, R, K>
 
 impl<T: Drop, I: Init<T, K>, R: Reset<T, K>, K: Clean<T>> SequentialPool<T>
     for LinearCore<T, I, R, K> {
-    ghost use Rattle.object_pool_cores.specs.Numbered.{free_values};
+    ghost use Rattle.object_pool_cores.specs.Inside.Numbered.{free_values};
 
     ghost pulls = { λ old answer new. Pulls (I.answers (init_of old)) old answer new };
 
@@ -128,9 +131,9 @@ impl<T: Drop, I: Init<T, K>, R: Reset<T, K>, K: Clean<T>> SequentialPool<T>
     fn pull(&mut self) -> Result<Item<T>, PullError>
         ensures step { Pulls (I.answers (init_of self.old)) self.old result self.new }
         ensures meets { IfOk result (λ item. K.meets (item_value item)) }
-        ensures looks { LooksAtFew (pool_of self.old) (looked_of self.old) (looked_of self.new) }
-        ensures looks_up_to { IfOk result (λ item. LooksUpTo self.old item self.new) }
-        ensures looks_at_the_rest { OnErr result (LooksAtTheRest self.old self.new) }
+        ensures probes { ProbesFew (core_pool self.old) (looked_of self.old) (looked_of self.new) }
+        ensures probes_up_to { IfOk result (λ item. ProbesUpTo self.old item self.new) }
+        ensures probes_the_rest { OnErr result (ProbesTheRest self.old self.new) }
     {
         if let Some(item) = self.items.take_least() {
             return Ok(item);
@@ -170,7 +173,10 @@ impl<T: Drop, I: Init<T, K>, R: Reset<T, K>, K: Clean<T>> SequentialPool<T>
     }
 
     ghost use Rattle.object_pool_cores.specs.Laws.LinearBag.{Pulls-from_bag, Gives-to_bag};
-    ghost use Rattle.object_pool_cores.specs.Laws.LinearTogether.{HeldTogether-none, HeldTogether-pulled, HeldTogether-refused, HeldTogether-attached, HeldTogether-given, HeldTogether-forgotten, HeldTogether-written};
+    ghost use Rattle.object_pool_cores.specs.Laws.LinearTogether.{HeldTogether-none, HeldTogether-pulled};
+    ghost use Rattle.object_pool_cores.specs.Laws.LinearTogether.{HeldTogether-refused, HeldTogether-attached};
+    ghost use Rattle.object_pool_cores.specs.Laws.LinearTogether.{HeldTogether-given, HeldTogether-forgotten};
+    ghost use Rattle.object_pool_cores.specs.Laws.LinearTogether.{HeldTogether-written};
     ghost use Rattle.std.proofs.Common.{ap};
 
     ghost pull_from_bag = { λ old new answer pulls.
@@ -184,7 +190,8 @@ impl<T: Drop, I: Init<T, K>, R: Reset<T, K>, K: Clean<T>> SequentialPool<T>
 
     ghost together_at_first = { λ core. HeldTogether-none core };
 
-    ghost together_is_owned = { λ core held index item together here. together.out index item here };
+    ghost together_is_owned = { λ core held index item together here.
+        together.out index item here };
 
     ghost together_after_pull = { λ old new held item together pulls.
         HeldTogether-pulled (I.answers (init_of old)) old new held item together pulls };

@@ -19,6 +19,7 @@ pub struct NoneCore<T, I: Init<T, AnyValue>> {
 }
 
 impl<T: Drop, I: Init<T, AnyValue>> NoneCore<T, I> {
+    /// A pool of what `init` makes.
     pub fn new(init: I) -> NoneCore<T, I>
         ensures { init_of result ≡ init }
     {

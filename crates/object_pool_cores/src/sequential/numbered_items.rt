@@ -1,24 +1,23 @@
-//! The items of a linear pool of one owner, by their numbers.
-ghost use Rattle.std.specs.Prelude.{◌≡◌, ◌≤◌, ◌↔◌, ◌*◌, ◌+◌, ◌-◌, ◌/◌, min, [], Option, Some, None, Err, OnOk, OnErr, IfSome, IfNone, MatchOption, ◌<◌, IsTrue, IfOk, IfErr, ℕ, nat_lt, length, slice_get, is_some, if◌then◌else◌};
-ghost use Rattle.object_pool_cores.specs.Item.{item_value, item_number};
-ghost use Rattle.object_pool_cores.specs.Looks.{LooksAtEach};
-ghost use Rattle.object_pool_cores.specs.MadePage.{IsMadePage};
-ghost use Rattle.object_pool_cores.specs.Numbered.{AreWhole, HasNoneBelow, laid_out};
+//! The items of a sequential linear pool, by their numbers.
+ghost use Rattle.std.specs.Prelude.{◌≡◌, ◌≤◌, ◌↔◌, ◌*◌, ◌+◌, ◌-◌, ◌/◌, min, [], Option, Some, None, Err, OnOk, OnErr};
+ghost use Rattle.std.specs.Prelude.{IfSome, IfNone, MatchOption, ◌<◌, IsTrue, IfOk, IfErr, ℕ, nat_lt, length};
+ghost use Rattle.std.specs.Prelude.{slice_get, is_some, if◌then◌else◌};
+ghost use Rattle.object_pool_cores.specs.Inside.SequentialItem.{item_value, item_number};
+ghost use Rattle.object_pool_cores.specs.PageProbes.{ProbesEach};
+ghost use Rattle.object_pool_cores.specs.OnePage.{IsMadePage, HasNoFreeId};
+ghost use Rattle.object_pool_cores.specs.Inside.Numbered.{AreWhole, HasNoneBelow, laid_out};
 ghost use Rattle.lockfree_object_pool.specs.Refusal.{RefusesMaking};
-ghost use Rattle.object_pool_cores.specs.OnePage.{HasNoFreeId};
 ghost use Rattle.object_pool_cores.specs.Pool.{IsOut, IsPool, IsSame};
 ghost use Rattle.object_pool_cores.specs.Move.{Return, after};
 
+use crate::numbers::{number, page_and_id};
 use crate::sequential::{CorePage, Item};
 use lockfree_object_pool::PullError;
 use lockfree_object_pool::clean::Clean;
 use lockfree_object_pool::closures::Init;
-use lockfree_object_pool::page::{PAGE_ITEMS, PageId};
+use lockfree_object_pool::page::PAGE_ITEMS;
 use std::alloc::Global;
 use std::marker::Model;
-
-/// How many numbers a page has.
-const PAGE_NUMBERS: u128 = PAGE_ITEMS as u128;
 
 /// Pages in order. No page in front of `start` has a free number.
 #[derive(Drop)]
@@ -30,7 +29,7 @@ pub(crate) struct NumberedItems<T, K: Clean<T>> {
 }
 
 impl<T, K: Clean<T>> Model for NumberedItems<T, K> {
-    ghost use Rattle.object_pool_cores.specs.Numbered.{AreWhole, Numbered, IsSound, laid_out};
+    ghost use Rattle.object_pool_cores.specs.Inside.Numbered.{AreWhole, Numbered, IsSound, laid_out};
 
     ghost Value = { Numbered T };
 
@@ -51,7 +50,7 @@ impl<T, K: Clean<T>> Model for NumberedItems<T, K> {
 }
 
 impl<T: Drop, K: Clean<T>> NumberedItems<T, K> {
-    ghost use Rattle.object_pool_cores.specs.Numbered.{pool_of, FindsNone, Grows, Looks, TakesLeastOf};
+    ghost use Rattle.object_pool_cores.specs.Inside.Numbered.{listed_pool, FindsNone, Grows, ProbesPages, TakesLeastOf};
 
     /// No items yet.
     pub(crate) fn new(alloc: Global, limit: Option<usize>) -> NumberedItems<T, K>
@@ -75,7 +74,7 @@ impl<T: Drop, K: Clean<T>> NumberedItems<T, K> {
     }
 
     pub(crate) fn pages(&self) -> usize
-        ensures { result ≡ (pool_of self.now).pages }
+        ensures { result ≡ (listed_pool self.now).pages }
     {
         self.pages.len()
     }
@@ -88,14 +87,14 @@ impl<T: Drop, K: Clean<T>> NumberedItems<T, K> {
 
     /// Takes the item at the least free number, which is out from then on.
     pub(crate) fn take_least(&mut self) -> Option<Item<T>>
-        ensures before { IsPool self.old.limit (pool_of self.old) }
-        ensures after { IsPool self.new.limit (pool_of self.new) }
+        ensures before { IsPool self.old.limit (listed_pool self.old) }
+        ensures after { IsPool self.new.limit (listed_pool self.new) }
         ensures limit { self.new.limit ≡ self.old.limit }
         ensures least { IfSome result (λ item. (n : ℕ) × (item_number item ≡ Some n)
             × TakesLeastOf self.old n (item_value item) self.new) }
         ensures meets { IfSome result (λ item. K.meets (item_value item)) }
         ensures none { IfNone result (FindsNone self.old self.new) }
-        ensures looks { Looks self.old (if is_some result then 1 else 0) self.new }
+        ensures probes { ProbesPages self.old (if is_some result then 1 else 0) self.new }
     {
         (self.start, self.looked) = first_open(&self.pages, self.start, self.looked);
         if self.start == self.pages.len() {
@@ -109,7 +108,7 @@ impl<T: Drop, K: Clean<T>> NumberedItems<T, K> {
 
     /// Whether the item at a number is out.
     pub(crate) fn is_out(&self, number: u128) -> bool
-        ensures { IsTrue result ↔ IsOut (pool_of self.now) number }
+        ensures { IsTrue result ↔ IsOut (listed_pool self.now) number }
     {
         match page_and_id(number, self.pages.len()) {
             Some((page, id)) => self.pages[page].is_out(id),
@@ -119,14 +118,15 @@ impl<T: Drop, K: Clean<T>> NumberedItems<T, K> {
 
     /// Puts a value at a number that is out, which is free from then on.
     pub(crate) fn put(&mut self, number: u128, value: T)
-        requires out { IsOut (pool_of self.old) number }
+        requires out { IsOut (listed_pool self.old) number }
         requires meets { K.meets value }
-        ensures returned { IsSame (pool_of self.new) (after (pool_of self.old) (Return number value)) }
+        ensures returned { IsSame (listed_pool self.new)
+            (after (listed_pool self.old) (Return number value)) }
         ensures limit { self.new.limit ≡ self.old.limit }
         ensures start { self.new.start ≡ min self.old.start (number / PAGE_ITEMS) }
         ensures looked { self.new.looked ≡ self.old.looked }
-        ensures before { IsPool self.old.limit (pool_of self.old) }
-        ensures after { IsPool self.new.limit (pool_of self.new) }
+        ensures before { IsPool self.old.limit (listed_pool self.old) }
+        ensures after { IsPool self.new.limit (listed_pool self.new) }
     {
         let Some((page, id)) = page_and_id(number, self.pages.len()) else {
             unreachable!()
@@ -135,15 +135,16 @@ impl<T: Drop, K: Clean<T>> NumberedItems<T, K> {
         self.start = self.start.min(page);
     }
 
-    /// Adds a page of values that `init` makes, or changes nothing. The room comes first.
+    /// Adds a page of values that `init` makes, or changes nothing. The room in the table is made first.
     pub(crate) fn grow<I: Init<T, K>>(&mut self, init: &I) -> Result<(), PullError>
-        ensures ok { OnOk result (Grows self.old.limit (I.answers init.now) (pool_of self.old)
-            (pool_of self.new)) }
+        ensures ok { OnOk result (Grows self.old.limit (I.answers init.now) (listed_pool self.old)
+            (listed_pool self.new)) }
         ensures kept { self.new.limit ≡ self.old.limit }
         ensures start { self.new.start ≡ self.old.start }
         ensures looked { self.new.looked ≡ self.old.looked }
         ensures err { OnErr result (self.new ≡ self.old) }
-        ensures limit { result ≡ Err PullError.Limit ↔ (self.old.limit ≡ Some (pool_of self.old).pages) }
+        ensures limit { result ≡ Err PullError.Limit
+            ↔ (self.old.limit ≡ Some (listed_pool self.old).pages) }
         ensures init { result ≡ Err PullError.Init → I.answers init.now None }
     {
         if self.limit == Some(self.pages()) {
@@ -169,7 +170,8 @@ fn made_page<T: Drop, I: Init<T, K>, K: Clean<T>>(
     CorePage::new(alloc, &|| init.make())
 }
 
-/// The first page from `start` on that isn't full, or the count of pages. Each look at a page is counted, from `looked` on.
+/// The first page from `start` on that isn't full, or the count of pages. Each probe of a page is counted,
+/// from `looked` on.
 fn first_open<T: Drop, K: Clean<T>>(
     pages: &[CorePage<T, K>],
     start: usize,
@@ -182,7 +184,8 @@ fn first_open<T: Drop, K: Clean<T>>(
     ensures passed { HasNoneBelow (laid_out pages.now) (PAGE_ITEMS * result.0) }
     ensures open { (page : _) → slice_get pages.now result.0 ≡ Some page → HasNoFreeId page → ⊥ }
     ensures more { looked ≤ result.1 }
-    ensures each { LooksAtEach (result.0 - start + (if nat_lt result.0 (length pages.now) then 1 else 0)) looked result.1 }
+    ensures each { ProbesEach
+        (result.0 - start + (if nat_lt result.0 (length pages.now) then 1 else 0)) looked result.1 }
 {
     let mut at = start;
     let mut looked = looked;
@@ -194,23 +197,4 @@ fn first_open<T: Drop, K: Clean<T>>(
         at += 1;
     }
     (at, looked)
-}
-
-/// The number of an item, by its page and its id there.
-fn number(page: usize, id: PageId) -> u128
-    ensures { result ≡ PAGE_ITEMS * page + id }
-{
-    PAGE_NUMBERS * page as u128 + u128::from(id)
-}
-
-/// The page and the id of a number, where it is below the end of so many pages.
-fn page_and_id(number: u128, pages: usize) -> Option<(usize, PageId)>
-    ensures { MatchOption result (PAGE_ITEMS * pages ≤ number)
-        (λ at. (number ≡ PAGE_ITEMS * at.0 + at.1) × (at.1 < PAGE_ITEMS) × (at.0 < pages)) }
-{
-    let page = usize::try_from(number / PAGE_NUMBERS).ok()?;
-    if page >= pages {
-        return None;
-    }
-    Some((page, (number % PAGE_NUMBERS) as PageId))
 }

@@ -1,8 +1,10 @@
-//! A player of commands on a pool of one owner.
-ghost use Rattle.std.specs.Prelude.{◌≡◌, ◌≢◌, ◌↔◌, ◌<◌, ◌≤◌, ◌+◌, All, Option, Some, None, List, IfOk, OnErr, OnOk, IsOk, IsTrue, IsSome, IsErr, OnSome, IfNone, length, slice_set, vec_len, vec_capacity, [], ◌∷◌, ◌++◌};
+//! A player of commands on a sequential pool.
+ghost use Rattle.std.specs.Prelude.{◌≡◌, ◌≢◌, ◌↔◌, ◌<◌, ◌≤◌, ◌+◌, All, Option, Some, None, List, IfOk, OnErr, OnOk};
+ghost use Rattle.std.specs.Prelude.{IsOk, IsTrue, IsSome, IsErr, OnSome, IfNone, length, slice_set, vec_len};
+ghost use Rattle.std.specs.Prelude.{vec_capacity, [], ◌∷◌, ◌++◌};
 ghost use Rattle.std.specs.Option.{option_copied};
 ghost use Rattle.object_pool_cores.specs.Held.{held_at, value_of, IsReplaced};
-ghost use Rattle.object_pool_cores.specs.Replies.{Plays, Ran, NeedsRoom, AfterWrite, AfterReturn, AfterForget};
+ghost use Rattle.object_pool_cores.specs.Replies.{Plays, Ran, MayTakeMemory, AfterWrite, AfterReturn, AfterForget};
 
 use crate::sequential::held_items::HeldItems;
 use crate::sequential::{Command, Reply, RunError, SequentialPool};
@@ -39,7 +41,7 @@ impl<T: Drop, P: SequentialPool<T>> Player<T, P> {
         }
     }
 
-    /// The value that is held at an index.
+    /// The value that is held at an index, if there is one.
     pub fn held(&self, index: usize) -> Option<&T>
         ensures { option_copied result ≡ value_of (held_at self.now.held index) }
     {
@@ -50,11 +52,12 @@ impl<T: Drop, P: SequentialPool<T>> Player<T, P> {
     ///
     /// # Errors
     ///
-    /// `Memory`, where a pull or an attaching has no room. Nothing changes then.
+    /// `Memory`, where a pull or an attach finds no room in the player's table. Nothing changes then.
     pub fn play(&mut self, command: Command<T>) -> Result<Reply<T>, RunError>
-        ensures ok { IfOk result (λ reply. Plays P.pulls P.gives P.attaches self.old command reply self.new) }
+        ensures ok { IfOk result
+            (λ reply. Plays P.pulls P.gives P.attaches self.old command reply self.new) }
         ensures err { OnErr result (self.new ≡ self.old) }
-        ensures needs_room { IsErr result → NeedsRoom command }
+        ensures memory { IsErr result → MayTakeMemory command }
     {
         match command {
             Command::Pull => self.pull(),
@@ -70,16 +73,19 @@ impl<T: Drop, P: SequentialPool<T>> Player<T, P> {
     ///
     /// # Errors
     ///
-    /// `Memory`, where the player's table or `replies` can't grow; that a pool refuses is a reply and no error.
+    /// `Memory`, where the player's table or `replies` can't grow. That a pool refuses is a reply, and
+    /// no error.
     pub fn run(
         &mut self,
         commands: Vec<Command<T>>,
         replies: &mut Vec<Reply<T>>,
     ) -> Result<(), RunError>
-        ensures ran { Ran P.pulls P.gives P.attaches self.old commands.items replies.old.items result
+        ensures ran { Ran P.pulls P.gives P.attaches self.old commands.items
+            replies.old.items result
             replies.new.items self.new }
-        ensures room_is_there { All (λ command. NeedsRoom command → ⊥) commands.items
-            → length replies.old.items + length commands.items ≤ vec_capacity replies.old → IsOk result }
+        ensures room_is_there { All (λ command. MayTakeMemory command → ⊥) commands.items
+            → length replies.old.items + length commands.items ≤ vec_capacity replies.old
+            → IsOk result }
     {
         for command in commands {
             replies.reserve(1)?;
@@ -92,7 +98,8 @@ impl<T: Drop, P: SequentialPool<T>> Player<T, P> {
     }
 
     fn pull(&mut self) -> Result<Reply<T>, RunError>
-        ensures ok { IfOk result (λ reply. Plays P.pulls P.gives P.attaches self.old Command.Pull reply
+        ensures ok { IfOk result
+            (λ reply. Plays P.pulls P.gives P.attaches self.old Command.Pull reply
             self.new) }
         ensures err { OnErr result (self.new ≡ self.old) }
     {
@@ -107,7 +114,8 @@ impl<T: Drop, P: SequentialPool<T>> Player<T, P> {
     }
 
     fn attach(&mut self, value: T) -> Result<Reply<T>, RunError>
-        ensures ok { IfOk result (λ reply. Plays P.pulls P.gives P.attaches self.old (Command.Attach value)
+        ensures ok { IfOk result
+            (λ reply. Plays P.pulls P.gives P.attaches self.old (Command.Attach value)
             reply self.new) }
         ensures err { OnErr result (self.new ≡ self.old) }
     {
@@ -119,7 +127,8 @@ impl<T: Drop, P: SequentialPool<T>> Player<T, P> {
     }
 
     fn write(&mut self, index: usize, value: T) -> Reply<T>
-        ensures { Plays P.pulls P.gives P.attaches self.old (Command.Write index value) result self.new }
+        ensures { Plays P.pulls P.gives P.attaches self.old (Command.Write index value)
+            result self.new }
     {
         if self.held.replace(index, value) {
             Reply::Written

@@ -7,12 +7,14 @@ use lockfree_object_pool::PullError;
 pub enum Reply<T> {
     /// The index of the new holder, and the number of its item where the pool numbers its items.
     Pulled(usize, Option<u128>),
+    /// The pool refused a pull, for this cause.
     Refused(PullError),
     Written,
     Returned,
     Forgotten,
     /// The index of the new holder.
     Attached(usize),
+    /// The pool refused an attach, for this cause, and the value comes back.
     AttachRefused(AttachError<T>),
     /// The command names an index that nothing is held at. Nothing changed.
     NoSuchHolder,

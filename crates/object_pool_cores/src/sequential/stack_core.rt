@@ -1,6 +1,6 @@
-//! A stack pool of one owner: the value that was returned last comes first.
+//! A sequential stack pool: the value that was returned last comes first.
 ghost use Rattle.std.specs.Prelude.{◌≡◌, ◌↔◌, [], IfOk, IsTrue, All};
-ghost use Rattle.object_pool_cores.specs.Item.{item_value, has_room};
+ghost use Rattle.object_pool_cores.specs.Inside.SequentialItem.{item_value, has_room};
 ghost use Rattle.object_pool_cores.specs.Stack.{kept_of, init_of, reset_of, Pulls, Gives, Attaches, HoldRooms};
 
 use crate::sequential::{AttachError, Item, SequentialPool};
@@ -90,7 +90,8 @@ impl<T: Drop, I: Init<T, K>, R: Reset<T, K>, K: Clean<T>> SequentialPool<T>
         item.has_room()
     }
 
-    ghost use Rattle.object_pool_cores.specs.Laws.StackLaws.{Pulls-from_bag, Gives-to_bag, HoldRooms-push, HoldRooms-less, HoldRooms-written};
+    ghost use Rattle.object_pool_cores.specs.Laws.StackLaws.{Pulls-from_bag, Gives-to_bag, HoldRooms-push};
+    ghost use Rattle.object_pool_cores.specs.Laws.StackLaws.{HoldRooms-less, HoldRooms-written};
     ghost use Rattle.std.proofs.Common.{ap};
 
     ghost pull_from_bag = { λ old new answer pulls.
@@ -99,7 +100,8 @@ impl<T: Drop, I: Init<T, K>, R: Reset<T, K>, K: Clean<T>> SequentialPool<T>
     ghost return_to_bag = { λ old new item owned gives.
         Gives-to_bag (R.leaves (reset_of old)) old new item gives };
 
-    ghost attach_beside_bag = { λ old new value answer attached. ap (λ core. kept_of core) attached.same };
+    ghost attach_beside_bag = { λ old new value answer attached.
+        ap (λ core. kept_of core) attached.same };
 
     ghost together_at_first = { λ core index item e. absurd cc };
 

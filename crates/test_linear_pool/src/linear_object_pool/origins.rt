@@ -1,8 +1,8 @@
 //! Where a pulled value comes from, concluded from the contract of a pull alone.
 ghost use Rattle.std.specs.Prelude.{◌≡◌, ◌⊎◌, ℕ, ◌∷◌, ⊤, Some, IfSome};
 ghost use Rattle.lockfree_object_pool.specs.LinearPool.{reusable_item};
-ghost use Rattle.lockfree_object_pool.specs.PageHistory.{History, WasReturned};
-ghost use Rattle.lockfree_object_pool.specs.declared.page.history.PageAct.TheVariants.{Took};
+ghost use Rattle.lockfree_object_pool.specs.Ledger.{History, WasReturned};
+ghost use Rattle.lockfree_object_pool.specs.declared.page.history.Operation.TheVariants.{Pull};
 
 use super::*;
 use lockfree_object_pool::closures::Copied;
@@ -27,7 +27,7 @@ type SevenPool<R> = LinearObjectPool<u32, Sevens, R, AnyValue>;
 fn pulled<'p, R: Reset<u32, AnyValue>>(
     pool: &'p SevenPool<R>,
 ) -> Option<LinearReusable<'p, u32, Sevens, R, AnyValue>>
-    ensures { IfSome result (λ item. ((reusable_item item).value ≡ 7) ⊎ ((before : History ℕ) × ((reusable_item item).history ≡ Took (reusable_item item).holder (reusable_item item).id (reusable_item item).value ∷ before) × WasReturned before (reusable_item item).id (reusable_item item).value)) }
+    ensures { IfSome result (λ item. ((reusable_item item).value ≡ 7) ⊎ ((before : History ℕ) × ((reusable_item item).history ≡ Pull (reusable_item item).holder (reusable_item item).id (reusable_item item).value ∷ before) × WasReturned before (reusable_item item).id (reusable_item item).value)) }
 {
     match pool.pull() {
         Ok(item) => Some(item),

@@ -3,9 +3,9 @@ ghost use Rattle.std.specs.Prelude.{◌≡◌, ◌⊎◌, ℕ, ◌∷◌, IfSome
 ghost use Rattle.lockfree_object_pool.specs.Note.{note_page, note_history};
 ghost use Rattle.lockfree_object_pool.specs.OwnedSlot.{owned_slot_item};
 ghost use Rattle.lockfree_object_pool.specs.Page.{page_identity};
-ghost use Rattle.lockfree_object_pool.specs.PageHistory.{History, IsBeginningOf};
+ghost use Rattle.lockfree_object_pool.specs.Ledger.{History, IsPrefixOf};
 ghost use Rattle.lockfree_object_pool.specs.Slot.{slot_item};
-ghost use Rattle.lockfree_object_pool.specs.declared.page.history.PageAct.TheVariants.{Gave};
+ghost use Rattle.lockfree_object_pool.specs.declared.page.history.Operation.TheVariants.{Return};
 
 use lockfree_object_pool::clean::{AnyValue, Clean};
 use lockfree_object_pool::page::{
@@ -33,7 +33,7 @@ fn pulled_after<'s>(
 ) -> Option<PageSlot<'s, u32, AnyValue>>
     requires { note_page note ≡ page_identity page.now }
     ensures page { IfSome result (λ slot. (slot_item slot).page ≡ page_identity page.now) }
-    ensures after { IfSome result (λ slot. IsBeginningOf (note_history note) (slot_item slot).history) }
+    ensures after { IfSome result (λ slot. IsPrefixOf (note_history note) (slot_item slot).history) }
 {
     let pass = PullPass::new();
     match page.try_alloc_from(&pass, note) {
@@ -42,10 +42,10 @@ fn pulled_after<'s>(
     }
 }
 
-/// Returns 5, and tells it by a note: the return is the last act that the note knows.
+/// Returns 5, and tells it by a note: the return is the last operation that the note knows.
 fn returned_five(page: &NumberPage) -> Option<PageNote<u32>>
     ensures page { IfSome result (λ note. note_page note ≡ page_identity page.now) }
-    ensures last { IfSome result (λ note. (user id : ℕ) × (before : History ℕ) × (note_history note ≡ Gave user id 5 ∷ before)) }
+    ensures last { IfSome result (λ note. (user id : ℕ) × (before : History ℕ) × (note_history note ≡ Return user id 5 ∷ before)) }
 {
     let mut slot = page.alloc().ok()??;
     *slot = 5;
@@ -53,12 +53,12 @@ fn returned_five(page: &NumberPage) -> Option<PageNote<u32>>
 }
 
 /// Two threads return an item each, and hand their notes on. A pull by the first note stands after the first return;
-/// what the two threads saw is of one history, so that of one is a beginning of the other's.
+/// what the two threads saw is of one history, so that of one is a prefix of the other's.
 fn handed_on<'s, R: Threads + Sync>(
     rt: &R,
     page: &'s NumberPage,
 ) -> Option<(PageSlot<'s, u32, AnyValue>, PageNote<u32>)>
-    ensures after { IfSome result (λ seen. (user id : ℕ) × (before : History ℕ) × IsBeginningOf (Gave user id 5 ∷ before) (slot_item seen.0).history) }
+    ensures after { IfSome result (λ seen. (user id : ℕ) × (before : History ℕ) × IsPrefixOf (Return user id 5 ∷ before) (slot_item seen.0).history) }
     ensures slot_page { IfSome result (λ seen. (slot_item seen.0).page ≡ page_identity page.now) }
     ensures note_page { IfSome result (λ seen. note_page seen.1 ≡ page_identity page.now) }
 {
@@ -66,7 +66,7 @@ fn handed_on<'s, R: Threads + Sync>(
         rt,
         || -> Option<PageNote<u32>>
             ensures page { IfSome result (λ note. note_page note ≡ page_identity page.entry.now) }
-            ensures last { IfSome result (λ note. (user id : ℕ) × (before : History ℕ) × (note_history note ≡ Gave user id 5 ∷ before)) }
+            ensures last { IfSome result (λ note. (user id : ℕ) × (before : History ℕ) × (note_history note ≡ Return user id 5 ∷ before)) }
         { returned_five(page) },
         || -> Option<PageNote<u32>>
             ensures page { IfSome result (λ note. note_page note ≡ page_identity page.entry.now) }
@@ -76,12 +76,12 @@ fn handed_on<'s, R: Threads + Sync>(
     Some((slot, second?))
 }
 
-/// What two users of one page know are beginnings of one history, so one of them is a beginning of the other.
+/// What two users of one page know are prefixes of one history, so one of them is a prefix of the other.
 fn compared(page: &NumberPage, one: PageNote<u32>, other: PageNote<u32>) -> PageNote<u32>
     requires one { note_page one ≡ page_identity page.now }
     requires other { note_page other ≡ page_identity page.now }
     ensures page { note_page result ≡ page_identity page.now }
-    ensures compared { IsBeginningOf (note_history one) (note_history other) ⊎ IsBeginningOf (note_history other) (note_history one) }
+    ensures compared { IsPrefixOf (note_history one) (note_history other) ⊎ IsPrefixOf (note_history other) (note_history one) }
 {
     let mut both = one;
     page.tell(&mut both, other.into_witness());
@@ -92,7 +92,7 @@ fn compared(page: &NumberPage, one: PageNote<u32>, other: PageNote<u32>) -> Page
 fn told_of_pull(page: &NumberPage, slot: &mut PageSlot<'_, u32, AnyValue>) -> PageNote<u32>
     requires { (slot_item slot.old).page ≡ page_identity page.now }
     ensures page { note_page result ≡ page_identity page.now }
-    ensures knows { IsBeginningOf (slot_item slot.old).history (note_history result) }
+    ensures knows { IsPrefixOf (slot_item slot.old).history (note_history result) }
     ensures same_item { slot_item slot.new ≡ slot_item slot.old }
 {
     let mut note = page.note();
@@ -103,7 +103,7 @@ fn told_of_pull(page: &NumberPage, slot: &mut PageSlot<'_, u32, AnyValue>) -> Pa
 /// An owned slot's return is told alike.
 fn owned_returned<K: Clean<u32>>(slot: OwnedSlot<u32, K>) -> PageNote<u32>
     requires { K.meets (owned_slot_item slot).value }
-    ensures { IsBeginningOf (owned_slot_item slot).history (note_history result) }
+    ensures { IsPrefixOf (owned_slot_item slot).history (note_history result) }
 {
     slot.free()
 }

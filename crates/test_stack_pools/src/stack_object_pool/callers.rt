@@ -1,6 +1,6 @@
 //! Proved callers: what they know of a pulled value, of an attached one, and of a refusal.
 ghost use Rattle.std.specs.Prelude.{◌≡◌, IfOk, IfErr, IfSome};
-ghost use Rattle.lockfree_object_pool.specs.StackPool.{stack_with, stack_owned_with};
+ghost use Rattle.lockfree_object_pool.specs.StackPool.{stack_with};
 ghost use Rattle.lockfree_object_pool.specs.declared.pull_error.PullError.TheVariants.{Memory};
 
 use super::*;
@@ -40,7 +40,7 @@ fn write<
     R: Reset<u32, K>,
     F: FreeList<u32, MadeOrReset<I, R, K>>,
     W: Wait + Copy,
->(item: &mut StackReusable<'_, u32, I, R, K, F, W>, value: u32)
+>(item: &mut StackReusable<u32, &StackObjectPool<u32, I, R, K, F>, W>, value: u32)
     ensures { item.new ≡ stack_with item.old value }
 {
     **item = value;
@@ -52,8 +52,8 @@ fn write_owned<
     R: Reset<u32, K>,
     F: FreeList<u32, MadeOrReset<I, R, K>>,
     W: Wait + Copy,
->(item: &mut StackOwnedReusable<u32, I, R, K, F, W>, value: u32)
-    ensures { item.new ≡ stack_owned_with item.old value }
+>(item: &mut StackReusable<u32, Arc<StackObjectPool<u32, I, R, K, F>>, W>, value: u32)
+    ensures { item.new ≡ stack_with item.old value }
 {
     **item = value;
 }

@@ -1,6 +1,6 @@
 //! Proved callers that name the pools and the reusables as the crate exports them.
 ghost use Rattle.std.specs.Prelude.{◌≡◌, IfOk, IfErr};
-ghost use Rattle.lockfree_object_pool.specs.StackPool.{stack_with, stack_owned_with};
+ghost use Rattle.lockfree_object_pool.specs.StackPool.{stack_with};
 
 use super::*;
 use lockfree_object_pool::{
@@ -52,7 +52,7 @@ fn write_two<K: Clean<u32>, I: Init<u32, K>, R: Reset<u32, K>, W: Wait + Copy>(
     owned: &mut SpinLockOwnedReusable<u32, I, R, K, W>,
 )
     ensures item { item.new ≡ stack_with item.old 7 }
-    ensures owned { owned.new ≡ stack_owned_with owned.old 8 }
+    ensures owned { owned.new ≡ stack_with owned.old 8 }
 {
     **item = 7;
     **owned = 8;

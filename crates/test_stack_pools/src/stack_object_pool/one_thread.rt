@@ -98,7 +98,7 @@ fn keeps_what_was_attached<F: Kind<u32, CountedZeros, Keep, AnyValue>, W: Abort 
     let item = StackReusable::new(rt, &*pool, 9).ok().ok_or("memory")?;
     assert_eq!(rt; dropped_and_pulled(item, &|| pool.pull(rt)), Ok((9, 9)));
     let pool = kept::<F>(alloc, &calls)?;
-    let item = StackOwnedReusable::new(rt, Arc::try_clone(&pool)?, 9)
+    let item = StackReusable::new(rt, Arc::try_clone(&pool)?, 9)
         .ok()
         .ok_or("memory")?;
     assert_eq!(rt;
@@ -124,7 +124,7 @@ fn resets_what_was_attached<
     let item = StackReusable::new(rt, &*pool, 9).ok().ok_or("memory")?;
     assert_eq!(rt; dropped_and_pulled(item, &|| pool.pull(rt)), Ok((9, 0)));
     let pool = cleared::<F>(alloc, &calls)?;
-    let item = StackOwnedReusable::new(rt, Arc::try_clone(&pool)?, 9)
+    let item = StackReusable::new(rt, Arc::try_clone(&pool)?, 9)
         .ok()
         .ok_or("memory")?;
     assert_eq!(rt;

@@ -36,7 +36,7 @@ fn lets_its_attached_owners_go<
         refused: NEVER,
     };
     let value = init.make().ok_or("init makes a value")?;
-    drop(StackOwnedReusable::new(rt, Arc::try_clone(&pool)?, value));
+    drop(StackReusable::new(rt, Arc::try_clone(&pool)?, value));
     assert_eq!(rt; tally.now(), (1, 0));
     drop(pool);
     assert_eq!(rt; tally.now(), (1, 1));

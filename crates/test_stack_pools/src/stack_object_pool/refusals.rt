@@ -88,7 +88,7 @@ fn gives_back_what_is_not_attached<
     let pool = again(&|| plain::<F>(alloc))?;
     assert_eq!(rt; shown_or_back(StackReusable::new(rt, &*pool, 8)), 8);
     let owner = Arc::try_clone(&pool)?;
-    assert_eq!(rt; shown_or_back(StackOwnedReusable::new(rt, owner, 9)), 9);
+    assert_eq!(rt; shown_or_back(StackReusable::new(rt, owner, 9)), 9);
     Ok(())
 }
 

@@ -31,7 +31,7 @@ fn adds_one<F: Kind<u32, CountedZeros, AddsOne, AnyValue>, W: Abort + Wait + Cop
     assert_eq!(rt; written_and_pulled(&|| pool.pull_owned(rt)), Ok((5, 6)));
     let item = StackReusable::new(rt, &*pool, 9).ok().ok_or("memory")?;
     assert_eq!(rt; dropped_and_pulled(item, &|| pool.pull(rt)), Ok((9, 10)));
-    let item = StackOwnedReusable::new(rt, Arc::try_clone(&pool)?, 9)
+    let item = StackReusable::new(rt, Arc::try_clone(&pool)?, 9)
         .ok()
         .ok_or("memory")?;
     assert_eq!(rt;

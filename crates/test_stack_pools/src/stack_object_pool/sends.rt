@@ -79,7 +79,10 @@ fn shared_over_a_list<
     K: Clean<T> + Send,
     F: FreeList<T, MadeOrReset<I, R, K>> + Send + Sync,
     W: Wait + Copy + Send + Sync,
->(item: &StackReusable<'_, T, I, R, K, F, W>, owned: &StackOwnedReusable<T, I, R, K, F, W>) {
+>(
+    item: &StackReusable<T, &StackObjectPool<T, I, R, K, F>, W>,
+    owned: &StackReusable<T, Arc<StackObjectPool<T, I, R, K, F>>, W>,
+) {
     sent(item);
     sent(owned);
     shared(item);

@@ -158,9 +158,7 @@ fn keeps_beside<F: Kind<Tallied, TalliedValues, Keep, AnyValue>, W: Abort + Wait
     assert_eq!(rt; (pool.kept(rt), tally.now()), (4, (4, 0)));
     let value = made(&tally).ok_or("init makes a value")?;
     let owner = Arc::try_clone(&pool)?;
-    let item = StackOwnedReusable::new(rt, owner, value)
-        .ok()
-        .ok_or("memory")?;
+    let item = StackReusable::new(rt, owner, value).ok().ok_or("memory")?;
     assert_eq!(rt; (pool.kept(rt), tally.now()), (4, (5, 0)));
     drop(item);
     assert_eq!(rt; (pool.kept(rt), tally.now()), (5, (5, 0)));

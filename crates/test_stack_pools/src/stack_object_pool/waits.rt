@@ -1,4 +1,4 @@
-//! What makes or resets values and waits meanwhile for a second thread, which pulls and drops on
+//! What makes or resets values, or is dropped, and waits meanwhile for a second thread, which uses
 //! the same pool.
 //!
 //! A pool that called it under its lock would keep that thread waiting. Each wait has a limit, so
@@ -17,11 +17,11 @@ use std::thread;
 /// A thread that still waits after so many turns gives up, and its test fails.
 const MOST_TURNS: u32 = 10_000_000;
 
-/// How far two threads are: calls of what waits, and items that the second one dropped.
+/// How far two threads are: calls of what waits, and items that the second one dropped or other calls of its.
 #[derive(Drop)]
 pub struct Steps {
-    calls: AtomicUsize,
-    drops: AtomicUsize,
+    pub calls: AtomicUsize,
+    pub drops: AtomicUsize,
 }
 
 impl Steps {
@@ -76,6 +76,40 @@ impl Reset<u32, AnyValue> for WaitsForDrop {
 
     fn reset(&self, value: &mut u32) {
         *value = self.answer();
+    }
+}
+
+/// A value whose drop waits until the second thread has used the pool, and then counts itself, where that came in time.
+pub struct WaitsAtDrop {
+    steps: Arc<Steps>,
+    in_time: Arc<AtomicUsize>,
+}
+
+impl Drop for WaitsAtDrop {
+    fn drop(self) {
+        let WaitsAtDrop { steps, in_time } = self;
+        steps.calls.fetch_add(1, SeqCst);
+        if wait_for(&steps.drops) {
+            in_time.fetch_add(1, SeqCst);
+        }
+    }
+}
+
+/// Makes such values.
+#[derive(Drop)]
+pub struct ValuesThatWait {
+    pub steps: Arc<Steps>,
+    pub in_time: Arc<AtomicUsize>,
+}
+
+impl Init<WaitsAtDrop, AnyValue> for ValuesThatWait {
+    ghost answers = { λ _ _. ⊤ };
+
+    fn make(&self) -> Option<WaitsAtDrop> {
+        Some(WaitsAtDrop {
+            steps: Arc::try_clone(&self.steps).ok()?,
+            in_time: Arc::try_clone(&self.in_time).ok()?,
+        })
     }
 }
 

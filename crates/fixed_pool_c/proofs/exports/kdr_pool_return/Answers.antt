@@ -1,4 +1,5 @@
 use Rattle.std.proofs.Common.{Some, refl, sym, ap, ◌∙◌, inl, inr}
+use Rattle.std.specs.Arc.{arc_value}
 use Rattle.fixed_pool_c.specs.declared.held.Held.{Held}
 use Rattle.fixed_pool_c.proofs.exports.kdr_pool_return.Goals as goal
 
@@ -25,7 +26,7 @@ returns-in-Some-Full c =
           held_one = had;
           idle = _;
           holds_none = kept.2;
-          same_pool = given.owner;
+          same_pool = ap arc_value given.owner;
           given_back = given.given_back;
         },
       ),

@@ -1,7 +1,8 @@
 use Rattle.std.proofs.Common.{[]}
 use Rattle.std.proofs.KnownBytes.{Consumes-nil}
-use Rattle.object_pool_cores.specs.Linear.{pool_of}
-use Rattle.object_pool_cores.proofs.Cores.EngineKinds.{IsSetLinear, linear_pull, linear_give, linear_attach, linear_set, on_linear, WroteFront-none}
+use Rattle.object_pool_cores.specs.Linear.{core_pool}
+use Rattle.object_pool_cores.proofs.Cores.EngineKinds.{IsSetLinear, linear_pull, linear_give, linear_attach, linear_set}
+use Rattle.object_pool_cores.proofs.Cores.EngineKinds.{on_linear, WroteFront-none}
 use Rattle.object_pool_cores.proofs.Cores.ShownTranscript.{Ends-served}
 use Rattle.object_pool_cores.proofs.engine.run_linear.Goals as goal
 
@@ -20,8 +21,9 @@ returns g c =
     let reset = c.args.reset in
     let player = c.in-Some.player in
     let opens = c.in-Some.ensures.opens in
-    Ends-served pool_of (IsSetLinear leaves limit reset) _ _ _ _ _ _ (linear_pull leaves limit reset)
+    Ends-served core_pool (IsSetLinear leaves limit reset) _ _ _ _ _ _ (linear_pull leaves limit reset)
     (linear_give leaves limit reset)
     (linear_attach leaves limit reset) player (linear_set leaves limit reset player.pool opens)
-    _ _ (on_linear leaves limit reset player opens c.in-Some.ensures.held) _ _ _ _ _ c.serve.ensures.ok c.serve.ensures.read
+    _ _ (on_linear leaves limit reset player opens c.in-Some.ensures.held) _ _ _ _ _ c.serve.ensures.ok
+    c.serve.ensures.read
     c.serve.ensures.write c.serve.ensures.memory

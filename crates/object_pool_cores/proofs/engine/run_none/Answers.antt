@@ -9,5 +9,6 @@ returns g c =
     let player = c.new-2.result in
     let set : IsSetNone player.pool = ap init_of c.new-2.ensures.pool ∙ c.new-core.ensures ∙ c.new.ensures in
     Ends-served no_pool IsSetNone _ _ _ _ _ _ none_pull none_give none_attach player set
-    _ _ (on_none (g.S.Reset.leaves c.args.reset) player c.new-2.ensures.held) _ _ _ _ _ c.serve.ensures.ok c.serve.ensures.read
+    _ _ (on_none (g.S.Reset.leaves c.args.reset) player c.new-2.ensures.held) _ _ _ _ _ c.serve.ensures.ok
+    c.serve.ensures.read
     c.serve.ensures.write c.serve.ensures.memory

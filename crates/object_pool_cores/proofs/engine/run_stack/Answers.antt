@@ -14,6 +14,8 @@ returns g c =
       init = ap init_of c.new-2.ensures.pool ∙ core.init ∙ c.new.ensures;
       kept = ap reset_of c.new-2.ensures.pool ∙ core.reset;
     } in
-    Ends-served kept_of (IsSetStack leaves reset) _ _ _ _ _ _ (stack_pull leaves reset) (stack_give leaves reset) (stack_attach leaves reset) player set
+    Ends-served kept_of (IsSetStack leaves reset) _ _ _ _ _ _ (stack_pull leaves reset) (stack_give leaves reset)
+    (stack_attach leaves reset) player set
     _ _ (on_stack leaves reset player (ap kept_of c.new-2.ensures.pool
-    ∙ core.kept) c.new-2.ensures.held) _ _ _ _ _ c.serve.ensures.ok c.serve.ensures.read c.serve.ensures.write c.serve.ensures.memory
+    ∙ core.kept) c.new-2.ensures.held) _ _ _ _ _ c.serve.ensures.ok c.serve.ensures.read c.serve.ensures.write
+    c.serve.ensures.memory

@@ -1,6 +1,6 @@
 use Rattle.std.proofs.Common.{subst}
 use Rattle.lockfree_object_pool.specs.Note.{note_history}
-use Rattle.lockfree_object_pool.specs.PageHistory.{IsBeginningOf}
+use Rattle.lockfree_object_pool.specs.Ledger.{IsPrefixOf}
 use Rattle.test_fixed_pool.proofs.Later.{prefix_of_prefix}
 use Rattle.test_fixed_pool.proofs.callers.pulled_after_both.Goals as goal
 
@@ -9,5 +9,5 @@ returns-clause-after_first c = prefix_of_prefix _ _ _ c.tell.ensures.from_own c.
 
 pub returns-clause-after_second : goal.returns-clause-after_second
 returns-clause-after_second c =
-    let told = subst (λ history. IsBeginningOf history (note_history c.tell.new.note)) c.into_witness.ensures.history c.tell.ensures.from_told in
+    let told = subst (λ history. IsPrefixOf history (note_history c.tell.new.note)) c.into_witness.ensures.history c.tell.ensures.from_told in
     prefix_of_prefix _ _ _ told c.in-Some.ensures.after

@@ -9,8 +9,11 @@ returns-clause-all_free c =
     let low : ℕ = c.args.count - 32 * full in
     let some_item = c.requires in
     let count : 32 * full + low ≡ c.args.count = omega arith in
-    let words : c.in_ok-words.words.items ≡ replicate (full + 1) all_bits = c.in_ok-words.ensures.items_if_clones_equal (λ y e. e) in
+    let words : c.in_ok-words.words.items ≡ replicate (full + 1) all_bits =
+    c.in_ok-words.ensures.items_if_clones_equal (λ y e. e) in
     let last : c.low_bits.result ≡ 2 ^ low - 1 = c.low_bits.ensures in
-    let free = subst (λ count. IsAllFree count (set (replicate (full + 1) all_bits) full (2 ^ low - 1))) count (all_free full low (omega arith) (omega arith)) in
+    let free = subst (λ count.
+    IsAllFree count (set (replicate (full + 1) all_bits) full (2 ^ low - 1))) count
+    (all_free full low (omega arith) (omega arith)) in
     subst (λ word. IsAllFree c.args.count (set c.in_ok-words.words.items full word)) (sym last)
     (subst (λ words. IsAllFree c.args.count (set words full (2 ^ low - 1))) (sym words) free)

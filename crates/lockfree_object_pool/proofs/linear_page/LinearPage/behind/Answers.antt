@@ -11,4 +11,7 @@ returns-clause-known g c =
     let of_link = c.in_ok-next.ensures.link ∙ c.in_ok-note.ensures.note.of_link in
     let here = subst (λ number. IsLinkTo links number (next_link {opens = g.O.Clean} c.new-before.result)) one_more
     (c.new-before.ensures.next (omega (arith, c.ranges.number.fits, one_more))) in
-    record { is_link = subst (IsLinkTo links c.args.number) (sym of_link) here; knows = c.in_ok-next.ensures.next.known }
+    record {
+      is_link = subst (IsLinkTo links c.args.number) (sym of_link) here;
+      knows = c.in_ok-next.ensures.next.known;
+    }

@@ -2,7 +2,8 @@ use Rattle.object_pool_cores.proofs.CommandWords.{AreNumbers-space, AreNumbers-p
 use Rattle.object_pool_cores.proofs.engine.command_text.numbers_of.Goals as goal
 
 pub returns-in_err-first : goal.returns-in_err-first
-returns-in_err-first c = rw c.from_residual.ensures (λ first second numbers. AreNumbers-space _ first second c.in_err-first.ensures numbers)
+returns-in_err-first c =
+    rw c.from_residual.ensures (λ first second numbers. AreNumbers-space _ first second c.in_err-first.ensures numbers)
 
 pub returns-in_err-number_of : goal.returns-in_err-number_of
 returns-in_err-number_of c =

@@ -3,4 +3,5 @@ use Rattle.std.proofs.lemmas.Bool.Decides.{Decides-eqb}
 use Rattle.object_pool_cores.proofs.engine.command_text.rest_after.Goals as goal
 
 pub returns : goal.returns
-returns c = strip_prefix_is Decides-eqb c.args.line.now c.args.word.now c.strip_prefix.result c.strip_prefix.ensures.cases
+returns c = strip_prefix_is Decides-eqb c.args.line.now c.args.word.now c.strip_prefix.result
+    c.strip_prefix.ensures.cases

@@ -5,7 +5,8 @@ use Rattle.object_pool_cores.proofs.engine.output.write_whole.Given as goal
 -- what stands before the rest was written
 abbrev pub invariant-loop-rest : goal.invariant-loop-rest
 invariant-loop-rest g l =
-    (front : List ℕ) × (l.bytes ≡ front ++ l.rest) × Appends (g.W.Write.contents l.fn.output) (g.W.Write.contents l.output) front
+    (front : List ℕ) × (l.bytes ≡ front ++ l.rest)
+    × Appends (g.W.Write.contents l.fn.output) (g.W.Write.contents l.output) front
 
 abbrev pub decreases-loop-rest : goal.decreases-loop-rest
 decreases-loop-rest g l = length l.rest

@@ -1,5 +1,5 @@
 use Rattle.std.proofs.Common.{ℕ, List, [], Some, ◌++◌, ◌≤◌, ◌*◌, length, take}
-use Rattle.object_pool_cores.specs.Buffered.{IsOpenLine}
+use Rattle.object_pool_cores.specs.Inside.Buffered.{IsOpenLine}
 use Rattle.object_pool_cores.specs.Served.{Serves}
 use Rattle.object_pool_cores.proofs.engine.session.feed.Given as goal
 
@@ -10,4 +10,5 @@ invariant-loop-byte g l =
     (length l.replies.items ≤ 92 * l.byte-index)
     × ((rest : List ℕ) → IsOpenLine rest l.fn.line
     → (more : List ℕ) × IsOpenLine more l.line
-    × Serves pool.pulls pool.gives pool.attaches l.fn.player (Some []) (rest ++ take l.byte-index l.bytes) more l.player (Some l.replies.items))
+    × Serves pool.pulls pool.gives pool.attaches l.fn.player (Some []) (rest ++ take l.byte-index l.bytes) more
+    l.player (Some l.replies.items))

@@ -1,5 +1,6 @@
 use Rattle.object_pool_cores.proofs.ReplyRuns.{by_result}
-use Rattle.object_pool_cores.proofs.TranscriptRuns.{Serves-written, ServesFront-written, ServesPart-written, ServesPart-front}
+use Rattle.object_pool_cores.proofs.TranscriptRuns.{Serves-written, ServesFront-written, ServesPart-written}
+use Rattle.object_pool_cores.proofs.TranscriptRuns.{ServesPart-front}
 use Rattle.object_pool_cores.proofs.engine.session.serve_chunk.Goals as goal
 
 pub returns-in_default-clause-write : goal.returns-in_default-clause-write
@@ -16,4 +17,5 @@ returns-in-Ok-fed-clause-ok g c = λ rest opens.
 
 pub returns-in-Err-Memory-clause-memory : goal.returns-in-Err-Memory-clause-memory
 returns-in-Err-Memory-clause-memory g c = λ _ rest opens.
-    ServesFront-written _ _ _ _ _ _ _ _ (c.in-Err-Memory.ensures.err rest opens) (rw c.deref.ensures.0 at c.in-Ok.ensures.ok)
+    ServesFront-written _ _ _ _ _ _ _ _ (c.in-Err-Memory.ensures.err rest opens)
+    (rw c.deref.ensures.0 at c.in-Ok.ensures.ok)

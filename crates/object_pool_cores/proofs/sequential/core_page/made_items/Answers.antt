@@ -10,7 +10,8 @@ loop-id-preserved g c =
       omega (arith, c.loop-id.invariant.0, c.push.ensures.capacity),
       (
         so_far.0 ++ c.in-Some.value ∷ [],
-        items ∙ ap (λ page. page ++ Some c.in-Some.value ∷ []) so_far.1 ∙ sym (map-append Some so_far.0 (c.in-Some.value ∷ [])),
+        items ∙ ap (λ page. page ++ Some c.in-Some.value ∷ []) so_far.1
+            ∙ sym (map-append Some so_far.0 (c.in-Some.value ∷ [])),
         length-append so_far.0 (c.in-Some.value ∷ []) ∙ ap (λ n. n + 1) so_far.2,
         All-push (λ v. g.I.Fn.post c.args.init.now tt (Some v)) so_far.0 c.in-Some.value so_far.3 c.in-Some.ensures,
         All-push g.K.Clean.meets so_far.0 c.in-Some.value so_far.4 (c.requires.each_meets _ c.in-Some.ensures),

@@ -7,11 +7,13 @@ pub loop-at-preserved : goal.loop-at-preserved
 loop-at-preserved g c =
     let so_far = c.loop-at.invariant in
     let within = c.loop-at-test.true in
-    let page = slice_get_read c.args.pages.now (length c.args.pages.now) c.loop-at.at _ refl (omega (arith, within)) c.index-pages-at.is in
+    let page = slice_get_read c.args.pages.now (length c.args.pages.now) c.loop-at.at _ refl
+    (omega (arith, within)) c.index-pages-at.is in
     record {
       from = omega (arith, so_far.from);
       up_to = omega (arith, within);
-      passed = HasNoneBelow-full c.args.pages.now c.loop-at.at _ c.requires.whole page (c.is_full.ensures.0 (search rules)) so_far.passed;
+      passed = HasNoneBelow-full c.args.pages.now c.loop-at.at _ c.requires.whole page
+          (c.is_full.ensures.0 (search rules)) so_far.passed;
       more = omega (arith, so_far.more, c.saturating_add-looked.ensures);
       each = omega (arith, within, so_far.from, so_far.each, c.saturating_add-looked.ensures);
     }
@@ -23,6 +25,7 @@ returns-clause-open g c = λ page here. let within = slice_get_within c.args.pag
 pub returns-then-not-is_full-clause-open : goal.returns-then-not-is_full-clause-open
 returns-then-not-is_full-clause-open g c = λ page here full.
     let within = c.loop-at-test.true in
-    let read = slice_get_read c.args.pages.now (length c.args.pages.now) c.loop-at.at _ refl (omega (arith, within)) c.index-pages-at.is in
+    let read = slice_get_read c.args.pages.now (length c.args.pages.now) c.loop-at.at _ refl
+    (omega (arith, within)) c.index-pages-at.is in
     let same : Some page ≡ Some c.index-pages-at.result = cc in
     absurd (search rules)

@@ -1,6 +1,6 @@
 use Rattle.std.proofs.Common.{rules}
 use Rattle.std.proofs.lemmas.Result.{IfOk-weaker}
-use Rattle.object_pool_cores.specs.MadePage.{IsMadePage}
+use Rattle.object_pool_cores.specs.OnePage.{IsMadePage}
 use Rattle.object_pool_cores.proofs.Cores.KeptWord.{IsMadePage-map}
 use Rattle.object_pool_cores.proofs.sequential.numbered_items.made_page.Goals as goal
 

@@ -7,7 +7,7 @@ seven value same = cc
 
 pub returns-in-Ok : goal.returns-in-Ok
 returns-in-Ok g c =
-    let is = c.in-Ok.ensures.history in
+    let is = c.in-Ok.ensures.pulled.history in
     elim is.pulled.origin [
       | inl was ↦ inr (is.pulled.before, is.pulled.last, was)
       | inr first ↦ inl (seven _ (filled_at _ _ _ _ _ is.opened first.opened).1)

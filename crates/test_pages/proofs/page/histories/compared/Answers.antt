@@ -1,10 +1,10 @@
 use Rattle.std.proofs.Common.{subst}
 use Rattle.lockfree_object_pool.specs.Note.{note_history}
-use Rattle.lockfree_object_pool.specs.PageHistory.{IsBeginningOf}
-use Rattle.lockfree_object_pool.proofs.PageActs.{comparable}
+use Rattle.lockfree_object_pool.specs.Ledger.{IsPrefixOf}
+use Rattle.lockfree_object_pool.proofs.Ledger.{comparable}
 use Rattle.test_pages.proofs.page.histories.compared.Goals as goal
 
 pub returns-clause-compared : goal.returns-clause-compared
 returns-clause-compared c =
-    let told = subst (λ history. IsBeginningOf history (note_history c.tell.new.note)) c.into_witness.ensures.history c.tell.ensures.from_told in
+    let told = subst (λ history. IsPrefixOf history (note_history c.tell.new.note)) c.into_witness.ensures.history c.tell.ensures.from_told in
     comparable (note_history c.args.one) (note_history c.args.other) (note_history c.tell.new.note) c.tell.ensures.from_own told

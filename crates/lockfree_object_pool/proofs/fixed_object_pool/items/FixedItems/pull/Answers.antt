@@ -5,7 +5,8 @@ use Rattle.lockfree_object_pool.proofs.fixed_object_pool.items.FixedItems.pull.G
 pub returns-in-Some-clause-pulled : goal.returns-in-Some-clause-pulled
 returns-in-Some-clause-pulled g c =
     let looked = c.look-word.ensures.found in
-    item_pulled g.K.Clean.meets _ _ _ _ _ _ _ looked.same_opening looked.did_nothing c.in-Some.ensures.outcome (c.take.ensures.pool ∙ c.look-word.ensures.items)
+    item_pulled g.K.Clean.meets _ _ _ _ _ _ _ looked.same_opening looked.did_nothing c.in-Some.ensures.outcome
+    (c.take.ensures.pool ∙ c.look-word.ensures.items)
 
 pub returns-in-None-clause-busy : goal.returns-in-None-clause-busy
 returns-in-None-clause-busy g c =

@@ -4,8 +4,10 @@ use Rattle.lockfree_object_pool.proofs.fixed_object_pool.items.FixedItems.pull_f
 
 pub returns-clause-pulled : goal.returns-clause-pulled
 returns-clause-pulled g c =
-    item_pulled_with g.K.Clean.meets _ _ _ _ _ _ _ c.look_again-word.ensures.found.starts c.in-Some.ensures.outcome (c.take.ensures.pool ∙ c.look_again-word.ensures.items ∙ c.requires)
+    item_pulled_with g.K.Clean.meets _ _ _ _ _ _ _ c.look_again-word.ensures.found.starts c.in-Some.ensures.outcome
+    (c.take.ensures.pool ∙ c.look_again-word.ensures.items ∙ c.requires)
 
 pub returns-in_default-clause-busy : goal.returns-in_default-clause-busy
 returns-in_default-clause-busy g c =
-    all_busy_after _ _ _ _ c.look_again-word.ensures.found.starts c.in_default.ensures.outcome (c.take.ensures.pool ∙ c.look_again-word.ensures.items ∙ c.requires)
+    all_busy_after _ _ _ _ c.look_again-word.ensures.found.starts c.in_default.ensures.outcome
+    (c.take.ensures.pool ∙ c.look_again-word.ensures.items ∙ c.requires)

@@ -1,27 +1,27 @@
 use Rattle.std.proofs.Common.{◌≡◌, ◌+◌, ◌*◌, ◌∙◌, arith, subst}
 use Rattle.lockfree_object_pool.specs.FixedRule.{MissesAll}
-use Rattle.lockfree_object_pool.proofs.FixedAnswers.{misses_looked, misses_more, takes_after}
+use Rattle.lockfree_object_pool.proofs.FixedAnswers.{misses_loaded, misses_more, takes_after}
 use Rattle.lockfree_object_pool.proofs.fixed_object_pool.items.FixedItems.scan.Goals as goal
 
 pub returns-in-Some-clause-outcome : goal.returns-in-Some-clause-outcome
 returns-in-Some-clause-outcome g c =
     let before = c.loop-page.invariant in
-    let looked = misses_looked _ _ _ _ _ _ _ before.missed c.look_on-word.ensures.found in
+    let looked = misses_loaded _ _ _ _ _ _ _ before.missed c.look_on-word.ensures.found in
     takes_after g.K.Clean.meets _ _ _ _ _ _ _ _ looked c.in-Some.ensures.outcome
 
 pub loop-page-preserved : goal.loop-page-preserved
 loop-page-preserved g c =
     let before = c.loop-page.invariant in
     let own = c.in_default.ensures.outcome in
-    let looked = misses_looked _ _ _ _ _ _ _ before.missed c.look_on-word.ensures.found in
+    let looked = misses_loaded _ _ _ _ _ _ _ before.missed c.look_on-word.ensures.found in
     let next : 32 * c.loop-page.page + 32 ≡ 32 * (c.loop-page.page + 1) = omega arith in
     let all = misses_more _ _ _ _ _ _ looked own in
-    let more = c.look_on-word.ensures.found.looks in
+    let more = c.look_on-word.ensures.found.loads in
     let tried = c.look_on-word.ensures.found.tries in
     let own_looks = c.take_lowest.ensures.steps.0 in
     let own_tries = c.take_lowest.ensures.steps.1 in
     let steps = before.steps in
-    let looks = steps.loads in
+    let loads = steps.loads in
     let tries = steps.tries in
     let test = c.loop-page-test.true in
     record {
@@ -35,7 +35,7 @@ loop-page-preserved g c =
 pub returns-clause-steps : goal.returns-clause-steps
 returns-clause-steps g c =
     let steps = c.loop-page.invariant.steps in
-    let looks = steps.loads in
+    let loads = steps.loads in
     let tries = steps.tries in
     let ordered = c.requires.ordered in
     let end = c.loop-page.auto.page-end in

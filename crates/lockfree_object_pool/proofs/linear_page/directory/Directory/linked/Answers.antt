@@ -5,4 +5,7 @@ use Rattle.lockfree_object_pool.proofs.linear_page.directory.Directory.linked.Go
 pub returns : goal.returns
 returns g c =
     let of_link = c.in_ok-page.ensures.link ∙ c.in_ok-note.ensures.of_link in
-    record { is_link = subst (IsLinkTo c.args.self.now c.args.number) (sym of_link) c.place-place.ensures; knows = c.in_ok-page.ensures.known }
+    record {
+      is_link = subst (IsLinkTo c.args.self.now c.args.number) (sym of_link) c.place-place.ensures;
+      knows = c.in_ok-page.ensures.known;
+    }

@@ -7,8 +7,12 @@ pub fetch_and-word-requires : goal.fetch_and-word-requires
 fetch_and-word-requires g c =
     let items = c.args.self.now in
     let covered = items.covered in
-    let inside = c.requires.in_items in
-    (c.requires.items, c.requires.in_items, clears _ _ items.table.shared.table_id.slots c.args.page _ _ c.args.bit _ c.requires.in_word (omega arith) c.without_bit.ensures.bits c.requires.holds_none c.requires.here)
+    let inside = c.requires.in_items in (
+      c.requires.items,
+      c.requires.in_items,
+      clears _ _ items.table.shared.table_id.slots c.args.page _ _ c.args.bit _ c.requires.in_word
+          (omega arith) c.without_bit.ensures.bits c.requires.holds_none c.requires.here,
+    )
 
 pub overflow_mul-page : goal.overflow_mul-page
 overflow_mul-page g c =
@@ -29,5 +33,11 @@ overflow_add-page g c =
 
 pub exchange-requires : goal.exchange-requires
 exchange-requires g c =
-    let took = (c.fetch_and-word.ensures.2.took c.args.bit c.requires.in_word c.without_bit.ensures.bits (c.has_bit.ensures.0 (search rules))).value in
-    (search rules, (Some took.0, took.2 ∙ ap (λ carried. (32 * c.args.page + c.args.bit, Some took.0) ∷ rest carried) (sym took.2)))
+    let took = (c.fetch_and-word.ensures.2.took c.args.bit c.requires.in_word c.without_bit.ensures.bits
+    (c.has_bit.ensures.0 (search rules))).value in (
+      search rules,
+      (
+        Some took.0,
+        took.2 ∙ ap (λ carried. (32 * c.args.page + c.args.bit, Some took.0) ∷ rest carried) (sym took.2),
+      ),
+    )

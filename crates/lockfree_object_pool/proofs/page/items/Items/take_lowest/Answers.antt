@@ -2,7 +2,7 @@ use Rattle.std.proofs.Common.{◌≡◌, ℕ, ◌<◌, ap, ◌∙◌, ◌∷◌,
 use Rattle.std.specs.Int.{bit_at}
 use Rattle.std.proofs.lemmas.Nat.Bits.{bit_at-zero}
 use Rattle.lockfree_object_pool.specs.PageRule.{KnowsOut, item_of}
-use Rattle.lockfree_object_pool.proofs.PageActs.{goes_on_further}
+use Rattle.lockfree_object_pool.proofs.Ledger.{goes_on_further}
 use Rattle.lockfree_object_pool.proofs.FixedAnswers.{more_tried, out_or_untried, word_missed}
 use Rattle.lockfree_object_pool.proofs.page.items.Items.take_lowest.Goals as goal
 
@@ -14,8 +14,10 @@ returns-in-Some-clear-clause-outcome g c =
       in_pool = took.0;
       meets_condition = took.1;
       holds = took.2.holds;
-      carries = took.2.carries ∙ ap (λ l. (item_of c.args.page c.in-Some.bit, None) ∷ l) (before.carries_none ∙ sym c.requires.carries_none);
-      goes_on = goes_on_further _ c.args.seat.now.me.0 c.loop-rest.seat.me.0 c.clear.new.seat.me.0 before.follows took.2.goes_on;
+      carries = took.2.carries ∙ ap (λ l.
+          (item_of c.args.page c.in-Some.bit, None) ∷ l) (before.carries_none ∙ sym c.requires.carries_none);
+      goes_on = goes_on_further _ c.args.seat.now.me.0 c.loop-rest.seat.me.0 c.clear.new.seat.me.0 before.follows
+          took.2.goes_on;
     }
 
 pub loop-rest-preserved : goal.loop-rest-preserved
@@ -26,19 +28,27 @@ loop-rest-preserved g c =
       same_items = c.clear.ensures.items ∙ before.same_items;
       carries_none = missed.carries_same ∙ before.carries_none;
       holds_none = missed.holds_same ∙ before.holds_none;
-      out_or_untried = out_or_untried c.args.page c.loop-rest.untried c.in-Some.bit c.in-Some.rest c.loop-rest.seat.me c.clear.new.seat.me c.in-Some.ensures.rest missed before.out_or_untried;
-      follows = goes_on_further _ c.args.seat.now.me.0 c.loop-rest.seat.me.0 c.clear.new.seat.me.0 before.follows missed.goes_on;
-      looks_same = missed.counts.looks_same ∙ before.looks_same;
-      all_tries = let least = c.in-Some.ensures.least in let tried = before.tries_below c.in-Some.bit least.in_page least.set in let more = missed.counts.one_more in let within = least.in_page in omega arith;
-      tries_below = more_tried _ _ _ _ _ _ c.in-Some.ensures.least c.in-Some.ensures.rest missed.counts.one_more before.tries_below;
+      out_or_untried = out_or_untried c.args.page c.loop-rest.untried c.in-Some.bit c.in-Some.rest c.loop-rest.seat.me
+          c.clear.new.seat.me c.in-Some.ensures.rest missed before.out_or_untried;
+      follows = goes_on_further _ c.args.seat.now.me.0 c.loop-rest.seat.me.0 c.clear.new.seat.me.0 before.follows
+          missed.goes_on;
+      loads_same = missed.counts.loads_same ∙ before.loads_same;
+      all_tries = let least = c.in-Some.ensures.least in
+          let tried = before.tries_below c.in-Some.bit least.in_page least.set in let more = missed.counts.one_more in
+          let within = least.in_page in omega arith;
+      tries_below = more_tried _ _ _ _ _ _ c.in-Some.ensures.least c.in-Some.ensures.rest missed.counts.one_more
+          before.tries_below;
     }
 
 pub returns-clause-outcome : goal.returns-clause-outcome
 returns-clause-outcome g c =
     let at_end = c.loop-rest.invariant in
     let none_left : c.loop-rest.untried ≡ 0 = c.in_default.ensures.none.0 (search) in
-    let all : (bit : ℕ) → bit < 32 → KnowsOut c.loop-rest.seat.me.0 (item_of c.args.page bit) = λ bit within. at_end.out_or_untried bit within (ap (λ w. bit_at w bit) none_left ∙ bit_at-zero bit) in
-    word_missed c.args.page c.args.seat.now.me c.loop-rest.seat.me (at_end.holds_none ∙ sym c.requires.holds_none) (at_end.carries_none ∙ sym c.requires.carries_none) at_end.follows all
+    let all : (bit : ℕ) → bit < 32
+    → KnowsOut c.loop-rest.seat.me.0 (item_of c.args.page bit) =
+    λ bit within. at_end.out_or_untried bit within (ap (λ w. bit_at w bit) none_left ∙ bit_at-zero bit) in
+    word_missed c.args.page c.args.seat.now.me c.loop-rest.seat.me (at_end.holds_none ∙ sym c.requires.holds_none)
+    (at_end.carries_none ∙ sym c.requires.carries_none) at_end.follows all
 
 pub returns-in-Some-clear-clause-steps : goal.returns-in-Some-clear-clause-steps
 returns-in-Some-clear-clause-steps g c =
@@ -48,4 +58,4 @@ returns-in-Some-clear-clause-steps g c =
     let tried = before.tries_below c.in-Some.bit least.in_page least.set in
     let more = took.2.counts.one_more in
     let within = least.in_page in
-    (took.2.counts.looks_same ∙ before.looks_same, omega arith)
+    (took.2.counts.loads_same ∙ before.loads_same, omega arith)

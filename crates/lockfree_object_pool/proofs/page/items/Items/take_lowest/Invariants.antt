@@ -9,7 +9,7 @@ invariant-loop-rest g l = record {
   carries_none : l.seat.me.1 ≡ [];
   holds_none : l.seat.me.0.held ≡ None;
   out_or_untried : (bit : ℕ) → bit < 32 → bit_at l.untried bit ≡ 0 → KnowsOut l.seat.me.0 (item_of l.page bit);
-  looks_same : l.seat.me.0.looks ≡ l.fn.seat.me.0.looks;
+  loads_same : l.seat.me.0.loads ≡ l.fn.seat.me.0.loads;
   all_tries : l.seat.me.0.tries ≤ l.fn.seat.me.0.tries + 32;
   tries_below : (bit : ℕ) → bit < 32 → bit_at l.untried bit ≡ 1 → l.seat.me.0.tries ≤ l.fn.seat.me.0.tries + bit;
   follows : GoesOn [] l.fn.seat.me.0 l.seat.me.0;

@@ -1,5 +1,5 @@
 use Rattle.std.proofs.Common.{◌≡◌, Some, map, length, All}
-use Rattle.object_pool_cores.specs.World.Prepared.{values_of}
+use Rattle.object_pool_cores.specs.World.Inside.Prepared.{values_of}
 use Rattle.object_pool_cores.proofs.interleave.prepared.Prepared.make.Given as goal
 
 abbrev pub invariant-loop-index : goal.invariant-loop-index

@@ -1,8 +1,9 @@
 use Rattle.std.proofs.Common.{◌≡◌, ◌∙◌, ◌∷◌, [], ◌++◌, refl, reverse, rules, length, subst, arith}
 use Rattle.std.proofs.lemmas.List.{reverse-reverse}
 use Rattle.object_pool_cores.specs.World.Machine.{Steps}
-use Rattle.object_pool_cores.specs.World.Shown.{world_state}
-use Rattle.object_pool_cores.proofs.World.RunsEvents.{replayed-none, replayed-next, runs_events-from, on-err, no-elements}
+use Rattle.object_pool_cores.specs.World.Inside.Shown.{world_state}
+use Rattle.object_pool_cores.proofs.World.RunsEvents.{replayed-none, replayed-next, runs_events-from, on-err}
+use Rattle.object_pool_cores.proofs.World.RunsEvents.{no-elements}
 use Rattle.object_pool_cores.proofs.interleave.world.World.run.Goals as goal
 
 pub loop-event-init : goal.loop-event-init
@@ -25,7 +26,8 @@ loop-event-preserved g c =
     rw (c.in_ok-push.ensures.items, same) refl in
     record {
       replayed = replayed-next _ _ _ _ _ _ _ _ _ c.in-Some.event c.step-answer.result _ c.in-Some.ensures.items answered
-          kept.replayed c.step-answer.ensures.reached (subst P kept.reset c.step-answer.ensures.step) c.step-answer.ensures.exact;
+          kept.replayed c.step-answer.ensures.reachable (subst P kept.reset c.step-answer.ensures.step)
+          c.step-answer.ensures.exact;
       reset = c.step-answer.ensures.reset ∙ kept.reset;
     }
 

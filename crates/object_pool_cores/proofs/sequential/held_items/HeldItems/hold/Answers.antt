@@ -11,7 +11,9 @@ returns-clause-held g c =
     let next = c.self.inside.next in
     rw (← c.self.view_is)
     (listed-push (get nat_eq c.self.inside.items)
-    (get nat_eq c.insert.new.self) next _ (Some c.args.item) refl updates.1 (λ k differ. updates.2 k (ne_eqb next k (λ e. differ (sym e)))))
+    (get nat_eq c.insert.new.self) next _ (Some c.args.item) refl updates.1
+    (λ k differ. updates.2 k (ne_eqb next k (λ e. differ (sym e)))))
 
 pub returns-clause-index : goal.returns-clause-index
-returns-clause-index g c = rw (← c.self.view_is) (sym (length-listed (get nat_eq c.self.inside.items) c.self.inside.next))
+returns-clause-index g c =
+    rw (← c.self.view_is) (sym (length-listed (get nat_eq c.self.inside.items) c.self.inside.next))

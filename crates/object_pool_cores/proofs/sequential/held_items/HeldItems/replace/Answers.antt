@@ -8,4 +8,5 @@ returns g c =
     let replaced = c.replace_value.ensures in
     rw (← c.self.view_is)
     (IsReplaced-listed (get nat_eq c.self.inside.items)
-    (get nat_eq c.replace_value.new.items) c.self.inside.next c.args.index c.args.value _ c.self.invariant replaced.there replaced.here replaced.others)
+    (get nat_eq c.replace_value.new.items) c.self.inside.next c.args.index c.args.value _ c.self.invariant
+    replaced.there replaced.here replaced.others)

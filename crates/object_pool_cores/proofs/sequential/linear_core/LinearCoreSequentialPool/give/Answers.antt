@@ -1,6 +1,6 @@
 use Rattle.std.proofs.Common.{◌≡◌, ℕ, Some, refl, sym, ◌∙◌, subst}
 use Rattle.object_pool_cores.specs.Pool.{IsOut}
-use Rattle.object_pool_cores.specs.Numbered.{pool_of}
+use Rattle.object_pool_cores.specs.Inside.Numbered.{listed_pool}
 use Rattle.object_pool_cores.proofs.sequential.linear_core.LinearCoreSequentialPool.give.Goals as goal
 
 pub unreachable-requires : goal.unreachable-requires
@@ -10,12 +10,18 @@ pub put-requires-clause-out : goal.put-requires-clause-out
 put-requires-clause-out g c =
     let same : Some c.requires.0 ≡ Some c.in-Some.number = sym c.requires.1 ∙ sym c.in-Some.ensures in
     let number : c.requires.0 ≡ c.in-Some.number = cc in
-    subst (λ (n : ℕ). IsOut (pool_of c.args.self.now.items) n) number c.requires.2
+    subst (λ (n : ℕ). IsOut (listed_pool c.args.self.now.items) n) number c.requires.2
 
 pub returns-clause-step : goal.returns-clause-step
 returns-clause-step g c =
     record {
-      step = record { before = c.put.ensures.before; after = c.put.ensures.after; limit = c.put.ensures.limit; init = refl; reset = refl };
+      step = record {
+        before = c.put.ensures.before;
+        after = c.put.ensures.after;
+        limit = c.put.ensures.limit;
+        init = refl;
+        reset = refl;
+      };
       returned = record {
         n = c.in-Some.number;
         kept = c.reset.new.value;
@@ -24,7 +30,7 @@ returns-clause-step g c =
         was_out =
             let same : Some c.requires.0 ≡ Some c.in-Some.number = sym c.requires.1 ∙ sym c.in-Some.ensures in
             let number : c.requires.0 ≡ c.in-Some.number = cc in
-            subst (λ (n : ℕ). IsOut (pool_of c.args.self.now.items) n) number c.requires.2;
+            subst (λ (n : ℕ). IsOut (listed_pool c.args.self.now.items) n) number c.requires.2;
         returned = c.put.ensures.returned;
       };
     }

@@ -1,30 +1,31 @@
 use Rattle.std.proofs.Common.{refl, arith, ◌∙◌}
 use Rattle.object_pool_cores.proofs.LeastChoiceSteps.{IsFree-grown, PullsLeast-grown}
-use Rattle.object_pool_cores.proofs.Cores.FewLooks.{LooksAtFew-taken, LooksAtFew-none, LooksAtFew-grown, LooksAtEach-grown}
+use Rattle.object_pool_cores.proofs.Cores.FewProbes.{ProbesFew-taken, ProbesFew-none, ProbesFew-grown, ProbesEach-grown}
 use Rattle.object_pool_cores.proofs.ReplyRuns.{OnErr-always}
 use Rattle.object_pool_cores.proofs.sequential.linear_core.LinearCoreSequentialPool.pull.Goals as goal
 
-pub returns-in-Some-clause-looks : goal.returns-in-Some-clause-looks
-returns-in-Some-clause-looks g c =
+pub returns-in-Some-clause-probes : goal.returns-in-Some-clause-probes
+returns-in-Some-clause-probes g c =
     let taken = c.in-Some.ensures in
-    LooksAtFew-taken _ _ _ _ taken.before taken.least.2 taken.looks
+    ProbesFew-taken _ _ _ _ taken.before taken.least.2 taken.probes
 
-pub returns-in-Some-clause-looks_up_to : goal.returns-in-Some-clause-looks_up_to
-returns-in-Some-clause-looks_up_to g c =
+pub returns-in-Some-clause-probes_up_to : goal.returns-in-Some-clause-probes_up_to
+returns-in-Some-clause-probes_up_to g c =
     let taken = c.in-Some.ensures in
-    record { onward = taken.looks.onward; stops = rw taken.least.1 taken.least.2.starts; each = taken.looks.each }
+    record { onward = taken.probes.onward; stops = rw taken.least.1 taken.least.2.starts; each = taken.probes.each }
 
-pub returns-in_err-grow-clause-looks : goal.returns-in_err-grow-clause-looks
-returns-in_err-grow-clause-looks g c =
+pub returns-in_err-grow-clause-probes : goal.returns-in_err-grow-clause-probes
+returns-in_err-grow-clause-probes g c =
     let full = c.in_default.ensures in
-    rw c.in_err-grow.ensures.err (LooksAtFew-none _ _ full.before full.none full.looks)
+    rw c.in_err-grow.ensures.err (ProbesFew-none _ _ full.before full.none full.probes)
 
-pub returns-in_err-grow-clause-looks_at_the_rest : goal.returns-in_err-grow-clause-looks_at_the_rest
-returns-in_err-grow-clause-looks_at_the_rest g c =
+pub returns-in_err-grow-clause-probes_the_rest : goal.returns-in_err-grow-clause-probes_the_rest
+returns-in_err-grow-clause-probes_the_rest g c =
     let full = c.in_default.ensures in
-    let each = full.looks.each in
+    let each = full.probes.each in
     OnErr-always c.from_residual.result
-    (rw c.in_err-grow.ensures.err (record { onward = full.looks.onward; stops = full.none.starts; each = omega (arith, each) }))
+    (rw c.in_err-grow.ensures.err
+    (record { onward = full.probes.onward; stops = full.none.starts; each = omega (arith, each) }))
 
 pub returns-clause-step : goal.returns-clause-step
 returns-clause-step g c =
@@ -32,25 +33,33 @@ returns-clause-step g c =
     let taken = c.in-Some-take_least.ensures in
     let grows = rw (full.none.places, full.limit) at c.in_ok-grow.ensures.ok in
     record {
-      step = record { before = full.before; after = taken.after; limit = taken.limit ∙ c.in_ok-grow.ensures.kept ∙ full.limit; init = refl; reset = refl };
-      pulled = (taken.least.0, taken.least.1, PullsLeast-grown _ _ _ _ _ _ _ full.none.exhausted grows taken.least.2.takes);
+      step = record {
+        before = full.before;
+        after = taken.after;
+        limit = taken.limit ∙ c.in_ok-grow.ensures.kept ∙ full.limit;
+        init = refl;
+        reset = refl;
+      };
+      pulled =
+          (taken.least.0, taken.least.1, PullsLeast-grown _ _ _ _ _ _ _ full.none.exhausted grows taken.least.2.takes);
     }
 
-pub returns-clause-looks : goal.returns-clause-looks
-returns-clause-looks g c =
+pub returns-clause-probes : goal.returns-clause-probes
+returns-clause-probes g c =
     let full = c.in_default.ensures in
     let grew = c.in_ok-grow.ensures in
     let taken = c.in-Some-take_least.ensures in
     let grows = rw (full.none.places, full.limit) at grew.ok in
-    LooksAtFew-grown _ _ _ _ _ _ _ full.before full.none full.looks grows grew.start grew.looked taken.least.2 taken.looks
+    ProbesFew-grown _ _ _ _ _ _ _ full.before full.none full.probes grows grew.start grew.looked taken.least.2
+    taken.probes
 
-pub returns-clause-looks_up_to : goal.returns-clause-looks_up_to
-returns-clause-looks_up_to g c =
+pub returns-clause-probes_up_to : goal.returns-clause-probes_up_to
+returns-clause-probes_up_to g c =
     let full = c.in_default.ensures in
     let grew = c.in_ok-grow.ensures in
     let taken = c.in-Some-take_least.ensures in
-    let looks = LooksAtEach-grown _ _ _ _ full.looks grew.start grew.looked taken.looks in
-    record { onward = looks.0; stops = rw taken.least.1 taken.least.2.starts; each = looks.1 }
+    let probes = ProbesEach-grown _ _ _ _ full.probes grew.start grew.looked taken.probes in
+    record { onward = probes.0; stops = rw taken.least.1 taken.least.2.starts; each = probes.1 }
 
 pub unreachable-requires : goal.unreachable-requires
 unreachable-requires g c =

@@ -11,7 +11,8 @@ returns-in-Some g c =
     let count : vec_len pages ≡ length pages.items = search rules in
     let within : c.in-Some.page < length pages.items = omega (arith, c.in-Some.ensures.2, c.len.ensures, count) in
     let here = slice_get_read pages.items (length pages.items) c.in-Some.page _ refl within c.index.ensures in
-    let same = IsOut-at pages.items c.self.inside.limit c.self.inside.start c.self.inside.looked c.in-Some.page c.in-Some.id
+    let same = IsOut-at pages.items c.self.inside.limit c.self.inside.start c.self.inside.looked c.in-Some.page
+    c.in-Some.id
     c.args.number _ c.self.invariant.0 here c.in-Some.ensures.1 c.in-Some.ensures.0 in
     rw (← c.self.view_is) (λ out. same.0 (c.is_out.ensures.0 out), λ out. c.is_out.ensures.1 (same.1 out))
 
@@ -22,6 +23,7 @@ returns-in-None g c =
     rw (← c.self.view_is) (
       λ never. absurd (false≢true never),
       λ out.
-          let below = IsOut-within pages.items c.self.inside.limit c.self.inside.start c.self.inside.looked c.args.number c.self.invariant.0 out in
+          let below = IsOut-within pages.items c.self.inside.limit c.self.inside.start c.self.inside.looked
+          c.args.number c.self.invariant.0 out in
           absurd (omega (arith, below, c.in-None.ensures, c.len.ensures, count)),
     )

@@ -10,7 +10,8 @@ unreachable-requires g c =
     let pages = c.self.inside.pages in
     let count : vec_len pages ≡ length pages.items = search rules in
     let out = rw (← c.self.view_is) at c.requires.out in
-    let below = IsOut-within pages.items c.self.inside.limit c.self.inside.start c.self.inside.looked c.args.number c.self.invariant.0 out in
+    let below = IsOut-within pages.items c.self.inside.limit c.self.inside.start c.self.inside.looked c.args.number
+    c.self.invariant.0 out in
     omega (arith, below, c.in_default.ensures, c.len.ensures, count)
 
 pub free-requires-clause-out : goal.free-requires-clause-out
@@ -31,7 +32,8 @@ invariant_of-self g c =
     let count : vec_len inside.pages ≡ length pages = search rules in
     let within : c.in-Some.page < length pages = omega (arith, c.in-Some.ensures.2, c.len.ensures, count) in
     let here = slice_get_read pages (length pages) c.in-Some.page _ refl within c.index_mut.ensures.value in
-    let puts = Puts-at g.K.Clean.meets pages inside.limit inside.start inside.looked c.in-Some.page c.in-Some.id c.args.number
+    let puts = Puts-at g.K.Clean.meets pages inside.limit inside.start inside.looked c.in-Some.page c.in-Some.id
+    c.args.number
     c.args.value _ _ c.min-self-inside.result c.self.invariant.0 c.self.invariant.1 here c.in-Some.ensures.1
     c.in-Some.ensures.0 c.free.ensures c.requires.meets c.min-self-inside.ensures in
     (puts.whole, puts.sound)
@@ -43,7 +45,8 @@ returns-clause-returned g c =
     let count : vec_len inside.pages ≡ length pages = search rules in
     let within : c.in-Some.page < length pages = omega (arith, c.in-Some.ensures.2, c.len.ensures, count) in
     let here = slice_get_read pages (length pages) c.in-Some.page _ refl within c.index_mut.ensures.value in
-    let puts = Puts-at g.K.Clean.meets pages inside.limit inside.start inside.looked c.in-Some.page c.in-Some.id c.args.number
+    let puts = Puts-at g.K.Clean.meets pages inside.limit inside.start inside.looked c.in-Some.page c.in-Some.id
+    c.args.number
     c.args.value _ _ c.min-self-inside.result c.self.invariant.0 c.self.invariant.1 here c.in-Some.ensures.1
     c.in-Some.ensures.0 c.free.ensures c.requires.meets c.min-self-inside.ensures in
     rw (← c.self.view_is) puts.returned
@@ -58,7 +61,8 @@ returns-clause-after g c =
     let count : vec_len inside.pages ≡ length pages = search rules in
     let within : c.in-Some.page < length pages = omega (arith, c.in-Some.ensures.2, c.len.ensures, count) in
     let here = slice_get_read pages (length pages) c.in-Some.page _ refl within c.index_mut.ensures.value in
-    let puts = Puts-at g.K.Clean.meets pages inside.limit inside.start inside.looked c.in-Some.page c.in-Some.id c.args.number
+    let puts = Puts-at g.K.Clean.meets pages inside.limit inside.start inside.looked c.in-Some.page c.in-Some.id
+    c.args.number
     c.args.value _ _ c.min-self-inside.result c.self.invariant.0 c.self.invariant.1 here c.in-Some.ensures.1
     c.in-Some.ensures.0 c.free.ensures c.requires.meets c.min-self-inside.ensures in
     IsPool-sound g.K.Clean.meets _ puts.sound

@@ -45,7 +45,8 @@ returns-then-self-len-clause-none g c =
     let first = c.first_open.ensures in
     let passed = rw c.deref.ensures.value at first.passed in
     let at : c.first_open.result.0 ≡ length pages = c.if-self-len.true ∙ c.len.ensures ∙ count in
-    rw (← c.self.view_is) (FindsNone-passed pages inside.limit inside.start inside.looked _ c.self.invariant.0 (rw at at passed) refl at)
+    rw (← c.self.view_is)
+    (FindsNone-passed pages inside.limit inside.start inside.looked _ c.self.invariant.0 (rw at at passed) refl at)
 
 pub unreachable-requires : goal.unreachable-requires
 unreachable-requires g c =

@@ -1,9 +1,10 @@
 use Rattle.std.proofs.Common.{◌++◌, ◌∷◌, [], refl, sym, ◌∙◌, append-nil, arith}
 use Rattle.std.proofs.lemmas.List.{nil_from_length}
 use Rattle.std.proofs.lemmas.Bool.{false≢true}
-use Rattle.object_pool_cores.specs.Replies.{NeedsRoom}
+use Rattle.object_pool_cores.specs.Replies.{MayTakeMemory}
 use Rattle.std.specs.Vec.Iter.{into_iter_items}
-use Rattle.object_pool_cores.proofs.ReplyRuns.{Replies-append, length-replies, next_meets, room_for_next, appended, taken_front, some_left, no_Ok, OnErr-always}
+use Rattle.object_pool_cores.proofs.ReplyRuns.{Replies-append, length-replies, next_meets, room_for_next, appended}
+use Rattle.object_pool_cores.proofs.ReplyRuns.{taken_front, some_left, no_Ok, OnErr-always}
 use Rattle.object_pool_cores.proofs.sequential.player.Player.run.Goals as goal
 
 pub loop-command-init : goal.loop-command-init
@@ -41,7 +42,8 @@ pub loop-command-preserved : goal.loop-command-preserved
 loop-command-preserved g c =
     let so_far = c.loop-command.invariant in (
       so_far.0 ++ c.in_ok-reply.reply ∷ [],
-      appended _ _ _ _ _ (c.in_ok-reserve.ensures.items ∙ so_far.1) (rw c.if-is_err.ensures.negation at c.push.ensures.items),
+      appended _ _ _ _ _ (c.in_ok-reserve.ensures.items ∙ so_far.1)
+          (rw c.if-is_err.ensures.negation at c.push.ensures.items),
       Replies-append _ _ _ _ _ _ _ _ _ _ so_far.2 c.in_ok-reply.ensures.ok,
       omega (arith, so_far.3, c.in_ok-reserve.ensures.capacity, c.push.ensures.capacity),
     )
@@ -63,11 +65,16 @@ returns-clause-ran g c =
 pub returns-in_err-reserve-clause-room_is_there : goal.returns-in_err-reserve-clause-room_is_there
 returns-in_err-reserve-clause-room_is_there g c = λ plain room.
     let so_far = c.loop-command.invariant in
-    let begins = sym c.into_iter-command-iterator.ensures.into_iter_gives.0 ∙ taken_front _ _ _ c.loop-command.yielded_by in
-    let next = room_for_next _ _ _ _ _ _ _ _ _ begins c.in-Some.ensures.steps.0 so_far.1 (length-replies _ _ _ _ _ _ _ so_far.2) room in
+    let begins = sym c.into_iter-command-iterator.ensures.into_iter_gives.0
+    ∙ taken_front _ _ _ c.loop-command.yielded_by in
+    let next = room_for_next _ _ _ _ _ _ _ _ _ begins c.in-Some.ensures.steps.0 so_far.1
+    (length-replies _ _ _ _ _ _ _ so_far.2) room in
     absurd (false≢true (c.in_err-reserve.ensures.succeeds (omega (arith, next, so_far.3, c.loop-command.replies.ok.0))))
 
 pub returns-in_err-reply-clause-room_is_there : goal.returns-in_err-reply-clause-room_is_there
 returns-in_err-reply-clause-room_is_there g c = λ plain room.
-    let begins = sym c.into_iter-command-iterator.ensures.into_iter_gives.0 ∙ taken_front _ _ _ c.loop-command.yielded_by in
-    absurd (next_meets (λ command. NeedsRoom command → ⊥) _ _ _ _ _ begins c.in-Some.ensures.steps.0 plain (c.in_err-reply.ensures.needs_room refl))
+    let begins = sym c.into_iter-command-iterator.ensures.into_iter_gives.0
+    ∙ taken_front _ _ _ c.loop-command.yielded_by in
+    absurd
+    (next_meets (λ command. MayTakeMemory command → ⊥) _ _ _ _ _ begins c.in-Some.ensures.steps.0 plain
+    (c.in_err-reply.ensures.memory refl))

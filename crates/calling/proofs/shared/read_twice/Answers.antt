@@ -1,8 +1,0 @@
-use denote.Param.Send.{sendable}
-use Rattle.lockfree_object_pool.proofs.ReusableShared.{reusable_sync}
-use Rattle.lockfree_object_pool.proofs.closures.ready.Copied.TheSendSync as copied
-use Rattle.lockfree_object_pool.proofs.closures.ready.Keep.TheSendSync as keep
-use Rattle.calling.proofs.shared.read_twice.Goals as goal
-
-pub join-requires-send-F : goal.join-requires-send-F
-join-requires-send-F g c κs within = search (sendable, reusable_sync, copied.the_sync, keep.the_sync) depth 30

@@ -1,0 +1,21 @@
+//! The callers that `CALLING.md` shows, word for word, a file each, and a test that runs each once:
+//!
+//! - [`scratch`]: a type that makes and resets itself.
+//! - [`basket`]: closures that fill a pool.
+//! - [`emptied`]: closures whose values meet a condition.
+//! - [`tickets`]: a condition of one's own, and a maker that refuses.
+//! - [`writers`]: a limit, and owned items in threads.
+//! - [`attached`]: an item that was made elsewhere.
+//! - [`handed_on`]: a function that hands a pulled item on.
+//! - [`stores`]: types that keep a pool.
+//! - [`shared`]: two threads that read one item.
+
+mod attached;
+mod basket;
+mod emptied;
+mod handed_on;
+mod scratch;
+mod shared;
+mod stores;
+mod tickets;
+mod writers;

@@ -1,0 +1,168 @@
+-- Who holds which item of a page after a step, and what lies at home.
+use Rattle.std.proofs.Common.{◌≡◌, ◌≢◌, ℕ, zero, suc, ◌^◌, ◌<◌, ◌⊎◌, List, [], ◌∷◌, ◌++◌, length, set, get_or, Option, Some, None, refl, sym, ◌∙◌, ap, subst, arith, length-set, inl, inr}
+use mathlib.Core.Option.{some, none, some-injective, some-ne-none}
+use mathlib.Core.Option as maybe
+use lib.ListN.{get_elem?}
+use native.Mathlib.Decide.{ℕ_discrete}
+use mathlib.Core.Logic.{dite}
+use Rattle.atomic_table.proofs.Lists.{at_set, at_snoc, set_here, set_else}
+use Rattle.lockfree_object_pool.specs.declared.page.user_view.UserView.{UserView}
+use Rattle.lockfree_object_pool.specs.Word.{item_bit}
+use Rattle.lockfree_object_pool.specs.PageRule.{PageState, User, IsSet, Holds, IsPage}
+use Rattle.lockfree_object_pool.proofs.WordBits.{Turns}
+
+pub some_same : (id other : ℕ) → Some id ≡ Some other → id ≡ other
+some_same id other same = cc
+
+module _ {T : Type 0} where
+  abbrev pub state : List ℕ → List (maybe.Option (Option T)) → List (UserView T) → PageState T
+  state words homes views = record { words = words; homes = homes; views = views }
+
+  -- who holds an item, once the view of one user has changed
+  pub holds_after : (page : PageState T) (words : List ℕ) (homes : List (maybe.Option (Option T))) (user : ℕ)
+      (known : UserView T) (other id : ℕ) → Holds (state words homes (set page.views user known)) other id
+      → ((other ≡ user) × (known.held ≡ Some id)) ⊎ ((other ≢ user) × Holds page other id)
+  holds_after page words homes user known other id holds = elim (at_set page.views user other known holds.0 holds.1) [
+    | inl here ↦ inl (here.0, ap (λ (known : UserView T). known.held) here.1 ∙ holds.2)
+    | inr there ↦ inr (there.0, (holds.0, there.1, holds.2))
+  ]
+
+  pub at_snoc_last : (views : List (UserView T)) (new known : UserView T) (user : ℕ)
+      → get_elem? (views ++ new ∷ []) user ≡ some known
+      → (get_elem? views user ≡ some known) ⊎ ((length views ≡ user) × (new ≡ known))
+  at_snoc_last [] new known zero at = inr (refl, some-injective new known at)
+  at_snoc_last [] new known (suc user) at = absurd (some-ne-none known (sym at))
+  at_snoc_last (view ∷ views) new known zero at = inl at
+  at_snoc_last (view ∷ views) new known (suc user) at = elim (at_snoc_last views new known user at) [
+    | inl before ↦ inl before
+    | inr last ↦ inr (ap suc last.0, last.1)
+  ]
+
+  abbrev pub carried_value : T → List (ℕ × Option T) → T
+  carried_value other [] = other
+  carried_value other ((place, None) ∷ more) = other
+  carried_value other ((place, Some value) ∷ more) = value
+
+module _ {T : Type 0} (meets : T → Type 0) where
+  -- who joins holds nothing
+  pub held_before : (page : PageState T) (known : UserView T) → known.held ≡ None → (user id : ℕ)
+      → Holds (state page.words page.homes (page.views ++ known ∷ [])) user id → Holds page user id
+  held_before page known holds_none user id holds = elim (at_snoc page.views known holds.0 user holds.1) [
+    | inl before ↦ (holds.0, before, holds.2)
+    | inr new ↦ let none_held : None ≡ Some id =
+        sym holds_none ∙ ap (λ (known : UserView T). known.held) new ∙ holds.2 in absurd (cc)
+  ]
+
+  pub joins_page : (page : PageState T) (known : UserView T) → IsPage meets page → known.held ≡ None
+      → IsPage meets (state page.words page.homes (page.views ++ known ∷ []))
+  joins_page page known is holds_none = record {
+    all_places = is.all_places;
+    words_fit = is.words_fit;
+    free_is_home = is.free_is_home;
+    held_is_out = λ user id holds. is.held_is_out user id (held_before page known holds_none user id holds);
+    one_holder = λ user other id one two. is.one_holder user other id (held_before page known holds_none user id one)
+        (held_before page known holds_none other id two);
+  }
+
+  -- a bit is cleared that was set: the item goes out with the user
+  pub takes_item : (page : PageState T) (words : List ℕ) (user id : ℕ) (known : UserView T) → IsPage meets page
+      → id < length page.homes → Turns page.words id 0 words → ((p : ℕ) → get_or words p 0 < 2 ^ 32) → IsSet page id
+      → known.held ≡ Some id
+      → IsPage meets (state words (set page.homes id none) (set page.views user known))
+  takes_item page words user id known is within turned fits free holds_id =
+      let after = holds_after page words (set page.homes id none) user known in
+      let places = length-set page.homes id none in
+      record {
+        all_places = let all = is.all_places in let count = turned.same_count in omega arith;
+        words_fit = fits;
+        free_is_home = λ i set_now.
+            let other : i ≢ id = λ same. let clear = turned.here in let here = ap (item_bit words) same in
+            absurd (omega arith) in
+            let found = is.free_is_home i (sym (turned.others i other) ∙ set_now) in
+            (found.0, set_else page.homes id i none other ∙ found.1, found.2);
+        held_is_out = λ other i holds. elim (after other i holds) [
+          | inl mine ↦ let same : id ≡ i = some_same id i (sym holds_id ∙ mine.1) in
+              subst (λ i. (i < length (set page.homes id none)) × (item_bit words i ≡ 0)) same
+              (omega arith, turned.here)
+          | inr theirs ↦
+              let out = is.held_is_out other i theirs.1 in
+              let below = out.0 in
+              let differ : i ≢ id = λ same. let here = ap (item_bit page.words) same in let zero = out.1 in
+              absurd (omega arith) in
+              (omega arith, turned.others i differ ∙ out.1)
+        ];
+        one_holder = λ one two i holds_one holds_two. elim (after one i holds_one) [
+          | inl mine ↦ elim (after two i holds_two) [
+            | inl also ↦ mine.0 ∙ sym also.0
+            | inr theirs ↦ let same : id ≡ i = some_same id i (sym holds_id ∙ mine.1) in
+                let out = (is.held_is_out two i theirs.1).1 in let here = ap (item_bit page.words) same in
+                absurd (omega arith)
+          ]
+          | inr theirs ↦ elim (after two i holds_two) [
+            | inl mine ↦ let same : id ≡ i = some_same id i (sym holds_id ∙ mine.1) in
+                let out = (is.held_is_out one i theirs.1).1 in let here = ap (item_bit page.words) same in
+                absurd (omega arith)
+            | inr both ↦ is.one_holder one two i theirs.1 both.1
+          ]
+        ];
+      }
+
+  -- no bit has changed: the page is as it was, and one user knows more
+  pub keeps_item : (page : PageState T) (words : List ℕ) (user : ℕ) (old known : UserView T) → IsPage meets page
+      → length words ≡ length page.words → ((p : ℕ) → get_or words p 0 < 2 ^ 32)
+      → ((i : ℕ) → item_bit words i ≡ item_bit page.words i) → get_elem? page.views user ≡ some old
+      → known.held ≡ old.held
+      → IsPage meets (state words page.homes (set page.views user known))
+  keeps_item page words user old known is count fits same_bits at holds_same =
+      let held : (other i : ℕ) → Holds (state words page.homes (set page.views user known)) other i
+      → Holds page other i = λ other i holds. elim (holds_after page words page.homes user known other i holds) [
+        | inl mine ↦ subst (λ one. Holds page one i) (sym mine.0) (old, at, sym holds_same ∙ mine.1)
+        | inr theirs ↦ theirs.1
+      ] in
+      record {
+        all_places = let all = is.all_places in omega arith;
+        words_fit = fits;
+        free_is_home = λ i set_now. is.free_is_home i (sym (same_bits i) ∙ set_now);
+        held_is_out = λ other i holds. let was = is.held_is_out other i (held other i holds) in
+            (was.0, same_bits i ∙ was.1);
+        one_holder = λ one two i holds_one holds_two. is.one_holder one two i (held one i holds_one)
+            (held two i holds_two);
+      }
+
+  -- a bit is set that its holder's value is home for: the item is free again
+  pub gives_item : (page : PageState T) (words : List ℕ) (user id : ℕ) (me : User T) (value : T) (known : UserView T)
+      → IsPage meets page → id < length page.homes → Turns page.words id 1 words → ((p : ℕ) → get_or words p 0 < 2 ^ 32)
+      → get_elem? page.views user ≡ some me.0 → me.0.held ≡ Some id → meets value → known.held ≡ None
+      → IsPage meets (state words (set page.homes id (some (Some value))) (set page.views user known))
+  gives_item page words user id me value known is within turned fits at holds met holds_none =
+      let homes = set page.homes id (some (Some value)) in
+      let places = length-set page.homes id (some (Some value)) in
+      let after : (other i : ℕ) → Holds (state words homes (set page.views user known)) other i
+      → (other ≢ user) × Holds page other i =
+      λ other i holds_i. elim (holds_after page words homes user known other i holds_i) [
+        | inl mine ↦ let none_held : None ≡ Some i = sym holds_none ∙ mine.1 in absurd (cc)
+        | inr theirs ↦ theirs
+      ] in
+      record {
+        all_places = let all = is.all_places in let count = turned.same_count in omega arith;
+        words_fit = fits;
+        free_is_home = λ i set_now. dite (ℕ_discrete i id)
+            (λ same. (
+              value,
+              subst (λ i. get_elem? homes i ≡ some (some (Some value))) (sym same)
+                  (set_here page.homes id (some (Some value)) within),
+              met,
+            ))
+            (λ differ. let found = is.free_is_home i (sym (turned.others i differ) ∙ set_now) in
+            (found.0, set_else page.homes id i (some (Some value)) differ ∙ found.1, found.2));
+        held_is_out = λ other i holds_i.
+            let theirs = after other i holds_i in
+            let out = is.held_is_out other i theirs.1 in
+            let below = out.0 in
+            let differ : i ≢ id =
+            λ same. theirs.0 (is.one_holder other user id (subst (Holds page other) same theirs.1)
+            (me.0, at, holds)) in
+            (omega arith, turned.others i differ ∙ out.1);
+        one_holder = λ one two i holds_one holds_two. is.one_holder one two i (after one i holds_one).1
+            (after two i holds_two).1;
+      }

@@ -1,0 +1,12 @@
+-- What contracts see of a world.
+use Rattle.object_pool_cores.specs.declared.interleave.world.World.{World}
+use Rattle.object_pool_cores.specs.World.State.{WorldState}
+
+module _ {T R : Type 0} where
+  -- its pages, its agents and its limit
+  abbrev pub world_state : World T R → WorldState T
+  world_state world = world.reachable
+
+  -- what resets the values that are returned
+  abbrev pub world_reset : World T R → R
+  world_reset world = world.reset

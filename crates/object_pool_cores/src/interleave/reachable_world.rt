@@ -1,0 +1,88 @@
+//! A machine that events led to from its opening, and the steps of which are exact.
+ghost use Rattle.std.specs.Prelude.{◌≡◌, Option, option_map, option_copied, slice_get, length, IfOk};
+ghost use Rattle.object_pool_cores.specs.Pool.{AllowsPages};
+ghost use Rattle.object_pool_cores.specs.World.Headline.{IsNew};
+ghost use Rattle.object_pool_cores.specs.World.Machine.{held_by, opening_world, page_value, Steps};
+ghost use Rattle.object_pool_cores.specs.World.Reachable.{IsReachable};
+ghost use Rattle.object_pool_cores.specs.World.Enabled.{IsExact};
+
+use crate::interleave::machine::Machine;
+use crate::interleave::{Event, Prepared, Seen};
+use lockfree_object_pool::clean::AnyValue;
+use lockfree_object_pool::closures::Reset;
+use lockfree_object_pool::page::PageId;
+use std::alloc::{AllocError, Global};
+use std::marker::Model;
+
+/// The pages and agents of a world, as some events left them.
+#[derive(Drop)]
+pub struct ReachableWorld<T> {
+    machine: Machine<T>,
+}
+
+impl<T> Model for ReachableWorld<T> {
+    ghost use Rattle.object_pool_cores.specs.World.State.{WorldState};
+    ghost use Rattle.object_pool_cores.specs.World.Reachable.{IsReachable};
+
+    ghost Value = { WorldState T };
+
+    ghost view = { λ reached. reached.machine };
+
+    ghost invariant = { λ reached. IsReachable reached.machine };
+}
+
+impl<T: Drop> ReachableWorld<T> {
+    /// One page of these values, and no agent.
+    pub fn new(
+        alloc: Global,
+        first: Prepared<T>,
+        limit: Option<usize>,
+    ) -> Result<ReachableWorld<T>, AllocError>
+        requires { AllowsPages limit 1 }
+        ensures opening { IfOk result (λ world. world ≡ opening_world first limit) }
+        ensures is_new { IfOk result IsNew }
+    {
+        Ok(ReachableWorld {
+            machine: Machine::new(alloc, first, limit)?,
+        })
+    }
+
+    pub fn pages(&self) -> usize
+        ensures { result ≡ length self.now.pages }
+    {
+        self.machine.pages()
+    }
+
+    pub fn limit(&self) -> Option<usize>
+        ensures { result ≡ self.now.limit }
+    {
+        self.machine.limit()
+    }
+
+    pub fn word(&self, page: usize) -> Option<u32>
+        ensures { result ≡ option_map (λ page. page.word) (slice_get self.now.pages page) }
+    {
+        self.machine.word(page)
+    }
+
+    pub fn place(&self, page: usize, id: PageId) -> Option<&T>
+        ensures { option_copied result ≡ page_value self.now.pages page id }
+    {
+        self.machine.place(page, id)
+    }
+
+    pub fn held(&self, agent: usize) -> Option<&T>
+        ensures { option_copied result ≡ held_by (slice_get self.now.agents agent) }
+    {
+        self.machine.held(agent)
+    }
+
+    /// One step. Only `MoveHome` uses `reset`.
+    pub fn step<R: Reset<T, AnyValue>>(&mut self, reset: &R, event: Event<T>) -> Seen
+        ensures step { Steps (R.leaves reset.now) self.old event result self.new }
+        ensures exact { IsExact self.old event result self.new }
+        ensures reachable { IsReachable self.old }
+    {
+        self.machine.step(reset, event)
+    }
+}

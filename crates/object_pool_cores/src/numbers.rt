@@ -1,0 +1,28 @@
+//! The numbers of items, by their pages and their places there.
+ghost use Rattle.std.specs.Prelude.{◌≡◌, ◌≤◌, ◌<◌, ◌*◌, ◌+◌, MatchOption};
+ghost use Rattle.lockfree_object_pool.specs.declared.page.TheConstants.{PAGE_ITEMS};
+ghost use Rattle.object_pool_cores.specs.Pool.{number};
+
+use lockfree_object_pool::page::{PAGE_ITEMS, PageId};
+
+/// How many numbers a page has.
+const PAGE_NUMBERS: u128 = PAGE_ITEMS as u128;
+
+/// The number of an item, by its page and its id there.
+pub(crate) fn number(page: usize, id: PageId) -> u128
+    ensures { result ≡ number page id }
+{
+    PAGE_NUMBERS * page as u128 + u128::from(id)
+}
+
+/// The page and the id of a number, where it is below the end of so many pages.
+pub(crate) fn page_and_id(number: u128, pages: usize) -> Option<(usize, PageId)>
+    ensures { MatchOption result (PAGE_ITEMS * pages ≤ number)
+        (λ at. (number ≡ PAGE_ITEMS * at.0 + at.1) × (at.1 < PAGE_ITEMS) × (at.0 < pages)) }
+{
+    let page = usize::try_from(number / PAGE_NUMBERS).ok()?;
+    if page >= pages {
+        return None;
+    }
+    Some((page, (number % PAGE_NUMBERS) as PageId))
+}

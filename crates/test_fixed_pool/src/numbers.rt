@@ -1,0 +1,58 @@
+//! The pools of numbers that most tests are of: each number is the call that made it.
+ghost use Rattle.std.specs.Prelude.{◌≡◌, ◌≤◌, IfOk};
+ghost use Rattle.lockfree_object_pool.specs.FixedPool.{pool_items};
+
+use lockfree_object_pool::clean::AnyValue;
+use lockfree_object_pool::closures::{Init, Keep};
+use lockfree_object_pool::{FixedObjectPool, FixedOwnedReusable, FixedReusable, PullError};
+use std::alloc::Global;
+use std::sync::Arc;
+use std::sync::atomic::AtomicUsize;
+use std::sync::atomic::Ordering::SeqCst;
+
+/// Makes numbers, of which each is the count of the calls before it.
+#[derive(Drop)]
+pub struct Numbers {
+    pub calls: Arc<AtomicUsize>,
+}
+
+impl Init<usize, AnyValue> for Numbers {
+    fn make(&self) -> Option<usize> {
+        Some(self.calls.fetch_add(1, SeqCst))
+    }
+}
+
+/// A pool of numbers that keeps what was written last.
+pub type NumberPool = FixedObjectPool<usize, Numbers, Keep, AnyValue>;
+
+/// A pulled number.
+pub type NumberItem<'p> = FixedReusable<'p, usize, Numbers, Keep, AnyValue>;
+
+/// A pulled number that keeps an owner of its pool.
+pub type NumberOwnedItem = FixedOwnedReusable<usize, Numbers, Keep, AnyValue>;
+
+/// A pool of so many numbers, of which item `i` is `i`.
+pub fn new_pool(
+    alloc: Global,
+    calls: &Arc<AtomicUsize>,
+    items: usize,
+) -> Result<NumberPool, PullError>
+    requires { 1 ≤ items }
+    ensures { IfOk result (λ pool. pool_items pool ≡ items) }
+{
+    let calls = Arc::try_clone(calls)?;
+    FixedObjectPool::new(alloc, Numbers { calls }, Keep, items)
+}
+
+/// As many items as a list has room for, in the order of their pulls.
+pub fn held<'p>(
+    alloc: Global,
+    pool: &'p NumberPool,
+    items: usize,
+) -> Result<Vec<NumberItem<'p>>, PullError> {
+    let mut held = Vec::with_capacity(alloc, items)?;
+    for _ in 0..items {
+        held.push(pool.pull()?)?;
+    }
+    Ok(held)
+}

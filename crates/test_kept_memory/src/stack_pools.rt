@@ -1,0 +1,114 @@
+//! Turns on the mutex pool and the spin lock pool, which are one pool over two kinds of list.
+use crate::observer::Observer;
+use crate::supply::{Buffer, Supply};
+use anyhow::Result;
+use lockfree_object_pool::clean::AnyValue;
+use lockfree_object_pool::closures::Keep;
+use lockfree_object_pool::free_list::FreeList;
+use lockfree_object_pool::made_or_reset::MadeOrReset;
+use lockfree_object_pool::spin_lock::SpinLock;
+use lockfree_object_pool::stack::Stack;
+use lockfree_object_pool::stack_object_pool::StackObjectPool;
+use lockfree_object_pool::stack_reusable::StackReusable;
+use lockfree_object_pool::{MutexObjectPool, PullError, SpinLockObjectPool};
+use std::alloc::Global;
+use std::rt::Files;
+use std::sync::{Arc, Mutex, Wait};
+
+/// What these pools keep.
+type KeptBuffers = MadeOrReset<Supply, Keep, AnyValue>;
+
+/// The list of a mutex pool.
+type Mutexed = Mutex<Stack<Buffer, KeptBuffers>>;
+
+/// The list of a spin lock pool.
+type SpinLocked = SpinLock<Stack<Buffer, KeptBuffers>>;
+
+type Pool<F> = StackObjectPool<Buffer, Supply, Keep, AnyValue, F>;
+
+/// A list of which a pool can be made.
+trait List: FreeList<Buffer, KeptBuffers> {
+    fn new_pool(alloc: Global, supply: &Supply) -> Option<Arc<Pool<Self>>>;
+}
+
+impl List for Mutexed {
+    fn new_pool(alloc: Global, supply: &Supply) -> Option<Arc<Pool<Mutexed>>> {
+        let pool = MutexObjectPool::new(alloc, supply.share()?, Keep);
+        Arc::new(alloc, pool).ok()
+    }
+}
+
+impl List for SpinLocked {
+    fn new_pool(alloc: Global, supply: &Supply) -> Option<Arc<Pool<SpinLocked>>> {
+        let pool = SpinLockObjectPool::new(alloc, supply.share()?, Keep).ok()?;
+        Arc::new(alloc, pool).ok()
+    }
+}
+
+pub fn observe<R: Files + AllocGlobal + Print, W: Wait + Copy>(
+    rt: &W,
+    alloc: Global,
+    observer: &mut Observer<R>,
+) -> Result<()> {
+    observer.observe(
+        "refused pulls of a mutex pool",
+        &|turns| refused_pulls::<Mutexed, W>(rt, alloc, turns),
+    )?;
+    observer.observe(
+        "items of a mutex pool",
+        &|turns| returns::<Mutexed, W>(rt, alloc, turns),
+    )?;
+    observer.observe("mutex pools", &|turns| ends::<Mutexed, W>(rt, alloc, turns))?;
+    observer.observe(
+        "refused pulls of a spin lock pool",
+        &|turns| refused_pulls::<SpinLocked, W>(rt, alloc, turns),
+    )?;
+    observer.observe(
+        "items of a spin lock pool",
+        &|turns| returns::<SpinLocked, W>(rt, alloc, turns),
+    )?;
+    observer.observe(
+        "spin lock pools",
+        &|turns| ends::<SpinLocked, W>(rt, alloc, turns),
+    )
+}
+
+/// Pulls are refused by `init`, each after it has made a room.
+fn refused_pulls<F: List, W: Wait + Copy>(rt: &W, alloc: Global, turns: usize) -> Option<()> {
+    let supply = Supply::endless(alloc)?;
+    let pool = F::new_pool(alloc, &supply)?;
+    supply.end_after(0);
+    for _ in 0..turns {
+        let Err(PullError::Init) = pool.pull(rt) else {
+            return None;
+        };
+        let Err(PullError::Init) = pool.pull_owned(rt) else {
+            return None;
+        };
+    }
+    Some(())
+}
+
+/// Items are pulled and returned.
+fn returns<F: List, W: Wait + Copy>(rt: &W, alloc: Global, turns: usize) -> Option<()> {
+    let pool = F::new_pool(alloc, &Supply::endless(alloc)?)?;
+    for _ in 0..turns {
+        let _borrowed = pool.pull(rt).ok()?;
+        let _owned = pool.pull_owned(rt).ok()?;
+    }
+    Some(())
+}
+
+/// A pool ends, once items that were attached to it came back, and others that were pulled then.
+fn ends<F: List, W: Wait + Copy>(rt: &W, alloc: Global, turns: usize) -> Option<()> {
+    let supply = Supply::endless(alloc)?;
+    for _ in 0..turns {
+        let pool = F::new_pool(alloc, &supply)?;
+        let attached = StackReusable::new(rt, &*pool, supply.buffer()?).ok()?;
+        drop(attached);
+        let owner = Arc::try_clone(&pool).ok()?;
+        let _attached = StackReusable::new(rt, owner, supply.buffer()?).ok()?;
+        let _pulled = pool.pull_owned(rt).ok()?;
+    }
+    Some(())
+}

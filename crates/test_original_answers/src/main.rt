@@ -1,0 +1,111 @@
+//! Calls of one thread, read from standard input and done on a pool, so that the answers of another library to the same calls can
+//! be compared.
+#![tactic(auto)]
+
+mod arguments;
+mod call;
+mod held;
+mod item;
+mod pools;
+mod replay;
+
+use anyhow::{Context, Result};
+use arguments::{Arguments, Kind, arguments_of};
+use held::{Given, Source};
+use item::{Item, Numbered, Restore, Tally};
+use lockfree_object_pool::closures::Init;
+use lockfree_object_pool::free_list::FreeList;
+use lockfree_object_pool::{
+    LinearObjectPool, MutexObjectPool, NoneObjectPool, NoneReusable, SpinLockObjectPool,
+};
+use pools::{
+    Linear, Stacked, StackedItems, linear_item, linear_owned_item, stack_item, stack_owned_item,
+};
+use replay::replay;
+use std::env;
+use std::sync::{Arc, Wait};
+
+fn main(rt: HostRuntime) -> Result<()> {
+    let mut arguments = env::args(&rt)?;
+    let _name = arguments.next();
+    let arguments: Vec<String> = arguments.collect(rt.alloc())?;
+    let words: Vec<&str> = arguments.iter().map(String::as_str).collect(rt.alloc())?;
+    let arguments = arguments_of(&words).context(
+        "usage: test_original_answers linear|mutex|spin_lock|none keep|clear",
+    )?;
+    let tally = Arc::new(rt.alloc(), Tally::new())?;
+    replay_on(&rt, &tally, arguments)?;
+    println!(rt; "end: {}", *tally)?;
+    Ok(())
+}
+
+/// Does the calls on a new pool, which ends with the last of them, unless an item that owns it was forgotten.
+fn replay_on<R: Input + Print + AllocGlobal + Wait + Copy>(
+    rt: &R,
+    tally: &Arc<Tally>,
+    arguments: Arguments,
+) -> Result<()> {
+    let Arguments { kind, clears } = arguments;
+    let init = Numbered {
+        tally: Arc::try_clone(tally)?,
+    };
+    let reset = Restore {
+        tally: Arc::try_clone(tally)?,
+        clears,
+    };
+    match kind {
+        Kind::Linear => {
+            let pool = LinearObjectPool::new(rt.alloc(), init, reset)?;
+            replay_on_linear(rt, tally, pool)
+        }
+        Kind::Mutex => {
+            let pool = MutexObjectPool::new(rt.alloc(), init, reset);
+            replay_on_stack(rt, tally, pool)
+        }
+        Kind::SpinLock => {
+            let pool = SpinLockObjectPool::new(rt.alloc(), init, reset)?;
+            replay_on_stack(rt, tally, pool)
+        }
+        Kind::None => replay_on_none(rt, tally, init),
+    }
+}
+
+fn replay_on_linear<R: Input + Print + AllocGlobal>(
+    rt: &R,
+    tally: &Arc<Tally>,
+    pool: Linear,
+) -> Result<()> {
+    let pool = Arc::new(rt.alloc(), pool)?;
+    let borrowed = |source| linear_item(&pool, source);
+    let owned = |source| linear_owned_item(&pool, source);
+    replay(rt, tally, &borrowed, &owned)
+}
+
+fn replay_on_stack<R: Input + Print + AllocGlobal + Wait + Copy, F: FreeList<Item, StackedItems>>(
+    rt: &R,
+    tally: &Arc<Tally>,
+    pool: Stacked<F>,
+) -> Result<()> {
+    let pool = Arc::new(rt.alloc(), pool)?;
+    let borrowed = |source| stack_item(rt, &pool, source);
+    let owned = |source| stack_owned_item(rt, &pool, source);
+    replay(rt, tally, &borrowed, &owned)
+}
+
+fn replay_on_none<R: Input + Print + AllocGlobal>(
+    rt: &R,
+    tally: &Arc<Tally>,
+    init: Numbered,
+) -> Result<()> {
+    let pool = NoneObjectPool::new(|| init.make());
+    let pool = Arc::new(rt.alloc(), pool)?;
+    let borrowed = |source| match source {
+        Source::Pool => Some(Given::nowhere(pool.pull().ok()?)),
+        Source::Caller(item) => Some(Given::nowhere(NoneReusable::new(item))),
+    };
+    let owned = |source| match source {
+        Source::Pool => Some(Given::nowhere(pool.pull_owned().ok()?)),
+        Source::Caller(item) => Some(Given::nowhere(NoneReusable::new(item))),
+    };
+    replay(rt, tally, &borrowed, &owned)
+}

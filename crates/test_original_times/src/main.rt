@@ -1,0 +1,104 @@
+//! Pools at work: without arguments, a little of each work on each pool, and what it gave; with a task as arguments, that
+//! task alone, and how long it took too.
+#![tactic(auto)]
+
+mod measure;
+mod peak_memory;
+mod task;
+mod turns;
+
+use anyhow::{Context, Result};
+use measure::measure;
+use peak_memory::peak_kilobytes;
+use std::env;
+use std::rt::{Clock, Env, Files};
+use std::sync::Wait;
+use std::thread::Threads;
+use task::{Kind, Task, Work, task_of};
+
+/// How often each work is done where no task is asked for.
+const FEW_TURNS: u64 = 100;
+
+const KINDS: [Kind; 5] = [
+    Kind::Linear,
+    Kind::SpinLock,
+    Kind::Mutex,
+    Kind::Fixed,
+    Kind::FixedNear,
+];
+
+/// A little of each work. 70 items held fill two pages of a linear pool and a part of a third.
+const WORKS: [Work; 7] = [
+    Work::Pull { held: 0 },
+    Work::Pull { held: 70 },
+    Work::PullOwned { held: 0 },
+    Work::PullOwned { held: 70 },
+    Work::Share {
+        threads: 2,
+        held: 0,
+    },
+    Work::Share {
+        threads: 4,
+        held: 70,
+    },
+    Work::Hold,
+];
+
+fn main(rt: HostRuntime) -> Result<()> {
+    let mut arguments = env::args(&rt)?;
+    let _name = arguments.next();
+    let arguments: Vec<String> = arguments.collect(rt.alloc())?;
+    let words: Vec<&str> = arguments.iter().map(String::as_str).collect(rt.alloc())?;
+    if words.is_empty() {
+        return show_each(&rt);
+    }
+    let task = task_of(&words).context("usage: test_original_times [POOL WORK TURNS]")?;
+    show_time(&rt, task)
+}
+
+/// Does a little of each work on each pool, then lets a fixed pool refuse, and prints what each gave.
+fn show_each<R: Clock + Threads + Wait + AllocGlobal + Print + Copy + Sync>(rt: &R) -> Result<()> {
+    for kind in KINDS {
+        for work in WORKS {
+            let task = Task {
+                kind,
+                work,
+                turns: FEW_TURNS,
+            };
+            show_sum(rt, task)?;
+        }
+    }
+    show_sum(
+        rt,
+        Task {
+            kind: Kind::Fixed,
+            work: Work::Refuse,
+            turns: FEW_TURNS,
+        },
+    )
+}
+
+/// Does a task, and prints what it gave.
+fn show_sum<R: Clock + Threads + Wait + AllocGlobal + Print + Copy + Sync>(
+    rt: &R,
+    task: Task,
+) -> Result<()> {
+    let sum = measure(rt, task)?.sum;
+    println!(rt; "{task}: {sum}")?;
+    Ok(())
+}
+
+/// Does a task, and prints what it gave, how many nanoseconds its turns took, and how much memory the process had at most.
+fn show_time<R: Clock + Files + Threads + Wait + AllocGlobal + Print + Copy + Sync>(
+    rt: &R,
+    task: Task,
+) -> Result<()> {
+    let measured = measure(rt, task)?;
+    let nanoseconds = measured.time.as_nanos();
+    let kilobytes = peak_kilobytes(rt)?;
+    println!(rt;
+        "{task}: {} in {nanoseconds} ns, {kilobytes} kB",
+        measured.sum
+    )?;
+    Ok(())
+}

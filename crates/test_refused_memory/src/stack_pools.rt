@@ -1,0 +1,253 @@
+//! Mutex pools and spin lock pools: what is refused calls no `init`, and can be asked for again.
+use crate::refusals::Refusals;
+use crate::tallied::{Tallied, TalliedValues, Tally, make, new_tally};
+use lockfree_object_pool::clean::AnyValue;
+use lockfree_object_pool::closures::{Copied, Keep};
+use lockfree_object_pool::free_list::FreeList;
+use lockfree_object_pool::made_or_reset::MadeOrReset;
+use lockfree_object_pool::spin_lock::SpinLock;
+use lockfree_object_pool::stack::Room;
+use lockfree_object_pool::stack_object_pool::StackObjectPool;
+use lockfree_object_pool::stack_reusable::StackReusable;
+use lockfree_object_pool::{MutexObjectPool, PullError, SpinLockObjectPool};
+use std::alloc::Global;
+use std::process::Abort;
+use std::sync::{Arc, Wait};
+use std::test::Fail;
+
+/// What a pool of tallied values keeps.
+type TrackedValues = MadeOrReset<TalliedValues, Keep, AnyValue>;
+
+/// A pool of values that are tallied.
+type Tracked<F> = StackObjectPool<Tallied, TalliedValues, Keep, AnyValue, F>;
+
+type TrackedByMutex = MutexObjectPool<Tallied, TalliedValues, Keep, AnyValue>;
+
+type TrackedBySpinLock = SpinLockObjectPool<Tallied, TalliedValues, Keep, AnyValue>;
+
+/// What a pool that resets nothing keeps.
+type KeptValues = MadeOrReset<Copied<u32, AnyValue>, Keep, AnyValue>;
+
+/// A pool that keeps what was written.
+type Kept<F> = StackObjectPool<u32, Copied<u32, AnyValue>, Keep, AnyValue, F>;
+
+type KeptByMutex = MutexObjectPool<u32, Copied<u32, AnyValue>, Keep, AnyValue>;
+
+type KeptBySpinLock = SpinLockObjectPool<u32, Copied<u32, AnyValue>, Keep, AnyValue>;
+
+fn tracked_by_mutex(alloc: Global, tally: &Arc<Tally>) -> Result<Arc<TrackedByMutex>, PullError> {
+    let pool = MutexObjectPool::new(alloc, TalliedValues::new(tally)?, Keep);
+    Ok(Arc::new(alloc, pool)?)
+}
+
+fn tracked_by_spin_lock(
+    alloc: Global,
+    tally: &Arc<Tally>,
+) -> Result<Arc<TrackedBySpinLock>, PullError> {
+    let pool = SpinLockObjectPool::new(alloc, TalliedValues::new(tally)?, Keep)?;
+    Ok(Arc::new(alloc, pool)?)
+}
+
+fn kept_by_mutex(alloc: Global) -> Result<Arc<KeptByMutex>, PullError> {
+    Ok(Arc::new(alloc, MutexObjectPool::new(alloc, Copied::new(0), Keep))?)
+}
+
+fn kept_by_spin_lock(alloc: Global) -> Result<Arc<KeptBySpinLock>, PullError> {
+    Ok(Arc::new(alloc, SpinLockObjectPool::new(alloc, Copied::new(0), Keep)?)?)
+}
+
+/// A pull and its drop, and a pull of what is kept.
+fn pulls<F: FreeList<Tallied, TrackedValues>, W: Abort + Wait + Copy>(
+    rt: &W,
+    refusals: &Refusals,
+    pool: &Tracked<F>,
+    tally: &Tally,
+) -> Result<(), PullError> {
+    let item = match pool.pull(rt) {
+        Err(PullError::Memory) => {
+            refusals.note();
+            assert_eq!(rt; tally.made(), 0);
+            pool.pull(rt)?
+        }
+        answer => answer?,
+    };
+    assert_eq!(rt; (item.number, tally.made()), (0, 1));
+    drop(item);
+    let again = pool.pull(rt)?;
+    assert_eq!(rt; (again.number, tally.made(), tally.living()), (0, 1, 1));
+    Ok(())
+}
+
+#[test]
+fn a_pull_that_was_refused_is_asked_again(rt: HostRuntime) -> Result<(), Fail> {
+    let refusals = Refusals::new();
+    let tally = refusals.again(&|| new_tally(rt.alloc()))?;
+    let pool = refusals.again(&|| tracked_by_mutex(rt.alloc(), &tally))?;
+    pulls(&rt, &refusals, &pool, &tally)?;
+    drop(pool);
+    assert_eq!(rt; tally.living(), 0);
+    let tally = refusals.again(&|| new_tally(rt.alloc()))?;
+    let pool = refusals.again(&|| tracked_by_spin_lock(rt.alloc(), &tally))?;
+    pulls(&rt, &refusals, &pool, &tally)?;
+    drop(pool);
+    assert_eq!(rt; tally.living(), 0);
+    Ok(refusals.tell(&rt)?)
+}
+
+/// A filling that was refused keeps what it made before, and goes on where it is asked again.
+fn fills<F: FreeList<Tallied, TrackedValues>, W: Abort + Wait + Copy>(
+    rt: &W,
+    refusals: &Refusals,
+    pool: &Tracked<F>,
+    tally: &Tally,
+) -> Result<(), PullError> {
+    if pool.fill(rt, 3) == Err(PullError::Memory) {
+        refusals.note();
+        pool.fill(rt, 3usize.saturating_sub(tally.made()))?;
+    }
+    assert_eq!(rt; (pool.kept(rt), tally.made(), tally.living()), (3, 3, 3));
+    pool.clear(rt);
+    assert_eq!(rt; (pool.kept(rt), tally.living()), (0, 0));
+    Ok(())
+}
+
+#[test]
+fn a_filling_that_was_refused_goes_on(rt: HostRuntime) -> Result<(), Fail> {
+    let refusals = Refusals::new();
+    let tally = refusals.again(&|| new_tally(rt.alloc()))?;
+    let pool = refusals.again(&|| tracked_by_mutex(rt.alloc(), &tally))?;
+    fills(&rt, &refusals, &pool, &tally)?;
+    let tally = refusals.again(&|| new_tally(rt.alloc()))?;
+    let pool = refusals.again(&|| tracked_by_spin_lock(rt.alloc(), &tally))?;
+    fills(&rt, &refusals, &pool, &tally)?;
+    Ok(refusals.tell(&rt)?)
+}
+
+/// An owned pull and its drop, and an owned pull of what is kept.
+fn owned_pulls<F: FreeList<Tallied, TrackedValues>, W: Abort + Wait + Copy>(
+    rt: &W,
+    refusals: &Refusals,
+    pool: &Arc<Tracked<F>>,
+    tally: &Tally,
+) -> Result<(), PullError> {
+    let item = match pool.pull_owned(rt) {
+        Err(PullError::Memory) => {
+            refusals.note();
+            assert_eq!(rt; tally.made(), 0);
+            pool.pull_owned(rt)?
+        }
+        answer => answer?,
+    };
+    assert_eq!(rt; (item.number, tally.made()), (0, 1));
+    drop(item);
+    let again = pool.pull_owned(rt)?;
+    assert_eq!(rt; (again.number, tally.made(), tally.living()), (0, 1, 1));
+    Ok(())
+}
+
+#[test]
+fn an_owned_pull_that_was_refused_is_asked_again(rt: HostRuntime) -> Result<(), Fail> {
+    let refusals = Refusals::new();
+    let tally = refusals.again(&|| new_tally(rt.alloc()))?;
+    let pool = refusals.again(&|| tracked_by_mutex(rt.alloc(), &tally))?;
+    owned_pulls(&rt, &refusals, &pool, &tally)?;
+    drop(pool);
+    assert_eq!(rt; tally.living(), 0);
+    let tally = refusals.again(&|| new_tally(rt.alloc()))?;
+    let pool = refusals.again(&|| tracked_by_spin_lock(rt.alloc(), &tally))?;
+    owned_pulls(&rt, &refusals, &pool, &tally)?;
+    drop(pool);
+    assert_eq!(rt; tally.living(), 0);
+    Ok(refusals.tell(&rt)?)
+}
+
+/// Attaches 8 and 9, borrowed and owned. Each comes back where it is refused, and is kept after its drop.
+fn attaches<F: FreeList<u32, KeptValues>, W: Abort + Wait + Copy>(
+    rt: &W,
+    refusals: &Refusals,
+    pool: &Arc<Kept<F>>,
+) -> Result<(), Fail> {
+    let item = match StackReusable::new(rt, &**pool, 8) {
+        Err(back) => {
+            refusals.note();
+            StackReusable::new(rt, &**pool, back).map_err(|_| "refused twice")?
+        }
+        Ok(item) => item,
+    };
+    assert_eq!(rt; *item, 8);
+    drop(item);
+    let first = pool.pull(rt)?;
+    assert_eq!(rt; *first, 8);
+    let owned = match StackReusable::new(rt, Arc::try_clone(pool)?, 9) {
+        Err(back) => {
+            refusals.note();
+            let owner = Arc::try_clone(pool)?;
+            StackReusable::new(rt, owner, back).map_err(|_| "refused twice")?
+        }
+        Ok(item) => item,
+    };
+    assert_eq!(rt; *owned, 9);
+    drop(owned);
+    assert_eq!(rt; *pool.pull_owned(rt)?, 9);
+    Ok(())
+}
+
+#[test]
+fn an_attached_value_comes_back(rt: HostRuntime) -> Result<(), Fail> {
+    let refusals = Refusals::new();
+    let pool = refusals.again(&|| kept_by_mutex(rt.alloc()))?;
+    attaches(&rt, &refusals, &pool)?;
+    let pool = refusals.again(&|| kept_by_spin_lock(rt.alloc()))?;
+    attaches(&rt, &refusals, &pool)?;
+    Ok(refusals.tell(&rt)?)
+}
+
+/// A value that the pool keeps, and one that is attached to an owned item or comes back. The pool ends with its last owner, and
+/// drops what it keeps.
+fn ends_behind_attach<F: FreeList<Tallied, TrackedValues>, W: Abort + Wait + Copy>(
+    rt: &W,
+    refusals: &Refusals,
+    pool: Arc<Tracked<F>>,
+    tally: &Arc<Tally>,
+) -> Result<(), Fail> {
+    refusals.again(&|| pool.fill(rt, 1))?;
+    let value = make(tally).ok_or("a value takes no memory")?;
+    match StackReusable::new(rt, Arc::try_clone(&pool)?, value) {
+        Ok(item) => drop(item),
+        Err(back) => {
+            refusals.note();
+            assert_eq!(rt; (back.number, tally.living()), (1, 2));
+        }
+    }
+    drop(pool);
+    assert_eq!(rt; (tally.made(), tally.living()), (2, 0));
+    Ok(())
+}
+
+#[test]
+fn a_pool_ends_behind_an_owned_attach_that_was_refused(rt: HostRuntime) -> Result<(), Fail> {
+    let refusals = Refusals::new();
+    let tally = refusals.again(&|| new_tally(rt.alloc()))?;
+    let pool = refusals.again(&|| tracked_by_mutex(rt.alloc(), &tally))?;
+    ends_behind_attach(&rt, &refusals, pool, &tally)?;
+    let tally = refusals.again(&|| new_tally(rt.alloc()))?;
+    let pool = refusals.again(&|| tracked_by_spin_lock(rt.alloc(), &tally))?;
+    ends_behind_attach(&rt, &refusals, pool, &tally)?;
+    Ok(refusals.tell(&rt)?)
+}
+
+#[test]
+fn a_lock_gives_its_value_back(rt: HostRuntime) -> Result<(), Fail> {
+    let refusals = Refusals::new();
+    let lock = match SpinLock::new(rt.alloc(), 7u32) {
+        Err(back) => {
+            refusals.note();
+            SpinLock::new(rt.alloc(), back).map_err(|_| "refused twice")?
+        }
+        Ok(lock) => lock,
+    };
+    assert_eq!(rt; *lock.lock(&rt), 7);
+    let room = refusals.again(&|| Room::<u32>::new(rt.alloc()))?;
+    drop(room);
+    Ok(refusals.tell(&rt)?)
+}

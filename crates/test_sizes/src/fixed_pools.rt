@@ -1,0 +1,38 @@
+//! Fixed pools of many items.
+ghost use Rattle.std.specs.Prelude.{◌≤◌};
+
+use crate::numbers::{Numbers, PAGE_ITEMS};
+use crate::rounds::come_back;
+use crate::wrong::Wrong;
+use lockfree_object_pool::closures::Keep;
+use lockfree_object_pool::{FixedObjectPool, PullError};
+use std::alloc::Global;
+use std::sync::Arc;
+
+type Pool = FixedObjectPool<u64, Numbers, Keep>;
+
+/// How many times the pages of another pool a fixed pool has.
+const TIMES: u64 = 4;
+
+/// Each item is pulled, and no more.
+pub fn borrowed(alloc: Global, pages: u16) -> Result<(), Wrong>
+    requires { 1 ≤ pages }
+{
+    let numbers = Numbers::new(alloc)?;
+    let items = u64::from(pages) * PAGE_ITEMS * TIMES;
+    let pool: Pool = FixedObjectPool::new(alloc, numbers.share()?, Keep, items as usize)?;
+    come_back(alloc, items, Some(PullError::Limit), &|| pool.pull())?;
+    numbers.expect_made(items)
+}
+
+/// As `borrowed`, by owned items.
+pub fn owned(alloc: Global, pages: u16) -> Result<(), Wrong>
+    requires { 1 ≤ pages }
+{
+    let numbers = Numbers::new(alloc)?;
+    let items = u64::from(pages) * PAGE_ITEMS * TIMES;
+    let pool: Pool = FixedObjectPool::new(alloc, numbers.share()?, Keep, items as usize)?;
+    let pool = Arc::new(alloc, pool)?;
+    come_back(alloc, items, Some(PullError::Limit), &|| pool.pull_owned())?;
+    numbers.expect_made(items)
+}

@@ -1,0 +1,54 @@
+//! Linear pools of many pages.
+ghost use Rattle.std.specs.Prelude.{◌≤◌};
+
+use crate::numbers::{Numbers, PAGE_ITEMS};
+use crate::rounds::come_back;
+use crate::wrong::Wrong;
+use lockfree_object_pool::closures::Keep;
+use lockfree_object_pool::{LinearObjectPool, PullError};
+use std::alloc::Global;
+use std::sync::Arc;
+
+type Pool = LinearObjectPool<u64, Numbers, Keep>;
+
+/// A pool with a limit: the last item is given, and no more.
+pub fn bounded(alloc: Global, pages: u16) -> Result<(), Wrong>
+    requires { 1 ≤ pages }
+{
+    let numbers = Numbers::new(alloc)?;
+    let pool: Pool = LinearObjectPool::with_limit(
+        alloc,
+        numbers.share()?,
+        Keep,
+        usize::from(pages),
+    )?;
+    let items = u64::from(pages) * PAGE_ITEMS;
+    come_back(alloc, items, Some(PullError::Limit), &|| pool.pull())?;
+    numbers.expect_made(items)
+}
+
+/// As `bounded`, by owned items.
+pub fn bounded_owned(alloc: Global, pages: u16) -> Result<(), Wrong>
+    requires { 1 ≤ pages }
+{
+    let numbers = Numbers::new(alloc)?;
+    let pool: Pool = LinearObjectPool::with_limit(
+        alloc,
+        numbers.share()?,
+        Keep,
+        usize::from(pages),
+    )?;
+    let pool = Arc::new(alloc, pool)?;
+    let items = u64::from(pages) * PAGE_ITEMS;
+    come_back(alloc, items, Some(PullError::Limit), &|| pool.pull_owned())?;
+    numbers.expect_made(items)
+}
+
+/// A pool without a limit makes no page beside those that its items need.
+pub fn unbounded(alloc: Global, pages: u16) -> Result<(), Wrong> {
+    let numbers = Numbers::new(alloc)?;
+    let pool: Pool = LinearObjectPool::new(alloc, numbers.share()?, Keep)?;
+    let items = u64::from(pages) * PAGE_ITEMS;
+    come_back(alloc, items, None, &|| pool.pull())?;
+    numbers.expect_made(items)
+}

@@ -1,0 +1,152 @@
+//! Pools at sizes for which a test has no time: each item is out at one moment, comes back, and is pulled again.
+//!
+//! The argument is how many pages of 32 items a pool has, 65,535 at most; a fixed pool has four times as many, a buffer pool a
+//! quarter. A line for each pool says that each item came back, or what was seen that may not be; then the status is 1.
+//!
+//! `player` and a number of turns let one player pull and return so often. Its indexes are never used again, so 2^32 turns and
+//! more show them past 32 bits: that takes minutes, and is run by hand.
+#![tactic(auto)]
+
+ghost use Rattle.std.specs.Prelude.{◌≤◌};
+
+mod buffers;
+mod cores;
+mod fixed_pools;
+mod linear_pools;
+mod numbers;
+mod players;
+mod rounds;
+mod stack_pools;
+mod wrong;
+
+use std::alloc::Global;
+use std::process::ExitCode;
+use std::rt::Env;
+use std::sync::Wait;
+use std::{env, io};
+use wrong::Wrong;
+
+fn main(rt: HostRuntime) -> io::Result<ExitCode> {
+    match arguments(&rt) {
+        Some(Task::Pages(pages)) if pages > 0 => show_pools(&rt, rt.alloc(), pages),
+        Some(Task::Turns(turns)) => show_player(&rt, rt.alloc(), turns),
+        _ => {
+            eprintln!(rt; "usage: test_sizes PAGES | player TURNS")?;
+            Ok(ExitCode::from(2))
+        }
+    }
+}
+
+/// What is asked for.
+#[derive(Clone, Copy)]
+enum Task {
+    /// Each pool, of so many pages.
+    Pages(u16),
+    /// One player, for so many turns.
+    Turns(u64),
+}
+
+/// The arguments.
+fn arguments<R: Env + AllocGlobal>(rt: &R) -> Option<Task> {
+    let mut arguments = env::args(rt).ok()?;
+    let _name = arguments.next();
+    let first = arguments.next()?;
+    if first.as_str() == "player" {
+        Some(Task::Turns(arguments.next()?.parse().ok()?))
+    } else {
+        Some(Task::Pages(first.parse().ok()?))
+    }
+}
+
+/// A pool that shows its items.
+#[derive(Clone, Copy)]
+enum Kind {
+    BoundedLinear,
+    BoundedLinearOwned,
+    Linear,
+    Buffers,
+    Fixed,
+    FixedOwned,
+    Mutex,
+    SpinLock,
+    BoundedLinearCore,
+    LinearCore,
+    StackCore,
+    Player,
+}
+
+/// Each kind of pool, with its name.
+const KINDS: [(&str, Kind); 12] = [
+    ("linear pool with a limit", Kind::BoundedLinear),
+    (
+        "linear pool with a limit, owned items",
+        Kind::BoundedLinearOwned,
+    ),
+    ("linear pool", Kind::Linear),
+    ("buffer pool", Kind::Buffers),
+    ("fixed pool", Kind::Fixed),
+    ("fixed pool, owned items", Kind::FixedOwned),
+    ("mutex pool", Kind::Mutex),
+    ("spin lock pool, owned items", Kind::SpinLock),
+    ("linear core with a limit", Kind::BoundedLinearCore),
+    ("linear core", Kind::LinearCore),
+    ("stack core", Kind::StackCore),
+    ("player", Kind::Player),
+];
+
+/// Each pool, and what was seen.
+fn show_pools<R: Print + Wait + Copy>(rt: &R, alloc: Global, pages: u16) -> io::Result<ExitCode>
+    requires { 1 ≤ pages }
+{
+    let mut status = ExitCode::SUCCESS;
+    for (name, kind) in KINDS {
+        let outcome = outcome_of(rt, alloc, kind, pages);
+        if !tell(rt, name, &outcome)? {
+            status = ExitCode::from(1);
+        }
+    }
+    Ok(status)
+}
+
+/// What was seen of a pool.
+fn outcome_of<W: Wait + Copy>(rt: &W, alloc: Global, kind: Kind, pages: u16) -> Result<(), Wrong>
+    requires { 1 ≤ pages }
+{
+    match kind {
+        Kind::BoundedLinear => linear_pools::bounded(alloc, pages),
+        Kind::BoundedLinearOwned => linear_pools::bounded_owned(alloc, pages),
+        Kind::Linear => linear_pools::unbounded(alloc, pages),
+        Kind::Buffers => buffers::bounded(alloc, pages),
+        Kind::Fixed => fixed_pools::borrowed(alloc, pages),
+        Kind::FixedOwned => fixed_pools::owned(alloc, pages),
+        Kind::Mutex => stack_pools::mutex(rt, alloc, pages),
+        Kind::SpinLock => stack_pools::spin_lock(rt, alloc, pages),
+        Kind::BoundedLinearCore => cores::bounded_linear(alloc, pages),
+        Kind::LinearCore => cores::linear(alloc, pages),
+        Kind::StackCore => cores::stack(alloc, pages),
+        Kind::Player => players::hold(alloc, pages),
+    }
+}
+
+/// One player, and what was seen.
+fn show_player<R: Print>(rt: &R, alloc: Global, turns: u64) -> io::Result<ExitCode> {
+    if tell(rt, "player", &players::take_turns(alloc, turns))? {
+        Ok(ExitCode::SUCCESS)
+    } else {
+        Ok(ExitCode::from(1))
+    }
+}
+
+/// Prints what was seen. Whether it was nothing that may not be.
+fn tell<R: Print>(rt: &R, name: &str, outcome: &Result<(), Wrong>) -> io::Result<bool> {
+    match outcome {
+        Ok(()) => {
+            println!(rt; "{name}: each item came back")?;
+            Ok(true)
+        }
+        Err(wrong) => {
+            println!(rt; "{name}: {wrong}")?;
+            Ok(false)
+        }
+    }
+}

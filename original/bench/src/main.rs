@@ -1,0 +1,172 @@
+//! The original pools at the work of the program `test_original_times` of the workspace, with its arguments and its line of output.
+use lockfree_object_pool::{LinearObjectPool, MutexObjectPool, SpinLockObjectPool};
+use std::ops::DerefMut;
+use std::sync::Arc;
+use std::time::{Duration, Instant};
+use std::{env, fs, thread};
+
+/// What is done to the pool, turn by turn.
+#[derive(Clone, Copy)]
+enum Work {
+    /// An item is pulled and dropped, while so many others are held.
+    Pull { held: usize },
+    /// The same with owned items.
+    PullOwned { held: usize },
+    /// So many threads pull and drop, each in all turns, while so many other items are held.
+    Share { threads: usize, held: usize },
+    /// An item is pulled and held.
+    Hold,
+}
+
+/// What a task gave.
+struct Measured {
+    /// The sum of what the items were, by which it is seen that the turns were done.
+    sum: u64,
+    /// How long the turns took.
+    time: Duration,
+}
+
+fn main() {
+    let words: Vec<String> = env::args().skip(1).collect();
+    let words: Vec<&str> = words.iter().map(String::as_str).collect();
+    let Some(Measured { sum, time }) = measure(&words) else {
+        panic!("usage: bench POOL WORK TURNS");
+    };
+    let (task, nanoseconds) = (words.join(" "), time.as_nanos());
+    println!("{task}: {sum} in {nanoseconds} ns, {} kB", peak_kilobytes());
+}
+
+/// Does the task that the words ask for, on a new pool.
+fn measure(words: &[&str]) -> Option<Measured> {
+    let [kind, work @ .., turns] = words else {
+        return None;
+    };
+    let (work, turns) = (work_of(work)?, turns.parse().ok()?);
+    let (init, reset) = (|| 0u64, |value: &mut u64| *value = 0);
+    match *kind {
+        "linear" | "fixed" | "fixed_near" => {
+            let pool = Arc::new(LinearObjectPool::new(init, reset));
+            Some(measure_pulls(work, turns, &|| pool.pull(), &|| {
+                pool.pull_owned()
+            }))
+        }
+        "spin_lock" => {
+            let pool = Arc::new(SpinLockObjectPool::new(init, reset));
+            Some(measure_pulls(work, turns, &|| pool.pull(), &|| {
+                pool.pull_owned()
+            }))
+        }
+        "mutex" => {
+            let pool = Arc::new(MutexObjectPool::new(init, reset));
+            Some(measure_pulls(work, turns, &|| pool.pull(), &|| {
+                pool.pull_owned()
+            }))
+        }
+        _ => None,
+    }
+}
+
+fn work_of(words: &[&str]) -> Option<Work> {
+    match words {
+        ["pull", held] => Some(Work::Pull {
+            held: held.parse().ok()?,
+        }),
+        ["pull_owned", held] => Some(Work::PullOwned {
+            held: held.parse().ok()?,
+        }),
+        ["share", threads, held] => Some(Work::Share {
+            threads: threads.parse().ok()?,
+            held: held.parse().ok()?,
+        }),
+        ["hold"] => Some(Work::Hold),
+        _ => None,
+    }
+}
+
+/// Does the work by the two ways to pull.
+fn measure_pulls<A, P, B, Q>(work: Work, turns: u64, pull: &P, pull_owned: &Q) -> Measured
+where
+    A: DerefMut<Target = u64>,
+    P: Fn() -> A + Sync,
+    B: DerefMut<Target = u64>,
+    Q: Fn() -> B,
+{
+    match work {
+        Work::Pull { held } => measure_turns(pull, held, turns),
+        Work::PullOwned { held } => measure_turns(pull_owned, held, turns),
+        Work::Share { threads, held } => {
+            let _held = hold(pull, held);
+            let start = Instant::now();
+            let sum = share(pull, threads, turns);
+            let time = start.elapsed();
+            Measured { sum, time }
+        }
+        Work::Hold => {
+            let start = Instant::now();
+            let items = hold(pull, turns as usize);
+            let time = start.elapsed();
+            let sum = items.len() as u64;
+            Measured { sum, time }
+        }
+    }
+}
+
+/// One thread's turns, while so many other items are held.
+fn measure_turns<A: DerefMut<Target = u64>>(
+    pull: &impl Fn() -> A,
+    held: usize,
+    turns: u64,
+) -> Measured {
+    let _held = hold(pull, held);
+    let start = Instant::now();
+    let sum = pull_and_drop(pull, turns);
+    let time = start.elapsed();
+    Measured { sum, time }
+}
+
+/// In each turn an item is pulled, the turn's number is added to it, and it is dropped. The sum of what the items were then.
+fn pull_and_drop<A: DerefMut<Target = u64>>(pull: &impl Fn() -> A, turns: u64) -> u64 {
+    let mut sum = 0u64;
+    for turn in 0..turns {
+        let mut item = pull();
+        *item = item.wrapping_add(turn);
+        sum = sum.wrapping_add(*item);
+    }
+    sum
+}
+
+/// So many items, pulled one after the other.
+fn hold<A>(pull: &impl Fn() -> A, count: usize) -> Vec<A> {
+    let mut items = Vec::with_capacity(count);
+    for _ in 0..count {
+        items.push(pull());
+    }
+    items
+}
+
+/// So many threads pull and drop. The sum of what they saw.
+fn share<A, P>(pull: &P, threads: usize, turns: u64) -> u64
+where
+    A: DerefMut<Target = u64>,
+    P: Fn() -> A + Sync,
+{
+    thread::scope(|scope| {
+        let mut running = Vec::with_capacity(threads);
+        for _ in 0..threads {
+            running.push(scope.spawn(|| pull_and_drop(pull, turns)));
+        }
+        running
+            .into_iter()
+            .fold(0u64, |sum, one| sum.wrapping_add(one.join().unwrap()))
+    })
+}
+
+/// The most kilobytes that were resident at once.
+fn peak_kilobytes() -> u64 {
+    let status = fs::read_to_string("/proc/self/status").unwrap();
+    let peak = status
+        .lines()
+        .find_map(|line| line.strip_prefix("VmHWM:"))
+        .unwrap();
+    peak.split_whitespace().next().unwrap().parse().unwrap()
+}
