@@ -7,5 +7,5 @@ use Rattle.lockfree_object_pool.specs.declared.fixed_reusable.SharedFixedPool.{G
 
 module _ (T P : RattleType) (pool : Ghosts P.Denot T.Denot) where
   -- a loan of a reusable's value ends with the reusable as it was, but for the value written last
-  abbrev pub LendsValue : MutBor (FixedReusableOf T.Denot P.Denot) → MutBor T.Denot → Fml
-  LendsValue reusable loan = Lends (the_row T P pool) T reusable loan (reusable_with reusable.now)
+  abbrev pub LendsFixedValue : MutBor (FixedReusableOf T.Denot P.Denot) → MutBor T.Denot → Fml
+  LendsFixedValue reusable loan = Lends (the_row T P pool) T reusable loan (reusable_with reusable.now)

@@ -32,12 +32,12 @@ module _ (T K : RattleType) (clean : Clean.Ghosts K.Denot T.Denot) where
 module _ (T I R K : RattleType) (init : Init.Ghosts I.Denot T.Denot K.Denot)
     (reset : Reset.Ghosts R.Denot T.Denot K.Denot) (clean : Clean.Ghosts K.Denot T.Denot) where
   -- so it is of a linear reusable's value
-  abbrev pub LendsValue : MutBor (LinearReusable T.Denot I.Denot R.Denot K.Denot) → MutBor T.Denot → Fml
-  LendsValue reusable loan =
+  abbrev pub LendsLinearValue : MutBor (LinearReusable T.Denot I.Denot R.Denot K.Denot) → MutBor T.Denot → Fml
+  LendsLinearValue reusable loan =
       Lends (Borrowed.the_row (record { mir = named 1; lft = [] }) T I R K init reset clean) T reusable loan
       (reusable_with reusable.now)
 
   -- so it is of an owned linear reusable's value
-  abbrev pub LendsOwnedValue : MutBor (LinearOwnedReusable T.Denot I.Denot R.Denot K.Denot) → MutBor T.Denot → Fml
-  LendsOwnedValue reusable loan =
+  abbrev pub LendsLinearOwnedValue : MutBor (LinearOwnedReusable T.Denot I.Denot R.Denot K.Denot) → MutBor T.Denot → Fml
+  LendsLinearOwnedValue reusable loan =
       Lends (Owned.the_row T I R K init reset clean) T reusable loan (owned_with reusable.now)

@@ -20,6 +20,7 @@ pub mod LinearPool
 pub mod LinkNote
 pub mod LinkRow
 pub mod Lock
+pub mod NoneLends
 pub mod NonePool
 pub mod Note
 pub mod OneProof

@@ -6,5 +6,5 @@ use Rattle.lockfree_object_pool.specs.contracts.stack_reusable.StackReusable.{th
 
 module _ (T P W : RattleType) where
   -- once the loan ends, the reusable has the value that was written last
-  abbrev pub LendsValue : MutBor (StackReusable T.Denot P.Denot W.Denot) → MutBor T.Denot → Fml
-  LendsValue reusable loan = Lends (the_row T P W) T reusable loan (stack_with reusable.now)
+  abbrev pub LendsStackValue : MutBor (StackReusable T.Denot P.Denot W.Denot) → MutBor T.Denot → Fml
+  LendsStackValue reusable loan = Lends (the_row T P W) T reusable loan (stack_with reusable.now)

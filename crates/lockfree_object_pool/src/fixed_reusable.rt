@@ -231,13 +231,13 @@ impl<T: Drop, P: SharedFixedPool<T>> Deref for FixedReusableOf<T, P> {
 
 impl<T: Drop, P: SharedFixedPool<T>> DerefMut for FixedReusableOf<T, P> {
     ghost use Rattle.std.specs.Borrow.{sem};
-    ghost use Rattle.lockfree_object_pool.specs.FixedLends.{LendsValue};
+    ghost use Rattle.lockfree_object_pool.specs.FixedLends.{LendsFixedValue};
     ghost use Rattle.lockfree_object_pool.specs.FixedReusable.{reusable_item};
 
     ghost deref_mut_gives = { λ reusable value. value ≡ (reusable_item reusable).value };
 
     fn deref_mut(&mut self) -> &mut T
-        ensures* writes_back { sem 𝓛 (LendsValue T.row P.row P.SharedFixedPool self.entry result) }
+        ensures* writes_back { sem 𝓛 (LendsFixedValue T.row P.row P.SharedFixedPool self.entry result) }
         ensures shows { result.now ≡ (reusable_item self.old).value }
     {
         &mut self.value

@@ -90,14 +90,14 @@ impl<T: Drop, I: Init<T, K>, R: Reset<T, K>, K: Clean<T>> Deref
 impl<T: Drop, I: Init<T, K>, R: Reset<T, K>, K: Clean<T>> DerefMut
     for LinearOwnedReusable<T, I, R, K> {
     ghost use Rattle.std.specs.Borrow.{sem};
-    ghost use Rattle.lockfree_object_pool.specs.Lends.{LendsOwnedValue};
+    ghost use Rattle.lockfree_object_pool.specs.Lends.{LendsLinearOwnedValue};
     ghost use Rattle.lockfree_object_pool.specs.LinearPool.{owned_item};
 
     ghost deref_mut_gives = { λ reusable value. value ≡ (owned_item reusable).value };
 
     fn deref_mut(&mut self) -> &mut T
-        ensures* writes_back { sem 𝓛 (LendsOwnedValue T.row I.row R.row K.row I.Init R.Reset K.Clean self.entry
-            result) }
+        ensures* writes_back { sem 𝓛 (LendsLinearOwnedValue T.row I.row R.row K.row I.Init R.Reset K.Clean
+            self.entry result) }
         ensures shows { result.now ≡ (owned_item self.old).value }
     {
         &mut self.value

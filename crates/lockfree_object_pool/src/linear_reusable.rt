@@ -75,13 +75,14 @@ impl<T: Drop, I: Init<T, K>, R: Reset<T, K>, K: Clean<T>> Deref for LinearReusab
 impl<T: Drop, I: Init<T, K>, R: Reset<T, K>, K: Clean<T>> DerefMut
     for LinearReusable<'_, T, I, R, K> {
     ghost use Rattle.std.specs.Borrow.{sem};
-    ghost use Rattle.lockfree_object_pool.specs.Lends.{LendsValue};
+    ghost use Rattle.lockfree_object_pool.specs.Lends.{LendsLinearValue};
     ghost use Rattle.lockfree_object_pool.specs.LinearPool.{reusable_item};
 
     ghost deref_mut_gives = { λ reusable value. value ≡ (reusable_item reusable).value };
 
     fn deref_mut(&mut self) -> &mut T
-        ensures* writes_back { sem 𝓛 (LendsValue T.row I.row R.row K.row I.Init R.Reset K.Clean self.entry result) }
+        ensures* writes_back { sem 𝓛 (LendsLinearValue T.row I.row R.row K.row I.Init R.Reset K.Clean
+            self.entry result) }
         ensures shows { result.now ≡ (reusable_item self.old).value }
     {
         &mut self.value

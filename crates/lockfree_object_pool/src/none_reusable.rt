@@ -33,14 +33,14 @@ impl<T> Deref for NoneReusable<T> {
 }
 
 impl<T> DerefMut for NoneReusable<T> {
-    ghost use Rattle.std.specs.Borrow.{Lends, sem};
-    ghost use Rattle.lockfree_object_pool.specs.contracts.none_reusable.NoneReusable.{the_row};
-    ghost use Rattle.lockfree_object_pool.specs.NonePool.{none_value, none_with};
+    ghost use Rattle.std.specs.Borrow.{sem};
+    ghost use Rattle.lockfree_object_pool.specs.NoneLends.{LendsNoneValue};
+    ghost use Rattle.lockfree_object_pool.specs.NonePool.{none_value};
 
     ghost deref_mut_gives = { λ reusable value. value ≡ none_value reusable };
 
     fn deref_mut(&mut self) -> &mut T
-        ensures* writes_back { sem 𝓛 (Lends (the_row T.row) T.row self.entry result (none_with self.old)) }
+        ensures* writes_back { sem 𝓛 (LendsNoneValue T.row self.entry result) }
         ensures shows { result.now ≡ none_value self.old }
     {
         &mut self.value

@@ -134,12 +134,12 @@ impl<T> Deref for SpinLockGuard<'_, T> {
 
 impl<T> DerefMut for SpinLockGuard<'_, T> {
     ghost use Rattle.std.specs.Borrow.{sem};
-    ghost use Rattle.lockfree_object_pool.specs.GuardLends.{LendsGuarded};
+    ghost use Rattle.lockfree_object_pool.specs.GuardLends.{LendsGuardedValue};
 
     ghost deref_mut_gives = { λ guard shown. shown ≡ value_of guard };
 
     fn deref_mut(&mut self) -> &mut T
-        ensures* writes_back { sem 𝓛 (LendsGuarded T.row self.entry result) }
+        ensures* writes_back { sem 𝓛 (LendsGuardedValue T.row self.entry result) }
         ensures shows { result.now ≡ value_of self.old }
     {
         &mut self.value

@@ -133,13 +133,13 @@ impl<T: Drop, P: SharedStackPool<T>, W: Wait + Copy> Deref for StackReusable<T, 
 
 impl<T: Drop, P: SharedStackPool<T>, W: Wait + Copy> DerefMut for StackReusable<T, P, W> {
     ghost use Rattle.std.specs.Borrow.{sem};
-    ghost use Rattle.lockfree_object_pool.specs.StackLends.{LendsValue};
+    ghost use Rattle.lockfree_object_pool.specs.StackLends.{LendsStackValue};
     ghost use Rattle.lockfree_object_pool.specs.StackPool.{stack_value};
 
     ghost deref_mut_gives = { λ reusable value. value ≡ stack_value reusable };
 
     fn deref_mut(&mut self) -> &mut T
-        ensures* writes_back { sem 𝓛 (LendsValue T.row P.row W.row self.entry result) }
+        ensures* writes_back { sem 𝓛 (LendsStackValue T.row P.row W.row self.entry result) }
         ensures shows { result.now ≡ stack_value self.old }
     {
         &mut self.value

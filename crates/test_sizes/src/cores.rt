@@ -5,13 +5,16 @@ use crate::numbers::{Numbers, PAGE_ITEMS, SeenNumbers};
 use crate::wrong::Wrong;
 use lockfree_object_pool::PullError;
 use lockfree_object_pool::clean::AnyValue;
-use lockfree_object_pool::closures::Keep;
+use lockfree_object_pool::closures::{Copied, Keep};
 use object_pool_cores::sequential::{Item, LinearCore, SequentialPool, StackCore};
 use std::alloc::Global;
 
 pub type Linear = LinearCore<u64, Numbers, Keep, AnyValue>;
 
 type Stack = StackCore<u64, Numbers, Keep, AnyValue>;
+
+/// Its values have no bytes.
+type Bare = LinearCore<(), Copied<(), AnyValue>, Keep, AnyValue>;
 
 /// A linear core with a limit: the last number is given, and no more.
 pub fn bounded_linear(alloc: Global, pages: u16) -> Result<(), Wrong>
@@ -40,6 +43,18 @@ pub fn stack(alloc: Global, pages: u16) -> Result<(), Wrong> {
     let items = u64::from(pages) * PAGE_ITEMS;
     come_back(alloc, items, None, core)?;
     numbers.expect_made(items)
+}
+
+/// A linear core hands out so many numbers, the least first, and each stays out.
+pub fn hand_out(alloc: Global, numbers: u64) -> Result<(), Wrong> {
+    let mut core: Bare = LinearCore::new(alloc, Copied::new(()), Keep)?;
+    for number in 0..numbers {
+        let item = core.pull()?;
+        if item.number() != Some(u128::from(number)) {
+            return Err(Wrong::Number(number));
+        }
+    }
+    Ok(())
 }
 
 /// In two rounds so many items are pulled, held together and given back. Each comes once a round. A pool that has no more

@@ -4,7 +4,8 @@
 //! quarter. A line for each pool says that each item came back, or what was seen that may not be; then the status is 1.
 //!
 //! `player` and a number of turns let one player pull and return so often. Its indexes are never used again, so 2^32 turns and
-//! more show them past 32 bits: that takes minutes, and is run by hand.
+//! more show them past 32 bits: that takes minutes, and is run by hand. `core` and a number let a linear core hand out so many
+//! numbers, each of which stays out. It takes some 90 bytes for each 32 of them.
 #![tactic(auto)]
 
 ghost use Rattle.std.specs.Prelude.{◌≤◌};
@@ -29,13 +30,23 @@ use wrong::Wrong;
 fn main(rt: HostRuntime) -> io::Result<ExitCode> {
     match arguments(&rt) {
         Some(Task::Pages(pages)) if pages > 0 => show_pools(&rt, rt.alloc(), pages),
-        Some(Task::Turns(turns)) => show_player(&rt, rt.alloc(), turns),
+        Some(Task::Turns(turns)) => {
+            let outcome = players::take_turns(rt.alloc(), turns);
+            show(&rt, "player", CAME_BACK, &outcome)
+        }
+        Some(Task::Numbers(numbers)) => {
+            let outcome = cores::hand_out(rt.alloc(), numbers);
+            show(&rt, "linear core", "each number came at its turn", &outcome)
+        }
         _ => {
-            eprintln!(rt; "usage: test_sizes PAGES | player TURNS")?;
+            eprintln!(rt; "usage: test_sizes PAGES | player TURNS | core NUMBERS")?;
             Ok(ExitCode::from(2))
         }
     }
 }
+
+/// What is said of a pool that shows its items.
+const CAME_BACK: &str = "each item came back";
 
 /// What is asked for.
 #[derive(Clone, Copy)]
@@ -44,6 +55,8 @@ enum Task {
     Pages(u16),
     /// One player, for so many turns.
     Turns(u64),
+    /// One linear core, for so many numbers.
+    Numbers(u64),
 }
 
 /// The arguments.
@@ -51,10 +64,10 @@ fn arguments<R: Env + AllocGlobal>(rt: &R) -> Option<Task> {
     let mut arguments = env::args(rt).ok()?;
     let _name = arguments.next();
     let first = arguments.next()?;
-    if first.as_str() == "player" {
-        Some(Task::Turns(arguments.next()?.parse().ok()?))
-    } else {
-        Some(Task::Pages(first.parse().ok()?))
+    match first.as_str() {
+        "player" => Some(Task::Turns(arguments.next()?.parse().ok()?)),
+        "core" => Some(Task::Numbers(arguments.next()?.parse().ok()?)),
+        pages => Some(Task::Pages(pages.parse().ok()?)),
     }
 }
 
@@ -101,7 +114,7 @@ fn show_pools<R: Print + Wait + Copy>(rt: &R, alloc: Global, pages: u16) -> io::
     let mut status = ExitCode::SUCCESS;
     for (name, kind) in KINDS {
         let outcome = outcome_of(rt, alloc, kind, pages);
-        if !tell(rt, name, &outcome)? {
+        if !tell(rt, name, CAME_BACK, &outcome)? {
             status = ExitCode::from(1);
         }
     }
@@ -128,9 +141,14 @@ fn outcome_of<W: Wait + Copy>(rt: &W, alloc: Global, kind: Kind, pages: u16) -> 
     }
 }
 
-/// One player, and what was seen.
-fn show_player<R: Print>(rt: &R, alloc: Global, turns: u64) -> io::Result<ExitCode> {
-    if tell(rt, "player", &players::take_turns(alloc, turns))? {
+/// What was seen of one pool.
+fn show<R: Print>(
+    rt: &R,
+    name: &str,
+    well: &str,
+    outcome: &Result<(), Wrong>,
+) -> io::Result<ExitCode> {
+    if tell(rt, name, well, outcome)? {
         Ok(ExitCode::SUCCESS)
     } else {
         Ok(ExitCode::from(1))
@@ -138,10 +156,10 @@ fn show_player<R: Print>(rt: &R, alloc: Global, turns: u64) -> io::Result<ExitCo
 }
 
 /// Prints what was seen. Whether it was nothing that may not be.
-fn tell<R: Print>(rt: &R, name: &str, outcome: &Result<(), Wrong>) -> io::Result<bool> {
+fn tell<R: Print>(rt: &R, name: &str, well: &str, outcome: &Result<(), Wrong>) -> io::Result<bool> {
     match outcome {
         Ok(()) => {
-            println!(rt; "{name}: each item came back")?;
+            println!(rt; "{name}: {well}")?;
             Ok(true)
         }
         Err(wrong) => {

@@ -15,6 +15,8 @@ pub enum Wrong {
     Made(u64),
     #[error("an item is not the pool's own")]
     NotOwn,
+    #[error("pull {0} has another number")]
+    Number(u64),
     #[error("turn {0} has another reply")]
     Reply(u64),
 }
