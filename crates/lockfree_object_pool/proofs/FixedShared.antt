@@ -61,7 +61,10 @@ module _ (T I R K : RattleType) (answers : Init.Ghosts I.Denot T.Denot K.Denot)
 
   abbrev owned : Ghosts owner.Denot T.Denot
   owned =
-      record { identity = λ pool. pool_identity (arc_value pool); leaves = λ pool. leaves.leaves (pool_reset (arc_value pool)) }
+      record {
+        identity = λ pool. pool_identity (arc_value pool);
+        leaves = λ pool. leaves.leaves (pool_reset (arc_value pool));
+      }
 
   pub borrowed_reusable_sync : (ℓ : Lifetime) (κ : Lft) → IsSend T → IsSync T → IsSync R
       → IsSync (FixedReusableOf.the_row T (borrow ℓ κ) (borrowed ℓ κ))

@@ -1,5 +1,6 @@
 -- What follows from a page's history.
-use Rattle.std.proofs.Common.{◌≡◌, ◌≢◌, ℕ, ◌<◌, false, ◌⊎◌, List, [], ◌∷◌, ◌++◌, length, Option, Some, None, zero, suc, set, refl, sym, ap, ◌∙◌, subst, arith, append_assoc, inl, inr, eq-eqb, ne_eqb}
+use Rattle.std.proofs.Common.{◌≡◌, ◌≢◌, ℕ, ◌<◌, false, ◌⊎◌, List, [], ◌∷◌, ◌++◌, length, Option, Some, None, zero, suc}
+use Rattle.std.proofs.Common.{set, refl, sym, ap, ◌∙◌, subst, arith, append_assoc, inl, inr, eq-eqb, ne_eqb}
 use mathlib.Core.Option.{some, some-ne-none}
 use lib.ListN.{get_elem?}
 use Rattle.atomic_table.proofs.Lists.{at_set}
@@ -7,7 +8,8 @@ use Rattle.lockfree_object_pool.specs.declared.page.user_view.UserView.{UserView
 use Rattle.lockfree_object_pool.specs.PageRule.{IsSound, IsInformed, Knows, GoesOn, KnowsOut}
 use Rattle.lockfree_object_pool.specs.declared.page.history.Operation.{Operation}
 use Rattle.lockfree_object_pool.specs.declared.page.history.Operation.TheVariants.{Pull, Return}
-use Rattle.lockfree_object_pool.specs.Ledger.{History, user_of, operations_of, held_id, value_at, MayFollow, IsLegal, IsPrefixOf, WasOutBetween}
+use Rattle.lockfree_object_pool.specs.Ledger.{History, user_of, operations_of, held_id, value_at, MayFollow, IsLegal}
+use Rattle.lockfree_object_pool.specs.Ledger.{IsPrefixOf, WasOutBetween}
 
 -- where something stands in a list, it stands below its length
 pub at_below : {A : Type 0} (list : List A) (place : ℕ) (there : A) → get_elem? list place ≡ some there

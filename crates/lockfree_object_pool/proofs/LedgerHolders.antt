@@ -1,13 +1,16 @@
 -- Who holds what, by a page's history alone.
-use Rattle.std.proofs.Common.{◌≡◌, ◌≢◌, ℕ, suc, ◌+◌, List, [], ◌∷◌, ◌++◌, length, Option, Some, None, refl, sym, ap, ◌∙◌, subst, arith, inl, inr}
+use Rattle.std.proofs.Common.{◌≡◌, ◌≢◌, ℕ, suc, ◌+◌, List, [], ◌∷◌, ◌++◌, length, Option, Some, None, refl, sym, ap}
+use Rattle.std.proofs.Common.{◌∙◌, subst, arith, inl, inr}
 use native.Mathlib.Decide.{ℕ_discrete}
 use mathlib.Core.Logic.{dite}
 use Rattle.lockfree_object_pool.specs.declared.page.history.Operation.{Operation}
 use Rattle.lockfree_object_pool.specs.declared.page.history.Operation.TheVariants.{Pull, Return}
-use Rattle.lockfree_object_pool.specs.Ledger.{History, user_of, id_of, operations_of, held_id, value_at, MayFollow, IsLegal, NoOperationOn, CameFrom}
+use Rattle.lockfree_object_pool.specs.Ledger.{History, user_of, id_of, operations_of, held_id, value_at, MayFollow}
+use Rattle.lockfree_object_pool.specs.Ledger.{IsLegal, NoOperationOn, CameFrom}
 use Rattle.lockfree_object_pool.specs.declared.page.user_view.UserView.{UserView}
 use Rattle.lockfree_object_pool.specs.PageRule.{GoesOn}
-use Rattle.lockfree_object_pool.proofs.Ledger.{behind, operations_of_own, operations_of_other, value_at-pull_here, value_at-pull_elsewhere, value_at-return_here, value_at-return_elsewhere}
+use Rattle.lockfree_object_pool.proofs.Ledger.{behind, operations_of_own, operations_of_other, value_at-pull_here}
+use Rattle.lockfree_object_pool.proofs.Ledger.{value_at-pull_elsewhere, value_at-return_here, value_at-return_elsewhere}
 
 some_same : (id other : ℕ) → Some id ≡ Some other → id ≡ other
 some_same id other same = cc

@@ -12,7 +12,8 @@ use Rattle.lockfree_object_pool.specs.Note.{note_page, note_view, note_opening, 
 use Rattle.lockfree_object_pool.specs.Ledger.{History, operations_of, IsPrefixOf, WasOutBetween}
 use Rattle.lockfree_object_pool.specs.PageRule.{GoesOn, StartsFrom, KnowsOut}
 use Rattle.lockfree_object_pool.specs.Holding.{item_known}
-use Rattle.lockfree_object_pool.specs.FullSeen.{full_page, full_view, full_history, IsFullOf, IsAnswerFrom, IsAnswerOf, IsAnswerAfter}
+use Rattle.lockfree_object_pool.specs.FullSeen.{full_page, full_view, full_history, IsFullOf, IsAnswerFrom, IsAnswerOf}
+use Rattle.lockfree_object_pool.specs.FullSeen.{IsAnswerAfter}
 use Rattle.lockfree_object_pool.proofs.Ledger.{legal_of, prefix_further}
 use Rattle.lockfree_object_pool.proofs.LedgerHolders.{came_from_legal, spared_return}
 

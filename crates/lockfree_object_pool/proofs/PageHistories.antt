@@ -1,5 +1,6 @@
 -- The history of a page goes on by a step: a pull, a return, a load, or a user that joins or learns.
-use Rattle.std.proofs.Common.{◌≡◌, ◌≢◌, ℕ, false, ◌+◌, ◌<◌, ◌≤◌, List, [], ◌∷◌, ◌++◌, length, set, get_or, Option, Some, None, refl, sym, ◌∙◌, ap, subst, arith, length-append, length-set, inl, inr}
+use Rattle.std.proofs.Common.{◌≡◌, ◌≢◌, ℕ, false, ◌+◌, ◌<◌, ◌≤◌, List, [], ◌∷◌, ◌++◌, length, set, get_or, Option, Some}
+use Rattle.std.proofs.Common.{None, refl, sym, ◌∙◌, ap, subst, arith, length-append, length-set, inl, inr}
 use mathlib.Core.Option.{some, none, some-injective}
 use lib.ListN.{get_elem?}
 use native.Mathlib.Decide.{ℕ_discrete}
@@ -12,7 +13,10 @@ use Rattle.lockfree_object_pool.specs.declared.page.history.Operation.TheVariant
 use Rattle.lockfree_object_pool.specs.Ledger.{History, user_of, operations_of, held_id, value_at, MayFollow}
 use Rattle.lockfree_object_pool.specs.Word.{item_bit}
 use Rattle.lockfree_object_pool.specs.PageRule.{PageState, item_of, IsSet, IsHome, IsPage, HasHistory, Knows, GoesOn}
-use Rattle.lockfree_object_pool.proofs.Ledger.{operations_of_other, value_at-pull_here, value_at-pull_elsewhere, value_at-return_here, value_at-return_elsewhere, acted, has_seen, after_operation, after_load, informed_later, informed_set, knows_of, at_below, own_now}
+use Rattle.lockfree_object_pool.proofs.Ledger.{operations_of_other, value_at-pull_here, value_at-pull_elsewhere}
+use Rattle.lockfree_object_pool.proofs.Ledger.{value_at-return_here, value_at-return_elsewhere, acted, has_seen}
+use Rattle.lockfree_object_pool.proofs.Ledger.{after_operation, after_load, informed_later, informed_set, knows_of}
+use Rattle.lockfree_object_pool.proofs.Ledger.{at_below, own_now}
 use Rattle.lockfree_object_pool.proofs.WordBits.{item_bit_of, Turns}
 use Rattle.lockfree_object_pool.proofs.PageItems.{state, at_snoc_last}
 
@@ -145,8 +149,8 @@ module _ {T : Type 0} (meets : T → Type 0) (opening : List (Option T)) where
         step.1,
       )
 
-  pub return_history : (page : PageState T) (words : List ℕ) (user id : ℕ) (me : UserView T) (value : T) → IsPage meets page
-      → (has : HasHistory opening page) → id < length page.homes → Turns page.words id 1 words
+  pub return_history : (page : PageState T) (words : List ℕ) (user id : ℕ) (me : UserView T) (value : T)
+      → IsPage meets page → (has : HasHistory opening page) → id < length page.homes → Turns page.words id 1 words
       → get_elem? page.views user ≡ some me → me.gone ≡ false → me.held ≡ Some id
       → HasHistory opening
       (state words (set page.homes id (some (Some value)))

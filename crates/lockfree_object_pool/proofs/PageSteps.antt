@@ -1,5 +1,7 @@
 -- Each kind of step on a page keeps its rule.
-use Rattle.std.proofs.Common.{◌≡◌, ℕ, ◌^◌, false, true≢false, ◌+◌, ◌*◌, ◌/◌, ◌%◌, ◌<◌, List, [], ◌∷◌, ◌++◌, length, set, get_or, Option, Some, None, bit_and, bit_or, refl, sym, ◌∙◌, ap, subst, arith, append-nil, inl, inr}
+use Rattle.std.proofs.Common.{◌≡◌, ℕ, ◌^◌, false, true≢false, ◌+◌, ◌*◌, ◌/◌, ◌%◌, ◌<◌, List, [], ◌∷◌, ◌++◌, length, set}
+use Rattle.std.proofs.Common.{get_or, Option, Some, None, bit_and, bit_or, refl, sym, ◌∙◌, ap, subst, arith, append-nil}
+use Rattle.std.proofs.Common.{inl, inr}
 use mathlib.Core.Option.{some}
 use lib.ListN.{get_elem?}
 use Rattle.std.proofs.lemmas.Bool.{cases_lt}
@@ -16,11 +18,16 @@ use Rattle.lockfree_object_pool.specs.declared.page.history.Operation.{Operation
 use Rattle.lockfree_object_pool.specs.declared.page.history.Operation.TheVariants.{Pull, Return}
 use Rattle.lockfree_object_pool.specs.Ledger.{History, operations_of, value_at, IsLegal}
 use Rattle.lockfree_object_pool.specs.Word.{all_bits, SetsBit, ClearsBit, item_bit}
-use Rattle.lockfree_object_pool.specs.PageRule.{PageState, User, first_view, item_of, IsSet, IsClear, Holds, IsPage, IsKept, IsSound, GoesOn, KnowsOut, Takes, Misses, Loads, LoadsAgain, LoadsOn, Clears, Gives, told_of, gone_view, witness_of}
+use Rattle.lockfree_object_pool.specs.PageRule.{PageState, User, first_view, item_of, IsSet, IsClear, Holds, IsPage}
+use Rattle.lockfree_object_pool.specs.PageRule.{IsKept, IsSound, GoesOn, KnowsOut, Takes, Misses, Loads, LoadsAgain}
+use Rattle.lockfree_object_pool.specs.PageRule.{LoadsOn, Clears, Gives, told_of, gone_view, witness_of}
 use Rattle.lockfree_object_pool.proofs.Ledger.{prefix_same, acted, has_seen, is_out_now, knows_of, at_below, own_now}
-use Rattle.lockfree_object_pool.proofs.WordBits.{lacks_one, and_clears, add_sets, or_sets, item_bit_of, Turns, turns, fits_after}
-use Rattle.lockfree_object_pool.proofs.PageItems.{some_same, state, carried_value, joins_page, takes_item, keeps_item, gives_item}
-use Rattle.lockfree_object_pool.proofs.PageHistories.{newcomer, told_page, joins_history, clear_lies, pull_history, saw_history, return_history, view_history}
+use Rattle.lockfree_object_pool.proofs.WordBits.{lacks_one, and_clears, add_sets, or_sets, item_bit_of, Turns, turns}
+use Rattle.lockfree_object_pool.proofs.WordBits.{fits_after}
+use Rattle.lockfree_object_pool.proofs.PageItems.{some_same, state, carried_value, joins_page, takes_item, keeps_item}
+use Rattle.lockfree_object_pool.proofs.PageItems.{gives_item}
+use Rattle.lockfree_object_pool.proofs.PageHistories.{newcomer, told_page, joins_history, clear_lies, pull_history}
+use Rattle.lockfree_object_pool.proofs.PageHistories.{saw_history, return_history, view_history}
 
 module _ {T : Type 0} (meets : T → Type 0) (opening : List (Option T)) where
   pub loads : (slots place : ℕ)
@@ -234,7 +241,8 @@ module _ {T : Type 0} (meets : T → Type 0) (opening : List (Option T)) where
       let has = kept.1 in
       let known : UserView T = has_seen me.0 has.operations (me.0.loads + 1) me.0.tries in
       let knew = (has.informed user me.0 at).acting here in
-      let history = saw_history meets opening page page.words user (me.0.loads + 1) me.0.tries me.0 has (λ i. refl) at here in (
+      let history =
+      saw_history meets opening page page.words user (me.0.loads + 1) me.0.tries me.0 has (λ i. refl) at here in (
         known,
         keeps,
         tt,
@@ -251,7 +259,8 @@ module _ {T : Type 0} (meets : T → Type 0) (opening : List (Option T)) where
           tries = refl;
           goes_on = history.1;
           clear_are_out = λ bit within clear. is_out_now opening has.operations has.legal user me.0 here knew
-              (me.0.loads + 1) me.0.tries (item_of place bit) (clear_lies meets opening page has place bit within clear);
+              (me.0.loads + 1) me.0.tries (item_of place bit)
+              (clear_lies meets opening page has place bit within clear);
         },
       )
 
@@ -281,7 +290,8 @@ module _ {T : Type 0} (meets : T → Type 0) (opening : List (Option T)) where
             let item = is.free_is_home id free in
             let inside_places : id < length page.homes = at_below page.homes id (some (Some item.0)) item.1 in
             let known : UserView T = acted me.0 has.operations (Pull me.0.user id item.0) (Some id) (me.0.tries + 1) in
-            let history = pull_history meets opening page words user id me.0 item.0 has turned free item.1 at here holds_none in (
+            let history =
+            pull_history meets opening page words user id me.0 item.0 has turned free item.1 at here holds_none in (
               known,
               takes id (Some item.0),
               item.1,
@@ -309,7 +319,8 @@ module _ {T : Type 0} (meets : T → Type 0) (opening : List (Option T)) where
             λ i. dite (ℕ_discrete i id) (λ same.
             ap (item_bit words) same ∙ turned.here ∙ sym out ∙ ap (item_bit page.words) (sym same))
             (λ differ. turned.others i differ) in
-            let history = saw_history meets opening page words user me.0.loads (me.0.tries + 1) me.0 has same_bits at here in
+            let history =
+            saw_history meets opening page words user me.0.loads (me.0.tries + 1) me.0 has same_bits at here in
             let was_out : KnowsOut known id =
             is_out_now opening has.operations has.legal user me.0 here
             ((has.informed user me.0 at).acting here) me.0.loads (me.0.tries + 1) id (has.out_lies id out) in (
@@ -362,7 +373,8 @@ module _ {T : Type 0} (meets : T → Type 0) (opening : List (Option T)) where
       ap (λ (user : User T). user.1) moved
       ∙ ap (λ (carried : List (ℕ × Option T)). (id, Some value) ∷ rest carried) carries in
       let known : UserView T = acted me.0 has.operations (Return me.0.user id value) None me.0.tries in
-      let history = return_history meets opening page words user id me.0 value is has (omega arith) turned at here_now holds_now in (
+      let history =
+      return_history meets opening page words user id me.0 value is has (omega arith) turned at here_now holds_now in (
         known,
         gives,
         tt,

@@ -7,7 +7,8 @@ use Rattle.lockfree_object_pool.specs.FixedItem.{item_with}
 use Rattle.lockfree_object_pool.specs.FixedRule.{StepCount, steps_of}
 use Rattle.lockfree_object_pool.specs.FullSeen.{full_view, FoundAllOut, IsAllOut, IsAllOutAfter}
 use Rattle.lockfree_object_pool.specs.Item.{Item, IsItemIn, IsPulledAs}
-use Rattle.lockfree_object_pool.specs.Note.{note_page, note_view, note_opening, note_user, note_history, IsReturned, IsPulledAfter}
+use Rattle.lockfree_object_pool.specs.Note.{note_page, note_view, note_opening, note_user, note_history, IsReturned}
+use Rattle.lockfree_object_pool.specs.Note.{IsPulledAfter}
 use Rattle.lockfree_object_pool.specs.Ledger.{History, operations_of, IsPrefixOf}
 
 module _ {T : Type 0} where

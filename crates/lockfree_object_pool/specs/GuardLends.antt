@@ -9,4 +9,5 @@ use Rattle.lockfree_object_pool.specs.declared.spin_lock.SpinLockGuard.{SpinLock
 module _ (T : RattleType) where
   -- once the loan ends, the guard has the value that was written last
   abbrev pub LendsGuardedValue : MutBor (SpinLockGuard T.Denot) → MutBor T.Denot → Fml
-  LendsGuardedValue guard loan = Lends (the_row (record { mir = named 1; lft = [] }) T) T guard loan (with_value guard.now)
+  LendsGuardedValue guard loan =
+      Lends (the_row (record { mir = named 1; lft = [] }) T) T guard loan (with_value guard.now)

@@ -36,8 +36,8 @@ module _ {T : Type 0} where
   held_id (Pull user id value ∷ before) = Some id
   held_id (Return user id value ∷ before) = None
 
-  -- what lies at a number, in a pool that opened with these values: the value of its last return, the opening's where no
-  -- operation was on it, and nothing where its last operation is a pull
+  -- what lies at a number, in a pool that opened with these values: the value of its last return, the opening's where
+  -- no operation was on it, and nothing where its last operation is a pull
   abbrev pub value_at : List (Option T) → History T → ℕ → Option T
   value_at opening [] id = get_or opening id None
   value_at opening (Pull user place value ∷ before) id =

@@ -1,12 +1,14 @@
 -- The rule of a page: what holds between any two steps on it, and what each kind of step tells its user.
-use Rattle.std.specs.Prelude.{◌≡◌, ℕ, ◌+◌, ◌*◌, ◌^◌, ◌<◌, ◌≤◌, List, [], ◌∷◌, ◌++◌, true, false, length, slice_index, Option, Some, None}
+use Rattle.std.specs.Prelude.{◌≡◌, ℕ, ◌+◌, ◌*◌, ◌^◌, ◌<◌, ◌≤◌, List, [], ◌∷◌, ◌++◌, true, false, length, slice_index}
+use Rattle.std.specs.Prelude.{Option, Some, None}
 use mathlib.Core.Option.{some}
 use lib.ListN.{get_elem?}
 use Rattle.std.specs.Int.{bit_at}
 use Rattle.atomic_table.specs.Table.{State, Me, rest}
 use Rattle.lockfree_object_pool.specs.declared.page.history.Operation.TheVariants.{Pull, Return}
 use Rattle.lockfree_object_pool.specs.declared.page.user_view.UserView.{UserView}
-use Rattle.lockfree_object_pool.specs.Ledger.{History, operations_of, held_id, value_at, IsLegal, IsPrefixOf, WasOutBetween}
+use Rattle.lockfree_object_pool.specs.Ledger.{History, operations_of, held_id, value_at, IsLegal, IsPrefixOf}
+use Rattle.lockfree_object_pool.specs.Ledger.{WasOutBetween}
 use Rattle.lockfree_object_pool.specs.Word.{all_bits, ClearsBit, item_bit}
 
 -- a page as plain data: its words, 32 places a word, and what each user knows

@@ -48,7 +48,8 @@ module _ {T K O : Type 0} where
       ((known.number ≡ start.number) × (page ≡ start.page)) ⊎ IsLinkedAt start.links known page
 
 module _ {T K : Type 0} where
-  -- what a page of a chain answers to a pull: an item of this page with its origin; or each of its ids was observed taken
+  -- what a page of a chain answers to a pull: an item of this page with its origin; or each of its ids was observed
+  -- taken
   abbrev pub IsAnsweredBy : (T → Type 0) → (T → Type 0) → TableId → Allocated T K → Type 0
   IsAnsweredBy meets may_open page (Slot slot) =
       IsItemOf meets page (slot_item slot) × HasOrigin may_open (slot_item slot)
