@@ -36,7 +36,6 @@ pub use full_seen::{Allocated, FullSeen, PullPass};
 pub(crate) use note::Returned;
 pub use note::{PageNote, Witness};
 pub use owned_slot::OwnedSlot;
-pub(crate) use owned_slot::OwnedTakenId;
 pub use slot::PageSlot;
 pub(crate) use slot::TakenId;
 

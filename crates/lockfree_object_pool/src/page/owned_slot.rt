@@ -7,41 +7,18 @@ ghost use Rattle.lockfree_object_pool.specs.Page.{page_identity};
 ghost use Rattle.lockfree_object_pool.specs.declared.page.TheConstants.{PAGE_ITEMS};
 
 use super::holding::Holding;
-use super::{Page, PageId, PageNote, Returned};
+use super::{Page, PageId, PageNote};
 use crate::clean::Clean;
 use std::ops::{Deref, DerefMut};
 use std::sync::Arc;
 
 /// An id that was taken from a page, without its value.
 #[derive(Drop)]
-pub(crate) struct OwnedTakenId<T, K: Clean<T>> {
+pub(super) struct OwnedTakenId<T, K: Clean<T>> {
     pub(super) page: Arc<Page<T, K>>,
     pub(super) holding: Holding<T>,
     ghost of_page: { holding_page holding ≡ page_identity (arc_value page) } by { same_page _ _ },
     ghost in_page: { holding.number < PAGE_ITEMS },
-}
-
-impl<T, K: Clean<T>> OwnedTakenId<T, K> {
-    ghost use Rattle.lockfree_object_pool.specs.Note.{IsReturned};
-    ghost use Rattle.lockfree_object_pool.specs.OwnedSlot.{owned_taken_id, owned_taken_item};
-
-    pub(crate) fn id(&self) -> PageId
-        ensures value { result ≡ owned_taken_id self.now }
-        ensures in_page { result < PAGE_ITEMS }
-    {
-        self.holding.number as PageId
-    }
-
-    /// The value goes home, and the id is free again.
-    pub(crate) fn free(self, value: T) -> Returned<T>
-    where
-        T: Drop,
-        requires { K.meets value }
-        ensures { IsReturned (owned_taken_item self value) result.note }
-    {
-        let OwnedTakenId { page, holding } = self;
-        page.give(holding, value)
-    }
 }
 
 /// An item that is out of a page, with its value and an owner of the page.
@@ -49,34 +26,20 @@ impl<T, K: Clean<T>> OwnedTakenId<T, K> {
 /// A slot that is dropped drops its value, and its id stays out. [`OwnedSlot::free`] brings both back.
 #[derive(Drop)]
 pub struct OwnedSlot<T, K: Clean<T>> {
-    taken: OwnedTakenId<T, K>,
-    value: T,
+    pub(super) taken: OwnedTakenId<T, K>,
+    pub(super) value: T,
 }
 
 impl<T, K: Clean<T>> OwnedSlot<T, K> {
     ghost use Rattle.lockfree_object_pool.specs.Note.{IsReturned};
-    ghost use Rattle.lockfree_object_pool.specs.OwnedSlot.{owned_slot_item, owned_taken_item};
-
-    pub(super) fn new(taken: OwnedTakenId<T, K>, value: T) -> OwnedSlot<T, K>
-        ensures { owned_slot_item result ≡ owned_taken_item taken value }
-    {
-        OwnedSlot { taken, value }
-    }
+    ghost use Rattle.lockfree_object_pool.specs.OwnedSlot.{owned_slot_item};
 
     /// The number of the item in its page.
     pub fn id(&self) -> PageId
         ensures value { result ≡ (owned_slot_item self.now).id }
         ensures in_page { result < PAGE_ITEMS }
     {
-        self.taken.id()
-    }
-
-    /// The id and the value by themselves.
-    pub(crate) fn into_parts(self) -> (OwnedTakenId<T, K>, T)
-        ensures { owned_taken_item result.0 result.1 ≡ owned_slot_item self }
-    {
-        let OwnedSlot { taken, value } = self;
-        (taken, value)
+        self.taken.holding.number as PageId
     }
 
     /// The value goes home, and the id is free again. The note knows the page's history up to the return.
@@ -86,8 +49,9 @@ impl<T, K: Clean<T>> OwnedSlot<T, K> {
         requires { K.meets (owned_slot_item self).value }
         ensures { IsReturned (owned_slot_item self) result }
     {
-        let (taken, value) = self.into_parts();
-        taken.free(value).note
+        let OwnedSlot { taken, value } = self;
+        let OwnedTakenId { page, holding } = taken;
+        page.give(holding, value).note
     }
 }
 

@@ -7,7 +7,8 @@ ghost use Rattle.lockfree_object_pool.specs.Page.{page_identity};
 ghost use Rattle.lockfree_object_pool.specs.declared.page.TheConstants.{PAGE_ITEMS};
 
 use super::holding::Holding;
-use super::{OwnedSlot, OwnedTakenId, Page, PageId, Returned, Witness};
+use super::owned_slot::OwnedTakenId;
+use super::{OwnedSlot, Page, PageId, Returned, Witness};
 use crate::clean::Clean;
 use crate::lender::Lender;
 use std::ops::{Deref, DerefMut};
@@ -116,7 +117,10 @@ impl<'s, T, K: Clean<T>> PageSlot<'s, T, K> {
         ensures { owned_slot_item result ≡ slot_item self.entry }
     {
         let (TakenId { page: _, holding }, value) = self.into_parts();
-        OwnedSlot::new(OwnedTakenId { page, holding }, value)
+        OwnedSlot {
+            taken: OwnedTakenId { page, holding },
+            value,
+        }
     }
 }
 
