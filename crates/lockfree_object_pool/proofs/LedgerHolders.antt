@@ -1,4 +1,4 @@
--- Who holds what, by a page's history alone.
+-- Who holds what, by a ledger alone.
 use Rattle.std.proofs.Common.{◌≡◌, ◌≢◌, ℕ, suc, ◌+◌, List, [], ◌∷◌, ◌++◌, length, Option, Some, None, refl, sym, ap}
 use Rattle.std.proofs.Common.{◌∙◌, subst, arith, inl, inr}
 use native.Mathlib.Decide.{ℕ_discrete}
