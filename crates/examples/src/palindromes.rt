@@ -43,7 +43,8 @@ pub fn palindromes<R: Threads + Sync>(
     texts: &[Vec<u8>],
 ) -> Result<Vec<Option<bool>>, AllocError>
     // Each answer is the one that a single thread would give.
-    ensures { IfOk result (λ answers. (i : ℕ) (d : _) (e : _) → i < length texts.now → IsAnswerTo (slice_index_or texts.now i d) (slice_index_or answers.items i e)) }
+    ensures { IfOk result (λ answers. (i : ℕ) (d : _) (e : _) → i < length texts.now
+        → IsAnswerTo (slice_index_or texts.now i d) (slice_index_or answers.items i e)) }
 {
     thread::map_indices(rt, alloc, texts.len(), &|i| answered(pool, &texts[i]))
 }

@@ -39,7 +39,8 @@ impl Sessions {
     /// Opens a session, or opens it anew. Its basket is empty, whoever had the number or the basket before.
     pub fn open(&mut self, session: u64) -> Result<(), PullError>
         ensures empty { OnOk result (basket_of self.new session ≡ Some []) }
-        ensures others { (other : ℕ) → other ≢ session → basket_of self.new other ≡ basket_of self.old other }
+        ensures others { (other : ℕ) → other ≢ session
+            → basket_of self.new other ≡ basket_of self.old other }
         ensures refused { OnErr result (basket_of self.new session ≡ basket_of self.old session) }
         ensures limited { result ≡ Err PullError.Limit → IsSome (limit_of self.old) }
     {
@@ -53,15 +54,18 @@ impl Sessions {
     /// Closes a session. Its basket is in the pool again.
     pub fn close(&mut self, session: u64)
         ensures closed { basket_of self.new session ≡ None }
-        ensures others { (other : ℕ) → other ≢ session → basket_of self.new other ≡ basket_of self.old other }
+        ensures others { (other : ℕ) → other ≢ session
+            → basket_of self.new other ≡ basket_of self.old other }
     {
         self.open.remove(&session);
     }
 
     /// Puts a product into the basket of a session, where it is open.
     pub fn add(&mut self, session: u64, product: u32) -> Result<(), PullError>
-        ensures added { OnOk result (basket_of self.new session ≡ option_map (λ products. products ++ product ∷ []) (basket_of self.old session)) }
-        ensures others { (other : ℕ) → other ≢ session → basket_of self.new other ≡ basket_of self.old other }
+        ensures added { OnOk result (basket_of self.new session
+            ≡ option_map (λ products. products ++ product ∷ []) (basket_of self.old session)) }
+        ensures others { (other : ℕ) → other ≢ session
+            → basket_of self.new other ≡ basket_of self.old other }
         ensures refused { OnErr result (basket_of self.new session ≡ basket_of self.old session) }
         ensures open_alone { OnErr result (IsSome (basket_of self.old session)) }
         ensures memory_alone { IfErr result (λ cause. cause ≡ Memory) }

@@ -60,7 +60,8 @@ impl Handle {
 
     /// What an open handle has, which is empty from then on.
     pub(crate) fn take(&mut self, alloc: Global) -> Option<Box<Held>>
-        ensures taken { MatchOption result (self.old.held ≡ None) (λ held. self.old.held ≡ Some held.value) }
+        ensures taken { MatchOption result (self.old.held ≡ None)
+            (λ held. self.old.held ≡ Some held.value) }
         ensures empty { self.new.held ≡ None }
     {
         match replace(self, Handle::empty(alloc)).into_loose() {

@@ -54,7 +54,8 @@ impl Held {
     /// A further handle of the pool, which holds no place: or the answer why there is none.
     pub(crate) fn share(&self, alloc: Global) -> Result<Box<Held>, u32>
         ensures shares { IfOk result (λ other. Shares self.now other.value) }
-        ensures refused { IfErr result (λ answer. ((answer ≡ NO_POOL) × (self.now.hand ≡ None)) ⊎ (answer ≡ NO_MEMORY)) }
+        ensures refused { IfErr result
+            (λ answer. ((answer ≡ NO_POOL) × (self.now.hand ≡ None)) ⊎ (answer ≡ NO_MEMORY)) }
     {
         let Some(pool) = self.pool() else {
             return Err(NO_POOL);
@@ -83,7 +84,8 @@ impl Held {
 
     /// The pool's owner.
     fn pool(&self) -> Option<&Arc<PlacePool>>
-        ensures { MatchOption result (self.now.hand ≡ None) (λ pool. (hand : HandShown) × (self.now.hand ≡ Some hand) × (arc_value pool.now ≡ hand_pool hand)) }
+        ensures { MatchOption result (self.now.hand ≡ None) (λ pool. (hand : HandShown)
+            × (self.now.hand ≡ Some hand) × (arc_value pool.now ≡ hand_pool hand)) }
     {
         match &self.hand {
             None => None,
