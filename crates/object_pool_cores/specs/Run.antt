@@ -56,16 +56,16 @@ module _ {T : Type 0} where
   abbrev pub opened : List T → List (Act T) → List (Option T)
   opened first acts = map Some (made first acts)
 
-  -- the pool to which a run has led: at each number of its pages what the ledger says
-  abbrev pub pool_of : List T → List (Act T) → Pool T
-  pool_of first acts =
-      record {
-        pages = pages_of acts;
-        at = λ n. place_of (if nat_lt n (PAGE_ITEMS * pages_of acts) then Some
-            (value_at (opened first acts) (ledger_of acts) n) else None);
-      }
+  -- what the ledger says of a number of these pages
+  abbrev pub lies_at : List T → List (Act T) → ℕ → Option (Option T)
+  lies_at first acts n =
+      if nat_lt n (PAGE_ITEMS * pages_of acts) then Some (value_at (opened first acts) (ledger_of acts) n) else None
 
-  -- an agent looks for a number from its opening to its pull or its refusal: it may have grown the pool since it opened
+  -- the pool to which a run has led: a number is free with the value that lies there, and out where nothing does
+  abbrev pub pool_of : List T → List (Act T) → Pool T
+  pool_of first acts = record { pages = pages_of acts; at = λ n. place_of (lies_at first acts n) }
+
+  -- an agent looks for a number while all that it did is to open and to grow the pool
   abbrev pub Looks : List (Act T) → Type 0
   Looks (Opens a ∷ []) = ⊤
   Looks (Grows a values ∷ before) = Looks before
@@ -75,7 +75,7 @@ module _ {T : Type 0} where
   abbrev pub IsHolder : List (Act T) → ℕ → ℕ → Type 0
   IsHolder acts a n = held_id (operations_of a (ledger_of acts)) ≡ Some n
 
-  -- the value that an agent pulled or wrote last
+  -- of an agent's acts the value that it pulled or wrote last
   abbrev pub last_value : List (Act T) → Option T
   last_value [] = None
   last_value (Operates (Pull a n value) ∷ before) = Some value
@@ -116,8 +116,8 @@ module _ {T : Type 0} (Leaves : T → T → Type 0) (limit : Option ℕ) (first 
   MayRefuse acts a Memory = ⊤
   MayRefuse acts a Init = ⊤
 
-  -- the act may come after these: an agent opens once and before all else, writes what it holds, grows the pool and is
-  -- refused while it looks, and operates as the ledger allows it
+  -- the act may come after these: an agent opens once and before all else, writes where it holds a number, does an
+  -- operation that the ledger allows, and grows the pool or is refused while it looks
   abbrev pub MayCome : List (Act T) → Act T → Type 0
   MayCome acts (Opens a) = acts_of a acts ≡ []
   MayCome acts (Writes a value) = (n : ℕ) × IsHolder acts a n
