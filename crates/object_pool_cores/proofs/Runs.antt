@@ -2,12 +2,12 @@
 use Rattle.std.proofs.Common.{◌≡◌, ◌≢◌, inl, inr, ℕ, ◌+◌, ◌-◌, ◌*◌, ◌<◌, ◌≤◌, ◌==◌, nat_lt, Bool, true, false}
 use Rattle.std.proofs.Common.{if◌then◌else◌, Option, Some, None, List, [], ◌∷◌, ◌++◌, map, length, get_or, slice_get}
 use Rattle.std.proofs.Common.{zero, suc, refl, ap, sym, ◌∙◌, arith, length-append}
-use Rattle.std.proofs.lemmas.Bool.{eq-eqb, ne_eqb, cases_lt, lt-ltb, le-ltb, ltb-true}
+use Rattle.std.proofs.lemmas.Bool.{eq-eqb, ne_eqb, cases_lt, cases_Bool, lt-ltb, le-ltb, ltb-true}
 use Rattle.std.proofs.lemmas.List.{length-map, map-append}
 use Rattle.std.proofs.lemmas.Option.{slice_get_past}
 use Rattle.lockfree_object_pool.specs.declared.page.history.Operation.{Operation}
 use Rattle.lockfree_object_pool.specs.declared.page.history.Operation.TheVariants.{Pull, Return}
-use Rattle.lockfree_object_pool.specs.Ledger.{History, id_of, operations_of, held_id, value_at, IsLegal, NoOperationOn}
+use Rattle.lockfree_object_pool.specs.Ledger.{user_of, id_of, operations_of, held_id, value_at, IsLegal, NoOperationOn}
 use Rattle.lockfree_object_pool.proofs.Ledger.{operations_of_own}
 use Rattle.lockfree_object_pool.proofs.LedgerHolders.{held}
 use Rattle.object_pool_cores.specs.Pool.{Place, Pool, Absent, IsFree, IsOut, AllowsPages, place_of, free_with}
@@ -45,26 +45,16 @@ module _ {T : Type 0} where
   acts_of-other act acts a other = rw (ne_eqb (agent_of act) a other) refl
 
   -- an agent's operations are the ledger of its own acts
-  operates-own : (test : Bool) (operation : Operation T) (own : List (Act T)) (operations : History T)
-      → operations ≡ ledger_of own
-      → (if test then operation ∷ operations else operations)
-      ≡ ledger_of (if test then Operates operation ∷ own else own)
-  operates-own true operation own operations is = ap (λ before. operation ∷ before) is
-  operates-own false operation own operations is = is
-
-  beside-own : (test : Bool) (act : Act T) (own : List (Act T)) (operations : History T)
-      → ledger_of (act ∷ own) ≡ ledger_of own → operations ≡ ledger_of own
-      → operations ≡ ledger_of (if test then act ∷ own else own)
-  beside-own true act own operations beside is = is ∙ sym beside
-  beside-own false act own operations beside is = is
-
   ledger-own : (acts : List (Act T)) (a : ℕ) → operations_of a (ledger_of acts) ≡ ledger_of (acts_of a acts)
   ledger-own [] a = refl
-  ledger-own (Operates operation ∷ acts) a =
-      operates-own (agent_of (Operates operation) == a) operation (acts_of a acts) (operations_of a (ledger_of acts))
-      (ledger-own acts a)
-  ledger-own (act ∷ acts) a =
-      beside-own (agent_of act == a) act (acts_of a acts) (operations_of a (ledger_of acts)) refl (ledger-own acts a)
+  ledger-own (Operates operation ∷ acts) a = elim (cases_Bool (user_of operation == a)) [
+    | inl own ↦ rw own (ap (λ before. operation ∷ before) (ledger-own acts a))
+    | inr other ↦ rw other (ledger-own acts a)
+  ]
+  ledger-own (act ∷ acts) a = elim (cases_Bool (agent_of act == a)) [
+    | inl own ↦ rw own (ledger-own acts a)
+    | inr other ↦ rw other (ledger-own acts a)
+  ]
 
   -- what an agent holds stays while others act
   pub holds-same : (acts more : List (Act T)) (a n : ℕ) (value : T) → acts_of a more ≡ acts_of a acts

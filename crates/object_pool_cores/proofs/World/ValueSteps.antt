@@ -81,14 +81,6 @@ module _ {T : Type 0} (Leaves : T → T → Type 0) (first : List T) (log : Log 
             value-put_other old.pages k id value page here j i different;
       }
 
-  linked-placed : (k id : ℕ) (value : Option T) (page : WorldPageState T) → slice_get old.pages k ≡ Some page
-      → k < length old.pages
-      → k < length (with_page_value old.pages k id value)
-  linked-placed k id value page here linked =
-      let count : length (with_page_value old.pages k id value) ≡ length old.pages = length-changed (λ p.
-      record { word = p.word; places = slice_set p.places id value }) old.pages k page here in
-      omega arith
-
   -- the value goes to the agent
   moved-out : length first ≡ 32 → (a k id : ℕ) → slice_get old.agents a ≡ Some (Taken k id) → (lookup : Option T)
       → page_value old.pages k id ≡ lookup → (answer : Seen) (new : WorldState T)
@@ -101,15 +93,15 @@ module _ {T : Type 0} (Leaves : T → T → Type 0) (first : List T) (log : Log 
       let same : Some value ≡ Some taken = sym lies ∙ some in
       let is : value ≡ taken = cc in
       let (page, here) = get-some old.pages k holds.linked in
+      let left = placed full a k id value None page holds here in
       from-outcome Leaves first log (event.MoveOut a) (takes old a k id (Some taken)) answer new
       (record {
         acts = acts;
         agrees = hidden-step Leaves first log acts old (event.MoveOut a) (seen.MovedOut a) a (Taken k id)
             (Holding k id taken)
-            (with_page_value old.pages k id None) agrees at tt (λ b other. refl)
-            (placed full a k id value None page holds here)
+            (with_page_value old.pages k id None) agrees at tt (λ b other. refl) left
             (record {
-              linked = linked-placed k id None page here holds.linked;
+              linked = let more = left.count in let below = holds.linked in omega arith;
               in_page = holds.in_page;
               holds = let P : T → Type 0 = Holds acts a (number k id) in subst P is holds.holds;
             });
@@ -154,17 +146,17 @@ module _ {T : Type 0} (Leaves : T → T → Type 0) (first : List T) (log : Log 
   move_home-goes full a (Some (Holding k id value)) at answer new (kept, leaves, row) =
       let holds = known Leaves first log acts old agrees a (Holding k id value) at in
       let (page, here) = get-some old.pages k holds.linked in
+      let left = placed full a k id value (Some kept) page holds here in
       from-outcome Leaves first log (event.MoveHome a) (puts old a k id kept) answer new
       (record {
         acts = acts;
         agrees = hidden-step Leaves first log acts old (event.MoveHome a) (seen.MovedHome a) a
             (Holding k id value) (Home k id)
-            (with_page_value old.pages k id (Some kept)) agrees at tt (λ b other. refl)
-            (placed full a k id value (Some kept) page holds here) (
+            (with_page_value old.pages k id (Some kept)) agrees at tt (λ b other. refl) left (
               value,
               kept,
               record {
-                linked = linked-placed k id (Some kept) page here holds.linked;
+                linked = let more = left.count in let below = holds.linked in omega arith;
                 in_page = holds.in_page;
                 holds = holds.holds;
               },

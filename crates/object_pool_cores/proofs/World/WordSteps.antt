@@ -222,13 +222,6 @@ module _ {T : Type 0} (Leaves : T → T → Type 0) (first : List T) (log : Log 
         values = λ b j i value other linked within holds. value-word old.pages k word page at j i;
       }
 
-  linked-worded : (k j word : ℕ) (page : WorldPageState T) → slice_get old.pages k ≡ Some page → j < length old.pages
-      → j < length (with_word old.pages k word)
-  linked-worded k j word page at linked =
-      let count : length (with_word old.pages k word) ≡ length old.pages = length-changed (λ p.
-      record { word = word; places = p.places }) old.pages k page at in
-      omega arith
-
   -- the bit is set in the word: the agent pulls its number
   won : (a k mask : ℕ) (from : Point T) → slice_get old.agents a ≡ Some from
       → Looks (acts_of a acts)
@@ -248,20 +241,20 @@ module _ {T : Type 0} (Leaves : T → T → Type 0) (first : List T) (log : Log 
       free-at k id page within here linked (ap (λ w. has_bit w id) (sym word_is) ∙ set) in
       let act : Act T = Operates (Pull a (number k id) value) in
       let count : pages_of acts ≡ length old.pages = agrees.same.pages in
+      let left = worded (act ∷ acts) a k word page here (without_bit-lt (word_of old.pages k) id (omega arith))
+      (same-cleared (pool_of first acts) (pool_of first (act ∷ acts)) old
+      (record { pages = pages; agents = old.agents; limit = old.limit }) k id page within here
+      (pool-operated first acts (Pull a (number k id) value) (omega arith)) agrees.same
+      (ap (λ w. with_word old.pages k (without_bit w id)) word_is)) in
       record {
         acts = act ∷ acts;
         agrees = visible-step Leaves first log acts old (event.ClearBit a) (seen.Pulled a (number k id)) a from
             (Taken k id) pages act agrees at (value, refl)
             (may-pull Leaves old.limit first acts a (number k id) value looking free) tt refl
-            (λ b other. refl)
-            (worded (act ∷ acts) a k word page here (without_bit-lt (word_of old.pages k) id (omega arith))
-            (same-cleared (pool_of first acts) (pool_of first (act ∷ acts)) old
-            (record { pages = pages; agents = old.agents; limit = old.limit }) k id page within here
-            (pool-operated first acts (Pull a (number k id) value) (omega arith)) agrees.same
-            (ap (λ w. with_word old.pages k (without_bit w id)) word_is))) (
+            (λ b other. refl) left (
               value,
               record {
-                linked = linked-worded k k word page here linked;
+                linked = let more = left.count in omega arith;
                 in_page = within;
                 holds = holds-pulled acts a (number k id) value;
               },
