@@ -2,7 +2,7 @@
 use Rattle.std.proofs.Common.{◌≡◌, ℕ, ◌-◌, ◌*◌, Option, List, [], ◌∷◌, length, Ok, sym, ap, ◌∙◌, arith, inr}
 use Rattle.std.specs.List.{slice_get}
 use Rattle.object_pool_cores.specs.Pool.{Pool, Out, IsFree, IsSame, free_with}
-use Rattle.object_pool_cores.specs.Move.{Pull, after, grown}
+use Rattle.object_pool_cores.specs.Move.{after_pull, grown}
 use Rattle.object_pool_cores.specs.LeastChoice.{IsExhausted, PullsLeast, TakesLeast}
 use Rattle.object_pool_cores.specs.Inside.Numbered.{Grows}
 use Rattle.object_pool_cores.specs.Laws.PoolSteps.{grown-new, IsSame-trans, IsSame-with_place}
@@ -28,7 +28,7 @@ module _ {T : Type 0} (limit : Option ℕ) (answers : Option T → Type 0) where
       free = sym (same.places n) ∙ takes.least.free;
       least = λ m w free. takes.least.least m w (same.places m ∙ free);
     };
-    taken = IsSame-trans new (after a (Pull n v)) (after b (Pull n v)) takes.taken (IsSame-with_place a b n Out same);
+    taken = IsSame-trans new (after_pull a n) (after_pull b n) takes.taken (IsSame-with_place a b n Out same);
   }
 
   -- the least number of a page more was pulled, where none was free before

@@ -1,6 +1,6 @@
 pub mod CommandWords
 pub mod Cores
-pub mod Holders
+pub mod LegalLedgers
 pub mod LeastChoiceSteps
 pub mod LineSplits
 pub mod ReplyRuns

@@ -6,7 +6,7 @@ use Rattle.lockfree_object_pool.specs.declared.pull_error.PullError.TheVariants.
 use Rattle.object_pool_cores.specs.declared.sequential.item.Item.{Item}
 use Rattle.object_pool_cores.specs.Inside.SequentialItem.{item_value, item_number}
 use Rattle.object_pool_cores.specs.Pool.{Pool, IsFree, IsOut, IsSame, AllowsPages}
-use Rattle.object_pool_cores.specs.Move.{Pull, Return, Growth, IsLegal, after}
+use Rattle.object_pool_cores.specs.Move.{IsGrowth, after_pull, after_return, grown}
 
 module _ {T : Type 0} where
   -- no number is free
@@ -21,7 +21,7 @@ module _ {T : Type 0} where
   -- the least free number is pulled
   pub record TakesLeast (old : Pool T) (n : ℕ) (v : T) (new : Pool T) : Type 0 where
     pub least : IsLeastFree old n v
-    pub taken : IsSame new (after old (Pull n v))
+    pub taken : IsSame new (after_pull old n)
 
 -- From here on, `answers` says what `init` may answer.
 module _ {T : Type 0} (limit : Option ℕ) (answers : Option T → Type 0) where
@@ -30,8 +30,8 @@ module _ {T : Type 0} (limit : Option ℕ) (answers : Option T → Type 0) where
     pub exhausted : IsExhausted old
     pub values : List T
     pub answered : All (λ w. answers (Some w)) values
-    pub legal : IsLegal limit old (Growth values)
-    pub takes : TakesLeast (after old (Growth values)) n v new
+    pub legal : IsGrowth limit old.pages values
+    pub takes : TakesLeast (grown old values) n v new
 
   -- the limit is the cause where the pool has as many pages
   -- as it may; the others come only where it may have more
@@ -66,4 +66,4 @@ pub record ReturnsItem {T : Type 0} (leaves : T → T → Type 0) (old : Pool T)
   pub number : item_number item ≡ Some n
   pub left : leaves (item_value item) kept
   pub was_out : IsOut old n
-  pub returned : IsSame new (after old (Return n kept))
+  pub returned : IsSame new (after_return old n kept)

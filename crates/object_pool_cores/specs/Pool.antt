@@ -43,6 +43,12 @@ module _ {T : Type 0} where
     pub pages : a.pages ≡ b.pages
     pub places : (n : ℕ) → a.at n ≡ b.at n
 
+  -- what lies at a number: nothing at one that is out, a value at one that is free, neither where there is no item
+  abbrev pub place_of : Option (Option T) → Place T
+  place_of None = Absent
+  place_of (Some None) = Out
+  place_of (Some (Some v)) = Free v
+
   -- free with a value, where there is one
   abbrev pub free_with : Option T → Place T
   free_with None = Absent

@@ -1,65 +1,91 @@
--- Runs: what agents do with a pool, one act after another.
-use Rattle.std.specs.Prelude.{◌≡◌, ◌≢◌, ◌⊎◌, ℕ, ◌*◌, ◌<◌, ◌≤◌, ◌==◌, if◌then◌else◌, Option, List, [], ◌∷◌, ⊤}
-use Rattle.lockfree_object_pool.specs.declared.pull_error.PullError.TheVariants.{Memory, Init, Limit}
-use Rattle.object_pool_cores.specs.Pool.{Pool, IsOut, IsPool, opening}
-use Rattle.object_pool_cores.specs.Move.{Move, Pull, Return, Growth, Refusal, IsLegal, after}
+-- Runs: what agents do with a pool, one act after another. A run is a ledger whose users are the agents, with openings,
+-- writes, growths and refusals beside it. As in a ledger, the last act stands first.
+use Rattle.std.specs.Prelude.{◌≡◌, ◌≢◌, ◌⊎◌, ℕ, ◌+◌, ◌*◌, ◌<◌, ◌≤◌, ◌==◌, nat_lt, if◌then◌else◌, Option, Some, None}
+use Rattle.std.specs.Prelude.{List, [], ◌∷◌, ◌++◌, map, ⊤}
+use Rattle.lockfree_object_pool.specs.declared.page.history.Operation.{Operation}
+use Rattle.lockfree_object_pool.specs.declared.page.history.Operation.TheVariants.{Pull, Return}
 use Rattle.lockfree_object_pool.specs.declared.page.TheConstants.{PAGE_ITEMS}
+use Rattle.lockfree_object_pool.specs.declared.pull_error.PullError.{PullError}
+use Rattle.lockfree_object_pool.specs.declared.pull_error.PullError.TheVariants.{Memory, Init, Limit}
+use Rattle.lockfree_object_pool.specs.Ledger.{History, user_of, operations_of, held_id, value_at, MayFollow}
+use Rattle.object_pool_cores.specs.Pool.{Pool, IsOut, IsPool, place_of}
+use Rattle.object_pool_cores.specs.Move.{IsGrowth}
 
--- an agent opens, writes the value that it holds, or makes a move of the pool
+-- an agent opens, writes the value that it holds, does an operation of the ledger, grows the pool by a page of values,
+-- or is refused
 pub data Act (T : Type 0) : Type 0 where
   Opens : (agent : ℕ) → Act T
   Writes : (agent : ℕ) (value : T) → Act T
-  Moves : (agent : ℕ) (move : Move T) → Act T
-
--- how far an agent is: it holds a number with a value from its pull to its return
-pub data Stage (T : Type 0) : Type 0 where
-  NotBegun : Stage T
-  Looking : Stage T
-  Holds : (n : ℕ) (value : T) → Stage T
-  Done : Stage T
+  Operates : (operation : Operation T) → Act T
+  Grows : (agent : ℕ) (values : List T) → Act T
+  Refused : (agent : ℕ) (cause : PullError) → Act T
 
 module _ {T : Type 0} where
   -- the agent of an act
   abbrev pub agent_of : Act T → ℕ
   agent_of (Opens a) = a
   agent_of (Writes a value) = a
-  agent_of (Moves a move) = a
+  agent_of (Operates operation) = user_of operation
+  agent_of (Grows a values) = a
+  agent_of (Refused a cause) = a
 
-  -- what an agent holds after a write
-  abbrev pub after_write : Stage T → T → Stage T
-  after_write (Holds n old) value = Holds n value
-  after_write NotBegun value = NotBegun
-  after_write Looking value = Looking
-  after_write Done value = Done
+  -- the acts of one agent
+  abbrev pub acts_of : ℕ → List (Act T) → List (Act T)
+  acts_of a [] = []
+  acts_of a (act ∷ acts) = if agent_of act == a then act ∷ acts_of a acts else acts_of a acts
 
-  -- where a move leaves its agent
-  abbrev after_move : Stage T → Move T → Stage T
-  after_move stage (Pull n value) = Holds n value
-  after_move stage (Return n kept) = Done
-  after_move stage (Growth values) = stage
-  after_move stage (Refusal cause) = Done
+  -- the ledger of a run: its pulls and returns
+  abbrev pub ledger_of : List (Act T) → History T
+  ledger_of [] = []
+  ledger_of (Operates operation ∷ acts) = operation ∷ ledger_of acts
+  ledger_of (_ ∷ acts) = ledger_of acts
 
-  -- where an act leaves its agent
-  abbrev pub after_act : Stage T → Act T → Stage T
-  after_act stage (Opens a) = Looking
-  after_act stage (Writes a value) = after_write stage value
-  after_act stage (Moves a move) = after_move stage move
+  -- how many pages there are: the first, and one for each growth
+  abbrev pub pages_of : List (Act T) → ℕ
+  pages_of [] = 1
+  pages_of (Grows a values ∷ acts) = pages_of acts + 1
+  pages_of (_ ∷ acts) = pages_of acts
 
-  -- where an agent is after these acts, of which the last stands first
-  abbrev pub stage_of : List (Act T) → ℕ → Stage T
-  stage_of [] a = NotBegun
-  stage_of (act ∷ acts) a = if agent_of act == a then after_act (stage_of acts a) act else stage_of acts a
+  -- the values with which these pages came, by their numbers
+  abbrev pub made : List T → List (Act T) → List T
+  made first [] = first
+  made first (Grows a values ∷ acts) = made first acts ++ values
+  made first (_ ∷ acts) = made first acts
 
-  -- the pool that an act leaves: openings and writes leave it as it was
-  abbrev pool_after : Pool T → Act T → Pool T
-  pool_after pool (Opens a) = pool
-  pool_after pool (Writes a value) = pool
-  pool_after pool (Moves a move) = after pool move
+  -- from these the ledger opens
+  abbrev pub opened : List T → List (Act T) → List (Option T)
+  opened first acts = map Some (made first acts)
 
-  -- the pool after these acts, of which the last stands first
+  -- what the ledger says of a number of these pages
+  abbrev pub lies_at : List T → List (Act T) → ℕ → Option (Option T)
+  lies_at first acts n =
+      if nat_lt n (PAGE_ITEMS * pages_of acts) then Some (value_at (opened first acts) (ledger_of acts) n) else None
+
+  -- the pool to which a run has led: a number is free with the value that lies there, and out where nothing does
   abbrev pub pool_of : List T → List (Act T) → Pool T
-  pool_of first [] = opening first
-  pool_of first (act ∷ acts) = pool_after (pool_of first acts) act
+  pool_of first acts = record { pages = pages_of acts; at = λ n. place_of (lies_at first acts n) }
+
+  -- an agent looks for a number while all that it did is to open and to grow the pool
+  abbrev pub Looks : List (Act T) → Type 0
+  Looks (Opens a ∷ []) = ⊤
+  Looks (Grows a values ∷ before) = Looks before
+  Looks _ = ⊥
+
+  -- an agent holds a number from its pull to its return
+  abbrev pub IsHolder : List (Act T) → ℕ → ℕ → Type 0
+  IsHolder acts a n = held_id (operations_of a (ledger_of acts)) ≡ Some n
+
+  -- of an agent's acts the value that it pulled or wrote last
+  abbrev pub last_value : List (Act T) → Option T
+  last_value [] = None
+  last_value (Operates (Pull a n value) ∷ before) = Some value
+  last_value (Writes a value ∷ before) = Some value
+  last_value (_ ∷ before) = last_value before
+
+  -- an agent holds a number with this value
+  pub record Holds (acts : List (Act T)) (a n : ℕ) (value : T) : Type 0 where
+    pub number : IsHolder acts a n
+    pub has : last_value (acts_of a acts) ≡ Some value
 
   -- P was true of the pool at some place from the agent's opening to the last
   abbrev pub Since : List T → ℕ → (Pool T → Type 0) → List (Act T) → Type 0
@@ -79,22 +105,26 @@ module _ {T : Type 0} where
   FoundAllOut first acts a count = (n : ℕ) → n < PAGE_ITEMS * count → FoundOut first acts a n
 
 module _ {T : Type 0} (Leaves : T → T → Type 0) (limit : Option ℕ) (first : List T) where
-  -- an agent may make the move after these acts: it pulls, grows and is refused while it looks, for the limit
-  -- only after it found each number out, and returns what it holds with a value that reset leaves of its own
-  abbrev pub MayMove : List (Act T) → ℕ → Move T → Type 0
-  MayMove acts a (Pull n value) = stage_of acts a ≡ Looking
-  MayMove acts a (Return n kept) = (value : T) × (stage_of acts a ≡ Holds n value) × Leaves value kept
-  MayMove acts a (Growth values) = stage_of acts a ≡ Looking
-  MayMove acts a (Refusal Limit) =
-      (stage_of acts a ≡ Looking) × FoundAllOut first acts a (pool_of first acts).pages
-  MayMove acts a (Refusal Memory) = stage_of acts a ≡ Looking
-  MayMove acts a (Refusal Init) = stage_of acts a ≡ Looking
+  -- an agent pulls while it looks, and returns a value that reset leaves of its own
+  abbrev pub MayOperate : List (Act T) → Operation T → Type 0
+  MayOperate acts (Pull a n value) = Looks (acts_of a acts)
+  MayOperate acts (Return a n kept) = (value : T) × (last_value (acts_of a acts) ≡ Some value) × Leaves value kept
 
-  -- the act may come after these: an agent opens once, and writes what it holds
+  -- an agent is refused for the limit where there are as many pages, and it found each of their numbers out
+  abbrev pub MayRefuse : List (Act T) → ℕ → PullError → Type 0
+  MayRefuse acts a Limit = (limit ≡ Some (pages_of acts)) × FoundAllOut first acts a (pages_of acts)
+  MayRefuse acts a Memory = ⊤
+  MayRefuse acts a Init = ⊤
+
+  -- the act may come after these: an agent opens once and before all else, writes where it holds a number, does an
+  -- operation that the ledger allows, and grows the pool or is refused while it looks
   abbrev pub MayCome : List (Act T) → Act T → Type 0
-  MayCome acts (Opens a) = stage_of acts a ≡ NotBegun
-  MayCome acts (Writes a value) = (n : ℕ) × (old : T) × (stage_of acts a ≡ Holds n old)
-  MayCome acts (Moves a move) = IsLegal limit (pool_of first acts) move × MayMove acts a move
+  MayCome acts (Opens a) = acts_of a acts ≡ []
+  MayCome acts (Writes a value) = (n : ℕ) × IsHolder acts a n
+  MayCome acts (Operates operation) =
+      MayFollow (opened first acts) (ledger_of acts) operation × MayOperate acts operation
+  MayCome acts (Grows a values) = Looks (acts_of a acts) × IsGrowth limit (pages_of acts) values
+  MayCome acts (Refused a cause) = Looks (acts_of a acts) × MayRefuse acts a cause
 
   -- the acts are a run: each may come after those before it
   abbrev pub Run : List (Act T) → Type 0
@@ -102,15 +132,12 @@ module _ {T : Type 0} (Leaves : T → T → Type 0) (limit : Option ℕ) (first 
   Run (act ∷ acts) = MayCome acts act × Run acts
 
 module _ {T : Type 0} (first : List T) where
-  -- what an agent had found before it linked a page, or was refused
+  -- what an agent had found before it grew the pool, or was refused
   abbrev pub FoundOutBefore : List (Act T) → Act T → Type 0
-  FoundOutBefore acts (Moves a (Growth values)) = FoundAllOut first acts a (pool_of first acts).pages
-  FoundOutBefore acts (Moves a (Refusal cause)) =
+  FoundOutBefore acts (Grows a values) = FoundAllOut first acts a (pages_of acts)
+  FoundOutBefore acts (Refused a cause) =
       (count : ℕ) × (1 ≤ count) × FoundAllOut first acts a count × HadPages first acts a count
-  FoundOutBefore acts (Moves a (Pull n value)) = ⊤
-  FoundOutBefore acts (Moves a (Return n kept)) = ⊤
-  FoundOutBefore acts (Opens a) = ⊤
-  FoundOutBefore acts (Writes a value) = ⊤
+  FoundOutBefore acts _ = ⊤
 
   -- so it was at each growth and each refusal
   abbrev pub FoundOutBeforeEach : List (Act T) → Type 0
@@ -119,10 +146,9 @@ module _ {T : Type 0} (first : List T) where
 
   -- each number that is out has one holder, and each other number none
   pub record HasHolders (acts : List (Act T)) : Type 0 where
-    pub some : (n : ℕ) → IsOut (pool_of first acts) n
-        → (a : ℕ) × (value : T) × (stage_of acts a ≡ Holds n value)
-    pub out : (n a : ℕ) (value : T) → stage_of acts a ≡ Holds n value → IsOut (pool_of first acts) n
-    pub one : (n a b : ℕ) (v w : T) → stage_of acts a ≡ Holds n v → stage_of acts b ≡ Holds n w → a ≡ b
+    pub some : (n : ℕ) → IsOut (pool_of first acts) n → (a : ℕ) × (value : T) × Holds acts a n value
+    pub out : (n a : ℕ) → IsHolder acts a n → IsOut (pool_of first acts) n
+    pub one : (n a b : ℕ) → IsHolder acts a n → IsHolder acts b n → a ≡ b
 
   -- the numbers are those of the pages, of which there are no more than there may be
   abbrev pub IsWhole : Option ℕ → List (Act T) → Type 0

@@ -1,19 +1,18 @@
 -- What a world reads as, as its pages change.
-use Rattle.std.proofs.Common.{◌≡◌, ◌≢◌, ◌⊎◌, inl, inr, ℕ, suc, zero, ◌+◌, ◌-◌, ◌*◌, ◌/◌, ◌%◌, ◌<◌, false, Option, Some}
-use Rattle.std.proofs.Common.{None, option_map, option_and_then, List, [], ◌∷◌, ◌++◌, map, length, slice_get, slice_set}
+use Rattle.std.proofs.Common.{◌≡◌, ◌≢◌, ◌⊎◌, inl, inr, ℕ, suc, zero, ◌+◌, ◌-◌, ◌*◌, ◌/◌, ◌%◌, ◌<◌, Bool, false, Option}
+use Rattle.std.proofs.Common.{Some, option_map, option_and_then, List, [], ◌∷◌, ◌++◌, length, slice_get, slice_set}
 use Rattle.std.proofs.Common.{refl, ap, sym, ◌∙◌, subst, arith, length-append}
 use Rattle.std.proofs.lemmas.Bool.{cases_eq, cases_lt}
 use Rattle.std.proofs.lemmas.List.{length-set}
-use Rattle.std.proofs.lemmas.Option.{slice_get_past, slice_get_cases, slice_get-map}
-use Rattle.object_pool_cores.specs.Pool.{Place, Pool, Free, Out, IsSame, free_with, number, with_place}
-use Rattle.object_pool_cores.specs.Move.{grown}
-use Rattle.object_pool_cores.specs.Laws.PoolSteps.{with_place-same, with_place-other, grown-old, grown-new}
+use Rattle.std.proofs.lemmas.Option.{slice_get_past, slice_get_cases}
+use Rattle.object_pool_cores.specs.Pool.{Place, Pool, Free, Out, IsSame, free_with, number}
 use Rattle.object_pool_cores.specs.World.State.{WorldPageState, WorldState}
 use Rattle.object_pool_cores.specs.World.Machine.{has_bit, with_bit, without_bit, value_in, page_value, with_page}
 use Rattle.object_pool_cores.specs.World.Machine.{with_word, with_page_value, linked_page}
 use Rattle.object_pool_cores.specs.World.AbstractPool.{place_by_bit, place_on, abstract_pool}
 use Rattle.object_pool_cores.proofs.World.Bits.{has_bit-all, has_bit-set_same, has_bit-set_other, has_bit-clear_same}
 use Rattle.object_pool_cores.proofs.World.Bits.{has_bit-clear_other}
+use Rattle.object_pool_cores.proofs.Runs.{IsPlaced, IsGrown}
 pub use Rattle.object_pool_cores.specs.Laws.NumberedPlaces.{slice_get-set_other as get-set_other}
 
 -- ---- lists by index
@@ -76,21 +75,18 @@ number_of n = omega arith
 
 module _ {T : Type 0} where
   -- what a number reads as, by its page and id
-  pub reads-number : (world : WorldState T) (k id : ℕ) (page : WorldPageState T) → id < 32
-      → slice_get world.pages k ≡ Some page
-      → (abstract_pool world).at (number k id) ≡ place_by_bit (has_bit page.word id) (page_value world.pages k id)
-  reads-number world k id page within at =
+  reads-place : (world : WorldState T) (k id : ℕ) (page : WorldPageState T) → id < 32
+      → slice_get world.pages k ≡ Some page → (abstract_pool world).at (number k id) ≡ place_on (Some page) id
+  reads-place world k id page within at =
       ap (λ j. place_on (slice_get world.pages j) (number k id % 32)) (page_of (number k id) k id within refl)
       ∙ ap (λ i. place_on (slice_get world.pages k) i) (id_of (number k id) k id within refl)
       ∙ ap (λ lookup. place_on lookup id) at
-      ∙ ap (λ lookup. place_by_bit (has_bit page.word id) (value_in lookup id)) (sym at)
 
-  -- worlds whose pages read alike on each page and id read alike
-  reads-alike :
-      (old new : WorldState T)
-      → ((k id : ℕ) → id < 32 → place_on (slice_get new.pages k) id ≡ place_on (slice_get old.pages k) id)
-      → (n : ℕ) → (abstract_pool new).at n ≡ (abstract_pool old).at n
-  reads-alike old new alike n = alike (n / 32) (n % 32) (omega arith)
+  pub reads-number : (world : WorldState T) (k id : ℕ) (page : WorldPageState T) → id < 32
+      → slice_get world.pages k ≡ Some page
+      → (abstract_pool world).at (number k id) ≡ place_by_bit (has_bit page.word id) (page_value world.pages k id)
+  reads-number world k id page within at = reads-place world k id page within at
+      ∙ ap (λ lookup. place_by_bit (has_bit page.word id) (value_in lookup id)) (sym at)
 
 -- ---- what holds of each page
 module _ {T : Type 0} (P : WorldPageState T → Type 0) where
@@ -125,151 +121,100 @@ module _ {T : Type 0} (P : WorldPageState T → Type 0) where
         ]
       ]
 
+-- ---- what is read after a change
+module _ {T X : Type 0} (g : Option (WorldPageState T) → X) (f : WorldPageState T → WorldPageState T) where
+  -- what is read of a page stays, where it does so of the one that changed
+  reads-changed : (pages : List (WorldPageState T)) (k j : ℕ) (page : WorldPageState T)
+      → slice_get pages k ≡ Some page → (j ≡ k → g (Some (f page)) ≡ g (Some page))
+      → g (slice_get (changed f pages k) j) ≡ g (slice_get pages j)
+  reads-changed pages k j page at stays = elim (cases_eq j k) [
+    | inl same ↦
+        ap g (ap (slice_get (changed f pages k)) same ∙ get-changed_same f pages k page at) ∙ stays same
+        ∙ ap g (sym (ap (slice_get pages) same ∙ at))
+    | inr other ↦ ap g (get-changed_other f pages k j page at other)
+  ]
+
 -- ---- the values at places
 module _ {T : Type 0} where
+  -- a page with another word, and one with another value at a place
+  abbrev worded : ℕ → WorldPageState T → WorldPageState T
+  worded word page = record { word = word; places = page.places }
+
+  abbrev valued : ℕ → Option T → WorldPageState T → WorldPageState T
+  valued id value page = record { word = page.word; places = slice_set page.places id value }
+
   pub value-word : (pages : List (WorldPageState T)) (k word : ℕ) (page : WorldPageState T)
       → slice_get pages k ≡ Some page → (j i : ℕ)
       → page_value (with_word pages k word) j i ≡ page_value pages j i
   value-word pages k word page at j i =
-      let f : WorldPageState T → WorldPageState T = λ page. record { word = word; places = page.places } in
-      elim (cases_eq j k) [
-        | inl same ↦
-            let old : page_value pages j i ≡ value_in (Some page) i =
-            ap (λ lookup. value_in lookup i) (ap (λ m. slice_get pages m) same ∙ at) in
-            let new : page_value (with_word pages k word) j i ≡ value_in (Some (f page)) i =
-            ap (λ lookup. value_in lookup i)
-            (ap (λ m. slice_get (with_word pages k word) m) same ∙ get-changed_same f pages k page at) in
-            new ∙ sym old
-        | inr other ↦ ap (λ lookup. value_in lookup i) (get-changed_other f pages k j page at other)
-      ]
+      reads-changed (λ lookup. value_in lookup i) (worded word) pages k j page at (λ same. refl)
 
   pub value-put_same : (pages : List (WorldPageState T)) (k id : ℕ) (value : Option T) (page : WorldPageState T)
       → slice_get pages k ≡ Some page → id < length page.places
       → page_value (with_page_value pages k id value) k id ≡ value
   value-put_same pages k id value page at within =
-      let f : WorldPageState T → WorldPageState T = λ page. record {
-        word = page.word;
-        places = slice_set page.places id value;
-      } in
       let (old, is) = get-some page.places id within in
-      ap (λ lookup. value_in lookup id) (get-changed_same f pages k page at)
+      ap (λ lookup. value_in lookup id) (get-changed_same (valued id value) pages k page at)
       ∙ ap (option_and_then (λ place. place)) (get-set_same page.places id old value is)
 
   pub value-put_other : (pages : List (WorldPageState T)) (k id : ℕ) (value : Option T) (page : WorldPageState T)
       → slice_get pages k ≡ Some page → (j i : ℕ) → ((j ≢ k) ⊎ (i ≢ id))
       → page_value (with_page_value pages k id value) j i ≡ page_value pages j i
   value-put_other pages k id value page at j i apart =
-      let f : WorldPageState T → WorldPageState T = λ page. record {
-        word = page.word;
-        places = slice_set page.places id value;
-      } in
-      elim (cases_eq j k) [
-        | inl same ↦
-            let old : page_value pages j i ≡ value_in (Some page) i =
-            ap (λ lookup. value_in lookup i) (ap (λ m. slice_get pages m) same ∙ at) in
-            let new : page_value (with_page_value pages k id value) j i ≡ value_in (Some (f page)) i =
-            ap (λ lookup. value_in lookup i)
-            (ap (λ m. slice_get (with_page_value pages k id value) m) same ∙ get-changed_same f pages k page at) in
-            elim apart [
-              | inl other ↦ absurd (other same)
-              | inr other ↦ new
-                  ∙ ap (option_and_then (λ place. place)) (get-set_other page.places id i value other) ∙ sym old
-            ]
-        | inr other ↦ ap (λ lookup. value_in lookup i) (get-changed_other f pages k j page at other)
-      ]
+      reads-changed (λ lookup. value_in lookup i) (valued id value) pages k j page at (λ same. elim apart [
+        | inl other ↦ absurd (other same)
+        | inr other ↦ ap (option_and_then (λ place. place)) (get-set_other page.places id i value other)
+      ])
 
 -- ---- the pool after a change
 module _ {T : Type 0} where
-  -- nothing changes that can be read
-  same-kept : (pool : Pool T) (old new : WorldState T) → IsSame pool (abstract_pool old)
-      → length new.pages ≡ length old.pages
-      → ((k id : ℕ) → id < 32 → place_on (slice_get new.pages k) id ≡ place_on (slice_get old.pages k) id)
-      → IsSame pool (abstract_pool new)
-  same-kept pool old new same pages alike = record {
-    pages = same.pages ∙ sym pages;
-    places = λ n. same.places n ∙ sym (reads-alike old new alike n);
-  }
-
-  -- one number changes
-  same-placed : (pool : Pool T) (old new : WorldState T) (k id : ℕ) (place : Place T) → id < 32
-      → IsSame pool (abstract_pool old)
-      → length new.pages ≡ length old.pages → place_on (slice_get new.pages k) id ≡ place
-      →
-      ((j i : ℕ) → i < 32 → ((j ≢ k) ⊎ (i ≢ id))
-      → place_on (slice_get new.pages j) i ≡ place_on (slice_get old.pages j) i)
-      → IsSame (with_place pool (number k id) place) (abstract_pool new)
-  same-placed pool old new k id place within same pages here there = record {
-    pages = same.pages ∙ sym pages;
+  -- a page changes at one id
+  same-changed : (f : WorldPageState T → WorldPageState T) (pool after : Pool T) (world new : WorldState T) (k id : ℕ)
+      (page : WorldPageState T) (place : Place T) → id < 32
+      → slice_get world.pages k ≡ Some page → IsPlaced pool (number k id) place after
+      → IsSame pool (abstract_pool world) → new.pages ≡ changed f world.pages k → place_on (Some (f page)) id ≡ place
+      → ((i : ℕ) → i < 32 → i ≢ id → place_on (Some (f page)) i ≡ place_on (Some page) i)
+      → IsSame after (abstract_pool new)
+  same-changed f pool after world new k id page place within at placed same is here there = record {
+    pages = placed.pages ∙ same.pages ∙ sym (ap length is ∙ length-changed f world.pages k page at);
     places = λ n. elim (cases_eq n (number k id)) [
-      | inl is ↦
-          ap (λ m. (with_place pool (number k id) place).at m) is
-          ∙ with_place-same pool (number k id) place
-          ∙ sym here
-          ∙ ap (λ j. place_on (slice_get new.pages j) id) (sym (page_of n k id within is))
-          ∙ ap (λ i. place_on (slice_get new.pages (n / 32)) i) (sym (id_of n k id within is))
+      | inl own ↦
+          let now : slice_get new.pages k ≡ Some (f page) =
+          ap (λ pages. slice_get pages k) is ∙ get-changed_same f world.pages k page at in
+          ap after.at own ∙ placed.here
+          ∙ sym (ap (abstract_pool new).at own ∙ reads-place new k id (f page) within now ∙ here)
       | inr other ↦
-          let apart : (n / 32 ≢ k) ⊎ (n % 32 ≢ id) =
-          elim (cases_eq (n / 32) k) [ inl page ↦ inr (λ place. other (omega arith)) | inr page ↦ inl page ] in
-          with_place-other pool (number k id) n place other ∙ same.places n
-          ∙ sym (there (n / 32) (n % 32) (omega arith) apart)
+          placed.there n other ∙ same.places n
+          ∙ sym (ap (λ pages. place_on (slice_get pages (n / 32)) (n % 32)) is
+          ∙ reads-changed (λ lookup. place_on lookup (n % 32)) f world.pages k (n / 32) page at
+          (λ page_is. there (n % 32) (omega arith) (λ id_is. other (omega arith))))
     ];
   }
 
   -- the bit of an id is cleared
-  pub same-cleared : (pool : Pool T) (world new : WorldState T) (k id : ℕ) (page : WorldPageState T) → id < 32
-      → slice_get world.pages k ≡ Some page → IsSame pool (abstract_pool world)
+  pub same-cleared : (pool after : Pool T) (world new : WorldState T) (k id : ℕ) (page : WorldPageState T) → id < 32
+      → slice_get world.pages k ≡ Some page → IsPlaced pool (number k id) Out after → IsSame pool (abstract_pool world)
       → new.pages ≡ with_word world.pages k (without_bit page.word id)
-      → IsSame (with_place pool (number k id) Out) (abstract_pool new)
-  same-cleared pool world new k id page within at same is =
-      let f : WorldPageState T → WorldPageState T = λ p. record {
-        word = without_bit page.word id;
-        places = p.places;
-      } in
-      let all : List (WorldPageState T) → List (WorldPageState T) = λ pages. pages in
-      same-placed pool world new k id Out within same
-      (ap length is ∙ length-changed f world.pages k page at)
-      (ap (λ pages. place_on (slice_get pages k) id) is
-      ∙ ap (λ lookup. place_on lookup id) (get-changed_same f world.pages k page at)
-      ∙ ap (λ bit. place_by_bit bit (value_in (Some page) id)) (has_bit-clear_same page.word id within))
-      (λ j i inside apart.
-      ap (λ pages. place_on (slice_get pages j) i) is
-      ∙ elim (cases_eq j k) [
-        | inl same ↦
-            let other : i ≢ id = elim apart [ inl not ↦ absurd (not same) | inr not ↦ not ] in
-            ap (λ lookup. place_on lookup i)
-            (ap (λ m. slice_get (changed f world.pages k) m) same ∙ get-changed_same f world.pages k page at)
-            ∙ ap (λ bit. place_by_bit bit (value_in (Some page) i))
-            (has_bit-clear_other page.word id i within inside other)
-            ∙ ap (λ lookup. place_on lookup i) (sym (ap (λ m. slice_get world.pages m) same ∙ at))
-        | inr other ↦ ap (λ lookup. place_on lookup i) (get-changed_other f world.pages k j page at other)
-      ])
+      → IsSame after (abstract_pool new)
+  same-cleared pool after world new k id page within at placed same is =
+      let read : (i : ℕ) → Bool → Place T = λ i bit. place_by_bit bit (value_in (Some page) i) in
+      same-changed (worded (without_bit page.word id)) pool after world new k id page Out within at placed same is
+      (ap (read id) (has_bit-clear_same page.word id within))
+      (λ i inside other. ap (read i) (has_bit-clear_other page.word id i within inside other))
 
   -- the bit of an id is set, where this value lies
-  pub same-set : (pool : Pool T) (world new : WorldState T) (k id : ℕ) (page : WorldPageState T) (value : T) → id < 32
+  pub same-set : (pool after : Pool T) (world new : WorldState T) (k id : ℕ) (page : WorldPageState T) (value : T)
+      → id < 32
       → slice_get world.pages k ≡ Some page → page_value world.pages k id ≡ Some value
-      → IsSame pool (abstract_pool world)
+      → IsPlaced pool (number k id) (Free value) after → IsSame pool (abstract_pool world)
       → new.pages ≡ with_word world.pages k (with_bit page.word id)
-      → IsSame (with_place pool (number k id) (Free value)) (abstract_pool new)
-  same-set pool world new k id page value within at lies same is =
-      let f : WorldPageState T → WorldPageState T = λ p. record { word = with_bit page.word id; places = p.places } in
-      let here : value_in (Some page) id ≡ Some value = ap (λ lookup. value_in lookup id) (sym at) ∙ lies in
-      same-placed pool world new k id (Free value) within same
-      (ap length is ∙ length-changed f world.pages k page at)
-      (ap (λ pages. place_on (slice_get pages k) id) is
-      ∙ ap (λ lookup. place_on lookup id) (get-changed_same f world.pages k page at)
-      ∙ ap (λ bit. place_by_bit bit (value_in (Some page) id)) (has_bit-set_same page.word id within)
-      ∙ ap free_with here)
-      (λ j i inside apart.
-      ap (λ pages. place_on (slice_get pages j) i) is
-      ∙ elim (cases_eq j k) [
-        | inl same ↦
-            let other : i ≢ id = elim apart [ inl not ↦ absurd (not same) | inr not ↦ not ] in
-            ap (λ lookup. place_on lookup i)
-            (ap (λ m. slice_get (changed f world.pages k) m) same ∙ get-changed_same f world.pages k page at)
-            ∙ ap (λ bit. place_by_bit bit (value_in (Some page) i)) (has_bit-set_other page.word id i within other)
-            ∙ ap (λ lookup. place_on lookup i) (sym (ap (λ m. slice_get world.pages m) same ∙ at))
-        | inr other ↦ ap (λ lookup. place_on lookup i) (get-changed_other f world.pages k j page at other)
-      ])
+      → IsSame after (abstract_pool new)
+  same-set pool after world new k id page value within at lies placed same is =
+      let read : (i : ℕ) → Bool → Place T = λ i bit. place_by_bit bit (value_in (Some page) i) in
+      same-changed (worded (with_bit page.word id)) pool after world new k id page (Free value) within at placed same is
+      (ap (read id) (has_bit-set_same page.word id within)
+      ∙ ap free_with (ap (λ lookup. value_in lookup id) (sym at) ∙ lies))
+      (λ i inside other. ap (read i) (has_bit-set_other page.word id i within other))
 
   -- a value comes or goes where the bit is clear
   pub same-moved : (pool : Pool T) (world new : WorldState T) (k id : ℕ) (value : Option T)
@@ -277,66 +222,50 @@ module _ {T : Type 0} where
       → slice_get world.pages k ≡ Some page → has_bit page.word id ≡ false → IsSame pool (abstract_pool world)
       → new.pages ≡ with_page_value world.pages k id value → IsSame pool (abstract_pool new)
   same-moved pool world new k id value page within at clear same is =
-      let f : WorldPageState T → WorldPageState T = λ p. record {
-        word = p.word;
-        places = slice_set p.places id value;
-      } in
-      same-kept pool world new same
-      (ap length is ∙ length-changed f world.pages k page at)
-      (λ j i inside.
-      ap (λ pages. place_on (slice_get pages j) i) is
-      ∙ elim (cases_eq j k) [
-        | inl same ↦
-            let old : place_on (slice_get world.pages j) i ≡ place_by_bit (has_bit page.word i)
-            (value_in (Some page) i) = ap (λ lookup. place_on lookup i) (ap (λ m. slice_get world.pages m) same ∙ at) in
-            let new : place_on (slice_get (changed f world.pages k) j) i ≡ place_by_bit (has_bit page.word i)
-            (value_in (Some (f page)) i) = ap (λ lookup. place_on lookup i)
-            (ap (λ m. slice_get (changed f world.pages k) m) same ∙ get-changed_same f world.pages k page at) in
-            elim (cases_eq i id) [
-              | inl own ↦
-                  let bit : has_bit page.word i ≡ false = ap (has_bit page.word) own ∙ clear in
-                  new ∙ ap (λ b. place_by_bit b (value_in (Some (f page)) i)) bit
-                  ∙ sym (old ∙ ap (λ b. place_by_bit b (value_in (Some page) i)) bit)
-              | inr other ↦
-                  new ∙ ap (λ lookup. place_by_bit (has_bit page.word i) (option_and_then (λ place. place) lookup))
-                  (get-set_other page.places id i value other) ∙ sym old
-            ]
-        | inr other ↦ ap (λ lookup. place_on lookup i) (get-changed_other f world.pages k j page at other)
-      ])
+      let out : (lies : Option T) → place_by_bit (has_bit page.word id) lies ≡ Out = λ lies.
+      ap (λ bit. place_by_bit bit lies) clear in
+      let here = same.places (number k id) ∙ reads-place world k id page within at
+      ∙ out (value_in (Some page) id) in
+      same-changed (valued id value) pool pool world new k id page Out within at
+      (record { pages = refl; here = here; there = λ m other. refl }) same is
+      (out (value_in (Some (valued id value page)) id))
+      (λ i inside other. ap (λ lookup. place_by_bit (has_bit page.word i) (option_and_then (λ place. place) lookup))
+      (get-set_other page.places id i value other))
 
-  -- a page is linked
-  pub same-grown : (pool : Pool T) (world new : WorldState T) (values : List T) → length values ≡ 32
-      → IsSame pool (abstract_pool world)
-      → new.pages ≡ world.pages ++ linked_page values ∷ [] → IsSame (grown pool values) (abstract_pool new)
-  same-grown pool world new values full same is =
+  -- a page is linked, with a value at each of its places
+  linked-value : (values : List T) (id : ℕ) → value_in (Some (linked_page values)) id ≡ slice_get values id
+  linked-value [] id = refl
+  linked-value (value ∷ values) zero = refl
+  linked-value (value ∷ values) (suc id) = linked-value values id
+
+  pub same-grown : (pool after : Pool T) (world new : WorldState T) (values : List T) → length values ≡ 32
+      → IsGrown pool values after → IsSame pool (abstract_pool world)
+      → new.pages ≡ world.pages ++ linked_page values ∷ [] → IsSame after (abstract_pool new)
+  same-grown pool after world new values full grown same is =
       let count : length new.pages ≡ length world.pages + 1 = ap length is
       ∙ length-append world.pages (linked_page values ∷ []) in
       let pages : pool.pages ≡ length world.pages = same.pages in
       record {
-        pages = omega arith;
+        pages = let all = grown.pages in omega arith;
         places = λ n. elim (cases_lt n (32 * pool.pages)) [
           | inl old ↦
-              grown-old pool values n old ∙ same.places n
+              grown.before n old ∙ same.places n
               ∙ sym (ap (λ all. place_on (slice_get all (n / 32)) (n % 32)) is
               ∙ ap (λ lookup. place_on lookup (n % 32))
               (get-push_old world.pages (linked_page values) (n / 32) (omega arith)))
           | inr past ↦
-              grown-new pool values n past
-              ∙ elim (cases_eq (n / 32) (length world.pages)) [
-                | inl last ↦
-                    let index : n - 32 * pool.pages ≡ n % 32 = omega arith in
-                    let lies : slice_get (map Some values) (n % 32) ≡ option_map Some (slice_get values (n % 32)) =
-                    slice_get-map Some values (n % 32) in
-                    let flat : (lookup : Option T) → free_with lookup ≡ free_with (option_and_then (λ place. place)
-                    (option_map Some lookup)) = elim [ None ↦ refl | Some v ↦ refl ] in
-                    ap (λ i. free_with (slice_get values i)) index
-                    ∙ flat (slice_get values (n % 32))
-                    ∙ ap (λ lookup. free_with (option_and_then (λ place. place) lookup)) (sym lies)
-                    ∙ sym (ap (λ all. place_on (slice_get all (n / 32)) (n % 32)) is
-                    ∙ ap (λ j. place_on (slice_get (world.pages ++ linked_page values ∷ []) j) (n % 32)) last
-                    ∙ ap (λ lookup. place_on lookup (n % 32)) (get-push_new world.pages (linked_page values))
-                    ∙ ap (λ bit. place_by_bit bit (value_in (Some (linked_page values)) (n % 32)))
-                    (has_bit-all (n % 32) (omega arith)))
+              grown.page n past
+              ∙ elim (cases_lt n (32 * pool.pages + 32)) [
+                | inl within ↦
+                    let id = n - 32 * pool.pages in
+                    let own : n ≡ number (length world.pages) id = omega arith in
+                    let now : slice_get new.pages (length world.pages) ≡ Some (linked_page values) =
+                    ap (λ all. slice_get all (length world.pages)) is ∙ get-push_new world.pages (linked_page values) in
+                    sym (ap (abstract_pool new).at own
+                    ∙ reads-place new (length world.pages) id (linked_page values) (omega arith) now
+                    ∙ ap (λ bit. place_by_bit bit (value_in (Some (linked_page values)) id))
+                    (has_bit-all id (omega arith))
+                    ∙ ap free_with (linked-value values id))
                 | inr beyond ↦
                     ap free_with (slice_get_past values (n - 32 * pool.pages) (omega arith))
                     ∙ sym (ap (λ lookup. place_on lookup (n % 32)) (slice_get_past new.pages (n / 32) (omega arith)))

@@ -25,7 +25,7 @@ use Rattle.object_pool_cores.specs.World.Trace.{Log}
 use Rattle.object_pool_cores.specs.World.Enabled.{IsEnabled, IsExact}
 use Rattle.object_pool_cores.specs.World.Reachable.{IsReachable}
 use Rattle.object_pool_cores.specs.World.Headline.{IsNew, Executes}
-use Rattle.object_pool_cores.specs.World.Inside.Invariant.{IsPast, IsAtLastPage, TriesBits, TriesHinted, Knows, Agrees}
+use Rattle.object_pool_cores.specs.World.Inside.Invariant.{TriesBits, Knows, Agrees}
 use Rattle.object_pool_cores.proofs.World.WordSteps.{known, may_name-is}
 use Rattle.object_pool_cores.proofs.World.Headline.{ran-agrees, Agreement}
 
@@ -123,8 +123,7 @@ module _ {T : Type 0} (Leaves : T → T → Type 0) (first : List T) (log : Log 
       (λ none gave. let zero = eqb-true mask 0 none in absurd (omega arith))
       (λ more gave. clears-answers a k (lowest mask) (word_of old.pages k) (tries k (without_lowest mask) asked) gave))
   clear_bit-exact a (Some (ClearingHinted hint mask)) at row =
-      let knows : TriesHinted first acts old a hint mask =
-      known Leaves first log acts old agrees a (ClearingHinted hint mask) at in
+      let knows = known Leaves first log acts old agrees a (ClearingHinted hint mask) at in
       let some = knows.bits.some in
       row-there old answer new _ tt
       (by-test-2 old answer new _ _ _ row
@@ -136,7 +135,7 @@ module _ {T : Type 0} (Leaves : T → T → Type 0) (first : List T) (log : Log 
   read_next-exact : (a : ℕ) (lookup : Option (Point T)) → slice_get old.agents a ≡ lookup
       → IsOutcome (read_next old a lookup) answer new → ExactAt old answer new (IsEnabled old (event.ReadNext a) lookup)
   read_next-exact a (Some (AtLink k asked)) at row =
-      let past : IsPast first acts old a k asked = known Leaves first log acts old agrees a (AtLink k asked) at in
+      let past = known Leaves first log acts old agrees a (AtLink k asked) at in
       let linked = past.linked in
       let one : Outcome T = (seen.Refused a Limit, at_point old a Ended) in
       let two : Outcome T = (seen.Next a false, at_point old a (Making k)) in
@@ -155,7 +154,7 @@ module _ {T : Type 0} (Leaves : T → T → Type 0) (first : List T) (log : Log 
       → IsOutcome (make_page old a prepared lookup) answer new
       → ExactAt old answer new (IsEnabled old (event.MakePage a prepared) lookup)
   make_page-exact a (Ok values) (Some (Making k)) at row =
-      let end : IsAtLastPage first acts old a k = known Leaves first log acts old agrees a (Making k) at in
+      let end = known Leaves first log acts old agrees a (Making k) at in
       let linked = end.past.linked in
       row-there old answer new _ tt
       (by-test old answer new _ _ _ row (λ there is no_row. cc)

@@ -1,6 +1,6 @@
 -- The steps of a world, one after another, are a run of one pool.
-use Rattle.std.proofs.Common.{◌≡◌, inl, inr, ℕ, ◌-◌, ◌^◌, ◌<◌, Option, Some, None, List, [], ◌∷◌, length, slice_get, Ok}
-use Rattle.std.proofs.Common.{Err, refl, ap, sym, ◌∙◌, subst, arith, lit<}
+use Rattle.std.proofs.Common.{◌≡◌, inl, inr, ℕ, ◌^◌, ◌<◌, Option, Some, None, List, [], ◌∷◌, length, slice_get, Ok}
+use Rattle.std.proofs.Common.{Err, refl, sym, ◌∙◌, subst, arith, lit<}
 use Rattle.std.proofs.lemmas.List.{length-map}
 use Rattle.object_pool_cores.specs.declared.interleave.event.Event.{Event}
 use Rattle.object_pool_cores.specs.declared.interleave.event.Event.TheVariants as event
@@ -8,17 +8,15 @@ use Rattle.object_pool_cores.specs.declared.interleave.event.Seen.{Seen}
 use Rattle.object_pool_cores.specs.declared.interleave.event.Seen.TheVariants as seen
 use Rattle.object_pool_cores.specs.declared.interleave.point.Point.{Point}
 use Rattle.object_pool_cores.specs.declared.interleave.point.Point.TheVariants.{Taken, Holding, Home}
-use Rattle.object_pool_cores.specs.Pool.{Pool, Absent, IsSame, AllowsPages, free_with, opening, number}
-use Rattle.object_pool_cores.specs.Move.{grown}
-use Rattle.object_pool_cores.specs.Run.{Act, Holds, stage_of}
+use Rattle.object_pool_cores.specs.Pool.{Pool, Absent, IsSame, AllowsPages, number}
+use Rattle.object_pool_cores.specs.Run.{Act, pool_of, Holds, HasHolders, IsWhole}
 use Rattle.object_pool_cores.specs.World.State.{WorldState}
 use Rattle.object_pool_cores.specs.World.Machine.{Transition, Steps, agent_item, number_out, linked_page, opening_world}
 use Rattle.object_pool_cores.specs.World.AbstractPool.{abstract_pool}
 use Rattle.object_pool_cores.specs.World.Trace.{Log, made_by}
 use Rattle.object_pool_cores.specs.World.Headline.{IsRun, Executes, IsNew}
-use Rattle.object_pool_cores.specs.World.Inside.Invariant.{HoldsAt, Agrees}
-use Rattle.object_pool_cores.specs.Laws.PoolSteps.{grown-new}
-use Rattle.object_pool_cores.proofs.Holders.{holders-run, whole-run}
+use Rattle.object_pool_cores.specs.World.Inside.Invariant.{Agrees}
+use Rattle.object_pool_cores.proofs.Runs.{legal-run, pool-opening, holders-run, whole-run, each-place}
 use Rattle.object_pool_cores.proofs.World.AbstractPool.{same-grown, pushed-all}
 use Rattle.object_pool_cores.proofs.World.Invariant.{GoesOn, idle, pages-some, allows-fewer}
 use Rattle.object_pool_cores.proofs.World.WordSteps.{read_mask-goes, read_hinted-goes, clear_bit-goes, or_mask-goes}
@@ -52,13 +50,13 @@ module _ {T : Type 0} (Leaves : T → T → Type 0) (first : List T) (full : len
   row-goes log acts old agrees (event.ReadHinted a hint) answer new row =
       read_hinted-goes Leaves first log acts old agrees a hint (slice_get old.agents a) refl answer new row
   row-goes log acts old agrees (event.ClearBit a) answer new row =
-      clear_bit-goes Leaves first log acts old agrees full a (slice_get old.agents a) refl answer new row
+      clear_bit-goes Leaves first log acts old agrees a (slice_get old.agents a) refl answer new row
   row-goes log acts old agrees (event.ReadNext a) answer new row =
       read_next-goes Leaves first log acts old agrees a (slice_get old.agents a) refl answer new row
   row-goes log acts old agrees (event.MakePage a prepared) answer new row =
       make_page-goes Leaves first log acts old agrees a prepared (slice_get old.agents a) refl answer new row
   row-goes log acts old agrees (event.ExchangeNext a) answer new row =
-      exchange_next-goes Leaves first log acts old agrees a (slice_get old.agents a) refl answer new row.0 row.1
+      exchange_next-goes Leaves first log acts old agrees full a (slice_get old.agents a) refl answer new row.0 row.1
   row-goes log acts old agrees (event.MoveOut a) answer new row =
       move_out-goes Leaves first log acts old agrees full a (slice_get old.agents a) refl answer new row
   row-goes log acts old agrees (event.Write a value) answer new row =
@@ -66,7 +64,7 @@ module _ {T : Type 0} (Leaves : T → T → Type 0) (first : List T) (full : len
   row-goes log acts old agrees (event.MoveHome a) answer new row =
       move_home-goes Leaves first log acts old agrees full a (slice_get old.agents a) refl answer new row
   row-goes log acts old agrees (event.OrMask a) answer new row =
-      or_mask-goes Leaves first log acts old agrees full a (slice_get old.agents a) refl answer new row
+      or_mask-goes Leaves first log acts old agrees a (slice_get old.agents a) refl answer new row
 
   -- a step keeps the invariant
   step-goes : (log : Log T) (acts : List (Act T)) (old : WorldState T) → Agrees Leaves first log acts old
@@ -79,20 +77,13 @@ module _ {T : Type 0} (Leaves : T → T → Type 0) (first : List T) (full : len
       subst Q (sym same)
       (subst P (sym lacks) (idle Leaves first log acts old e seen.NoMemory agrees tt (nothing-made e)))
 
-  -- the first page reads as the opening pool
-  opening-reads : (limit : Option ℕ) → IsSame (opening first) (abstract_pool (opening_world first limit))
+  -- the world of one page reads as the pool of no act
+  opening-reads : (limit : Option ℕ) → IsSame (pool_of first []) (abstract_pool (opening_world first limit))
   opening-reads limit =
       let none : Pool T = record { pages = 0; at = λ n. Absent } in
       let empty : WorldState T = record { pages = []; agents = []; limit = limit } in
-      let grows : IsSame (grown none first)
-      (abstract_pool (opening_world first limit)) =
-      same-grown none empty (opening_world first limit) first full (record { pages = refl; places = λ n. refl }) refl in
-      record {
-        pages = refl;
-        places = λ n.
-            let index : n ≡ n - 0 = omega arith in
-            ap (λ i. free_with (slice_get first i)) index ∙ sym (grown-new none first n (omega arith)) ∙ grows.places n;
-      }
+      same-grown none (pool_of first []) empty (opening_world first limit) first full (pool-opening first full)
+      (record { pages = refl; places = λ n. refl }) refl
 
   opening-agrees : (limit : Option ℕ) → AllowsPages limit 1 → Agrees Leaves first [] [] (opening_world first limit)
   opening-agrees limit allowed = record {
@@ -126,46 +117,49 @@ module _ {T : Type 0} (Leaves : T → T → Type 0) (first : List T) (full : len
   held-is : (log : Log T) (acts : List (Act T)) (world : WorldState T) → Agrees Leaves first log acts world
       → (a n : ℕ) (value : T) (lookup : Option (Point T)) → slice_get world.agents a ≡ lookup
       → agent_item lookup ≡ Some (n, value)
-      → stage_of acts a ≡ Holds n value
+      → Holds acts a n value
   held-is log acts world agrees a n value (Some (Holding k id has)) at held =
-      let holds : HoldsAt acts world a k id has = known Leaves first log acts world agrees a (Holding k id has) at in
+      let holds = known Leaves first log acts world agrees a (Holding k id has) at in
       let both : ◌≡◌ {A = ℕ × T} (number k id, has) (n, value) = cc in
-      holds.stage ∙ ap (λ item. Holds item.0 item.1) both
+      let P : ℕ × T → Type 0 = λ item. Holds acts a item.0 item.1 in
+      subst P both holds.holds
   held-is log acts world agrees a n value _ at held = absurd (cc)
 
   -- an agent that has a number out in the world holds it in the run
   out-is : (log : Log T) (acts : List (Act T)) (world : WorldState T) → Agrees Leaves first log acts world
       → (a n : ℕ) (lookup : Option (Point T)) → slice_get world.agents a ≡ lookup → number_out lookup ≡ Some n
-      → (value : T) × (stage_of acts a ≡ Holds n value)
+      → (value : T) × Holds acts a n value
   out-is log acts world agrees a n (Some (Taken k id)) at out =
       let (value, holds, lies) = known Leaves first log acts world agrees a (Taken k id) at in
       let is : number k id ≡ n = cc in
-      (value, holds.stage ∙ ap (λ m. Holds m value) is)
+      (value, subst (λ (m : ℕ). Holds acts a m value) is holds.holds)
   out-is log acts world agrees a n (Some (Holding k id value)) at out =
-      let holds : HoldsAt acts world a k id value =
-      known Leaves first log acts world agrees a (Holding k id value) at in
+      let holds = known Leaves first log acts world agrees a (Holding k id value) at in
       let is : number k id ≡ n = cc in
-      (value, holds.stage ∙ ap (λ m. Holds m value) is)
+      (value, subst (λ (m : ℕ). Holds acts a m value) is holds.holds)
   out-is log acts world agrees a n (Some (Home k id)) at out =
       let (value, kept, holds, leaves, lies) = known Leaves first log acts world agrees a (Home k id) at in
       let is : number k id ≡ n = cc in
-      (value, holds.stage ∙ ap (λ m. Holds m value) is)
+      (value, subst (λ (m : ℕ). Holds acts a m value) is holds.holds)
   out-is log acts world agrees a n _ at out = absurd (cc)
 
   agrees-run : (log : Log T) (acts : List (Act T)) (world : WorldState T) → Agrees Leaves first log acts world
       → IsRun Leaves first log world
   agrees-run log acts world agrees =
-      let some = pages-some first acts in
+      let some = pages-some acts in
       let pages = agrees.same.pages in
       let allowed = allows-fewer world.limit 1 (length world.pages) (omega arith) agrees.allowed in
       record {
         acts = acts;
         visible = agrees.reads;
         run = agrees.run;
+        legal = legal-run Leaves world.limit first acts agrees.run;
         ends = agrees.same;
         allowed = agrees.allowed;
-        whole = whole-run Leaves world.limit first full allowed acts agrees.run;
-        holders = holders-run Leaves world.limit first full allowed acts agrees.run;
+        whole = each-place Leaves world.limit first (IsWhole first world.limit)
+            (whole-run Leaves world.limit first allowed) acts agrees.run;
+        holders = each-place Leaves world.limit first (HasHolders first)
+            (holders-run Leaves world.limit first full) acts agrees.run;
         held = λ a n value has. held-is log acts world agrees a n value (slice_get world.agents a) refl has;
         out = λ a n has. out-is log acts world agrees a n (slice_get world.agents a) refl has;
         found_out = agrees.found_out;

@@ -9,8 +9,7 @@ use Rattle.object_pool_cores.specs.declared.interleave.point.Point.TheVariants.{
 use Rattle.object_pool_cores.specs.declared.interleave.point.Point.TheVariants.{ClearingHinted, Making, Linking, Taken}
 use Rattle.object_pool_cores.specs.declared.interleave.point.Point.TheVariants.{Holding, Home, Ended}
 use Rattle.object_pool_cores.specs.Pool.{Pool, IsSame, IsOut, AllowsPages, number}
-use Rattle.object_pool_cores.specs.Move.{Pull, Return, Growth, Refusal}
-use Rattle.object_pool_cores.specs.Run.{Act, Opens, Writes, Moves, Holds, agent_of, stage_of, pool_of, FoundOut}
+use Rattle.object_pool_cores.specs.Run.{Act, Grows, agent_of, acts_of, pages_of, pool_of, Looks, Holds, FoundOut}
 use Rattle.object_pool_cores.specs.Run.{HadPages, MayCome, FoundOutBefore}
 use Rattle.object_pool_cores.specs.World.State.{WorldPageState, WorldState}
 use Rattle.object_pool_cores.specs.World.Machine.{Outcome, IsOutcome, page_value}
@@ -18,8 +17,7 @@ use Rattle.object_pool_cores.specs.World.AbstractPool.{abstract_pool}
 use Rattle.object_pool_cores.specs.World.Trace.{Log, IsHidden, made_by, or_else, last_made, Shows}
 use Rattle.object_pool_cores.specs.World.Inside.Invariant.{FoundAsked, LooksOn, IsPast, IsAtLastPage, TriesBits}
 use Rattle.object_pool_cores.specs.World.Inside.Invariant.{HoldsAt, Knows, KnowsIf, Agrees}
-use Rattle.object_pool_cores.proofs.Runs.{since-later, other-opens, stage_of-other}
-use Rattle.object_pool_cores.proofs.Holders.{IsSound, sound-run}
+use Rattle.object_pool_cores.proofs.Runs.{since-later, other-opens, acts_of-other, holds-same}
 use Rattle.object_pool_cores.proofs.World.AbstractPool.{get-set_same, get-set_other}
 
 -- fewer pages are allowed too
@@ -31,13 +29,13 @@ allows-fewer (Some limit) fewer pages less allowed = omega arith
 module _ {T : Type 0} (first : List T) where
   -- what an agent knows is carried from one log, run and world to another
   pub record Carries (log later : Log T) (acts more : List (Act T)) (old new : WorldState T) (b : ℕ) : Type 0 where
-    pub stage : stage_of more b ≡ stage_of acts b
+    pub own : acts_of b more ≡ acts_of b acts
     pub out : (n : ℕ) → FoundOut first acts b n → FoundOut first more b n
     pub had : (count : ℕ) → HadPages first acts b count → HadPages first more b count
     pub pages : length old.pages ≤ length new.pages
     pub limit : new.limit ≡ old.limit
     pub made : last_made later b ≡ last_made log b
-    pub values : (k id : ℕ) (value : T) → k < length old.pages → id < 32 → stage_of acts b ≡ Holds (number k id) value
+    pub values : (k id : ℕ) (value : T) → k < length old.pages → id < 32 → Holds acts b (number k id) value
         → page_value new.pages k id ≡ page_value old.pages k id
 
 module _ {T : Type 0} (Leaves : T → T → Type 0) (first : List T) where
@@ -58,23 +56,26 @@ module _ {T : Type 0} (Leaves : T → T → Type 0) (first : List T) where
       others = λ id within clear. carries.out (number k id) (bits.others id within clear);
     }
 
-    looks-carried : (k : ℕ) (asked : Option ℕ) → LooksOn first acts old b k asked → LooksOn first more new b k asked
+    looks-carried : (k : ℕ) (asked : Option ℕ) → LooksOn first acts (length old.pages) b k asked
+        → LooksOn first more (length new.pages) b k asked
     looks-carried k asked looks = record {
-      looking = carries.stage ∙ looks.looking;
+      looking = let P : List (Act T) → Type 0 = Looks in subst P (sym carries.own) looks.looking;
       linked = let below = looks.linked in let more_pages = carries.pages in omega arith;
       found_out = λ n below. carries.out n (looks.found_out n below);
       asked_full = asked-carried asked looks.asked_full;
     }
 
-    past-carried : (k : ℕ) (asked : Option ℕ) → IsPast first acts old b k asked → IsPast first more new b k asked
+    past-carried : (k : ℕ) (asked : Option ℕ) → IsPast first acts (length old.pages) b k asked
+        → IsPast first more (length new.pages) b k asked
     past-carried k asked past = record {
-      looking = carries.stage ∙ past.looking;
+      looking = let P : List (Act T) → Type 0 = Looks in subst P (sym carries.own) past.looking;
       linked = let below = past.linked in let more_pages = carries.pages in omega arith;
       found_out = λ n below. carries.out n (past.found_out n below);
       asked_full = asked-carried asked past.asked_full;
     }
 
-    end-carried : (k : ℕ) → IsAtLastPage first acts old b k → IsAtLastPage first more new b k
+    end-carried : (k : ℕ) → IsAtLastPage first acts old.limit (length old.pages) b k
+        → IsAtLastPage first more new.limit (length new.pages) b k
     end-carried k end = record {
       past = past-carried k None end.past;
       last = carries.had (k + 1) end.last;
@@ -82,11 +83,12 @@ module _ {T : Type 0} (Leaves : T → T → Type 0) (first : List T) where
           subst P (sym carries.limit) end.allowed;
     }
 
-    holds-carried : (k id : ℕ) (value : T) → HoldsAt acts old b k id value → HoldsAt more new b k id value
+    holds-carried : (k id : ℕ) (value : T) → HoldsAt acts (length old.pages) b k id value
+        → HoldsAt more (length new.pages) b k id value
     holds-carried k id value holds = record {
       linked = let below = holds.linked in let more_pages = carries.pages in omega arith;
       in_page = holds.in_page;
-      stage = carries.stage ∙ holds.stage;
+      holds = holds-same acts more b (number k id) value carries.own holds.holds;
     }
 
     knows-carried : (point : Point T) → Knows Leaves first log acts old b point
@@ -103,43 +105,30 @@ module _ {T : Type 0} (Leaves : T → T → Type 0) (first : List T) where
     knows-carried (Making k) knows = end-carried k knows
     knows-carried (Linking k values) knows = (end-carried k knows.0, carries.made ∙ knows.1)
     knows-carried (Taken k id) (value, holds, lies) =
-        (value, holds-carried k id value holds, carries.values k id value holds.linked holds.in_page holds.stage ∙ lies)
+        (value, holds-carried k id value holds, carries.values k id value holds.linked holds.in_page holds.holds ∙ lies)
     knows-carried (Holding k id value) knows = holds-carried k id value knows
     knows-carried (Home k id) (value, kept, holds, leaves, lies) = (
       value,
       kept,
       holds-carried k id value holds,
       leaves,
-      carries.values k id value holds.linked holds.in_page holds.stage ∙ lies,
+      carries.values k id value holds.linked holds.in_page holds.holds ∙ lies,
     )
     knows-carried Ended knows = tt
 
     pub known-carried : (lookup : Option (Point T)) → KnowsIf Leaves first log acts old b lookup
         → KnowsIf Leaves first later more new b lookup
-    known-carried None knows = carries.stage ∙ knows
+    known-carried None knows = carries.own ∙ knows
     known-carried (Some point) knows = knows-carried point knows
 
-module _ {T : Type 0} (first : List T) where
+module _ {T : Type 0} where
   -- there is a page from the first on
-  pub pages-some : (acts : List (Act T)) → 0 < (pool_of first acts).pages
+  pub pages-some : (acts : List (Act T)) → 0 < pages_of acts
   pages-some [] = omega arith
-  pages-some (Opens a ∷ acts) = pages-some acts
-  pages-some (Writes a value ∷ acts) = pages-some acts
-  pages-some (Moves a (Pull n value) ∷ acts) = pages-some acts
-  pages-some (Moves a (Return n kept) ∷ acts) = pages-some acts
-  pages-some (Moves a (Growth values) ∷ acts) = omega arith
-  pages-some (Moves a (Refusal cause) ∷ acts) = pages-some acts
+  pages-some (Grows a values ∷ acts) = omega arith
+  pages-some (act ∷ acts) = pages-some acts
 
 module _ {T : Type 0} (Leaves : T → T → Type 0) (first : List T) where
-  -- the run of a world keeps its holders and its numbers
-  pub sound-of : (log : Log T) (acts : List (Act T)) (world : WorldState T) → length first ≡ 32
-      → Agrees Leaves first log acts world → IsSound first world.limit acts
-  sound-of log acts world full agrees =
-      let some = pages-some first acts in
-      let pages = agrees.same.pages in
-      sound-run Leaves world.limit first full
-      (allows-fewer world.limit 1 (length world.pages) (omega arith) agrees.allowed) acts agrees.run
-
   -- the world with other pages and an agent at another point
   abbrev pub moved : WorldState T → List (WorldPageState T) → ℕ → Point T → WorldState T
   moved world pages a point = record { pages = pages; agents = slice_set world.agents a point; limit = world.limit }
@@ -154,7 +143,7 @@ module _ {T : Type 0} (Leaves : T → T → Type 0) (first : List T) where
     pub places : (k : ℕ) (page : WorldPageState T) → slice_get pages k ≡ Some page → length page.places ≡ 32
     pub allowed : AllowsPages world.limit (length pages)
     pub values : (b k id : ℕ) (value : T) → a ≢ b → k < length world.pages → id < 32
-        → stage_of acts b ≡ Holds (number k id) value
+        → Holds acts b (number k id) value
         → page_value pages k id ≡ page_value world.pages k id
 
   -- the pages stay
@@ -209,7 +198,7 @@ module _ {T : Type 0} (Leaves : T → T → Type 0) (first : List T) where
     allowed = left.allowed;
     agents = agents-moved log ((e, answer) ∷ log) acts acts world (moved world pages a point) a from point at own
         (λ b other. record {
-          stage = refl;
+          own = refl;
           out = λ n out. out;
           had = λ count had. had;
           pages = left.count;
@@ -242,7 +231,7 @@ module _ {T : Type 0} (Leaves : T → T → Type 0) (first : List T) where
             (λ b other.
             let apart : agent_of act ≢ b = λ is. other (sym agent ∙ is) in
             record {
-              stage = stage_of-other act acts b apart;
+              own = acts_of-other act acts b apart;
               out = λ n out. since-later first act acts b (λ pool. IsOut pool n) (other-opens act b apart) out;
               had = λ count had. since-later first act acts b (λ pool. pool.pages ≡ count)
                   (other-opens act b apart) had;
@@ -258,6 +247,18 @@ module _ {T : Type 0} (Leaves : T → T → Type 0) (first : List T) where
   pub record GoesOn (log : Log T) (e : Event T) (answer : Seen) (new : WorldState T) : Type 0 where
     pub acts : List (Act T)
     pub agrees : Agrees Leaves first ((e, answer) ∷ log) acts new
+
+  -- a step whose answer shows nothing, and which leaves the pages
+  pub stays : (log : Log T) (acts : List (Act T)) (world : WorldState T) (e : Event T) (answer : Seen) (a : ℕ)
+      (from point : Point T) → Agrees Leaves first log acts world → slice_get world.agents a ≡ Some from
+      → IsHidden answer → ((b : ℕ) → a ≢ b → made_by e answer b ≡ None)
+      → Knows Leaves first ((e, answer) ∷ log) acts (moved world world.pages a point) a point
+      → GoesOn log e answer (moved world world.pages a point)
+  stays log acts world e answer a from point agrees at hidden made own = record {
+    acts = acts;
+    agrees = hidden-step log acts world e answer a from point world.pages agrees at hidden made
+        (pages-stay log acts acts world a agrees refl) own;
+  }
 
   -- an answer and a world are those of an outcome
   pub from-outcome : (log : Log T) (e : Event T) (outcome : Outcome T) (answer : Seen) (new : WorldState T)
@@ -291,7 +292,7 @@ module _ {T : Type 0} (Leaves : T → T → Type 0) (first : List T) where
       allowed = agrees.allowed;
       agents = λ b. known-carried Leaves first log ((e, answer) ∷ log) acts acts world world b
           (record {
-            stage = refl;
+            own = refl;
             out = λ n out. out;
             had = λ count had. had;
             pages = omega arith;

@@ -24,7 +24,7 @@ use Rattle.object_pool_cores.specs.World.Machine.{exchange_next, move_out, write
 use Rattle.object_pool_cores.specs.World.Machine.{Steps, MovesHome, event_agent}
 use Rattle.object_pool_cores.specs.World.Trace.{Log}
 use Rattle.object_pool_cores.specs.World.OwnSteps.{is_idle, names, is_step_of}
-use Rattle.object_pool_cores.specs.World.Inside.Invariant.{FoundAsked, IsPast, TriesBits, TriesHinted, Agrees}
+use Rattle.object_pool_cores.specs.World.Inside.Invariant.{FoundAsked, TriesBits, Agrees}
 use Rattle.object_pool_cores.proofs.World.AbstractPool.{get-set_same, get-set_other, get-push_old, get-push_new}
 use Rattle.object_pool_cores.proofs.World.Bits.{lowest-lt, without_lowest-lt}
 use Rattle.object_pool_cores.proofs.World.WordSteps.{known, may_name-is}
@@ -154,8 +154,7 @@ module _ {T : Type 0} (Leaves : T → T → Type 0) (first : List T) (log : Log 
       (λ left. let up = lowest-grows mask some fits (without_lowest-lt mask fits) left in
       (omega arith, omega arith))) row
   clear_bit-does b (Some (ClearingHinted hint mask)) at row =
-      let knows : TriesHinted first acts old b hint mask =
-      known Leaves first log acts old agrees b (ClearingHinted hint mask) at in
+      let knows = known Leaves first log acts old agrees b (ClearingHinted hint mask) at in
       let bits = knows.bits in
       let some = bits.some in
       let fits = bits.in_word in
@@ -176,7 +175,7 @@ module _ {T : Type 0} (Leaves : T → T → Type 0) (first : List T) (log : Log 
       → IsOutcome (read_next old b lookup) answer new → Does (event.ReadNext b)
   read_next-does b (Some (AtLink k asked)) at row =
       let e : Event T = event.ReadNext b in
-      let past : IsPast first acts old b k asked = known Leaves first log acts old agrees b (AtLink k asked) at in
+      let past = known Leaves first log acts old agrees b (AtLink k asked) at in
       let one : Outcome T = (seen.Refused b Limit, at_point old b Ended) in
       let two : Outcome T = (seen.Next b false, at_point old b (Making k)) in
       let three : Outcome T = (seen.Next b true, at_point old b (comes_to (k + 1) asked)) in

@@ -9,31 +9,38 @@ use Rattle.object_pool_cores.specs.declared.interleave.event.Seen.{Seen}
 use Rattle.object_pool_cores.specs.declared.interleave.event.Seen.TheVariants as seen
 use Rattle.object_pool_cores.specs.declared.interleave.point.Point.{Point}
 use Rattle.object_pool_cores.specs.declared.interleave.point.Point.TheVariants.{Reading, Taken, Holding, Home}
-use Rattle.object_pool_cores.specs.Pool.{IsOut, number}
-use Rattle.object_pool_cores.specs.Run.{Act, Opens, Writes, NotBegun, Holds, after_write, stage_of, pool_of}
+use Rattle.object_pool_cores.specs.Pool.{Out, IsOut, free_with, number}
+use Rattle.object_pool_cores.specs.Run.{Act, Opens, Writes, acts_of, pool_of, Looks, Holds}
 use Rattle.object_pool_cores.specs.World.State.{WorldPageState, WorldState}
 use Rattle.object_pool_cores.specs.World.Machine.{IsOutcome, has_bit, page_value, with_page_value, takes, move_out}
 use Rattle.object_pool_cores.specs.World.Machine.{write, puts, begin, MovesHome}
 use Rattle.object_pool_cores.specs.World.AbstractPool.{place_by_bit}
 use Rattle.object_pool_cores.specs.World.Trace.{Log}
 use Rattle.object_pool_cores.specs.World.Inside.Invariant.{HoldsAt, KnowsIf, Agrees}
-use Rattle.object_pool_cores.proofs.Runs.{stage_of-own, stage_of-other, since-later, other-opens, free_with-in}
+use Rattle.object_pool_cores.proofs.Runs.{acts_of-own, acts_of-other, since-later, other-opens, holds-written}
+use Rattle.object_pool_cores.proofs.Runs.{holders-run}
 use Rattle.object_pool_cores.proofs.World.AbstractPool.{get-some, get-push_old, get-push_new, length-changed}
 use Rattle.object_pool_cores.proofs.World.AbstractPool.{changed-all, value-put_same, value-put_other, same-moved}
 use Rattle.object_pool_cores.proofs.World.Invariant.{GoesOn, StepsPages, pages-stay, hidden-step, visible-step}
-use Rattle.object_pool_cores.proofs.World.Invariant.{from-outcome, sound-of, allows-fewer, pages-some, Carries}
+use Rattle.object_pool_cores.proofs.World.Invariant.{from-outcome, allows-fewer, pages-some, Carries}
 use Rattle.object_pool_cores.proofs.World.Invariant.{known-carried}
 use Rattle.object_pool_cores.proofs.World.WordSteps.{known, lies-at, disabled}
+
+-- a value that there may be isn't out
+free_with-in : {T : Type 0} (value : Option T) → free_with value ≢ Out
+free_with-in None e = cc
+free_with-in (Some v) e = cc
 
 module _ {T : Type 0} (Leaves : T → T → Type 0) (first : List T) (log : Log T) (acts : List (Act T))
     (old : WorldState T)
     (agrees : Agrees Leaves first log acts old) where
   -- the bit of a number that an agent holds is clear
-  clear-held : length first ≡ 32 → (a k id : ℕ) (value : T) (page : WorldPageState T) → HoldsAt acts old a k id value
+  clear-held : length first ≡ 32 → (a k id : ℕ) (value : T) (page : WorldPageState T)
+      → HoldsAt acts (length old.pages) a k id value
       → slice_get old.pages k ≡ Some page → has_bit page.word id ≡ false
   clear-held full a k id value page holds here =
-      let sound = sound-of Leaves first log acts old full agrees in
-      let out = sound.holders.out (number k id) a value holds.stage in
+      let holders = holders-run Leaves old.limit first full acts agrees.run in
+      let out = holders.out (number k id) a holds.holds.number in
       elim (cases_Bool (has_bit page.word id)) [
         | inl set ↦ absurd (free_with-in (page_value old.pages k id)
             (sym (lies-at Leaves first log acts old agrees k id page holds.in_page here
@@ -43,11 +50,11 @@ module _ {T : Type 0} (Leaves : T → T → Type 0) (first : List T) (log : Log 
 
   -- the pages after a value came to the place that an agent holds, or went from it
   placed : length first ≡ 32 → (a k id : ℕ) (held : T) (value : Option T) (page : WorldPageState T)
-      → HoldsAt acts old a k id held
+      → HoldsAt acts (length old.pages) a k id held
       → slice_get old.pages k ≡ Some page
       → StepsPages Leaves first acts acts old (with_page_value old.pages k id value) a
   placed full a k id held value page holds here =
-      let sound = sound-of Leaves first log acts old full agrees in
+      let holders = holders-run Leaves old.limit first full acts agrees.run in
       let f : WorldPageState T → WorldPageState T = λ p. record {
         word = p.word;
         places = slice_set p.places id value;
@@ -67,20 +74,12 @@ module _ {T : Type 0} (Leaves : T → T → Type 0) (first : List T) (log : Log 
             let different : (j ≢ k) ⊎ (i ≢ id) =
             elim (cases_eq j k) [
               | inl same ↦
-                  inr (λ too. apart (sound.holders.one (number k id) a b held other holds.stage (theirs
-                  ∙ ap (λ n. Holds n other) (ap (λ m. number m i) same ∙ ap (λ m. number k m) too))))
+                  inr (λ too. apart (holders.one (number k id) a b holds.holds.number (theirs.number
+                  ∙ ap (λ n. Some n) (ap (λ m. number m i) same ∙ ap (λ m. number k m) too))))
               | inr page ↦ inl page
             ] in
             value-put_other old.pages k id value page here j i different;
       }
-
-  linked-placed : (k id : ℕ) (value : Option T) (page : WorldPageState T) → slice_get old.pages k ≡ Some page
-      → k < length old.pages
-      → k < length (with_page_value old.pages k id value)
-  linked-placed k id value page here linked =
-      let count : length (with_page_value old.pages k id value) ≡ length old.pages = length-changed (λ p.
-      record { word = p.word; places = slice_set p.places id value }) old.pages k page here in
-      omega arith
 
   -- the value goes to the agent
   moved-out : length first ≡ 32 → (a k id : ℕ) → slice_get old.agents a ≡ Some (Taken k id) → (lookup : Option T)
@@ -94,18 +93,17 @@ module _ {T : Type 0} (Leaves : T → T → Type 0) (first : List T) (log : Log 
       let same : Some value ≡ Some taken = sym lies ∙ some in
       let is : value ≡ taken = cc in
       let (page, here) = get-some old.pages k holds.linked in
+      let left = placed full a k id value None page holds here in
       from-outcome Leaves first log (event.MoveOut a) (takes old a k id (Some taken)) answer new
       (record {
         acts = acts;
         agrees = hidden-step Leaves first log acts old (event.MoveOut a) (seen.MovedOut a) a (Taken k id)
             (Holding k id taken)
-            (with_page_value old.pages k id None) agrees at tt (λ b other. refl)
-            (placed full a k id value None page holds here)
+            (with_page_value old.pages k id None) agrees at tt (λ b other. refl) left
             (record {
-              linked = linked-placed k id None page here holds.linked;
+              linked = let more = left.count in let below = holds.linked in omega arith;
               in_page = holds.in_page;
-              stage = holds.stage
-                  ∙ ap (λ v. Holds (number k id) v) is;
+              holds = let P : T → Type 0 = Holds acts a (number k id) in subst P is holds.holds;
             });
       })
       row
@@ -122,20 +120,19 @@ module _ {T : Type 0} (Leaves : T → T → Type 0) (first : List T) (log : Log 
       → (answer : Seen) (new : WorldState T) → IsOutcome (write old a value lookup) answer new
       → GoesOn Leaves first log (event.Write a value) answer new
   write-goes a value (Some (Holding k id before)) at answer new row =
-      let holds : HoldsAt acts old a k id before = known Leaves first log acts old agrees a (Holding k id before) at in
+      let holds = known Leaves first log acts old agrees a (Holding k id before) at in
       let act : Act T = Writes a value in
       from-outcome Leaves first log (event.Write a value) (write old a value (Some (Holding k id before))) answer new
       (record {
         acts = act ∷ acts;
         agrees = visible-step Leaves first log acts old (event.Write a value) (seen.Wrote a) a (Holding k id before)
-            (Holding k id value) old.pages act agrees at refl (number k id, before, holds.stage) tt refl
+            (Holding k id value) old.pages act agrees at refl (number k id, holds.holds.number) tt refl
             (λ b other. refl)
             (pages-stay Leaves first log acts (act ∷ acts) old a agrees refl)
             (record {
               linked = holds.linked;
               in_page = holds.in_page;
-              stage = stage_of-own act acts a refl
-                  ∙ ap (λ stage. after_write stage value) holds.stage;
+              holds = holds-written acts a (number k id) before value holds.holds;
             });
       })
       row
@@ -147,21 +144,21 @@ module _ {T : Type 0} (Leaves : T → T → Type 0) (first : List T) (log : Log 
       → (answer : Seen) (new : WorldState T) → MovesHome Leaves old a lookup answer new
       → GoesOn Leaves first log (event.MoveHome a) answer new
   move_home-goes full a (Some (Holding k id value)) at answer new (kept, leaves, row) =
-      let holds : HoldsAt acts old a k id value = known Leaves first log acts old agrees a (Holding k id value) at in
+      let holds = known Leaves first log acts old agrees a (Holding k id value) at in
       let (page, here) = get-some old.pages k holds.linked in
+      let left = placed full a k id value (Some kept) page holds here in
       from-outcome Leaves first log (event.MoveHome a) (puts old a k id kept) answer new
       (record {
         acts = acts;
         agrees = hidden-step Leaves first log acts old (event.MoveHome a) (seen.MovedHome a) a
             (Holding k id value) (Home k id)
-            (with_page_value old.pages k id (Some kept)) agrees at tt (λ b other. refl)
-            (placed full a k id value (Some kept) page holds here) (
+            (with_page_value old.pages k id (Some kept)) agrees at tt (λ b other. refl) left (
               value,
               kept,
               record {
-                linked = linked-placed k id (Some kept) page here holds.linked;
+                linked = let more = left.count in let below = holds.linked in omega arith;
                 in_page = holds.in_page;
-                stage = holds.stage;
+                holds = holds.holds;
               },
               leaves,
               value-put_same old.pages k id (Some kept) page here
@@ -187,13 +184,13 @@ module _ {T : Type 0} (Leaves : T → T → Type 0) (first : List T) (log : Log 
         agents = old.agents ++ Reading 0 None ∷ [];
         limit = old.limit;
       } in
-      let unknown : (b : ℕ) → length old.agents ≤ b → stage_of acts b ≡ NotBegun = λ b past.
+      let unknown : (b : ℕ) → length old.agents ≤ b → acts_of b acts ≡ [] = λ b past.
       let P : Option (Point T) → Type 0 = KnowsIf Leaves first log acts old b in
       subst P (slice_get_past old.agents b past) (agrees.agents b) in
-      let some = pages-some first acts in
+      let some = pages-some acts in
       let pages = agrees.same.pages in
       let carries : (b : ℕ) → a ≢ b → Carries first log later acts (act ∷ acts) old world b = λ b other. record {
-        stage = stage_of-other act acts b other;
+        own = acts_of-other act acts b other;
         out = λ n out. since-later first act acts b (λ pool. IsOut pool n) (other-opens act b other) out;
         had = λ count had. since-later first act acts b (λ pool. pool.pages ≡ count) (other-opens act b other) had;
         pages = omega arith;
@@ -222,12 +219,14 @@ module _ {T : Type 0} (Leaves : T → T → Type 0) (first : List T) (log : Log 
                     (slice_get old.agents b) (agrees.agents b))
                 | inr past ↦ elim (cases_eq a b) [
                   | inl same ↦
+                      let none : acts_of b acts ≡ [] = unknown b past in
                       let here : slice_get (old.agents ++ Reading 0 None ∷ []) b ≡ Some (Reading 0 None) = ap
                       (λ c. slice_get (old.agents ++ Reading 0 None ∷ []) c) (sym same)
                       ∙ get-push_new old.agents (Reading 0 None) in
                       subst Known (sym here)
                       (record {
-                        looking = stage_of-own act acts b same;
+                        looking = let P : List (Act T) → Type 0 = Looks in
+                            subst P (sym (acts_of-own act acts b same ∙ ap (λ own. act ∷ own) none)) tt;
                         linked = omega arith;
                         found_out = λ n below. absurd (omega arith);
                         asked_full = tt;
@@ -237,7 +236,7 @@ module _ {T : Type 0} (Leaves : T → T → Type 0) (first : List T) (log : Log 
                       (sym
                       (slice_get_past (old.agents ++ Reading 0 None ∷ []) b
                       (omega (arith, length-append old.agents (Reading 0 None ∷ [])))))
-                      (stage_of-other act acts b other ∙ unknown b past)
+                      (acts_of-other act acts b other ∙ unknown b past)
                 ]
               ];
         };

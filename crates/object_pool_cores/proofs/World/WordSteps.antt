@@ -2,6 +2,7 @@
 use Rattle.std.proofs.Common.{◌≡◌, inl, inr, ℕ, ◌-◌, ◌*◌, ◌^◌, ◌<◌, ◌==◌, nat_lt, Bool, true, false, if◌then◌else◌}
 use Rattle.std.proofs.Common.{Option, Some, None, List, ◌∷◌, length, slice_get, refl, ap, sym, ◌∙◌, subst, arith}
 use Rattle.std.proofs.lemmas.Bool.{eq-eqb, ne_eqb, eqb-true, ltb-true, false≢true, cases_eq, cases_lt}
+use Rattle.lockfree_object_pool.specs.declared.page.history.Operation.TheVariants.{Pull, Return}
 use Rattle.object_pool_cores.specs.declared.interleave.event.Event.{Event}
 use Rattle.object_pool_cores.specs.declared.interleave.event.Event.TheVariants as event
 use Rattle.object_pool_cores.specs.declared.interleave.event.Seen.{Seen}
@@ -10,8 +11,7 @@ use Rattle.object_pool_cores.specs.declared.interleave.point.Point.{Point}
 use Rattle.object_pool_cores.specs.declared.interleave.point.Point.TheVariants.{Reading, Clearing, AtLink}
 use Rattle.object_pool_cores.specs.declared.interleave.point.Point.TheVariants.{ClearingHinted, Taken, Home, Ended}
 use Rattle.object_pool_cores.specs.Pool.{IsSame, IsFree, IsOut, number}
-use Rattle.object_pool_cores.specs.Move.{Pull, Return}
-use Rattle.object_pool_cores.specs.Run.{Act, Looking, Moves, stage_of, pool_of, FoundOut}
+use Rattle.object_pool_cores.specs.Run.{Act, Operates, acts_of, pages_of, pool_of, Looks, FoundOut}
 use Rattle.object_pool_cores.specs.World.State.{WorldPageState, WorldState}
 use Rattle.object_pool_cores.specs.World.Machine.{Outcome, IsOutcome, not_enabled, has_bit, with_bit, without_bit}
 use Rattle.object_pool_cores.specs.World.Machine.{lowest, without_lowest, word_in, word_of, page_value, with_word}
@@ -21,13 +21,13 @@ use Rattle.object_pool_cores.specs.World.AbstractPool.{place_by_bit, abstract_po
 use Rattle.object_pool_cores.specs.World.Trace.{Log, made_by}
 use Rattle.object_pool_cores.specs.World.Inside.Invariant.{LooksOn, IsPast, TriesBits, TriesHinted, Knows, KnowsIf}
 use Rattle.object_pool_cores.specs.World.Inside.Invariant.{Agrees}
-use Rattle.object_pool_cores.proofs.Runs.{since-now, stage_of-own}
+use Rattle.object_pool_cores.proofs.Runs.{since-now, holds-pulled, may-pull, may-return, pool-there, pool-operated}
 use Rattle.object_pool_cores.proofs.World.Bits.{has_bit-none, has_bit-without_lowest, lowest-lt, with_bit-lt}
 use Rattle.object_pool_cores.proofs.World.Bits.{without_bit-lt, without_lowest-lt}
 use Rattle.object_pool_cores.proofs.World.AbstractPool.{get-some, length-changed, changed-all, reads-number, value-word}
 use Rattle.object_pool_cores.proofs.World.AbstractPool.{same-cleared, same-set}
-use Rattle.object_pool_cores.proofs.World.Invariant.{GoesOn, StepsPages, moved, pages-stay, hidden-step, visible-step}
-use Rattle.object_pool_cores.proofs.World.Invariant.{from-outcome, from-if, idle, sound-of, allows-fewer}
+use Rattle.object_pool_cores.proofs.World.Invariant.{GoesOn, StepsPages, moved, visible-step, stays}
+use Rattle.object_pool_cores.proofs.World.Invariant.{from-outcome, from-if, idle, allows-fewer}
 
 all-three : (one two three : Bool) → (if one then if two then three else false else false) ≡ true
     → (one ≡ true) × (two ≡ true) × (three ≡ true)
@@ -45,7 +45,7 @@ may_name-is world k hint may =
 module _ {T : Type 0} (Leaves : T → T → Type 0) (first : List T) where
   -- an agent that has some bits to try, or none
   tries-known : (later : Log T) (acts : List (Act T)) (world : WorldState T) (a k mask : ℕ) (asked : Option ℕ)
-      → LooksOn first acts world a k asked
+      → LooksOn first acts (length world.pages) a k asked
       → mask < 2 ^ 32 → ((id : ℕ) → id < 32 → has_bit mask id ≡ false → FoundOut first acts a (number k id))
       → Knows Leaves first later acts world a (tries k mask asked)
   tries-known later acts world a k mask asked looks fits others =
@@ -53,7 +53,7 @@ module _ {T : Type 0} (Leaves : T → T → Type 0) (first : List T) where
       elim (cases_eq mask 0) [
         | inl none ↦
             let is : tries {T = T} k mask asked ≡ AtLink k asked = rw (eq-eqb mask 0 none) refl in
-            let past : IsPast first acts world a k asked = record {
+            let past : IsPast first acts (length world.pages) a k asked = record {
               looking = looks.looking;
               linked = looks.linked;
               found_out = λ n below. elim (cases_lt n (32 * k)) [
@@ -75,7 +75,7 @@ module _ {T : Type 0} (Leaves : T → T → Type 0) (first : List T) where
 
   -- so it is of an agent on a page that a hint named
   tries_hinted-known : (later : Log T) (acts : List (Act T)) (world : WorldState T) (a hint mask : ℕ)
-      → IsPast first acts world a 0 None
+      → IsPast first acts (length world.pages) a 0 None
       → 0 < hint → hint < length world.pages → mask < 2 ^ 32
       → ((id : ℕ) → id < 32 → has_bit mask id ≡ false → FoundOut first acts a (number hint id))
       → Knows Leaves first later acts world a (tries_hinted hint mask)
@@ -84,7 +84,7 @@ module _ {T : Type 0} (Leaves : T → T → Type 0) (first : List T) where
       elim (cases_eq mask 0) [
         | inl none ↦
             let is : tries_hinted {T = T} hint mask ≡ AtLink 0 (Some hint) = rw (eq-eqb mask 0 none) refl in
-            let asked : IsPast first acts world a 0 (Some hint) = record {
+            let asked : IsPast first acts (length world.pages) a 0 (Some hint) = record {
               looking = past.looking;
               linked = past.linked;
               found_out = past.found_out;
@@ -96,7 +96,7 @@ module _ {T : Type 0} (Leaves : T → T → Type 0) (first : List T) where
             subst Known (sym is) asked
         | inr some ↦
             let is : tries_hinted {T = T} hint mask ≡ ClearingHinted hint mask = rw (ne_eqb mask 0 some) refl in
-            let tried : TriesHinted first acts world a hint mask = record {
+            let tried : TriesHinted first acts (length world.pages) a hint mask = record {
               past = past;
               further = further;
               linked = linked;
@@ -126,14 +126,13 @@ module _ {T : Type 0} (Leaves : T → T → Type 0) (first : List T) (log : Log 
       ∙ ap (λ bit. place_by_bit bit (page_value old.pages k id)) clear
 
   -- a number whose bit is set is free with the value at its place
-  free-at : length first ≡ 32 → (k id : ℕ) (page : WorldPageState T) → id < 32 → slice_get old.pages k ≡ Some page
+  free-at : (k id : ℕ) (page : WorldPageState T) → id < 32 → slice_get old.pages k ≡ Some page
       → k < length old.pages → has_bit page.word id ≡ true
       → (value : T) × (page_value old.pages k id ≡ Some value) × IsFree (pool_of first acts) (number k id) value
-  free-at full k id page within at linked set =
-      let sound = sound-of Leaves first log acts old full agrees in
+  free-at k id page within at linked set =
       let pages = agrees.same.pages in
       let here = lies-at k id page within at ∙ ap (λ bit. place_by_bit bit (page_value old.pages k id)) set in
-      let inside = sound.whole.inside (number k id) (omega arith) in
+      let inside = pool-there first acts (number k id) (omega arith) in
       let by : (lookup : Option T) → page_value old.pages k id ≡ lookup
       → (value : T) × (page_value old.pages k id ≡ Some value)
       × IsFree (pool_of first acts) (number k id) value = elim [
@@ -153,29 +152,18 @@ module _ {T : Type 0} (Leaves : T → T → Type 0) (first : List T) (log : Log 
       → (answer : Seen) (new : WorldState T)
       → IsOutcome (read_mask old a lookup) answer new → GoesOn Leaves first log (event.ReadMask a) answer new
   read_mask-goes a (Some (Reading k asked)) at answer new row =
-      let looks : LooksOn first acts old a k asked = known a (Reading k asked) at in
+      let looks = known a (Reading k asked) at in
       let (page, here) = get-some old.pages k looks.linked in
       let word_is : word_of old.pages k ≡ page.word = ap word_in here in
       let fits = agrees.words k page here in
       from-outcome Leaves first log (event.ReadMask a) (read_mask old a (Some (Reading k asked))) answer new
-      (record {
-        acts = acts;
-        agrees = hidden-step Leaves first log acts old (event.ReadMask a) (seen.Word a (word_of old.pages k)) a
-            (Reading k asked)
-            (tries k (word_of old.pages k) asked) old.pages agrees at tt (λ b other. refl)
-            (pages-stay Leaves first log acts acts old a agrees refl)
-            (tries-known Leaves first ((event.ReadMask a, seen.Word a (word_of old.pages k)) ∷ log) acts
-            (moved Leaves first old old.pages a (tries k (word_of old.pages k) asked)) a k (word_of old.pages k) asked
-            (record {
-              looking = looks.looking;
-              linked = looks.linked;
-              found_out = looks.found_out;
-              asked_full = looks.asked_full;
-            })
-            (omega arith)
-            (λ id within clear. since-now first acts a (λ pool. IsOut pool (number k id)) looks.looking
-            (out-at k id page within here (ap (λ w. has_bit w id) (sym word_is) ∙ clear))));
-      })
+      (stays Leaves first log acts old (event.ReadMask a) (seen.Word a (word_of old.pages k)) a (Reading k asked)
+      (tries k (word_of old.pages k) asked) agrees at tt (λ b other. refl)
+      (tries-known Leaves first ((event.ReadMask a, seen.Word a (word_of old.pages k)) ∷ log) acts
+      (moved Leaves first old old.pages a (tries k (word_of old.pages k) asked)) a k (word_of old.pages k) asked looks
+      (omega arith)
+      (λ id within clear. since-now first acts a (λ pool. IsOut pool (number k id)) looks.looking
+      (out-at k id page within here (ap (λ w. has_bit w id) (sym word_is) ∙ clear)))))
       row
   read_mask-goes a _ at answer new row = disabled (event.ReadMask a) (λ b. refl) answer new row
 
@@ -184,25 +172,17 @@ module _ {T : Type 0} (Leaves : T → T → Type 0) (first : List T) (log : Log 
       → GoesOn Leaves first log (event.ReadHinted a hint) (seen.Word a (word_of old.pages hint))
       (moved Leaves first old old.pages a (tries_hinted hint (word_of old.pages hint)))
   hinted a hint at further linked =
-      let past : IsPast first acts old a 0 None = known a (AtLink 0 None) at in
+      let past = known a (AtLink 0 None) at in
       let (page, here) = get-some old.pages hint linked in
       let word_is : word_of old.pages hint ≡ page.word = ap word_in here in
       let fits = agrees.words hint page here in
-      record {
-        acts = acts;
-        agrees = hidden-step Leaves first log acts old (event.ReadHinted a hint)
-            (seen.Word a (word_of old.pages hint)) a (AtLink 0 None)
-            (tries_hinted hint (word_of old.pages hint)) old.pages agrees at tt (λ b other. refl)
-            (pages-stay Leaves first log acts acts old a agrees refl)
-            (tries_hinted-known Leaves first
-            ((event.ReadHinted a hint, seen.Word a (word_of old.pages hint)) ∷ log) acts
-            (moved Leaves first old old.pages a (tries_hinted hint (word_of old.pages hint))) a hint
-            (word_of old.pages hint)
-            (record { looking = past.looking; linked = past.linked; found_out = past.found_out; asked_full = tt })
-            further linked (omega arith)
-            (λ id within clear. since-now first acts a (λ pool. IsOut pool (number hint id)) past.looking
-            (out-at hint id page within here (ap (λ w. has_bit w id) (sym word_is) ∙ clear))));
-      }
+      stays Leaves first log acts old (event.ReadHinted a hint) (seen.Word a (word_of old.pages hint)) a (AtLink 0 None)
+      (tries_hinted hint (word_of old.pages hint)) agrees at tt (λ b other. refl)
+      (tries_hinted-known Leaves first ((event.ReadHinted a hint, seen.Word a (word_of old.pages hint)) ∷ log) acts
+      (moved Leaves first old old.pages a (tries_hinted hint (word_of old.pages hint))) a hint (word_of old.pages hint)
+      past further linked (omega arith)
+      (λ id within clear. since-now first acts a (λ pool. IsOut pool (number hint id)) past.looking
+      (out-at hint id page within here (ap (λ w. has_bit w id) (sym word_is) ∙ clear))))
 
   pub read_hinted-goes : (a hint : ℕ) (lookup : Option (Point T)) → slice_get old.agents a ≡ lookup
       → (answer : Seen) (new : WorldState T)
@@ -242,21 +222,14 @@ module _ {T : Type 0} (Leaves : T → T → Type 0) (first : List T) (log : Log 
         values = λ b j i value other linked within holds. value-word old.pages k word page at j i;
       }
 
-  linked-worded : (k j word : ℕ) (page : WorldPageState T) → slice_get old.pages k ≡ Some page → j < length old.pages
-      → j < length (with_word old.pages k word)
-  linked-worded k j word page at linked =
-      let count : length (with_word old.pages k word) ≡ length old.pages = length-changed (λ p.
-      record { word = word; places = p.places }) old.pages k page at in
-      omega arith
-
   -- the bit is set in the word: the agent pulls its number
-  won : length first ≡ 32 → (a k mask : ℕ) (from : Point T) → slice_get old.agents a ≡ Some from
-      → stage_of acts a ≡ Looking
+  won : (a k mask : ℕ) (from : Point T) → slice_get old.agents a ≡ Some from
+      → Looks (acts_of a acts)
       → k < length old.pages → TriesBits first acts a k mask → has_bit (word_of old.pages k) (lowest mask) ≡ true
       → GoesOn Leaves first log (event.ClearBit a) (seen.Pulled a (number k (lowest mask)))
       (moved Leaves first old (with_word old.pages k (without_bit (word_of old.pages k) (lowest mask))) a
       (Taken k (lowest mask)))
-  won full a k mask from at looking linked bits set =
+  won a k mask from at looking linked bits set =
       let id = lowest mask in
       let within : id < 32 = lowest-lt mask bits.some bits.in_word in
       let (page, here) = get-some old.pages k linked in
@@ -265,40 +238,32 @@ module _ {T : Type 0} (Leaves : T → T → Type 0) (first : List T) (log : Log 
       let word = without_bit (word_of old.pages k) id in
       let pages = with_word old.pages k word in
       let (value, lies, free) =
-      free-at full k id page within here linked (ap (λ w. has_bit w id) (sym word_is) ∙ set) in
-      let act : Act T = Moves a (Pull (number k id) value) in
+      free-at k id page within here linked (ap (λ w. has_bit w id) (sym word_is) ∙ set) in
+      let act : Act T = Operates (Pull a (number k id) value) in
+      let count : pages_of acts ≡ length old.pages = agrees.same.pages in
+      let left = worded (act ∷ acts) a k word page here (without_bit-lt (word_of old.pages k) id (omega arith))
+      (same-cleared (pool_of first acts) (pool_of first (act ∷ acts)) old
+      (record { pages = pages; agents = old.agents; limit = old.limit }) k id page within here
+      (pool-operated first acts (Pull a (number k id) value) (omega arith)) agrees.same
+      (ap (λ w. with_word old.pages k (without_bit w id)) word_is)) in
       record {
         acts = act ∷ acts;
         agrees = visible-step Leaves first log acts old (event.ClearBit a) (seen.Pulled a (number k id)) a from
-            (Taken k id) pages act agrees at (value, refl) (free, looking) tt refl (λ b other. refl)
-            (worded (act ∷ acts) a k word page here (without_bit-lt (word_of old.pages k) id (omega arith))
-            (same-cleared (pool_of first acts) old
-            (record { pages = pages; agents = old.agents; limit = old.limit }) k id page within here agrees.same
-            (ap (λ w. with_word old.pages k (without_bit w id)) word_is))) (
+            (Taken k id) pages act agrees at (value, refl)
+            (may-pull Leaves old.limit first acts a (number k id) value looking free) tt refl
+            (λ b other. refl) left (
               value,
               record {
-                linked = linked-worded k k word page here linked;
+                linked = let more = left.count in omega arith;
                 in_page = within;
-                stage = stage_of-own act acts a refl;
+                holds = holds-pulled acts a (number k id) value;
               },
               value-word old.pages k word page here k id ∙ lies,
             );
       }
 
-  -- the bit isn't set in the word: the agent goes on with the rest
-  lost : (a k : ℕ) (from next : Point T) → slice_get old.agents a ≡ Some from
-      → Knows Leaves first ((event.ClearBit a, seen.Found a (word_of old.pages k)) ∷ log) acts
-      (moved Leaves first old old.pages a next) a next
-      → GoesOn Leaves first log (event.ClearBit a) (seen.Found a (word_of old.pages k))
-      (moved Leaves first old old.pages a next)
-  lost a k from next at knows = record {
-    acts = acts;
-    agrees = hidden-step Leaves first log acts old (event.ClearBit a) (seen.Found a (word_of old.pages k)) a from next
-        old.pages agrees at tt (λ b other. refl) (pages-stay Leaves first log acts acts old a agrees refl) knows;
-  }
-
   -- the numbers that it has found out then
-  lost-others : (a k mask : ℕ) → stage_of acts a ≡ Looking → k < length old.pages → TriesBits first acts a k mask
+  lost-others : (a k mask : ℕ) → Looks (acts_of a acts) → k < length old.pages → TriesBits first acts a k mask
       → has_bit (word_of old.pages k) (lowest mask) ≡ false → (id : ℕ) → id < 32
       → has_bit (without_lowest mask) id ≡ false
       → FoundOut first acts a (number k id)
@@ -314,8 +279,8 @@ module _ {T : Type 0} (Leaves : T → T → Type 0) (first : List T) (log : Log 
       ]
 
   -- a clearing, which is won, or lost
-  clears-goes : length first ≡ 32 → (a k mask : ℕ) (from next : Point T) → slice_get old.agents a ≡ Some from
-      → stage_of acts a ≡ Looking
+  clears-goes : (a k mask : ℕ) (from next : Point T) → slice_get old.agents a ≡ Some from
+      → Looks (acts_of a acts)
       → k < length old.pages → TriesBits first acts a k mask
       → (has_bit (word_of old.pages k) (lowest mask) ≡ false
       → Knows Leaves first ((event.ClearBit a, seen.Found a (word_of old.pages k)) ∷ log) acts
@@ -324,7 +289,7 @@ module _ {T : Type 0} (Leaves : T → T → Type 0) (first : List T) (log : Log 
       → IsOutcome
       (if mask == 0 then not_enabled old else clears old a k (lowest mask) (word_of old.pages k) next) answer new
       → GoesOn Leaves first log (event.ClearBit a) answer new
-  clears-goes full a k mask from next at looking linked bits knows answer new row =
+  clears-goes a k mask from next at looking linked bits knows answer new row =
       let e : Event T = event.ClearBit a in
       let id = lowest mask in
       let word = word_of old.pages k in
@@ -338,80 +303,79 @@ module _ {T : Type 0} (Leaves : T → T → Type 0) (first : List T) (log : Log 
       (λ none given. disabled e (λ b. refl) answer new given)
       (λ some given. from-if Leaves first log e (has_bit word id) yes not answer new
       (λ set gave. from-outcome Leaves first log e yes answer new
-      (won full a k mask from at looking linked bits set) gave)
-      (λ clear gave. from-outcome Leaves first log e not answer new (lost a k from next at (knows clear)) gave)
+      (won a k mask from at looking linked bits set) gave)
+      (λ clear gave. from-outcome Leaves first log e not answer new
+      (stays Leaves first log acts old e (seen.Found a word) a from next agrees at tt (λ b other. refl) (knows clear))
+      gave)
       given)
       row
 
-  pub clear_bit-goes : length first ≡ 32 → (a : ℕ) (lookup : Option (Point T)) → slice_get old.agents a ≡ lookup
+  pub clear_bit-goes : (a : ℕ) (lookup : Option (Point T)) → slice_get old.agents a ≡ lookup
       → (answer : Seen) (new : WorldState T) → IsOutcome (clear_bit old a lookup) answer new
       → GoesOn Leaves first log (event.ClearBit a) answer new
-  clear_bit-goes full a (Some (Clearing k mask asked)) at answer new row =
+  clear_bit-goes a (Some (Clearing k mask asked)) at answer new row =
       let (looks, bits) = known a (Clearing k mask asked) at in
       let next : Point T = tries k (without_lowest mask) asked in
-      clears-goes full a k mask (Clearing k mask asked) next at looks.looking looks.linked bits
+      clears-goes a k mask (Clearing k mask asked) next at looks.looking looks.linked bits
       (λ clear. tries-known Leaves first ((event.ClearBit a, seen.Found a (word_of old.pages k)) ∷ log) acts
       (moved Leaves first old old.pages a next) a k (without_lowest mask) asked
-      (record {
-        looking = looks.looking;
-        linked = looks.linked;
-        found_out = looks.found_out;
-        asked_full = looks.asked_full;
-      })
+      looks
       (without_lowest-lt mask bits.in_word) (lost-others a k mask looks.looking looks.linked bits clear))
       answer new row
-  clear_bit-goes full a (Some (ClearingHinted hint mask)) at answer new row =
-      let knows : TriesHinted first acts old a hint mask = known a (ClearingHinted hint mask) at in
+  clear_bit-goes a (Some (ClearingHinted hint mask)) at answer new row =
+      let knows = known a (ClearingHinted hint mask) at in
       let past = knows.past in
       let bits = knows.bits in
       let next : Point T = tries_hinted hint (without_lowest mask) in
-      clears-goes full a hint mask (ClearingHinted hint mask) next at past.looking knows.linked bits
+      clears-goes a hint mask (ClearingHinted hint mask) next at past.looking knows.linked bits
       (λ clear. tries_hinted-known Leaves first ((event.ClearBit a, seen.Found a (word_of old.pages hint)) ∷ log) acts
       (moved Leaves first old old.pages a next) a hint (without_lowest mask)
-      (record { looking = past.looking; linked = past.linked; found_out = past.found_out; asked_full = tt })
+      past
       knows.further knows.linked
       (without_lowest-lt mask bits.in_word) (lost-others a hint mask past.looking knows.linked bits clear))
       answer new row
-  clear_bit-goes full a _ at answer new row = disabled (event.ClearBit a) (λ b. refl) answer new row
+  clear_bit-goes a _ at answer new row = disabled (event.ClearBit a) (λ b. refl) answer new row
 
   -- the bit is set again: the agent returns its number
-  returned : length first ≡ 32 → (a k id : ℕ) → slice_get old.agents a ≡ Some (Home k id)
+  returned : (a k id : ℕ) → slice_get old.agents a ≡ Some (Home k id)
       → GoesOn Leaves first log (event.OrMask a) (seen.Returned a (number k id))
       (moved Leaves first old (with_word old.pages k (with_bit (word_of old.pages k) id)) a Ended)
-  returned full a k id at =
+  returned a k id at =
       let (value, kept, holds, leaves, lies) = known a (Home k id) at in
-      let sound = sound-of Leaves first log acts old full agrees in
       let (page, here) = get-some old.pages k holds.linked in
       let word_is : word_of old.pages k ≡ page.word = ap word_in here in
       let fits = agrees.words k page here in
       let word = with_bit (word_of old.pages k) id in
       let pages = with_word old.pages k word in
-      let act : Act T = Moves a (Return (number k id) kept) in
+      let act : Act T = Operates (Return a (number k id) kept) in
+      let count : pages_of acts ≡ length old.pages = agrees.same.pages in
+      let within = holds.in_page in
+      let there = holds.linked in
       record {
         acts = act ∷ acts;
         agrees = visible-step Leaves first log acts old (event.OrMask a) (seen.Returned a (number k id)) a
             (Home k id) Ended pages act agrees at (kept, refl)
-            (sound.holders.out (number k id) a value holds.stage, (value, holds.stage, leaves)) tt refl
-            (λ b other. refl)
+            (may-return Leaves old.limit first acts agrees.run a (number k id) value kept holds.holds leaves) tt
+            refl (λ b other. refl)
             (worded (act ∷ acts) a k word page here (with_bit-lt (word_of old.pages k) id holds.in_page (omega arith))
-            (same-set (pool_of first acts) old
+            (same-set (pool_of first acts) (pool_of first (act ∷ acts)) old
             (record { pages = pages; agents = old.agents; limit = old.limit }) k id page kept holds.in_page here
-            lies agrees.same
+            lies (pool-operated first acts (Return a (number k id) kept) (omega arith)) agrees.same
             (ap (λ w. with_word old.pages k (with_bit w id)) word_is)))
             tt;
       }
 
-  pub or_mask-goes : length first ≡ 32 → (a : ℕ) (lookup : Option (Point T)) → slice_get old.agents a ≡ lookup
+  pub or_mask-goes : (a : ℕ) (lookup : Option (Point T)) → slice_get old.agents a ≡ lookup
       → (answer : Seen) (new : WorldState T) → IsOutcome (or_mask old a lookup) answer new
       → GoesOn Leaves first log (event.OrMask a) answer new
-  or_mask-goes full a (Some (Home k id)) at answer new row =
+  or_mask-goes a (Some (Home k id)) at answer new row =
       let e : Event T = event.OrMask a in
       let yes : Outcome T = (
         seen.Returned a (number k id),
         moved Leaves first old (with_word old.pages k (with_bit (word_of old.pages k) id)) a Ended,
       ) in
       from-if Leaves first log e (nat_lt id 32) yes (not_enabled old) answer new
-      (λ within gave. from-outcome Leaves first log e yes answer new (returned full a k id at) gave)
+      (λ within gave. from-outcome Leaves first log e yes answer new (returned a k id at) gave)
       (λ past gave. disabled e (λ b. refl) answer new gave)
       row
-  or_mask-goes full a _ at answer new row = disabled (event.OrMask a) (λ b. refl) answer new row
+  or_mask-goes a _ at answer new row = disabled (event.OrMask a) (λ b. refl) answer new row

@@ -1,8 +1,8 @@
 -- The items of a sequential linear pool, listed by their numbers.
 use Rattle.std.specs.Prelude.{◌≡◌, ℕ, ◌+◌, ◌-◌, ◌*◌, ◌/◌, ◌%◌, ◌<◌, ◌≤◌, Option, Some, None, List, length, slice_get}
 use Rattle.std.specs.Prelude.{All, [], ◌∷◌, ◌++◌}
-use Rattle.object_pool_cores.specs.Pool.{Pool, Place, Absent, Free, Out, IsSame, AllowsPages}
-use Rattle.object_pool_cores.specs.Move.{Growth, IsLegal, after}
+use Rattle.object_pool_cores.specs.Pool.{Pool, IsSame, AllowsPages, place_of}
+use Rattle.object_pool_cores.specs.Move as move
 use Rattle.object_pool_cores.specs.LeastChoice.{IsExhausted, TakesLeast}
 use Rattle.object_pool_cores.specs.PageProbes.{ProbesEach}
 use Rattle.lockfree_object_pool.specs.declared.page.TheConstants.{PAGE_ITEMS}
@@ -16,12 +16,6 @@ pub record Numbered (T : Type 0) : Type 0 where
   pub looked : ℕ
 
 module _ {T : Type 0} where
-  -- what lies at a place of the list
-  abbrev pub place_of : Option (Option T) → Place T
-  place_of None = Absent
-  place_of (Some None) = Out
-  place_of (Some (Some v)) = Free v
-
   -- the pool that the list stands for
   abbrev pub listed_pool : Numbered T → Pool T
   listed_pool items =
@@ -70,8 +64,8 @@ module _ {T : Type 0} where
   pub record Grows (limit : Option ℕ) (answers : Option T → Type 0) (old new : Pool T) : Type 0 where
     pub values : List T
     pub answered : All (λ v. answers (Some v)) values
-    pub legal : IsLegal limit old (Growth values)
-    pub grown : IsSame new (after old (Growth values))
+    pub legal : move.IsGrowth limit old.pages values
+    pub grown : IsSame new (move.grown old values)
 
   -- the values of the free items, in the order of their numbers
   abbrev pub free_values : List (Option T) → List T

@@ -4,7 +4,8 @@ use Rattle.std.specs.List.{slice_get}
 use Rattle.std.specs.Prelude.{All}
 use Rattle.std.proofs.lemmas.List.Elements.{All-nil, All-cons}
 use Rattle.object_pool_cores.specs.Bag.{IsPutIn}
-use Rattle.object_pool_cores.specs.Inside.Numbered.{place_of, free_values}
+use Rattle.object_pool_cores.specs.Pool.{place_of}
+use Rattle.object_pool_cores.specs.Inside.Numbered.{free_values}
 use Rattle.object_pool_cores.specs.Laws.NumberedPlaces.{place_of-there}
 
 module _ {T : Type 0} where

@@ -7,11 +7,11 @@ use Rattle.lockfree_object_pool.specs.declared.pull_error.PullError.{PullError}
 use Rattle.object_pool_cores.specs.declared.sequential.item.Item.{Item}
 use Rattle.object_pool_cores.specs.declared.sequential.linear_core.LinearCore.{LinearCore}
 use Rattle.object_pool_cores.specs.Inside.SequentialItem.{item_value}
-use Rattle.object_pool_cores.specs.Pool.{Free, Out, IsFree, IsSame, with_place}
+use Rattle.object_pool_cores.specs.Pool.{Free, Out, IsFree, IsSame, with_place, place_of}
 use Rattle.object_pool_cores.specs.Move.{grown}
 use Rattle.object_pool_cores.specs.LeastChoice.{IsExhausted, TakesLeast, GrowsFirst, PullsLeast, PullsItem}
 use Rattle.object_pool_cores.specs.Bag.{IsPutIn, IsFresh, PullsFromBag, ReturnsToBag, pulled_value}
-use Rattle.object_pool_cores.specs.Inside.Numbered.{Numbered, listed_pool, place_of, free_values}
+use Rattle.object_pool_cores.specs.Inside.Numbered.{Numbered, listed_pool, free_values}
 use Rattle.object_pool_cores.specs.Linear.{Pulls, Gives}
 use Rattle.object_pool_cores.specs.Laws.PoolSteps.{at-with_place, free-grown}
 use Rattle.object_pool_cores.specs.Laws.NumberedPlaces.{place_of-free, place_of-out, listed_pool-set}

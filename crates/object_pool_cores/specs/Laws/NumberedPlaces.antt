@@ -7,10 +7,11 @@ use Rattle.std.specs.List.{slice_get}
 use Rattle.std.proofs.lemmas.Bool.{cases_lt, cases_eq}
 use Rattle.std.proofs.lemmas.List.{length-map}
 use Rattle.std.proofs.lemmas.Option.{get_or_from_slice_get, slice_get_within, slice_get_cases, slice_get_past}
-use Rattle.object_pool_cores.specs.Pool.{IsPool, IsSame, with_place, free_with, AllowsPages, Absent, Free, Out}
+use Rattle.object_pool_cores.specs.Pool.{IsPool, IsSame, AllowsPages, Absent, Free, Out, free_with, place_of}
+use Rattle.object_pool_cores.specs.Pool.{with_place}
 use Rattle.object_pool_cores.specs.Move.{grown}
 use Rattle.object_pool_cores.specs.Laws.PoolSteps.{with_place-same, with_place-other, grown-old, grown-new}
-use Rattle.object_pool_cores.specs.Inside.Numbered.{Numbered, IsSound, Grows, place_of, listed_pool}
+use Rattle.object_pool_cores.specs.Inside.Numbered.{Numbered, IsSound, Grows, listed_pool}
 
 module _ {T : Type 0} where
   -- a free place has that value

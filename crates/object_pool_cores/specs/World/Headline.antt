@@ -7,8 +7,8 @@ use Rattle.object_pool_cores.specs.declared.interleave.event.Seen.{Seen}
 use Rattle.object_pool_cores.specs.declared.interleave.point.Point.TheVariants.{Reading, AtLink}
 use Rattle.object_pool_cores.specs.declared.run_error.RunError.{RunError}
 use Rattle.object_pool_cores.specs.Pool.{IsSame, AllowsPages}
-use Rattle.object_pool_cores.specs.Run.{Act, Holds, stage_of, pool_of, Run, FoundOutBeforeEach, HasHolders, IsWhole}
-use Rattle.object_pool_cores.specs.Run.{AtEachPlace}
+use Rattle.object_pool_cores.specs.Run.{Act, ledger_of, opened, pool_of, Holds, Run, FoundOutBeforeEach, HasHolders}
+use Rattle.object_pool_cores.specs.Run.{IsWhole, AtEachPlace}
 use Rattle.object_pool_cores.specs.World.State.{WorldState}
 use Rattle.object_pool_cores.specs.World.Machine.{Steps, agent_item, number_out, opening_world}
 use Rattle.object_pool_cores.specs.World.Enabled.{IsExact}
@@ -17,6 +17,7 @@ use Rattle.object_pool_cores.specs.World.Trace.{Log, IsTraceOf}
 use Rattle.object_pool_cores.specs.World.Solo.{IsSolo, AsksNoHints, RunsSolo, RunsSoloByHint, StepsInOrder}
 use Rattle.object_pool_cores.specs.World.OwnSteps.{own_steps, IsAtPage, IsAtHintedPage, IsLooking}
 use Rattle.lockfree_object_pool.specs.declared.page.TheConstants.{PAGE_ITEMS}
+use Rattle.lockfree_object_pool.specs.Ledger.{IsLegal}
 
 -- what the events did, from a world of these first values in which no agent had begun, is a run of one pool
 pub record IsRun {T : Type 0} (Leaves : T → T → Type 0) (first : List T) (log : Log T)
@@ -24,9 +25,11 @@ pub record IsRun {T : Type 0} (Leaves : T → T → Type 0) (first : List T) (lo
   -- the answers that show something of the pool, one after another, are acts
   pub acts : List (Act T)
   pub visible : IsTraceOf log acts
-  -- they are a run from the opening pool, and the world stands for the pool in which it ends
+  -- they are a run from the opening pool, and the world stands for the pool to which it has led
   pub run : Run Leaves world.limit first acts
   pub ends : IsSame (pool_of first acts) (abstract_pool world)
+  -- the ledger of the run is legal, from the values with which its pages came
+  pub legal : IsLegal (opened first acts) (ledger_of acts)
   -- no more pages are linked than are allowed
   pub allowed : AllowsPages world.limit (length world.pages)
   -- at each place of the run the pool has the numbers of its pages, no more than are allowed
@@ -35,12 +38,9 @@ pub record IsRun {T : Type 0} (Leaves : T → T → Type 0) (first : List T) (lo
   pub holders : AtEachPlace (HasHolders first) acts
   -- an agent with an item in the world holds its number with its value there
   pub held :
-      (a n : ℕ) (value : T) → agent_item (slice_get world.agents a) ≡ Some (n, value)
-      → stage_of acts a ≡ Holds n value
+      (a n : ℕ) (value : T) → agent_item (slice_get world.agents a) ≡ Some (n, value) → Holds acts a n value
   -- so it is of its number from its pull to its return
-  pub out :
-      (a n : ℕ) → number_out (slice_get world.agents a) ≡ Some n
-      → (value : T) × (stage_of acts a ≡ Holds n value)
+  pub out : (a n : ℕ) → number_out (slice_get world.agents a) ≡ Some n → (value : T) × Holds acts a n value
   -- since it began, the agent had found out each number at each growth, and at each refusal
   -- each number of as many pages as there were at some place since then
   pub found_out : FoundOutBeforeEach first acts

@@ -1,11 +1,11 @@
 -- The trace: what the answers to a list of events show of the pool.
 use Rattle.std.specs.Prelude.{◌≡◌, ◌⊎◌, ℕ, ◌==◌, if◌then◌else◌, Option, Some, None, List, [], ◌∷◌, Ok, ⊤}
+use Rattle.lockfree_object_pool.specs.declared.page.history.Operation.TheVariants.{Pull, Return}
 use Rattle.object_pool_cores.specs.declared.interleave.event.Event.{Event}
 use Rattle.object_pool_cores.specs.declared.interleave.event.Event.TheVariants as event
 use Rattle.object_pool_cores.specs.declared.interleave.event.Seen.{Seen}
 use Rattle.object_pool_cores.specs.declared.interleave.event.Seen.TheVariants as seen
-use Rattle.object_pool_cores.specs.Move.{Pull, Return, Growth, Refusal}
-use Rattle.object_pool_cores.specs.Run.{Act, Opens, Writes, Moves}
+use Rattle.object_pool_cores.specs.Run.{Act, Opens, Writes, Operates, Grows, Refused}
 
 -- events with their answers, of which the last stands first
 abbrev pub Log : Type 0 → Type 0
@@ -40,12 +40,12 @@ module _ {T : Type 0} where
   -- the answer shows this act, with the value of the event, or the values that the agent made before
   abbrev pub Shows : Log T → Event T → Seen → Act T → Type 0
   Shows log e (seen.Began a) act = act ≡ Opens a
-  Shows log e (seen.Pulled a n) act = (value : T) × (act ≡ Moves a (Pull n value))
+  Shows log e (seen.Pulled a n) act = (value : T) × (act ≡ Operates (Pull a n value))
   Shows log (event.Write b value) (seen.Wrote a) act = act ≡ Writes a value
-  Shows log e (seen.Returned a n) act = (kept : T) × (act ≡ Moves a (Return n kept))
+  Shows log e (seen.Returned a n) act = (kept : T) × (act ≡ Operates (Return a n kept))
   Shows log e (seen.Linked a) act =
-      (values : List T) × (last_made log a ≡ Some values) × (act ≡ Moves a (Growth values))
-  Shows log e (seen.Refused a cause) act = act ≡ Moves a (Refusal cause)
+      (values : List T) × (last_made log a ≡ Some values) × (act ≡ Grows a values)
+  Shows log e (seen.Refused a cause) act = act ≡ Refused a cause
   Shows log e _ act = ⊥
 
   -- the acts are the trace of the log: what its answers show, one after another

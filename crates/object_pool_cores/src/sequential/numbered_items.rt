@@ -8,7 +8,7 @@ ghost use Rattle.object_pool_cores.specs.OnePage.{IsMadePage, HasNoFreeId};
 ghost use Rattle.object_pool_cores.specs.Inside.Numbered.{AreWhole, HasNoneBelow, laid_out};
 ghost use Rattle.lockfree_object_pool.specs.Refusal.{RefusesMaking};
 ghost use Rattle.object_pool_cores.specs.Pool.{IsOut, IsPool, IsSame};
-ghost use Rattle.object_pool_cores.specs.Move.{Return, after};
+ghost use Rattle.object_pool_cores.specs.Move.{after_return};
 
 use crate::numbers::{number, page_and_id};
 use crate::sequential::{CorePage, Item};
@@ -121,7 +121,7 @@ impl<T: Drop, K: Clean<T>> NumberedItems<T, K> {
         requires out { IsOut (listed_pool self.old) number }
         requires meets { K.meets value }
         ensures returned { IsSame (listed_pool self.new)
-            (after (listed_pool self.old) (Return number value)) }
+            (after_return (listed_pool self.old) number value) }
         ensures limit { self.new.limit ≡ self.old.limit }
         ensures start { self.new.start ≡ min self.old.start (number / PAGE_ITEMS) }
         ensures looked { self.new.looked ≡ self.old.looked }

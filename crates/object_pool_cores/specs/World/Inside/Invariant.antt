@@ -1,13 +1,13 @@
 -- The invariant: how the acts that were seen, the words,
 -- the places and the points of the agents belong together.
-use Rattle.std.specs.Prelude.{◌≡◌, ℕ, ◌+◌, ◌^◌, ◌<◌, false, Option, Some, None, List, length, slice_get, ⊤}
+use Rattle.std.specs.Prelude.{◌≡◌, ℕ, ◌+◌, ◌^◌, ◌<◌, false, Option, Some, None, List, [], length, slice_get, ⊤}
 use Rattle.object_pool_cores.specs.declared.interleave.point.Point.{Point}
 use Rattle.object_pool_cores.specs.declared.interleave.point.Point.TheVariants.{Reading, Clearing, AtLink}
 use Rattle.object_pool_cores.specs.declared.interleave.point.Point.TheVariants.{ClearingHinted, Making, Linking, Taken}
 use Rattle.object_pool_cores.specs.declared.interleave.point.Point.TheVariants.{Holding, Home, Ended}
 use Rattle.object_pool_cores.specs.Pool.{IsSame, AllowsPages, number}
-use Rattle.object_pool_cores.specs.Run.{Act, NotBegun, Looking, Holds, stage_of, pool_of, FoundOut, FoundAllOut}
-use Rattle.object_pool_cores.specs.Run.{HadPages, Run, FoundOutBeforeEach}
+use Rattle.object_pool_cores.specs.Run.{Act, acts_of, pool_of, Looks, Holds, FoundOut, FoundAllOut, HadPages, Run}
+use Rattle.object_pool_cores.specs.Run.{FoundOutBeforeEach}
 use Rattle.object_pool_cores.specs.World.State.{WorldPageState, WorldState}
 use Rattle.object_pool_cores.specs.World.Machine.{has_bit, page_value}
 use Rattle.object_pool_cores.specs.World.AbstractPool.{abstract_pool}
@@ -26,24 +26,24 @@ module _ {T : Type 0} (first : List T) where
   FoundAsked acts pages a (Some hint) = FoundFull acts pages a hint
 
   -- an agent looks on page k, and found each number of the pages before it out
-  pub record LooksOn (acts : List (Act T)) (world : WorldState T) (a k : ℕ) (asked : Option ℕ) : Type 0 where
-    pub looking : stage_of acts a ≡ Looking
-    pub linked : k < length world.pages
+  pub record LooksOn (acts : List (Act T)) (pages a k : ℕ) (asked : Option ℕ) : Type 0 where
+    pub looking : Looks (acts_of a acts)
+    pub linked : k < pages
     pub found_out : FoundAllOut first acts a k
-    pub asked_full : FoundAsked acts (length world.pages) a asked
+    pub asked_full : FoundAsked acts pages a asked
 
   -- an agent found each number of page k and of the pages before it out
-  pub record IsPast (acts : List (Act T)) (world : WorldState T) (a k : ℕ) (asked : Option ℕ) : Type 0 where
-    pub looking : stage_of acts a ≡ Looking
-    pub linked : k < length world.pages
+  pub record IsPast (acts : List (Act T)) (pages a k : ℕ) (asked : Option ℕ) : Type 0 where
+    pub looking : Looks (acts_of a acts)
+    pub linked : k < pages
     pub found_out : FoundAllOut first acts a (k + 1)
-    pub asked_full : FoundAsked acts (length world.pages) a asked
+    pub asked_full : FoundAsked acts pages a asked
 
   -- and page k was the last page at some place, after which one more is allowed
-  pub record IsAtLastPage (acts : List (Act T)) (world : WorldState T) (a k : ℕ) : Type 0 where
-    pub past : IsPast acts world a k None
+  pub record IsAtLastPage (acts : List (Act T)) (limit : Option ℕ) (pages a k : ℕ) : Type 0 where
+    pub past : IsPast acts pages a k None
     pub last : HadPages first acts a (k + 1)
-    pub allowed : AllowsPages world.limit (k + 1 + 1)
+    pub allowed : AllowsPages limit (k + 1 + 1)
 
   -- an agent has bits of page k to try, and found the numbers of the others out
   pub record TriesBits (acts : List (Act T)) (a k mask : ℕ) : Type 0 where
@@ -52,40 +52,41 @@ module _ {T : Type 0} (first : List T) where
     pub others : (id : ℕ) → id < PAGE_ITEMS → has_bit mask id ≡ false → FoundOut first acts a (number k id)
 
   -- an agent that found the first page full has bits to try on a further page, which a hint named
-  pub record TriesHinted (acts : List (Act T)) (world : WorldState T) (a hint mask : ℕ) : Type 0 where
-    pub past : IsPast acts world a 0 None
+  pub record TriesHinted (acts : List (Act T)) (pages a hint mask : ℕ) : Type 0 where
+    pub past : IsPast acts pages a 0 None
     pub further : 0 < hint
-    pub linked : hint < length world.pages
+    pub linked : hint < pages
     pub bits : TriesBits acts a hint mask
 
 module _ {T : Type 0} where
   -- an agent holds the number at a place with this value
-  pub record HoldsAt (acts : List (Act T)) (world : WorldState T) (a k id : ℕ) (value : T) : Type 0 where
-    pub linked : k < length world.pages
+  pub record HoldsAt (acts : List (Act T)) (pages a k id : ℕ) (value : T) : Type 0 where
+    pub linked : k < pages
     pub in_page : id < PAGE_ITEMS
-    pub stage : stage_of acts a ≡ Holds (number k id) value
+    pub holds : Holds acts a (number k id) value
 
 module _ {T : Type 0} (Leaves : T → T → Type 0) (first : List T) where
   -- what is known of an agent at its point
   abbrev pub Knows : Log T → List (Act T) → WorldState T → ℕ → Point T → Type 0
-  Knows log acts world a (Reading k asked) = LooksOn first acts world a k asked
+  Knows log acts world a (Reading k asked) = LooksOn first acts (length world.pages) a k asked
   Knows log acts world a (Clearing k mask asked) =
-      LooksOn first acts world a k asked × TriesBits first acts a k mask
-  Knows log acts world a (AtLink k asked) = IsPast first acts world a k asked
-  Knows log acts world a (ClearingHinted hint mask) = TriesHinted first acts world a hint mask
-  Knows log acts world a (Making k) = IsAtLastPage first acts world a k
-  Knows log acts world a (Linking k values) = IsAtLastPage first acts world a k × (last_made log a ≡ Some values)
+      LooksOn first acts (length world.pages) a k asked × TriesBits first acts a k mask
+  Knows log acts world a (AtLink k asked) = IsPast first acts (length world.pages) a k asked
+  Knows log acts world a (ClearingHinted hint mask) = TriesHinted first acts (length world.pages) a hint mask
+  Knows log acts world a (Making k) = IsAtLastPage first acts world.limit (length world.pages) a k
+  Knows log acts world a (Linking k values) =
+      IsAtLastPage first acts world.limit (length world.pages) a k × (last_made log a ≡ Some values)
   Knows log acts world a (Taken k id) =
-      (value : T) × HoldsAt acts world a k id value × (page_value world.pages k id ≡ Some value)
-  Knows log acts world a (Holding k id value) = HoldsAt acts world a k id value
+      (value : T) × HoldsAt acts (length world.pages) a k id value × (page_value world.pages k id ≡ Some value)
+  Knows log acts world a (Holding k id value) = HoldsAt acts (length world.pages) a k id value
   Knows log acts world a (Home k id) =
-      (value : T) × (kept : T) × HoldsAt acts world a k id value × Leaves value kept
+      (value : T) × (kept : T) × HoldsAt acts (length world.pages) a k id value × Leaves value kept
       × (page_value world.pages k id ≡ Some kept)
   Knows log acts world a Ended = ⊤
 
   -- what is known of an agent that may not have begun
   abbrev pub KnowsIf : Log T → List (Act T) → WorldState T → ℕ → Option (Point T) → Type 0
-  KnowsIf log acts world a None = stage_of acts a ≡ NotBegun
+  KnowsIf log acts world a None = acts_of a acts ≡ []
   KnowsIf log acts world a (Some point) = Knows log acts world a point
 
   -- the acts are what the log shows, they are a run, and the world is where they lead
