@@ -1,5 +1,6 @@
 //! The world of agents.
-ghost use Rattle.std.specs.Prelude.{◌≡◌, ◌≢◌, ◌≤◌, Some, None, option_map, option_copied, slice_get, IfOk, IfErr};
+ghost use Rattle.std.specs.Prelude.{◌≡◌, ◌≢◌, ◌≤◌, ◌+◌, Some, None, option_map, option_copied, slice_get, IfOk, IfErr};
+ghost use Rattle.std.specs.Prelude.{IsOk, vec_len, vec_capacity};
 ghost use Rattle.lockfree_object_pool.specs.declared.pull_error.PullError.TheVariants.{Memory};
 ghost use Rattle.object_pool_cores.specs.World.Headline.{IsNew, RunsEvents};
 ghost use Rattle.object_pool_cores.specs.World.Machine.{held_by, opening_world, page_value, Steps};
@@ -133,6 +134,9 @@ impl<T: Drop, R: Reset<T, AnyValue>> World<T, R> {
             (record { world = world_state self.old; events = events.items; seen = seen.old.items })
             (record { world = world_state self.new; seen = seen.new.items; result = result }) }
         ensures reset { world_reset self.new ≡ world_reset self.old }
+        ensures room_is_there { vec_len seen.old + vec_len events ≤ vec_capacity seen.old
+            → IsOk result }
+        ensures room_stays { KeepsCapacity (world_capacity self.old) (world_capacity self.new) }
     {
         events.reverse();
         while let Some(event) = events.pop() {
