@@ -1,4 +1,5 @@
 pub mod State
+pub mod Capacity
 pub mod Machine
 pub mod AbstractPool
 pub mod Trace

@@ -13,6 +13,7 @@ mod hints;
 mod late_links;
 mod many;
 mod refusals;
+mod room;
 mod sizes;
 mod values;
 

@@ -1,5 +1,5 @@
 //! A world's pages and agents, and what each event does to them.
-ghost use Rattle.std.specs.Prelude.{slice_set, vec_len, vec_capacity, ◌++◌, ◌∷◌, [], ◌≡◌, ◌+◌, ◌<◌, ◌≤◌, ◌↔◌, ◌==◌};
+ghost use Rattle.std.specs.Prelude.{slice_set, vec_len, vec_capacity, ◌++◌, ◌∷◌, [], ◌≡◌, ◌≢◌, ◌+◌, ◌<◌, ◌≤◌, ◌↔◌, ◌==◌};
 ghost use Rattle.std.specs.Prelude.{◌⊎◌, Option, Some, None, option_map, option_copied, slice_get, length, IfOk, OnOk};
 ghost use Rattle.std.specs.Prelude.{IsTrue, bit_and};
 ghost use Rattle.object_pool_cores.specs.World.State.{WorldPageState};
@@ -11,6 +11,7 @@ ghost use Rattle.object_pool_cores.specs.World.Machine.{may_name, read_mask, rea
 ghost use Rattle.object_pool_cores.specs.World.Machine.{clear_bit, held_by, read_next, make_page, exchange_next};
 ghost use Rattle.object_pool_cores.specs.World.Machine.{move_out, write, or_mask, begin, IsOutcome, MayGrow};
 ghost use Rattle.object_pool_cores.specs.World.Machine.{LinksWhole, MovesHome, Steps};
+ghost use Rattle.object_pool_cores.specs.World.Capacity.{HasCapacityFor, HasCapacityForMade, KeepsCapacity};
 ghost use Rattle.object_pool_cores.specs.Pool.{number};
 ghost use Rattle.object_pool_cores.specs.declared.interleave.point.Point.TheVariants.{Reading};
 ghost use Rattle.object_pool_cores.specs.declared.interleave.event.Seen.TheVariants.{NoMemory};
@@ -41,15 +42,21 @@ pub struct Machine<T> {
 
 impl<T> Model for Machine<T> {
     ghost use Rattle.std.specs.Prelude.{All, vec_capacity};
-    ghost use Rattle.object_pool_cores.specs.World.State.{WorldState};
+    ghost use Rattle.object_pool_cores.specs.World.Inside.Tables.{Tables};
     ghost use Rattle.object_pool_cores.specs.World.Inside.LinkCapacity.{HasLinkCapacity};
 
-    ghost Value = { WorldState T };
+    ghost Value = { Tables T };
 
     ghost view = { λ machine. record {
-      pages = machine.pages.items;
-      agents = machine.agents.items;
-      limit = machine.limit;
+      state = record {
+        pages = machine.pages.items;
+        agents = machine.agents.items;
+        limit = machine.limit;
+      };
+      capacity = record {
+        agents = vec_capacity machine.agents;
+        pages = vec_capacity machine.pages;
+      };
     } };
 
     ghost invariant = { λ machine. All (HasLinkCapacity (vec_capacity machine.pages))
@@ -113,6 +120,7 @@ fn pass_link<T: Drop>(agents: &mut Vec<Point<T>>, agent: usize, next: usize) -> 
     requires { agent < vec_len agents.old }
     ensures values { result ≡ prepared_by (slice_get agents.old.items agent) }
     ensures agents { agents.new.items ≡ slice_set agents.old.items agent (Reading next None) }
+    ensures room { vec_capacity agents.new ≡ vec_capacity agents.old }
 {
     match mem::replace(&mut agents[agent], Point::Reading(next, None)) {
         Point::Linking(_, values) => Some(values),
@@ -145,7 +153,7 @@ impl<T: Drop> Machine<T> {
         first: Prepared<T>,
         limit: Option<usize>,
     ) -> Result<Machine<T>, AllocError>
-        ensures opening { IfOk result (λ table. table ≡ opening_world first limit) }
+        ensures opening { IfOk result (λ table. table.state ≡ opening_world first limit) }
         ensures whole { OnOk result (length first ≡ PAGE_ITEMS) }
     {
         let mut pages = Vec::new(alloc);
@@ -158,20 +166,20 @@ impl<T: Drop> Machine<T> {
     }
 
     pub fn pages(&self) -> usize
-        ensures { result ≡ length self.now.pages }
+        ensures { result ≡ length self.now.state.pages }
     {
         self.pages.len()
     }
 
     pub fn limit(&self) -> Option<usize>
-        ensures { result ≡ self.now.limit }
+        ensures { result ≡ self.now.state.limit }
     {
         self.limit
     }
 
     /// The page's word, if there is such a page.
     pub fn word(&self, page: usize) -> Option<u32>
-        ensures { result ≡ option_map (λ page. page.word) (slice_get self.now.pages page) }
+        ensures { result ≡ option_map (λ page. page.word) (slice_get self.now.state.pages page) }
     {
         match self.pages.get(page) {
             Some(page) => Some(page.word()),
@@ -181,14 +189,14 @@ impl<T: Drop> Machine<T> {
 
     /// The value at a place, if one lies there.
     pub fn place(&self, page: usize, id: PageId) -> Option<&T>
-        ensures { option_copied result ≡ page_value self.now.pages page id }
+        ensures { option_copied result ≡ page_value self.now.state.pages page id }
     {
         page_value(&self.pages, page, id)
     }
 
     /// The agent's value, from its `MoveOut` until its `MoveHome`.
     pub fn held(&self, agent: usize) -> Option<&T>
-        ensures { option_copied result ≡ held_by (slice_get self.now.agents agent) }
+        ensures { option_copied result ≡ held_by (slice_get self.now.state.agents agent) }
     {
         match self.agents.get(agent) {
             Some(Point::Holding(_, _, value)) => Some(value),
@@ -198,7 +206,11 @@ impl<T: Drop> Machine<T> {
 
     /// One step. Only `MoveHome` uses `reset`.
     pub fn step<R: Reset<T, AnyValue>>(&mut self, reset: &R, event: Event<T>) -> Seen
-        ensures { Steps (R.leaves reset.now) self.old event result self.new }
+        ensures step { Steps (R.leaves reset.now) self.old.state event result self.new.state }
+        ensures room_is_there { HasCapacityFor self.old.capacity self.old.state event
+            → result ≢ NoMemory }
+        ensures room_is_made { HasCapacityForMade self.new.capacity self.new.state result }
+        ensures room_stays { KeepsCapacity self.old.capacity self.new.capacity }
     {
         match event {
             Event::Begin => self.begin(),
@@ -217,16 +229,20 @@ impl<T: Drop> Machine<T> {
 
     /// Moves an agent to another point, which needs no room for a link.
     fn go(&mut self, agent: usize, point: Point<T>)
-        requires begun { agent < length self.old.agents }
+        requires begun { agent < length self.old.state.agents }
         requires room { LinksNoPage point }
-        ensures { self.new ≡ at_point self.old agent point }
+        ensures state { self.new.state ≡ at_point self.old.state agent point }
+        ensures room_stays { KeepsCapacity self.old.capacity self.new.capacity }
     {
         self.agents[agent] = point;
     }
 
     fn begin(&mut self) -> Seen
-        ensures { IsOutcome (begin self.old) result self.new
-            ⊎ ((result ≡ NoMemory) × (self.new ≡ self.old)) }
+        ensures step { IsOutcome (begin self.old.state) result self.new.state
+            ⊎ ((result ≡ NoMemory) × (self.new.state ≡ self.old.state)) }
+        ensures room_is_there { length self.old.state.agents < self.old.capacity.agents
+            → result ≢ NoMemory }
+        ensures room_stays { KeepsCapacity self.old.capacity self.new.capacity }
     {
         let agent = self.agents.len();
         match self.agents.push(Point::Reading(0, None)) {
@@ -236,8 +252,9 @@ impl<T: Drop> Machine<T> {
     }
 
     fn read_mask(&mut self, agent: usize) -> Seen
-        ensures { IsOutcome (read_mask self.old agent (slice_get self.old.agents agent))
-            result self.new }
+        ensures step { IsOutcome (read_mask self.old.state agent
+            (slice_get self.old.state.agents agent)) result self.new.state }
+        ensures room_stays { KeepsCapacity self.old.capacity self.new.capacity }
     {
         let (page, asked) = match self.agents.get(agent) {
             Some(Point::Reading(page, asked)) => (*page, *asked),
@@ -250,14 +267,15 @@ impl<T: Drop> Machine<T> {
 
     /// A hint may name any linked page but the first, to an agent at the first link.
     fn may_name(&self, page: usize, hint: usize) -> bool
-        ensures { result ≡ may_name self.now page hint }
+        ensures { result ≡ may_name self.now.state page hint }
     {
         page == 0 && 0 < hint && hint < self.pages.len()
     }
 
     fn read_hinted(&mut self, agent: usize, hint: usize) -> Seen
-        ensures { IsOutcome (read_hinted self.old agent hint (slice_get self.old.agents agent))
-            result self.new }
+        ensures step { IsOutcome (read_hinted self.old.state agent hint
+            (slice_get self.old.state.agents agent)) result self.new.state }
+        ensures room_stays { KeepsCapacity self.old.capacity self.new.capacity }
     {
         let page = match self.agents.get(agent) {
             Some(Point::AtLink(page, None)) => *page,
@@ -272,8 +290,9 @@ impl<T: Drop> Machine<T> {
     }
 
     fn clear_bit(&mut self, agent: usize) -> Seen
-        ensures { IsOutcome (clear_bit self.old agent (slice_get self.old.agents agent))
-            result self.new }
+        ensures step { IsOutcome (clear_bit self.old.state agent
+            (slice_get self.old.state.agents agent)) result self.new.state }
+        ensures room_stays { KeepsCapacity self.old.capacity self.new.capacity }
     {
         let (page, mask, asked) = match self.agents.get(agent) {
             Some(Point::Clearing(page, mask, asked)) => (*page, *mask, *asked),
@@ -287,8 +306,9 @@ impl<T: Drop> Machine<T> {
     }
 
     fn clear_hinted(&mut self, agent: usize) -> Seen
-        ensures { IsOutcome (clear_hinted self.old agent (slice_get self.old.agents agent))
-            result self.new }
+        ensures step { IsOutcome (clear_hinted self.old.state agent
+            (slice_get self.old.state.agents agent)) result self.new.state }
+        ensures room_stays { KeepsCapacity self.old.capacity self.new.capacity }
     {
         let (hint, mask) = match self.agents.get(agent) {
             Some(Point::ClearingHinted(hint, mask)) => (*hint, *mask),
@@ -303,11 +323,12 @@ impl<T: Drop> Machine<T> {
 
     /// Clears a bit that is set in the word; where it isn't, the agent goes on to `next`.
     fn clear(&mut self, agent: usize, page: usize, id: PageId, next: Point<T>) -> Seen
-        requires begun { agent < length self.old.agents }
+        requires begun { agent < length self.old.state.agents }
         requires in_page { id < PAGE_ITEMS }
         requires room { LinksNoPage next }
-        ensures { IsOutcome (clears self.old agent page id (word_of self.old.pages page) next)
-            result self.new }
+        ensures step { IsOutcome (clears self.old.state agent page id
+            (word_of self.old.state.pages page) next) result self.new.state }
+        ensures room_stays { KeepsCapacity self.old.capacity self.new.capacity }
     {
         let word = word_of(&self.pages, page);
         if has_bit(word, id) {
@@ -320,8 +341,9 @@ impl<T: Drop> Machine<T> {
     }
 
     fn read_next(&mut self, agent: usize) -> Seen
-        ensures { IsOutcome (read_next self.old agent (slice_get self.old.agents agent))
-            result self.new }
+        ensures step { IsOutcome (read_next self.old.state agent
+            (slice_get self.old.state.agents agent)) result self.new.state }
+        ensures room_stays { KeepsCapacity self.old.capacity self.new.capacity }
     {
         let (page, asked) = match self.agents.get(agent) {
             Some(Point::AtLink(page, asked)) => (*page, *asked),
@@ -344,10 +366,14 @@ impl<T: Drop> Machine<T> {
     }
 
     fn make_page(&mut self, agent: usize, prepared: Result<Prepared<T>, PullError>) -> Seen
-        ensures { IsOutcome (make_page self.old agent prepared (slice_get self.old.agents agent))
-            result self.new
-            ⊎ (MayGrow (MakePage agent prepared) (slice_get self.old.agents agent)
-            × (result ≡ NoMemory) × (self.new ≡ self.old)) }
+        ensures step { IsOutcome (make_page self.old.state agent prepared
+            (slice_get self.old.state.agents agent)) result self.new.state
+            ⊎ (MayGrow (MakePage agent prepared) (slice_get self.old.state.agents agent)
+            × (result ≡ NoMemory) × (self.new.state ≡ self.old.state)) }
+        ensures room_is_there { HasCapacityFor self.old.capacity self.old.state
+            (MakePage agent prepared) → result ≢ NoMemory }
+        ensures room_is_made { HasCapacityForMade self.new.capacity self.new.state result }
+        ensures room_stays { KeepsCapacity self.old.capacity self.new.capacity }
     {
         let page = match self.agents.get(agent) {
             Some(Point::Making(page)) => *page,
@@ -373,9 +399,10 @@ impl<T: Drop> Machine<T> {
     }
 
     fn exchange_next(&mut self, agent: usize) -> Seen
-        ensures step { IsOutcome (exchange_next self.old agent (slice_get self.old.agents agent))
-            result self.new }
-        ensures whole { LinksWhole result (prepared_by (slice_get self.old.agents agent)) }
+        ensures step { IsOutcome (exchange_next self.old.state agent
+            (slice_get self.old.state.agents agent)) result self.new.state }
+        ensures whole { LinksWhole result (prepared_by (slice_get self.old.state.agents agent)) }
+        ensures room_stays { KeepsCapacity self.old.capacity self.new.capacity }
     {
         let page = match self.agents.get(agent) {
             Some(Point::Linking(page, _)) => *page,
@@ -399,8 +426,9 @@ impl<T: Drop> Machine<T> {
     }
 
     fn move_out(&mut self, agent: usize) -> Seen
-        ensures { IsOutcome (move_out self.old agent (slice_get self.old.agents agent))
-            result self.new }
+        ensures step { IsOutcome (move_out self.old.state agent
+            (slice_get self.old.state.agents agent)) result self.new.state }
+        ensures room_stays { KeepsCapacity self.old.capacity self.new.capacity }
     {
         let (page, id) = match self.agents.get(agent) {
             Some(Point::Taken(page, id)) => (*page, *id),
@@ -419,8 +447,9 @@ impl<T: Drop> Machine<T> {
     }
 
     fn write(&mut self, agent: usize, value: T) -> Seen
-        ensures { IsOutcome (write self.old agent value (slice_get self.old.agents agent))
-            result self.new }
+        ensures step { IsOutcome (write self.old.state agent value
+            (slice_get self.old.state.agents agent)) result self.new.state }
+        ensures room_stays { KeepsCapacity self.old.capacity self.new.capacity }
     {
         let (page, id) = match self.agents.get(agent) {
             Some(Point::Holding(page, id, _)) => (*page, *id),
@@ -431,8 +460,9 @@ impl<T: Drop> Machine<T> {
     }
 
     fn move_home<R: Reset<T, AnyValue>>(&mut self, agent: usize, reset: &R) -> Seen
-        ensures { MovesHome (R.leaves reset.now) self.old agent
-            (slice_get self.old.agents agent) result self.new }
+        ensures step { MovesHome (R.leaves reset.now) self.old.state agent
+            (slice_get self.old.state.agents agent) result self.new.state }
+        ensures room_stays { KeepsCapacity self.old.capacity self.new.capacity }
     {
         let (page, id) = match self.agents.get(agent) {
             Some(Point::Holding(page, id, _)) => (*page, *id),
@@ -448,8 +478,9 @@ impl<T: Drop> Machine<T> {
     }
 
     fn or_mask(&mut self, agent: usize) -> Seen
-        ensures { IsOutcome (or_mask self.old agent (slice_get self.old.agents agent))
-            result self.new }
+        ensures step { IsOutcome (or_mask self.old.state agent
+            (slice_get self.old.state.agents agent)) result self.new.state }
+        ensures room_stays { KeepsCapacity self.old.capacity self.new.capacity }
     {
         let (page, id) = match self.agents.get(agent) {
             Some(Point::Home(page, id)) => (*page, *id),

@@ -1,10 +1,12 @@
 //! A machine that events led to from its opening, and the steps of which are exact.
-ghost use Rattle.std.specs.Prelude.{◌≡◌, Option, option_map, option_copied, slice_get, length, IfOk};
+ghost use Rattle.std.specs.Prelude.{◌≡◌, ◌≢◌, Option, option_map, option_copied, slice_get, length, IfOk};
 ghost use Rattle.object_pool_cores.specs.Pool.{AllowsPages};
 ghost use Rattle.object_pool_cores.specs.World.Headline.{IsNew};
 ghost use Rattle.object_pool_cores.specs.World.Machine.{held_by, opening_world, page_value, Steps};
 ghost use Rattle.object_pool_cores.specs.World.Reachable.{IsReachable};
 ghost use Rattle.object_pool_cores.specs.World.Enabled.{IsExact};
+ghost use Rattle.object_pool_cores.specs.World.Capacity.{HasCapacityFor, HasCapacityForMade, KeepsCapacity};
+ghost use Rattle.object_pool_cores.specs.declared.interleave.event.Seen.TheVariants.{NoMemory};
 
 use crate::interleave::machine::Machine;
 use crate::interleave::{Event, Prepared, Seen};
@@ -21,14 +23,14 @@ pub struct ReachableWorld<T> {
 }
 
 impl<T> Model for ReachableWorld<T> {
-    ghost use Rattle.object_pool_cores.specs.World.State.{WorldState};
+    ghost use Rattle.object_pool_cores.specs.World.Inside.Tables.{Tables};
     ghost use Rattle.object_pool_cores.specs.World.Reachable.{IsReachable};
 
-    ghost Value = { WorldState T };
+    ghost Value = { Tables T };
 
     ghost view = { λ reached. reached.machine };
 
-    ghost invariant = { λ reached. IsReachable reached.machine };
+    ghost invariant = { λ reached. IsReachable reached.machine.state };
 }
 
 impl<T: Drop> ReachableWorld<T> {
@@ -39,8 +41,8 @@ impl<T: Drop> ReachableWorld<T> {
         limit: Option<usize>,
     ) -> Result<ReachableWorld<T>, AllocError>
         requires { AllowsPages limit 1 }
-        ensures opening { IfOk result (λ world. world ≡ opening_world first limit) }
-        ensures is_new { IfOk result IsNew }
+        ensures opening { IfOk result (λ world. world.state ≡ opening_world first limit) }
+        ensures is_new { IfOk result (λ world. IsNew world.state) }
     {
         Ok(ReachableWorld {
             machine: Machine::new(alloc, first, limit)?,
@@ -48,40 +50,44 @@ impl<T: Drop> ReachableWorld<T> {
     }
 
     pub fn pages(&self) -> usize
-        ensures { result ≡ length self.now.pages }
+        ensures { result ≡ length self.now.state.pages }
     {
         self.machine.pages()
     }
 
     pub fn limit(&self) -> Option<usize>
-        ensures { result ≡ self.now.limit }
+        ensures { result ≡ self.now.state.limit }
     {
         self.machine.limit()
     }
 
     pub fn word(&self, page: usize) -> Option<u32>
-        ensures { result ≡ option_map (λ page. page.word) (slice_get self.now.pages page) }
+        ensures { result ≡ option_map (λ page. page.word) (slice_get self.now.state.pages page) }
     {
         self.machine.word(page)
     }
 
     pub fn place(&self, page: usize, id: PageId) -> Option<&T>
-        ensures { option_copied result ≡ page_value self.now.pages page id }
+        ensures { option_copied result ≡ page_value self.now.state.pages page id }
     {
         self.machine.place(page, id)
     }
 
     pub fn held(&self, agent: usize) -> Option<&T>
-        ensures { option_copied result ≡ held_by (slice_get self.now.agents agent) }
+        ensures { option_copied result ≡ held_by (slice_get self.now.state.agents agent) }
     {
         self.machine.held(agent)
     }
 
     /// One step. Only `MoveHome` uses `reset`.
     pub fn step<R: Reset<T, AnyValue>>(&mut self, reset: &R, event: Event<T>) -> Seen
-        ensures step { Steps (R.leaves reset.now) self.old event result self.new }
-        ensures exact { IsExact self.old event result self.new }
-        ensures reachable { IsReachable self.old }
+        ensures step { Steps (R.leaves reset.now) self.old.state event result self.new.state }
+        ensures exact { IsExact self.old.state event result self.new.state }
+        ensures reachable { IsReachable self.old.state }
+        ensures room_is_there { HasCapacityFor self.old.capacity self.old.state event
+            → result ≢ NoMemory }
+        ensures room_is_made { HasCapacityForMade self.new.capacity self.new.state result }
+        ensures room_stays { KeepsCapacity self.old.capacity self.new.capacity }
     {
         self.machine.step(reset, event)
     }

@@ -1,12 +1,15 @@
 //! The world of agents.
-ghost use Rattle.std.specs.Prelude.{◌≡◌, ◌≤◌, Some, None, option_map, option_copied, slice_get, IfOk, IfErr};
+ghost use Rattle.std.specs.Prelude.{◌≡◌, ◌≢◌, ◌≤◌, ◌+◌, Some, None, option_map, option_copied, slice_get, IfOk, IfErr};
+ghost use Rattle.std.specs.Prelude.{IsOk, vec_len, vec_capacity};
 ghost use Rattle.lockfree_object_pool.specs.declared.pull_error.PullError.TheVariants.{Memory};
 ghost use Rattle.object_pool_cores.specs.World.Headline.{IsNew, RunsEvents};
 ghost use Rattle.object_pool_cores.specs.World.Machine.{held_by, opening_world, page_value, Steps};
 ghost use Rattle.object_pool_cores.specs.World.Reachable.{IsReachable};
 ghost use Rattle.object_pool_cores.specs.World.Enabled.{IsExact};
 ghost use Rattle.object_pool_cores.specs.World.AbstractPool.{abstract_pool};
-ghost use Rattle.object_pool_cores.specs.World.Inside.Shown.{world_reset, world_state};
+ghost use Rattle.object_pool_cores.specs.World.Capacity.{HasCapacityFor, HasCapacityForMade, KeepsCapacity};
+ghost use Rattle.object_pool_cores.specs.declared.interleave.event.Seen.TheVariants.{NoMemory};
+ghost use Rattle.object_pool_cores.specs.World.Inside.Shown.{world_capacity, world_reset, world_state};
 
 use crate::interleave::reachable_world::ReachableWorld;
 use crate::interleave::{Event, Prepared, RunError, Seen};
@@ -108,6 +111,13 @@ impl<T: Drop, R: Reset<T, AnyValue>> World<T, R> {
         ensures exact { IsExact (world_state self.old) event result (world_state self.new) }
         ensures reachable { IsReachable (world_state self.old) }
         ensures reset { world_reset self.new ≡ world_reset self.old }
+        // A step is refused for memory only where the room is missing. A page that is made has its
+        // room before it is linked, and no room is given up.
+        ensures room_is_there { HasCapacityFor (world_capacity self.old) (world_state self.old)
+            event → result ≢ NoMemory }
+        ensures room_is_made { HasCapacityForMade (world_capacity self.new)
+            (world_state self.new) result }
+        ensures room_stays { KeepsCapacity (world_capacity self.old) (world_capacity self.new) }
     {
         self.reachable.step(&self.reset, event)
     }
@@ -124,6 +134,9 @@ impl<T: Drop, R: Reset<T, AnyValue>> World<T, R> {
             (record { world = world_state self.old; events = events.items; seen = seen.old.items })
             (record { world = world_state self.new; seen = seen.new.items; result = result }) }
         ensures reset { world_reset self.new ≡ world_reset self.old }
+        ensures room_is_there { vec_len seen.old + vec_len events ≤ vec_capacity seen.old
+            → IsOk result }
+        ensures room_stays { KeepsCapacity (world_capacity self.old) (world_capacity self.new) }
     {
         events.reverse();
         while let Some(event) = events.pop() {

@@ -6,8 +6,8 @@ use Rattle.object_pool_cores.specs.World.Machine.{is_limit}
 use Rattle.object_pool_cores.specs.declared.interleave.point.Point.TheVariants.{AtLink}
 use Rattle.object_pool_cores.proofs.interleave.machine.Machine.read_next.Goals as goal
 
-pub returns : goal.returns
-returns g c =
+pub returns-clause-step : goal.returns-clause-step
+returns-clause-step g c =
     let at : slice_get c.self.inside.agents.items c.args.agent
     ≡ Some (AtLink c.in-Some-AtLink.page c.in-Some-AtLink.asked) =
     grind (arith, common_steps, gets, c.in-Some-AtLink.ensures.lookup) in
@@ -17,5 +17,5 @@ returns g c =
     let more : (length c.self.inside.pages.items == c.in-Some-AtLink.page + 1) ≡ false =
     grind (arith, nat_tests, c.is_last.ensures) in
     let next = c.comes_to.ensures.value in
-    let gone = c.go-2.ensures in
+    let gone = c.go-2.ensures.state in
     rw (← c.self.view_is) (rw at (rw (linked, below, more) (refl, (cc))))

@@ -9,7 +9,13 @@ use Rattle.object_pool_cores.proofs.interleave.world.World.run.Goals as goal
 pub loop-event-init : goal.loop-event-init
 loop-event-init g c =
     let turned : reverse c.reverse.new.self.items ≡ c.args.events.items = search (rules, reverse-reverse) in
-    record { replayed = rw turned (replayed-none _ _ _ _); reset = refl }
+    record {
+      replayed = rw turned (replayed-none _ _ _ _);
+      reset = refl;
+      kept = record { agents = omega arith; pages = omega arith };
+      count = omega (arith, c.reverse.ensures.len);
+      room = omega arith;
+    }
 
 pub returns-in_err-reserve-clause-run : goal.returns-in_err-reserve-clause-run
 returns-in_err-reserve-clause-run g c =
@@ -29,6 +35,12 @@ loop-event-preserved g c =
           kept.replayed c.step-answer.ensures.reachable (subst P kept.reset c.step-answer.ensures.step)
           c.step-answer.ensures.exact;
       reset = c.step-answer.ensures.reset ∙ kept.reset;
+      kept = record {
+        agents = omega (arith, kept.kept.agents, c.step-answer.ensures.room_stays.agents);
+        pages = omega (arith, kept.kept.pages, c.step-answer.ensures.room_stays.pages);
+      };
+      count = omega (arith, kept.count, c.in-Some.ensures.cases, c.in_ok-reserve.ensures.len, c.in_ok-push.ensures.len);
+      room = omega (arith, kept.room, c.in_ok-reserve.ensures.capacity, c.push.ensures.capacity);
     }
 
 pub returns-clause-run : goal.returns-clause-run

@@ -1,5 +1,7 @@
-use Rattle.std.proofs.Common.{◌≡◌, reverse, length}
-use Rattle.object_pool_cores.specs.World.Inside.Shown.{world_reset, world_state}
+use Rattle.std.proofs.Common.{◌≡◌, ◌+◌, ◌≤◌, reverse, length}
+use Rattle.std.specs.Prelude.{vec_len, vec_capacity}
+use Rattle.object_pool_cores.specs.World.Capacity.{KeepsCapacity}
+use Rattle.object_pool_cores.specs.World.Inside.Shown.{world_capacity, world_reset, world_state}
 use Rattle.object_pool_cores.proofs.World.RunsEvents.{Replayed}
 use Rattle.object_pool_cores.proofs.interleave.world.World.run.Given as goal
 
@@ -9,6 +11,10 @@ invariant-loop-event g l = record {
       (world_state l.fn.self) l.fn.events.items l.fn.seen.items (reverse l.events.items) l.seen.items
       (world_state l.self);
   reset : world_reset l.self ≡ world_reset l.fn.self;
+  kept : KeepsCapacity (world_capacity l.fn.self) (world_capacity l.self);
+  -- an answer came for each event that is done, and the room for answers is no less
+  count : vec_len l.seen + vec_len l.events ≡ vec_len l.fn.seen + vec_len l.fn.events;
+  room : vec_capacity l.fn.seen ≤ vec_capacity l.seen;
 }
 
 abbrev pub decreases-loop-event : goal.decreases-loop-event
