@@ -2,7 +2,7 @@
 use Rattle.std.proofs.Common.{◌≡◌, ℕ, ◌-◌, ◌*◌, Option, List, [], ◌∷◌, length, Ok, sym, ap, ◌∙◌, arith, inr}
 use Rattle.std.specs.List.{slice_get}
 use Rattle.object_pool_cores.specs.Pool.{Pool, Out, IsFree, IsSame, free_with}
-use Rattle.object_pool_cores.specs.Move.{after_pull, grown}
+use Rattle.object_pool_cores.specs.Move.{after_pull, after_growth}
 use Rattle.object_pool_cores.specs.LeastChoice.{IsExhausted, PullsLeast, TakesLeast}
 use Rattle.object_pool_cores.specs.Inside.Numbered.{Grows}
 use Rattle.object_pool_cores.specs.Laws.PoolSteps.{grown-new, IsSame-trans, IsSame-with_place}
@@ -40,5 +40,5 @@ module _ {T : Type 0} (limit : Option ℕ) (answers : Option T → Type 0) where
     values = grows.values;
     answered = grows.answered;
     legal = grows.legal;
-    takes = TakesLeast-same middle (grown old grows.values) n v new grows.grown takes;
+    takes = TakesLeast-same middle (after_growth old grows.values) n v new grows.grown takes;
   })

@@ -6,7 +6,7 @@ use Rattle.lockfree_object_pool.specs.declared.pull_error.PullError.TheVariants.
 use Rattle.object_pool_cores.specs.declared.sequential.item.Item.{Item}
 use Rattle.object_pool_cores.specs.Inside.SequentialItem.{item_value, item_number}
 use Rattle.object_pool_cores.specs.Pool.{Pool, IsFree, IsOut, IsSame, AllowsPages}
-use Rattle.object_pool_cores.specs.Move.{IsGrowth, after_pull, after_return, grown}
+use Rattle.object_pool_cores.specs.Move.{IsGrowth, after_pull, after_return, after_growth}
 
 module _ {T : Type 0} where
   -- no number is free
@@ -31,7 +31,7 @@ module _ {T : Type 0} (limit : Option ℕ) (answers : Option T → Type 0) where
     pub values : List T
     pub answered : All (λ w. answers (Some w)) values
     pub legal : IsGrowth limit old.pages values
-    pub takes : TakesLeast (grown old values) n v new
+    pub takes : TakesLeast (after_growth old values) n v new
 
   -- the limit is the cause where the pool has as many pages
   -- as it may; the others come only where it may have more

@@ -16,9 +16,9 @@ module _ {T : Type 0} where
   abbrev pub after_return : Pool T → ℕ → T → Pool T
   after_return pool n kept = with_place pool n (Free kept)
 
-  -- the pool with a page more, whose numbers are free with these values
-  abbrev pub grown : Pool T → List T → Pool T
-  grown pool values = record {
+  -- a growth brings a page, whose numbers are free with these values
+  abbrev pub after_growth : Pool T → List T → Pool T
+  after_growth pool values = record {
     pages = pool.pages + 1;
     at = λ n. if nat_lt n (PAGE_ITEMS * pool.pages) then pool.at n else free_with
         (slice_get values (n - PAGE_ITEMS * pool.pages));

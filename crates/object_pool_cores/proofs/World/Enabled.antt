@@ -27,7 +27,8 @@ use Rattle.object_pool_cores.specs.World.Reachable.{IsReachable}
 use Rattle.object_pool_cores.specs.World.Headline.{IsNew, Executes}
 use Rattle.object_pool_cores.specs.World.Inside.Invariant.{TriesBits, Knows, Agrees}
 use Rattle.object_pool_cores.proofs.World.WordSteps.{known, may_name-is}
-use Rattle.object_pool_cores.proofs.World.Headline.{ran-agrees, Agreement}
+use Rattle.object_pool_cores.proofs.World.Invariant.{Agreement}
+use Rattle.object_pool_cores.proofs.World.Headline.{ran-agrees}
 
 module _ {T : Type 0} (old : WorldState T) (answer : Seen) (new : WorldState T) where
   -- exact, of an event that is enabled or isn't
@@ -273,7 +274,7 @@ module _ {T : Type 0} where
 
   -- what the invariant knows of a world that can be reached
   pub reached-agrees : (world : WorldState T) (reached : IsReachable world)
-      → Agreement (λ before kept. ⊤) reached.is_new.first reached.is_new.full reached.log world
+      → Agreement (λ before kept. ⊤) reached.is_new.first reached.log world
   reached-agrees world reached =
       let start = reached.is_new in
       let P : WorldState T → Type 0 = λ old. Executes (λ before kept. ⊤) old reached.log world in

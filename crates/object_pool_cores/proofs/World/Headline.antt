@@ -18,7 +18,7 @@ use Rattle.object_pool_cores.specs.World.Headline.{IsRun, Executes, IsNew}
 use Rattle.object_pool_cores.specs.World.Inside.Invariant.{Agrees}
 use Rattle.object_pool_cores.proofs.Runs.{legal-run, pool-opening, holders-run, whole-run, each-place}
 use Rattle.object_pool_cores.proofs.World.AbstractPool.{same-grown, pushed-all}
-use Rattle.object_pool_cores.proofs.World.Invariant.{GoesOn, idle, pages-some, allows-fewer}
+use Rattle.object_pool_cores.proofs.World.Invariant.{Agreement, GoesOn, idle, pages-some, allows-fewer}
 use Rattle.object_pool_cores.proofs.World.WordSteps.{read_mask-goes, read_hinted-goes, clear_bit-goes, or_mask-goes}
 use Rattle.object_pool_cores.proofs.World.WordSteps.{known}
 use Rattle.object_pool_cores.proofs.World.ValueSteps.{move_out-goes, write-goes, move_home-goes, begin-goes}
@@ -98,20 +98,14 @@ module _ {T : Type 0} (Leaves : T → T → Type 0) (first : List T) (full : len
     agents = λ a. refl;
   }
 
-  -- the acts that the steps so far show, which agree with the world
-  pub record Agreement (log : Log T) (world : WorldState T) : Type 0 where
-    pub acts : List (Act T)
-    pub agrees : Agrees Leaves first log acts world
-
   pub ran-agrees : (limit : Option ℕ) → AllowsPages limit 1 → (log : Log T) (new : WorldState T)
-      → Executes Leaves (opening_world first limit) log new → Agreement log new
+      → Executes Leaves (opening_world first limit) log new → Agreement Leaves first log new
   ran-agrees limit allowed [] new same =
-      let P : WorldState T → Type 0 = Agreement [] in
+      let P : WorldState T → Type 0 = Agreement Leaves first [] in
       subst P (sym same) (record { acts = []; agrees = opening-agrees limit allowed })
   ran-agrees limit allowed ((e, answer) ∷ log) new (between, ran, step, exact) =
       let before = ran-agrees limit allowed log between ran in
-      let goes = step-goes log before.acts between before.agrees e answer new step in
-      record { acts = goes.acts; agrees = goes.agrees }
+      step-goes log before.acts between before.agrees e answer new step
 
   -- an agent that has an item in the world holds it in the run
   held-is : (log : Log T) (acts : List (Act T)) (world : WorldState T) → Agrees Leaves first log acts world

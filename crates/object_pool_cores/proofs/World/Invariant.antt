@@ -243,10 +243,14 @@ module _ {T : Type 0} (Leaves : T → T → Type 0) (first : List T) where
             agrees.agents;
       }
 
-  -- the acts go on with what a step shows
-  pub record GoesOn (log : Log T) (e : Event T) (answer : Seen) (new : WorldState T) : Type 0 where
+  -- the acts that the steps so far show, which agree with the world
+  pub record Agreement (log : Log T) (world : WorldState T) : Type 0 where
     pub acts : List (Act T)
-    pub agrees : Agrees Leaves first ((e, answer) ∷ log) acts new
+    pub agrees : Agrees Leaves first log acts world
+
+  -- so it is with one step more
+  abbrev pub GoesOn : Log T → Event T → Seen → WorldState T → Type 0
+  GoesOn log e answer new = Agreement ((e, answer) ∷ log) new
 
   -- a step whose answer shows nothing, and which leaves the pages
   pub stays : (log : Log T) (acts : List (Act T)) (world : WorldState T) (e : Event T) (answer : Seen) (a : ℕ)

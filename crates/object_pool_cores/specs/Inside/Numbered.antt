@@ -65,7 +65,7 @@ module _ {T : Type 0} where
     pub values : List T
     pub answered : All (λ v. answers (Some v)) values
     pub legal : move.IsGrowth limit old.pages values
-    pub grown : IsSame new (move.grown old values)
+    pub grown : IsSame new (move.after_growth old values)
 
   -- the values of the free items, in the order of their numbers
   abbrev pub free_values : List (Option T) → List T

@@ -8,7 +8,7 @@ use Rattle.object_pool_cores.specs.declared.sequential.item.Item.{Item}
 use Rattle.object_pool_cores.specs.declared.sequential.linear_core.LinearCore.{LinearCore}
 use Rattle.object_pool_cores.specs.Inside.SequentialItem.{item_value}
 use Rattle.object_pool_cores.specs.Pool.{Free, Out, IsFree, IsSame, with_place, place_of}
-use Rattle.object_pool_cores.specs.Move.{grown}
+use Rattle.object_pool_cores.specs.Move.{after_growth}
 use Rattle.object_pool_cores.specs.LeastChoice.{IsExhausted, TakesLeast, GrowsFirst, PullsLeast, PullsItem}
 use Rattle.object_pool_cores.specs.Bag.{IsPutIn, IsFresh, PullsFromBag, ReturnsToBag, pulled_value}
 use Rattle.object_pool_cores.specs.Inside.Numbered.{Numbered, listed_pool, free_values}
@@ -52,14 +52,14 @@ module _ {T : Type 0} where
     none = free_values-exhausted old grows.exhausted;
     answer = answered n v grows.takes.least.free;
     further = free_values-All (λ w. answers (Some w)) new.places (λ m w e.
-        elim (at-with_place (grown (listed_pool old) grows.values) n m Out (Free w)
+        elim (at-with_place (after_growth (listed_pool old) grows.values) n m Out (Free w)
         (sym (grows.takes.taken.places m) ∙ ap place_of e)) [
           | inl here ↦ let out : Out ≡ Free w = here.1 in absurd cc
           | inr other ↦ answered m w other.1
         ]);
   }
     where
-      answered : (m : ℕ) (w : T) → IsFree (grown (listed_pool old) grows.values) m w → answers (Some w)
+      answered : (m : ℕ) (w : T) → IsFree (after_growth (listed_pool old) grows.values) m w → answers (Some w)
       answered m w free =
           let there = free-grown (listed_pool old) grows.values m w grows.exhausted free in
           let k = m - 32 * (listed_pool old).pages in

@@ -9,7 +9,7 @@ use Rattle.object_pool_cores.specs.declared.sequential.linear_core.LinearCore.{L
 use Rattle.object_pool_cores.specs.Attach.{RefusesAttach}
 use Rattle.object_pool_cores.specs.Inside.SequentialItem.{item_value, item_number, with_value}
 use Rattle.object_pool_cores.specs.Pool.{Pool, Absent, Free, Out, IsFree, IsOut, IsPool, IsSame, with_place}
-use Rattle.object_pool_cores.specs.Move.{grown}
+use Rattle.object_pool_cores.specs.Move.{after_growth}
 use Rattle.object_pool_cores.specs.LeastChoice.{PullsLeast}
 use Rattle.object_pool_cores.specs.Linear.{core_pool, limit_of, Pulls, Gives, HeldTogether, IsOutOf}
 use Rattle.object_pool_cores.specs.Laws.PoolSteps.{with_place-same, with_place-other, grown-old}
@@ -37,9 +37,9 @@ module _ {T : Type 0} where
   LeavesOut-pulled limit answers old n v new pool (inl takes) =
       LeavesOut-taken old n v new takes.least.free takes.taken
   LeavesOut-pulled limit answers old n v new pool (inr grows) =
-      let taken = LeavesOut-taken (grown old grows.values) n v new grows.takes.least.free grows.takes.taken in
+      let taken = LeavesOut-taken (after_growth old grows.values) n v new grows.takes.least.free grows.takes.taken in
       let still : (m : ℕ) → IsOut old m
-      → IsOut (grown old grows.values) m = λ m out. elim (cases_lt m (32 * old.pages)) [
+      → IsOut (after_growth old grows.values) m = λ m out. elim (cases_lt m (32 * old.pages)) [
         | inl inside ↦ grown-old old grows.values m inside ∙ out
         | inr past ↦ let both : Out ≡ Absent = sym out ∙ pool.past m past in absurd cc
       ] in

@@ -9,7 +9,7 @@ use Rattle.std.proofs.lemmas.List.{length-map}
 use Rattle.std.proofs.lemmas.Option.{get_or_from_slice_get, slice_get_within, slice_get_cases, slice_get_past}
 use Rattle.object_pool_cores.specs.Pool.{IsPool, IsSame, AllowsPages, Absent, Free, Out, free_with, place_of}
 use Rattle.object_pool_cores.specs.Pool.{with_place}
-use Rattle.object_pool_cores.specs.Move.{grown}
+use Rattle.object_pool_cores.specs.Move.{after_growth}
 use Rattle.object_pool_cores.specs.Laws.PoolSteps.{with_place-same, with_place-other, grown-old, grown-new}
 use Rattle.object_pool_cores.specs.Inside.Numbered.{Numbered, IsSound, Grows, listed_pool}
 
@@ -142,7 +142,7 @@ module _ {T : Type 0} where
   -- a page more in the list is a growth of the pool
   listed_pool-grown : (meets : T → Type 0) (items : Numbered T) (values : List T) → IsSound meets items
       → length values ≡ 32 → IsSame (listed_pool (record items { places = items.places ++ map Some values }))
-      (grown (listed_pool items) values)
+      (after_growth (listed_pool items) values)
   listed_pool-grown meets items values sound count = record {
     pages = let more = length-grown items values count in omega arith;
     places = λ n. elim (cases_lt n (length items.places)) [

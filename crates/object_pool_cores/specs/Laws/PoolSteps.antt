@@ -4,7 +4,7 @@ use Rattle.std.proofs.Common.{inr, ◌⊎◌}
 use Rattle.std.specs.List.{slice_get}
 use Rattle.std.proofs.lemmas.Bool.{cases_lt, cases_eq, eq-eqb, ne_eqb, lt-ltb, le-ltb}
 use Rattle.object_pool_cores.specs.Pool.{Pool, Place, Free, IsFree, IsSame, free_with, with_place}
-use Rattle.object_pool_cores.specs.Move.{grown}
+use Rattle.object_pool_cores.specs.Move.{after_growth}
 use Rattle.object_pool_cores.specs.LeastChoice.{IsExhausted}
 
 module _ {T : Type 0} where
@@ -27,11 +27,11 @@ module _ {T : Type 0} where
 
   -- the numbers of the pages that there were, and those of the page that came
   pub grown-old :
-      (pool : Pool T) (values : List T) (n : ℕ) → n < 32 * pool.pages → (grown pool values).at n ≡ pool.at n
+      (pool : Pool T) (values : List T) (n : ℕ) → n < 32 * pool.pages → (after_growth pool values).at n ≡ pool.at n
   grown-old pool values n below = rw (lt-ltb n (32 * pool.pages) below) refl
 
   pub grown-new : (pool : Pool T) (values : List T) (n : ℕ) → 32 * pool.pages ≤ n
-      → (grown pool values).at n ≡ free_with (slice_get values (n - 32 * pool.pages))
+      → (after_growth pool values).at n ≡ free_with (slice_get values (n - 32 * pool.pages))
   grown-new pool values n past = rw (le-ltb n (32 * pool.pages) past) refl
 
   pub IsSame-trans : (a b c : Pool T) → IsSame a b → IsSame b c → IsSame a c
@@ -52,7 +52,7 @@ module _ {T : Type 0} where
 
   -- what is free in a page more is one of its values, where nothing was free before
   pub free-grown : (pool : Pool T) (values : List T) (n : ℕ) (v : T) → IsExhausted pool
-      → IsFree (grown pool values) n v
+      → IsFree (after_growth pool values) n v
       → (32 * pool.pages ≤ n) × (slice_get values (n - 32 * pool.pages) ≡ Some v)
   free-grown pool values n v exhausted free = elim (cases_lt n (32 * pool.pages)) [
     | inl old ↦ absurd (exhausted n v (sym (grown-old pool values n old) ∙ free))
