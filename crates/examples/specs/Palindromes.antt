@@ -8,4 +8,5 @@ IsPalindrome text = reverse text ≡ text
 
 -- the answer to a text, where there is one; a text of one byte or of none always has one
 abbrev pub IsAnswerTo : Vec ℕ → Option Bool → Type 0
-IsAnswerTo text answer = IfSome answer (λ answer. IsTrue answer ↔ IsPalindrome text.items) × (length text.items < 2 → IsSome answer)
+IsAnswerTo text answer = IfSome answer (λ answer. IsTrue answer ↔ IsPalindrome text.items) × (length text.items < 2
+    → IsSome answer)

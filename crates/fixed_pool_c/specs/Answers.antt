@@ -1,4 +1,5 @@
--- What the exported calls answer, told by what a handle shows before and after: nothing, where it is empty, or its pool and its hand.
+-- What the exported calls answer, told by what a handle shows before and after: nothing, where it is empty, or its
+-- pool and its hand.
 use Rattle.std.specs.Prelude.{◌≡◌, ℕ, ◌+◌, ◌/◌, ◌⊎◌, ⊤, Option, Some, None}
 use Rattle.std.specs.Arc.{arc_value}
 use Rattle.lockfree_object_pool.specs.FixedAnswer.{IsPulledWith, IsBusyNote, IsGivenBack, note_steps}
@@ -9,13 +10,15 @@ use Rattle.lockfree_object_pool.specs.Items.{IsFilled}
 use Rattle.lockfree_object_pool.specs.Note.{IsNoteOf}
 use Rattle.lockfree_object_pool.specs.declared.page.note.PageNote.{PageNote}
 use Rattle.fixed_pool_c.specs.Shows.{PlacePool, OutPlace, hand_pool}
-use Rattle.fixed_pool_c.specs.declared.answer.TheConstants.{DONE, ALL_OUT, HOLDS_ONE, HOLDS_NONE, NO_POOL, IN_USE, NO_PLACES, NO_MEMORY}
+use Rattle.fixed_pool_c.specs.declared.answer.TheConstants.{DONE, ALL_OUT, HOLDS_ONE, HOLDS_NONE, NO_POOL, IN_USE}
+use Rattle.fixed_pool_c.specs.declared.answer.TheConstants.{NO_PLACES, NO_MEMORY}
 use Rattle.fixed_pool_c.specs.declared.held.Hand.{Hand}
 use Rattle.fixed_pool_c.specs.declared.held.Hand.TheVariants.{Empty, Full}
 use Rattle.fixed_pool_c.specs.declared.held.Held.{Held}
 use Rattle.fixed_pool_c.specs.declared.held.Idle.{Idle}
 
--- the handle held no place, and holds this one: the last operation of a legal sequential history of the whole pool is this pull of
+-- the handle held no place, and holds this one: the last operation of a legal sequential history of the whole pool is
+-- this pull of
 -- this number, after all that the handle knew
 pub record Pulls (old new : Held) (place : ℕ) : Type 0 where
   pub idle : Idle
@@ -123,7 +126,8 @@ IsNewAnswer number items old new =
 -- what the making of a further handle answers; the handle that it is made from stays as it was
 abbrev pub IsShareAnswer : ℕ → Option Held → Option Held → Option Held → Type 0
 IsShareAnswer number handle old new =
-    ((number ≡ DONE) × (old ≡ None) × ((held : Held) × (other : Held) × (handle ≡ Some held) × (new ≡ Some other) × Shares held other))
+    ((number ≡ DONE) × (old ≡ None) × ((held : Held) × (other : Held) × (handle ≡ Some held) × (new ≡ Some other)
+    × Shares held other))
     ⊎ (((number ≡ NO_MEMORY) × StaysEmpty old new)
     ⊎ (((number ≡ NO_POOL) × HasNoPool handle × StaysEmpty old new)
     ⊎ ((number ≡ IN_USE) × IsInUse old new)))

@@ -9,7 +9,7 @@ use Rattle.atomic_table.specs.Seated.{TableId}
 use Rattle.lockfree_object_pool.specs.declared.page.history.Operation.TheVariants.{Pull}
 use Rattle.lockfree_object_pool.specs.declared.page.note.PageNote.{PageNote}
 use Rattle.lockfree_object_pool.specs.declared.page.full_seen.FullSeen.{FullSeen}
-use Rattle.lockfree_object_pool.specs.FixedAnswer.{IsPulledOf, IsPulledWith, IsBusyOf, IsBusyAfter, IsBusyNote}
+use Rattle.lockfree_object_pool.specs.FixedAnswer.{IsPulledFrom, IsPulledWith, IsBusyOf, IsBusyAfter, IsBusyNote}
 use Rattle.lockfree_object_pool.specs.Note.{note_view, note_opening, note_history}
 use Rattle.lockfree_object_pool.specs.FullSeen.{FoundAllOut}
 use Rattle.lockfree_object_pool.specs.Holding.{item_known}
@@ -114,7 +114,7 @@ module _ {T : Type 0} where
   pub item_pulled : (meets : T → Type 0) (pool : TableId) (opening : List (Option T)) (start known : User T)
       (seated : TableId) (id : ℕ) (value : T)
       → start.0.opening ≡ opening → start.0.own ≡ [] → TakesOne meets pool.slots id value start known → seated ≡ pool
-      → IsPulledOf pool opening (item_known seated known.0 id value)
+      → IsPulledFrom pool opening (item_known seated known.0 id value)
   item_pulled meets pool opening start known seated id value opened none taken same = record {
     is_item = record { of_page = same; in_page = taken.in_pool };
     same_opening = taken.goes_on.same_opening ∙ opened;

@@ -9,7 +9,7 @@ use mathlib.Core.Logic.{dite}
 use Rattle.atomic_table.proofs.Lists.{at_set, at_snoc, set_here, set_else}
 use Rattle.lockfree_object_pool.specs.declared.page.user_view.UserView.{UserView}
 use Rattle.lockfree_object_pool.specs.Word.{item_bit}
-use Rattle.lockfree_object_pool.specs.PageRule.{PageState, User, IsSet, Holds, IsPage}
+use Rattle.lockfree_object_pool.specs.PageRule.{PageState, User, IsSet, UserHolds, IsPage}
 use Rattle.lockfree_object_pool.proofs.WordBits.{Turns}
 
 pub some_same : (id other : ℕ) → Some id ≡ Some other → id ≡ other
@@ -21,8 +21,8 @@ module _ {T : Type 0} where
 
   -- who holds an item, once the view of one user has changed
   pub holds_after : (page : PageState T) (words : List ℕ) (homes : List (maybe.Option (Option T))) (user : ℕ)
-      (known : UserView T) (other id : ℕ) → Holds (state words homes (set page.views user known)) other id
-      → ((other ≡ user) × (known.held ≡ Some id)) ⊎ ((other ≢ user) × Holds page other id)
+      (known : UserView T) (other id : ℕ) → UserHolds (state words homes (set page.views user known)) other id
+      → ((other ≡ user) × (known.held ≡ Some id)) ⊎ ((other ≢ user) × UserHolds page other id)
   holds_after page words homes user known other id holds = elim (at_set page.views user other known holds.0 holds.1) [
     | inl here ↦ inl (here.0, ap (λ (known : UserView T). known.held) here.1 ∙ holds.2)
     | inr there ↦ inr (there.0, (holds.0, there.1, holds.2))
@@ -47,7 +47,7 @@ module _ {T : Type 0} where
 module _ {T : Type 0} (meets : T → Type 0) where
   -- who joins holds nothing
   pub held_before : (page : PageState T) (known : UserView T) → known.held ≡ None → (user id : ℕ)
-      → Holds (state page.words page.homes (page.views ++ known ∷ [])) user id → Holds page user id
+      → UserHolds (state page.words page.homes (page.views ++ known ∷ [])) user id → UserHolds page user id
   held_before page known holds_none user id holds = elim (at_snoc page.views known holds.0 user holds.1) [
     | inl before ↦ (holds.0, before, holds.2)
     | inr new ↦ let none_held : None ≡ Some id =
@@ -115,9 +115,9 @@ module _ {T : Type 0} (meets : T → Type 0) where
       → known.held ≡ old.held
       → IsPage meets (state words page.homes (set page.views user known))
   keeps_item page words user old known is count fits same_bits at holds_same =
-      let held : (other i : ℕ) → Holds (state words page.homes (set page.views user known)) other i
-      → Holds page other i = λ other i holds. elim (holds_after page words page.homes user known other i holds) [
-        | inl mine ↦ subst (λ one. Holds page one i) (sym mine.0) (old, at, sym holds_same ∙ mine.1)
+      let held : (other i : ℕ) → UserHolds (state words page.homes (set page.views user known)) other i
+      → UserHolds page other i = λ other i holds. elim (holds_after page words page.homes user known other i holds) [
+        | inl mine ↦ subst (λ one. UserHolds page one i) (sym mine.0) (old, at, sym holds_same ∙ mine.1)
         | inr theirs ↦ theirs.1
       ] in
       record {
@@ -138,8 +138,8 @@ module _ {T : Type 0} (meets : T → Type 0) where
   gives_item page words user id me value known is within turned fits at holds met holds_none =
       let homes = set page.homes id (some (Some value)) in
       let places = length-set page.homes id (some (Some value)) in
-      let after : (other i : ℕ) → Holds (state words homes (set page.views user known)) other i
-      → (other ≢ user) × Holds page other i =
+      let after : (other i : ℕ) → UserHolds (state words homes (set page.views user known)) other i
+      → (other ≢ user) × UserHolds page other i =
       λ other i holds_i. elim (holds_after page words homes user known other i holds_i) [
         | inl mine ↦ let none_held : None ≡ Some i = sym holds_none ∙ mine.1 in absurd (cc)
         | inr theirs ↦ theirs
@@ -161,7 +161,7 @@ module _ {T : Type 0} (meets : T → Type 0) where
             let out = is.held_is_out other i theirs.1 in
             let below = out.0 in
             let differ : i ≢ id =
-            λ same. theirs.0 (is.one_holder other user id (subst (Holds page other) same theirs.1)
+            λ same. theirs.0 (is.one_holder other user id (subst (UserHolds page other) same theirs.1)
             (me.0, at, holds)) in
             (omega arith, turned.others i differ ∙ out.1);
         one_holder = λ one two i holds_one holds_two. is.one_holder one two i (after one i holds_one).1

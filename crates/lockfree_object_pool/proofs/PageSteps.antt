@@ -18,9 +18,9 @@ use Rattle.lockfree_object_pool.specs.declared.page.history.Operation.{Operation
 use Rattle.lockfree_object_pool.specs.declared.page.history.Operation.TheVariants.{Pull, Return}
 use Rattle.lockfree_object_pool.specs.Ledger.{History, operations_of, value_at, IsLegal}
 use Rattle.lockfree_object_pool.specs.Word.{all_bits, SetsBit, ClearsBit, item_bit}
-use Rattle.lockfree_object_pool.specs.PageRule.{PageState, User, first_view, item_of, IsSet, IsClear, Holds, IsPage}
+use Rattle.lockfree_object_pool.specs.PageRule.{PageState, User, first_view, item_of, IsSet, IsClear, UserHolds, IsPage}
 use Rattle.lockfree_object_pool.specs.PageRule.{IsKept, IsSound, GoesOn, KnowsOut, Takes, Misses, Loads, LoadsAgain}
-use Rattle.lockfree_object_pool.specs.PageRule.{LoadsOn, Clears, Gives, told_of, gone_view, witness_of}
+use Rattle.lockfree_object_pool.specs.PageRule.{LoadsOn, Clears, GivesBack, told_of, gone_view, witness_of}
 use Rattle.lockfree_object_pool.proofs.Ledger.{prefix_same, acted, has_seen, is_out_now, knows_of, at_below, own_now}
 use Rattle.lockfree_object_pool.proofs.WordBits.{lacks_one, and_clears, add_sets, or_sets, item_bit_of, Turns, turns}
 use Rattle.lockfree_object_pool.proofs.WordBits.{fits_after}
@@ -91,10 +91,10 @@ module _ {T : Type 0} (meets : T → Type 0) (opening : List (Option T)) where
   view_page : (page : PageState T) (user : ℕ) (old known : UserView T) → IsPage meets page
       → get_elem? page.views user ≡ some old → known.held ≡ old.held → IsPage meets (told_page page user known)
   view_page page user old known is at holds_same =
-      let held : (other i : ℕ) → Holds (told_page page user known) other i
-      → Holds page other i = λ other i holds. elim (at_set page.views user other known holds.0 holds.1) [
+      let held : (other i : ℕ) → UserHolds (told_page page user known) other i
+      → UserHolds page other i = λ other i holds. elim (at_set page.views user other known holds.0 holds.1) [
         | inl here ↦ subst (λ one.
-            Holds page one i) (sym here.0)
+            UserHolds page one i) (sym here.0)
             (old, at, sym holds_same ∙ ap (λ (known : UserView T). known.held) here.1 ∙ holds.2)
         | inr there ↦ (holds.0, there.1, holds.2)
       ] in
@@ -189,8 +189,8 @@ module _ {T : Type 0} (meets : T → Type 0) (opening : List (Option T)) where
   gone_page : (page : PageState T) (user : ℕ) (old : UserView T) → IsPage meets page
       → get_elem? page.views user ≡ some old → IsPage meets (told_page page user gone_view)
   gone_page page user old is at =
-      let held : (other i : ℕ) → Holds (told_page page user gone_view) other i
-      → Holds page other i = λ other i holds. elim (at_set page.views user other gone_view holds.0 holds.1) [
+      let held : (other i : ℕ) → UserHolds (told_page page user gone_view) other i
+      → UserHolds page other i = λ other i holds. elim (at_set page.views user other gone_view holds.0 holds.1) [
         | inl here ↦ let none_held : None ≡ Some i = ap (λ (known : UserView T). known.held) here.1 ∙ holds.2 in
             absurd (cc)
         | inr there ↦ (holds.0, there.1, holds.2)
@@ -347,7 +347,7 @@ module _ {T : Type 0} (meets : T → Type 0) (opening : List (Option T)) where
   pub gives_back : (slots user operand id : ℕ) (out me : User T) (value : T) → id < slots → operand < 2 ^ 32
       → SetsBit 0 (id % 32) operand → out.0.held ≡ Some id → out.0.gone ≡ false → out.1 ≡ (id, None) ∷ []
       → me ≡ (out.0, (id, Some value) ∷ rest out.1) → meets value
-      → Allows (IsKept meets opening) slots user me (id / 32) (λ word. (word + operand) % 2 ^ 64) (λ _. Gives me)
+      → Allows (IsKept meets opening) slots user me (id / 32) (λ word. (word + operand) % 2 ^ 64) (λ _. GivesBack me)
   gives_back slots user operand id out me value within small sets holds here carries moved met page kept places at
       fits =
       let is = kept.0 in

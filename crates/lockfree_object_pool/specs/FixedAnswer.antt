@@ -13,16 +13,16 @@ use Rattle.lockfree_object_pool.specs.Ledger.{History, operations_of, IsPrefixOf
 
 module _ {T : Type 0} where
   -- an item of this pool
-  abbrev pub IsItemOf : TableId → Item T → Type 0
-  IsItemOf pool item = IsItemIn pool.slots pool item
+  abbrev pub IsFixedItem : TableId → Item T → Type 0
+  IsFixedItem pool item = IsItemIn pool.slots pool item
 
   -- an item of this pool, pulled as the pool's one history tells, which begins with these values
-  abbrev pub IsPulledOf : TableId → List (Option T) → Item T → Type 0
-  IsPulledOf pool opening item = IsPulledAs (IsItemOf pool) opening item
+  abbrev pub IsPulledFrom : TableId → List (Option T) → Item T → Type 0
+  IsPulledFrom pool opening item = IsPulledAs (IsFixedItem pool) opening item
 
   -- the same of a pull by a note: it stands after all that the note knew
   pub record IsPulledWith (pool : TableId) (note : PageNote T) (item : Item T) : Type 0 where
-    pub is_item : IsItemOf pool item
+    pub is_item : IsFixedItem pool item
     pub pulled : IsPulledAfter note item
 
   -- what the refused pull has read and tried

@@ -7,9 +7,9 @@ abbrev pub lock_of : {T : Type 0} → SpinLockGuard T → TableId
 lock_of guard = guard.turn.0
 
 -- the value that it has
-abbrev pub value_of : {T : Type 0} → SpinLockGuard T → T
-value_of guard = guard.value
+abbrev pub guard_value : {T : Type 0} → SpinLockGuard T → T
+guard_value guard = guard.value
 
 -- the guard with another value
-abbrev pub with_value : {T : Type 0} → SpinLockGuard T → T → SpinLockGuard T
-with_value guard value = record guard { value = value }
+abbrev pub guard_with : {T : Type 0} → SpinLockGuard T → T → SpinLockGuard T
+guard_with guard value = record guard { value = value }

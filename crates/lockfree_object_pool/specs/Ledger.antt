@@ -1,6 +1,7 @@
 -- The ledger: what is done with the items of one pool, one operation after another. The last operation stands first.
--- A page's ledger is of its 32 numbers, and that of a fixed pool of all its numbers; neither grows. The pulls and returns
--- of a world's agents, in the crate above, are a ledger too, to whose opening each page that is linked adds its values.
+-- A page's ledger is of its 32 numbers, and that of a fixed pool of all its numbers; neither grows. The pulls and
+-- returns of a world's agents, in the crate above, are a ledger too, to whose opening each page that is linked adds its
+-- values.
 use Rattle.std.specs.Prelude.{◌≡◌, ◌≢◌, ◌⊎◌, ℕ, ◌==◌, if◌then◌else◌, List, [], ◌∷◌, ◌++◌, get_or, Option, Some, None, ⊤}
 use Rattle.lockfree_object_pool.specs.declared.page.history.Operation.{Operation}
 use Rattle.lockfree_object_pool.specs.declared.page.history.Operation.TheVariants.{Pull, Return}

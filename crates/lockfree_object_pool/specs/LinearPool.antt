@@ -20,8 +20,8 @@ use Rattle.lockfree_object_pool.specs.declared.made_or_reset.MadeOrReset.{MadeOr
 use Rattle.lockfree_object_pool.specs.declared.page.TheConstants.{PAGE_ITEMS}
 
 -- how many pages a limit allows
-abbrev pub pages_of : Option PageLimit → Option ℕ
-pages_of limit = option_map (λ limit. limit.pages) limit
+abbrev pub limit_pages : Option PageLimit → Option ℕ
+limit_pages limit = option_map (λ limit. limit.pages) limit
 
 module _ {T I R K : Type 0} where
   -- what makes the pool's values
@@ -34,7 +34,7 @@ module _ {T I R K : Type 0} where
 
   -- how many pages the pool may have
   abbrev pub pool_limit : LinearObjectPool T I R K → Option ℕ
-  pool_limit pool = pages_of pool.limit
+  pool_limit pool = limit_pages pool.limit
 
   -- which page the pool's first one is
   abbrev pub pool_first_page : LinearObjectPool T I R K → TableId

@@ -53,8 +53,8 @@ module _ {T : Type 0} where
   IsHome page id value = get_elem? page.homes id ≡ some (some (Some value))
 
   -- the user with this number has taken the id and not returned it
-  abbrev pub Holds : PageState T → ℕ → ℕ → Type 0
-  Holds page user id = (known : UserView T) × (get_elem? page.views user ≡ some known) × (known.held ≡ Some id)
+  abbrev pub UserHolds : PageState T → ℕ → ℕ → Type 0
+  UserHolds page user id = (known : UserView T) × (get_elem? page.views user ≡ some known) × (known.held ≡ Some id)
 
   -- what a user knows of the page's history is so
   pub record IsSound (known : UserView T) : Type 0 where
@@ -86,8 +86,8 @@ module _ {T : Type 0} where
     pub words_fit : (place : ℕ) → slice_index page.words place < 2 ^ 32
     -- so no bit is set that has no place
     pub free_is_home : (id : ℕ) → IsSet page id → (value : T) × IsHome page id value × meets value
-    pub held_is_out : (user id : ℕ) → Holds page user id → (id < length page.homes) × IsClear page id
-    pub one_holder : (user other id : ℕ) → Holds page user id → Holds page other id → user ≡ other
+    pub held_is_out : (user id : ℕ) → UserHolds page user id → (id < length page.homes) × IsClear page id
+    pub one_holder : (user other id : ℕ) → UserHolds page user id → UserHolds page other id → user ≡ other
 
   -- the page stands where one legal history of its users' operations has led, of which each user knows a prefix
   pub record HasHistory (opening : List (Option T)) (page : PageState T) : Type 0 where
@@ -203,7 +203,7 @@ module _ {T : Type 0} where
     pub goes_on : GoesOn (Pull new.0.user id value ∷ []) old.0 new.0
 
   -- a return: the user holds nothing any more, and the value that it had taken last is home
-  pub record Gives (old new : User T) : Type 0 where
+  pub record GivesBack (old new : User T) : Type 0 where
     pub holds_none : new.0.held ≡ None
     pub carries : new.1 ≡ rest old.1
     pub operations : (id : ℕ) (value : T) → old.0.held ≡ Some id → old.1 ≡ (id, Some value) ∷ []

@@ -50,7 +50,7 @@ pub struct FixedObjectPool<T, I: Init<T, K>, R: Reset<T, K>, K: Clean<T> = AnyVa
 
 impl<T: Drop, I: Init<T, K>, R: Reset<T, K>, K: Clean<T>> FixedObjectPool<T, I, R, K> {
     ghost use Rattle.lockfree_object_pool.specs.Answers.{IsMadeOrReset};
-    ghost use Rattle.lockfree_object_pool.specs.FixedAnswer.{IsPulledOf, IsPulledWith, IsBusyOf, IsBusyAfter, IsBusyNote, IsGivenBack, busy_steps, note_steps};
+    ghost use Rattle.lockfree_object_pool.specs.FixedAnswer.{IsPulledFrom, IsPulledWith, IsBusyOf, IsBusyAfter, IsBusyNote, IsGivenBack, busy_steps, note_steps};
     ghost use Rattle.lockfree_object_pool.specs.FixedPool.{pool_identity, pool_items, pool_pages, pool_opening, pool_reset};
     ghost use Rattle.lockfree_object_pool.specs.Holding.{holding_page, held_item};
     ghost use Rattle.lockfree_object_pool.specs.Items.{IsFilled};
@@ -98,7 +98,7 @@ impl<T: Drop, I: Init<T, K>, R: Reset<T, K>, K: Clean<T>> FixedObjectPool<T, I, 
     pub fn pull(&self) -> Result<FixedReusable<'_, T, I, R, K>, PullError>
         ensures pool { IfOk result (λ item. (reusable_pool item).now ≡ self.now) }
         ensures pulled { IfOk result (λ item.
-            IsPulledOf (pool_identity self.now) (pool_opening self.now) (reusable_item item)) }
+            IsPulledFrom (pool_identity self.now) (pool_opening self.now) (reusable_item item)) }
         ensures meets { IfOk result (λ item. K.meets (reusable_item item).value) }
         ensures made_or_reset { IfOk result (λ item.
             IsMadeOrReset I.answers R.leaves (reusable_item item).value) }
@@ -122,7 +122,7 @@ impl<T: Drop, I: Init<T, K>, R: Reset<T, K>, K: Clean<T>> FixedObjectPool<T, I, 
     pub fn pull_near(&self, page: usize) -> Result<FixedReusable<'_, T, I, R, K>, PullError>
         ensures pool { IfOk result (λ item. (reusable_pool item).now ≡ self.now) }
         ensures pulled { IfOk result (λ item.
-            IsPulledOf (pool_identity self.now) (pool_opening self.now) (reusable_item item)) }
+            IsPulledFrom (pool_identity self.now) (pool_opening self.now) (reusable_item item)) }
         ensures meets { IfOk result (λ item. K.meets (reusable_item item).value) }
         ensures made_or_reset { IfOk result (λ item.
             IsMadeOrReset I.answers R.leaves (reusable_item item).value) }
@@ -145,7 +145,7 @@ impl<T: Drop, I: Init<T, K>, R: Reset<T, K>, K: Clean<T>> FixedObjectPool<T, I, 
     pub fn try_pull<'s, 'p>(&'s self, pass: &'p PullPass) -> FixedPulled<'s, 'p, T, I, R, K>
         ensures pool { IfOk result (λ item. (reusable_pool item).now ≡ self.now) }
         ensures pulled { IfOk result (λ item.
-            IsPulledOf (pool_identity self.now) (pool_opening self.now) (reusable_item item)) }
+            IsPulledFrom (pool_identity self.now) (pool_opening self.now) (reusable_item item)) }
         ensures meets { IfOk result (λ item. K.meets (reusable_item item).value) }
         ensures made_or_reset { IfOk result (λ item.
             IsMadeOrReset I.answers R.leaves (reusable_item item).value) }
@@ -209,7 +209,7 @@ impl<T: Drop, I: Init<T, K>, R: Reset<T, K>, K: Clean<T>> FixedObjectPool<T, I, 
     pub fn pull_owned(self: &Arc<Self>) -> Result<FixedOwnedReusable<T, I, R, K>, PullError>
         ensures pool { IfOk result (λ item. arc_value (reusable_pool item) ≡ arc_value self.now) }
         ensures pulled { IfOk result (λ item.
-            IsPulledOf (pool_identity (arc_value self.now)) (pool_opening (arc_value self.now))
+            IsPulledFrom (pool_identity (arc_value self.now)) (pool_opening (arc_value self.now))
             (reusable_item item)) }
         ensures meets { IfOk result (λ item. K.meets (reusable_item item).value) }
         ensures made_or_reset { IfOk result (λ item.

@@ -237,7 +237,8 @@ impl<T: Drop, P: SharedFixedPool<T>> DerefMut for FixedReusableOf<T, P> {
     ghost deref_mut_gives = { λ reusable value. value ≡ (reusable_item reusable).value };
 
     fn deref_mut(&mut self) -> &mut T
-        ensures* writes_back { sem 𝓛 (LendsFixedValue T.row P.row P.SharedFixedPool self.entry result) }
+        ensures* writes_back { sem 𝓛
+            (LendsFixedValue T.row P.row P.SharedFixedPool self.entry result) }
         ensures shows { result.now ≡ (reusable_item self.old).value }
     {
         &mut self.value

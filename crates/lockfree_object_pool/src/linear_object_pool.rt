@@ -41,7 +41,7 @@ pub struct LinearObjectPool<T, I: Init<T, K>, R: Reset<T, K>, K: Clean<T> = AnyV
 impl<T: Drop, I: Init<T, K>, R: Reset<T, K>, K: Clean<T>> LinearObjectPool<T, I, R, K> {
     ghost use Rattle.lockfree_object_pool.specs.Answers.{IsMadeOrReset};
     ghost use Rattle.lockfree_object_pool.specs.FullSeen.{full_page};
-    ghost use Rattle.lockfree_object_pool.specs.LinearPool.{pool_init, pool_reset, pool_limit, pages_of, pool_first_page};
+    ghost use Rattle.lockfree_object_pool.specs.LinearPool.{pool_init, pool_reset, pool_limit, limit_pages, pool_first_page};
     ghost use Rattle.lockfree_object_pool.specs.LinearPool.{reusable_pool, reusable_item, reusable_page};
     ghost use Rattle.lockfree_object_pool.specs.LinearPool.{owned_pool, owned_item, owned_page, Pulls, pull_causes};
     ghost use Rattle.lockfree_object_pool.specs.Refusal.{RefusesMaking, RefusesPull};
@@ -89,7 +89,7 @@ impl<T: Drop, I: Init<T, K>, R: Reset<T, K>, K: Clean<T>> LinearObjectPool<T, I,
     ) -> Result<LinearObjectPool<T, I, R, K>, PullError>
         ensures init { IfOk result (λ pool. pool_init pool ≡ init) }
         ensures reset { IfOk result (λ pool. pool_reset pool ≡ reset) }
-        ensures limit { IfOk result (λ pool. pool_limit pool ≡ pages_of limit) }
+        ensures limit { IfOk result (λ pool. pool_limit pool ≡ limit_pages limit) }
         ensures refused { IfErr result (RefusesMaking (I.answers init None)) }
     {
         let maker = &init;

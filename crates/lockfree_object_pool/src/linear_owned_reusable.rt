@@ -96,8 +96,9 @@ impl<T: Drop, I: Init<T, K>, R: Reset<T, K>, K: Clean<T>> DerefMut
     ghost deref_mut_gives = { λ reusable value. value ≡ (owned_item reusable).value };
 
     fn deref_mut(&mut self) -> &mut T
-        ensures* writes_back { sem 𝓛 (LendsLinearOwnedValue T.row I.row R.row K.row I.Init R.Reset K.Clean
-            self.entry result) }
+        ensures* writes_back { sem 𝓛
+            (LendsLinearOwnedValue T.row I.row R.row K.row I.Init R.Reset K.Clean self.entry
+            result) }
         ensures shows { result.now ≡ (owned_item self.old).value }
     {
         &mut self.value

@@ -81,8 +81,8 @@ impl<T: Drop, I: Init<T, K>, R: Reset<T, K>, K: Clean<T>> DerefMut
     ghost deref_mut_gives = { λ reusable value. value ≡ (reusable_item reusable).value };
 
     fn deref_mut(&mut self) -> &mut T
-        ensures* writes_back { sem 𝓛 (LendsLinearValue T.row I.row R.row K.row I.Init R.Reset K.Clean
-            self.entry result) }
+        ensures* writes_back { sem 𝓛
+            (LendsLinearValue T.row I.row R.row K.row I.Init R.Reset K.Clean self.entry result) }
         ensures shows { result.now ≡ (reusable_item self.old).value }
     {
         &mut self.value

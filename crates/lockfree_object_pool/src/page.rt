@@ -7,7 +7,7 @@
 //! what is known of a page while no item is held (`note`).
 //!
 //! No call waits for another thread or tries again: a page reads its word once, and then clears single bits.
-ghost use Rattle.std.specs.Prelude.{◌≡◌, ◌+◌, ◌-◌, ◌^◌, ◌<◌, ◌≤◌, ◌↔◌, ℕ, [], false, Option, None, Some, IsTrue, IsNone, IfSome, IsOk, IfOk, IfErr, bit_and, bit_or};
+ghost use Rattle.std.specs.Prelude.{◌≡◌, ◌==◌, ◌+◌, ◌-◌, ◌^◌, ◌<◌, ◌≤◌, ◌↔◌, ℕ, [], false, Option, None, Some, IsTrue, IsNone, IfSome, IsOk, IfOk, IfErr, bit_and, bit_or};
 ghost use Rattle.std.specs.Int.{w32, bit_at, bit_not};
 ghost use Rattle.lockfree_object_pool.specs.Items.{items_identity};
 ghost use Rattle.lockfree_object_pool.specs.Word.{IsLeastBit, SetsBit, ClearsBit};
@@ -77,9 +77,10 @@ pub fn without_bit(word: u32, id: PageId) -> u32
 }
 
 /// Whether the bit is set.
-pub(crate) fn has_bit(word: u32, id: PageId) -> bool
+pub fn has_bit(word: u32, id: PageId) -> bool
     requires { id < PAGE_ITEMS }
-    ensures { IsTrue result ↔ (bit_at word id ≡ 1) }
+    ensures bits { IsTrue result ↔ (bit_at word id ≡ 1) }
+    ensures value { result ≡ (bit_at word id == 1) }
 {
     word >> id & 1 == 1
 }

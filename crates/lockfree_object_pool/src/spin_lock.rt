@@ -3,7 +3,7 @@
 //! Its word changes in two ways: one exchange takes it, and one store frees it. The guard has the value itself, and its
 //! drop brings the value home before it frees the word. A holder that stops keeps all others waiting.
 ghost use Rattle.std.specs.Prelude.{◌≡◌, [], ◌∷◌, Some, IfErr, IfOk, IfSome};
-ghost use Rattle.lockfree_object_pool.specs.Guard.{lock_of, value_of};
+ghost use Rattle.lockfree_object_pool.specs.Guard.{lock_of, guard_value};
 ghost use Rattle.lockfree_object_pool.specs.Lock.{HasValue};
 
 use crate::spin_lock::rule::{OneHolder, Take, Visitor};
@@ -125,7 +125,7 @@ pub struct SpinLockGuard<'s, T> {
 impl<T> Deref for SpinLockGuard<'_, T> {
     type Target = T;
 
-    ghost deref_gives = { λ guard shown. shown ≡ value_of guard };
+    ghost deref_gives = { λ guard shown. shown ≡ guard_value guard };
 
     fn deref(&self) -> &T {
         &self.value
@@ -136,11 +136,11 @@ impl<T> DerefMut for SpinLockGuard<'_, T> {
     ghost use Rattle.std.specs.Borrow.{sem};
     ghost use Rattle.lockfree_object_pool.specs.GuardLends.{LendsGuardedValue};
 
-    ghost deref_mut_gives = { λ guard shown. shown ≡ value_of guard };
+    ghost deref_mut_gives = { λ guard shown. shown ≡ guard_value guard };
 
     fn deref_mut(&mut self) -> &mut T
         ensures* writes_back { sem 𝓛 (LendsGuardedValue T.row self.entry result) }
-        ensures shows { result.now ≡ value_of self.old }
+        ensures shows { result.now ≡ guard_value self.old }
     {
         &mut self.value
     }
@@ -154,7 +154,7 @@ impl<T> Drop for SpinLockGuard<'_, T> {
 }
 
 impl<T: Debug> Debug for SpinLockGuard<'_, T> {
-    ghost debug_output = { λ guard. T.debug_output (value_of guard) };
+    ghost debug_output = { λ guard. T.debug_output (guard_value guard) };
 
     fn fmt<W: Write>(&self, f: &mut Formatter<W>) -> fmt::Result {
         Debug::fmt(&self.value, f)

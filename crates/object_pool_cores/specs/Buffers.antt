@@ -17,12 +17,13 @@ module _ {I R K : Type 0} where
   limit_of_pages buffers = pool_limit buffers.pool
 
   -- the item of the linear pool below that the buffer is
-  abbrev pub item_of : Buffer I R (Vec ℕ) K → LinearReusable (Vec ℕ) I R K
-  item_of buffer = buffer.item
+  abbrev pub buffer_item : Buffer I R (Vec ℕ) K → LinearReusable (Vec ℕ) I R K
+  buffer_item buffer = buffer.item
 
   -- the buffer is of the pool's page of the number that it shows
   abbrev pub IsOnItsPage : BufferPool I R (Vec ℕ) K → Buffer I R (Vec ℕ) K → Type 0
-  IsOnItsPage buffers buffer = IsOnPage buffers.pool (reusable_page (item_of buffer)) (reusable_item (item_of buffer))
+  IsOnItsPage buffers buffer =
+      IsOnPage buffers.pool (reusable_page (buffer_item buffer)) (reusable_item (buffer_item buffer))
 
   -- the bytes in the buffer
   abbrev pub bytes_of : Buffer I R (Vec ℕ) K → List ℕ
@@ -37,5 +38,5 @@ module _ {I R K : Type 0} where
   page_of buffer = reusable_number buffer.item
 
   -- the number of the buffer in its page
-  abbrev pub id_of : Buffer I R (Vec ℕ) K → ℕ
-  id_of buffer = (reusable_item buffer.item).id
+  abbrev pub buffer_id : Buffer I R (Vec ℕ) K → ℕ
+  buffer_id buffer = (reusable_item buffer.item).id

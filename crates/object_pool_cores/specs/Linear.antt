@@ -25,8 +25,8 @@ module _ {T I R K : Type 0} where
   looked_of core = core.items.looked
 
   -- the page at which its next pull starts to probe
-  abbrev pub start_of : LinearCore T I R K → ℕ
-  start_of core = core.items.start
+  abbrev pub start_page_of : LinearCore T I R K → ℕ
+  start_page_of core = core.items.start
 
   -- what makes the values of a core
   abbrev pub init_of : LinearCore T I R K → I
@@ -62,19 +62,20 @@ module _ {T I R K : Type 0} where
 
   -- a pull that took an item probed each page from its start up to the item's, where the next pull starts
   pub record ProbesUpTo (old : LinearCore T I R K) (item : Item T) (new : LinearCore T I R K) : Type 0 where
-    pub onward : start_of old ≤ start_of new
-    pub stops : IfSome (item_number item) (λ n. start_of new ≡ n / PAGE_ITEMS)
-    pub each : ProbesEach (start_of new - start_of old + 1) (looked_of old) (looked_of new)
+    pub onward : start_page_of old ≤ start_page_of new
+    pub stops : IfSome (item_number item) (λ n. start_page_of new ≡ n / PAGE_ITEMS)
+    pub each : ProbesEach (start_page_of new - start_page_of old + 1) (looked_of old) (looked_of new)
 
   -- a pull that took none probed each page from its start on, and the next pull starts behind them
   pub record ProbesTheRest (old new : LinearCore T I R K) : Type 0 where
-    pub onward : start_of old ≤ start_of new
-    pub stops : start_of new ≡ (core_pool old).pages
-    pub each : ProbesEach (start_of new - start_of old) (looked_of old) (looked_of new)
+    pub onward : start_page_of old ≤ start_page_of new
+    pub stops : start_page_of new ≡ (core_pool old).pages
+    pub each : ProbesEach (start_page_of new - start_page_of old) (looked_of old) (looked_of new)
 
   -- the next pull starts at the page of the returned item, or before it
   abbrev pub StartsNoFurther : LinearCore T I R K → Item T → LinearCore T I R K → Type 0
-  StartsNoFurther old item new = IfSome (item_number item) (λ n. start_of new ≡ min (start_of old) (n / PAGE_ITEMS))
+  StartsNoFurther old item new = IfSome (item_number item)
+      (λ n. start_page_of new ≡ min (start_page_of old) (n / PAGE_ITEMS))
 
   -- items that are held together are all out, and have different numbers
   pub record HeldTogether (core : LinearCore T I R K) (held : List (Option (Item T))) : Type 0 where

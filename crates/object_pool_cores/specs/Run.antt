@@ -101,8 +101,8 @@ module _ {T : Type 0} where
   HadPages first acts a count = Since first a (λ pool. pool.pages ≡ count) acts
 
   -- each number of so many pages was found out since the agent began
-  abbrev pub FoundAllOut : List T → List (Act T) → ℕ → ℕ → Type 0
-  FoundAllOut first acts a count = (n : ℕ) → n < PAGE_ITEMS * count → FoundOut first acts a n
+  abbrev pub FoundPagesOut : List T → List (Act T) → ℕ → ℕ → Type 0
+  FoundPagesOut first acts a count = (n : ℕ) → n < PAGE_ITEMS * count → FoundOut first acts a n
 
 module _ {T : Type 0} (Leaves : T → T → Type 0) (limit : Option ℕ) (first : List T) where
   -- an agent pulls while it looks, and returns a value that reset leaves of its own
@@ -112,7 +112,7 @@ module _ {T : Type 0} (Leaves : T → T → Type 0) (limit : Option ℕ) (first 
 
   -- an agent is refused for the limit where there are as many pages, and it found each of their numbers out
   abbrev pub MayRefuse : List (Act T) → ℕ → PullError → Type 0
-  MayRefuse acts a Limit = (limit ≡ Some (pages_of acts)) × FoundAllOut first acts a (pages_of acts)
+  MayRefuse acts a Limit = (limit ≡ Some (pages_of acts)) × FoundPagesOut first acts a (pages_of acts)
   MayRefuse acts a Memory = ⊤
   MayRefuse acts a Init = ⊤
 
@@ -134,9 +134,9 @@ module _ {T : Type 0} (Leaves : T → T → Type 0) (limit : Option ℕ) (first 
 module _ {T : Type 0} (first : List T) where
   -- what an agent had found before it grew the pool, or was refused
   abbrev pub FoundOutBefore : List (Act T) → Act T → Type 0
-  FoundOutBefore acts (Grows a values) = FoundAllOut first acts a (pages_of acts)
+  FoundOutBefore acts (Grows a values) = FoundPagesOut first acts a (pages_of acts)
   FoundOutBefore acts (Refused a cause) =
-      (count : ℕ) × (1 ≤ count) × FoundAllOut first acts a count × HadPages first acts a count
+      (count : ℕ) × (1 ≤ count) × FoundPagesOut first acts a count × HadPages first acts a count
   FoundOutBefore acts _ = ⊤
 
   -- so it was at each growth and each refusal

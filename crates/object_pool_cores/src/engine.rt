@@ -13,6 +13,7 @@ mod reply_text;
 mod session;
 
 use crate::sequential::{LinearCore, NoneCore, Player, StackCore};
+pub use command_text::number_of;
 pub use engine_error::EngineError;
 pub use kind::{Kind, Reset};
 use lockfree_object_pool::clean::AnyValue;

@@ -1,14 +1,10 @@
 //! What the program is told by its arguments.
 ghost use Rattle.std.specs.Prelude.{◌≡◌, ℕ, IfSome, MatchOption, map};
-ghost use Rattle.object_pool_cores.specs.CommandText.{IsNumber};
 ghost use Rattle.object_pool_cores.specs.Engine.{IsPlayable};
 ghost use Rattle.object_pool_cores.specs.declared.engine.kind.Reset.{Reset};
 ghost use Rattle.pools.specs.Arguments.{reset_word, IsPages, AreArguments, AreOther};
 
-use object_pool_cores::engine::{Kind, Reset};
-
-/// The most digits that the number of pages may have.
-const MOST_DIGITS: usize = 10;
+use object_pool_cores::engine::{Kind, Reset, number_of};
 
 /// The pool to play on, and what a return leaves.
 #[derive(Clone, Copy, Debug, PartialEq, Eq)]
@@ -20,7 +16,8 @@ pub struct Arguments {
 /// The arguments that the words behind the program's name are.
 pub fn arguments_of(words: &[&str]) -> Option<Arguments>
     ensures judged { MatchOption result (AreOther (map (λ word. word.now) words.now))
-        (λ arguments. AreArguments (map (λ word. word.now) words.now) arguments.kind arguments.reset) }
+        (λ arguments. AreArguments (map (λ word. word.now) words.now)
+        arguments.kind arguments.reset) }
     ensures playable { IfSome result (λ arguments. IsPlayable arguments.kind) }
 {
     let (kind, reset) = match words {
@@ -50,21 +47,10 @@ fn reset_of(word: &str) -> Option<Reset>
 fn pages_of(word: &str) -> Option<usize>
     ensures { MatchOption result ((pages : ℕ) → IsPages word.now pages → ⊥) (IsPages word.now) }
 {
-    match number_of(word)? {
+    match number_of(word.as_bytes())? {
         0 => None,
         pages => Some(pages as usize),
     }
-}
-
-/// The number that at most ten digits write.
-fn number_of(word: &str) -> Option<u32>
-    ensures { MatchOption result ((n : ℕ) → IsNumber word.now n → ⊥) (IsNumber word.now) }
-{
-    let digits = word.as_bytes();
-    if digits.len() > MOST_DIGITS || !digits.iter().all(u8::is_ascii_digit) {
-        return None;
-    }
-    word.parse().ok()
 }
 
 #[cfg(test)]

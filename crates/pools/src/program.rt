@@ -17,7 +17,8 @@ pub fn play<H: Wait, R: Read, W: Write>(
     input: &mut R,
     output: &mut W,
 ) -> Ending
-    ensures { Plays (map (λ word. word.now) words.now) (R.remaining input.old) (R.remaining input.new)
+    ensures { Plays (map (λ word. word.now) words.now)
+        (R.remaining input.old) (R.remaining input.new)
         (W.contents output.old) (W.contents output.new) result }
 {
     let Some(Arguments { kind, reset }) = arguments_of(words) else {

@@ -50,7 +50,8 @@ fn reset_of<K: Clean<u32>, R: Reset<u32, K>>(reset: &R, mut value: u32) -> u32
 /// What a new pool of these closures makes, and leaves of 7.
 fn first_and_left<I: InitBy<u32>, R: ResetBy<u32>>(init: I, reset: R) -> Option<(u32, u32)>
     requires may_make { I.may_make init }
-    requires makes { (answer : Option ℕ) → I.makes init answer → IfSome answer (λ value. value ≡ 0) }
+    requires makes { (answer : Option ℕ) → I.makes init answer → IfSome answer
+        (λ value. value ≡ 0) }
     requires may_reset { R.may_reset reset }
     requires leaves { (old new : ℕ) → R.resets reset old new → new ≡ 0 }
     ensures { IfSome result (λ both. (both.0 ≡ 0) × (both.1 ≡ 0)) }

@@ -6,7 +6,7 @@ use crate::held::{Pulled, number_of};
 use crate::linear::refuse_opening;
 use crate::session::Session;
 use crate::tallies::Tallies;
-use crate::tally::Tally;
+use crate::tally::SideTally;
 use crate::value::Value;
 use lockfree_object_pool::PullError;
 use lockfree_object_pool::closures::{Init, Reset};
@@ -19,7 +19,7 @@ use std::sync::Arc;
 #[derive(Drop)]
 struct NewBuffers {
     alloc: Global,
-    tally: Arc<Tally>,
+    tally: Arc<SideTally>,
 }
 
 impl Init<Vec<u8>, Empty> for NewBuffers {
@@ -32,7 +32,7 @@ impl Init<Vec<u8>, Empty> for NewBuffers {
 /// Counts the resets, and leaves each buffer empty.
 #[derive(Drop)]
 struct Empties {
-    tally: Arc<Tally>,
+    tally: Arc<SideTally>,
 }
 
 impl Reset<Vec<u8>, Empty> for Empties {
@@ -51,7 +51,7 @@ fn told(bytes: &[u8]) -> u64 {
 }
 
 impl Value for Vec<u8> {
-    fn new(_tally: &Arc<Tally>, _number: u64) -> Option<Vec<u8>> {
+    fn new(_tally: &Arc<SideTally>, _number: u64) -> Option<Vec<u8>> {
         None
     }
 
@@ -110,7 +110,7 @@ pub fn compare_buffers(alloc: Global, session: Session) -> Result<Figures, Stopp
     compare_ends(ended)
 }
 
-fn closures(alloc: Global, tally: &Arc<Tally>) -> Result<(NewBuffers, Empties), AllocError> {
+fn closures(alloc: Global, tally: &Arc<SideTally>) -> Result<(NewBuffers, Empties), AllocError> {
     let init = NewBuffers {
         alloc,
         tally: Arc::try_clone(tally)?,

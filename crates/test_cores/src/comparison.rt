@@ -5,6 +5,7 @@ use crate::figures::Figures;
 use crate::held::Pulled;
 use crate::session::Session;
 use crate::tallies::Tallies;
+use crate::tally::SideTally;
 use crate::value::Value;
 use lockfree_object_pool::PullError;
 use object_pool_cores::sequential::{Item, SequentialPool};
@@ -259,7 +260,7 @@ impl<T: Value, A: Pulled, C: SequentialPool<T> + Drop> Comparison<T, A, C> {
 }
 
 /// A value that is attached. It is the same on both sides.
-fn attached<T: Value>(tally: &Arc<crate::tally::Tally>, figures: &Figures) -> Result<T, Stopped> {
+fn attached<T: Value>(tally: &Arc<SideTally>, figures: &Figures) -> Result<T, Stopped> {
     match T::new(tally, figures.calls) {
         Some(value) => Ok(value),
         None => Err(Stopped::Memory),

@@ -7,7 +7,7 @@ use crate::held::Held;
 use crate::maker::{Maker, Traces};
 use crate::session::Session;
 use crate::tallies::Tallies;
-use crate::tally::Tally;
+use crate::tally::SideTally;
 use crate::value::Value;
 use lockfree_object_pool::clean::AnyValue;
 use lockfree_object_pool::{LinearObjectPool, LinearOwnedReusable, LinearReusable, PullError};
@@ -59,7 +59,7 @@ pub fn refuse_opening(tallies: &Tallies, session: Session) {
 
 fn new_pool<T: Value>(
     alloc: Global,
-    tally: &Arc<Tally>,
+    tally: &Arc<SideTally>,
     limit: Option<usize>,
 ) -> Result<Pool<T>, PullError> {
     let (init, reset) = (Maker::new(tally)?, Traces::new(tally)?);
@@ -71,7 +71,7 @@ fn new_pool<T: Value>(
 
 fn new_core<T: Value>(
     alloc: Global,
-    tally: &Arc<Tally>,
+    tally: &Arc<SideTally>,
     limit: Option<usize>,
 ) -> Result<Core<T>, PullError> {
     let (init, reset) = (Maker::new(tally)?, Traces::new(tally)?);

@@ -1,5 +1,5 @@
 //! What makes and resets the items of both sides.
-use crate::tally::Tally;
+use crate::tally::SideTally;
 use crate::value::Value;
 use lockfree_object_pool::clean::AnyValue;
 use lockfree_object_pool::closures::{Init, Reset};
@@ -9,11 +9,11 @@ use std::sync::Arc;
 /// Makes items that show the number of their making, and refuses where its tally says so.
 #[derive(Drop)]
 pub struct Maker {
-    tally: Arc<Tally>,
+    tally: Arc<SideTally>,
 }
 
 impl Maker {
-    pub fn new(tally: &Arc<Tally>) -> Result<Maker, AllocError> {
+    pub fn new(tally: &Arc<SideTally>) -> Result<Maker, AllocError> {
         let tally = Arc::try_clone(tally)?;
         Ok(Maker { tally })
     }
@@ -33,11 +33,11 @@ impl<T: Value> Init<T, AnyValue> for Maker {
 /// Counts the resets, and leaves a trace of each and of what was written before.
 #[derive(Drop)]
 pub struct Traces {
-    tally: Arc<Tally>,
+    tally: Arc<SideTally>,
 }
 
 impl Traces {
-    pub fn new(tally: &Arc<Tally>) -> Result<Traces, AllocError> {
+    pub fn new(tally: &Arc<SideTally>) -> Result<Traces, AllocError> {
         let tally = Arc::try_clone(tally)?;
         Ok(Traces { tally })
     }

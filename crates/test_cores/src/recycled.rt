@@ -8,7 +8,7 @@ use crate::held::Held;
 use crate::maker::traced;
 use crate::session::Session;
 use crate::tallies::Tallies;
-use crate::tally::Tally;
+use crate::tally::SideTally;
 use crate::value::Value;
 use lockfree_object_pool::PullError;
 use lockfree_object_pool::recycling::{OwnedReusable, Pool, Recyclable, Recycler, Reusable};
@@ -35,7 +35,7 @@ impl Recyclable for Recycled {
 }
 
 impl Value for Recycled {
-    fn new(_tally: &Arc<Tally>, number: u64) -> Option<Recycled> {
+    fn new(_tally: &Arc<SideTally>, number: u64) -> Option<Recycled> {
         Some(Recycled { number })
     }
 

@@ -1,28 +1,28 @@
 //! The tallies of both sides.
 use crate::answer::{Call, Stopped};
-use crate::tally::Tally;
+use crate::tally::SideTally;
 use std::alloc::{AllocError, Global};
 use std::sync::Arc;
 
 /// The tally of the running pool's items, and that of the core's.
 #[derive(Drop)]
 pub struct Tallies {
-    pub running: Arc<Tally>,
-    pub core: Arc<Tally>,
+    pub running: Arc<SideTally>,
+    pub core: Arc<SideTally>,
 }
 
 impl Tallies {
     pub fn new(alloc: Global) -> Result<Tallies, AllocError> {
         Ok(Tallies {
-            running: Tally::new(alloc)?,
-            core: Tally::new(alloc)?,
+            running: SideTally::new(alloc)?,
+            core: SideTally::new(alloc)?,
         })
     }
 
     /// From now on the call of `init` behind so many others is refused on both sides.
     pub fn refuse_after(&self, calls: usize) {
-        self.running.refuse_after(calls as u64);
-        self.core.refuse_after(calls as u64);
+        self.running.refuse_after(calls);
+        self.core.refuse_after(calls);
     }
 
     /// Stops where the figures of both sides differ.

@@ -1,11 +1,11 @@
 //! The kinds of item: of no bytes, of 8 bytes and of 4 KiB, with a drop that is counted and without.
-use crate::tally::Tally;
+use crate::tally::SideTally;
 use std::sync::Arc;
 
 /// An item that shows what was written to it last.
 pub trait Value: Drop {
     /// A new item, whose content is the number of the call that makes it.
-    fn new(tally: &Arc<Tally>, number: u64) -> Option<Self>;
+    fn new(tally: &Arc<SideTally>, number: u64) -> Option<Self>;
 
     fn content(&self) -> u64;
 
@@ -17,7 +17,7 @@ pub trait Value: Drop {
 pub struct Nothing;
 
 impl Value for Nothing {
-    fn new(_tally: &Arc<Tally>, _number: u64) -> Option<Nothing> {
+    fn new(_tally: &Arc<SideTally>, _number: u64) -> Option<Nothing> {
         Some(Nothing)
     }
 
@@ -35,7 +35,7 @@ pub struct Number {
 }
 
 impl Value for Number {
-    fn new(_tally: &Arc<Tally>, number: u64) -> Option<Number> {
+    fn new(_tally: &Arc<SideTally>, number: u64) -> Option<Number> {
         Some(Number { number })
     }
 
@@ -58,7 +58,7 @@ pub struct Block {
 }
 
 impl Value for Block {
-    fn new(_tally: &Arc<Tally>, number: u64) -> Option<Block> {
+    fn new(_tally: &Arc<SideTally>, number: u64) -> Option<Block> {
         Some(Block {
             words: [number; BLOCK_WORDS],
         })
@@ -81,7 +81,7 @@ impl Value for Block {
 
 /// Any item, which counts its drop.
 pub struct Counted<V> {
-    tally: Arc<Tally>,
+    tally: Arc<SideTally>,
     value: V,
 }
 
@@ -93,7 +93,7 @@ impl<V: Drop> Drop for Counted<V> {
 }
 
 impl<V: Value> Value for Counted<V> {
-    fn new(tally: &Arc<Tally>, number: u64) -> Option<Counted<V>> {
+    fn new(tally: &Arc<SideTally>, number: u64) -> Option<Counted<V>> {
         Some(Counted {
             tally: Arc::try_clone(tally).ok()?,
             value: V::new(tally, number)?,

@@ -9,12 +9,17 @@ use Rattle.lockfree_object_pool.proofs.Ledger.{behind}
 use Rattle.test_fixed_pool.specs.Returned.{EndsWithReturnOf, HasOperationOn, WasReturnedBefore, WasUsedSince}
 
 -- a pull by a note stands after all that the note knew
-pub pull_is_later : (note : PageNote ℕ) (item : Item ℕ) → IsPulledAfter note item → IsPrefixOf (note_history note) item.history
+pub pull_is_later : (note : PageNote ℕ) (item : Item ℕ) → IsPulledAfter note item
+    → IsPrefixOf (note_history note) item.history
 pull_is_later note item is = (Pull item.holder item.id item.value ∷ is.others, is.last)
 
 -- a prefix of a prefix is a prefix
 pub prefix_of_prefix : (one two three : History ℕ) → IsPrefixOf one two → IsPrefixOf two three → IsPrefixOf one three
-prefix_of_prefix one two three first second = (second.0 ++ first.0, second.1 ∙ ap (λ l. second.0 ++ l) first.1 ∙ sym (append_assoc second.0 first.0 one))
+prefix_of_prefix one two three first second = (
+  second.0 ++ first.0,
+  second.1 ∙ ap (λ l. second.0 ++ l) first.1
+      ∙ sym (append_assoc second.0 first.0 one),
+)
 
 -- where no operation of a whole history is on an item, none of a prefix is
 none_before : (id : ℕ) (later before : History ℕ) → NoOperationOn id (later ++ before) → NoOperationOn id before
@@ -65,7 +70,8 @@ module _ (number : ℕ) (note : PageNote ℕ) (item : Item ℕ) (first : item.id
   pulled_same_or_used =
       let was = pulled_what_returned.2 in
       let same = ap (λ l. is.others ++ l) (sym returned.2) ∙ was.here in
-      elim (last_return item.id is.others was.later returned.1 was.before returned.0 was.user number item.value same was.untouched) [
+      elim (last_return item.id is.others was.later returned.1 was.before returned.0 was.user number item.value same
+      was.untouched) [
         | inl same ↦ inl same
         | inr used ↦ inr (is.others, is.last, used)
       ]

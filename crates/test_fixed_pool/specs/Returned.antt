@@ -14,7 +14,8 @@ EndsWithReturnOf id value history = (user : ℕ) × (before : History ℕ) × (h
 
 -- the item's value is what the last return of its number before the pull brought home
 abbrev pub WasReturnedBefore : Item ℕ → Type 0
-WasReturnedBefore item = (before : History ℕ) × (item.history ≡ Pull item.holder item.id item.value ∷ before) × WasReturned before item.id item.value
+WasReturnedBefore item = (before : History ℕ) × (item.history ≡ Pull item.holder item.id item.value ∷ before)
+    × WasReturned before item.id item.value
 
 -- one of the operations is on this number
 abbrev pub HasOperationOn : ℕ → History ℕ → Type 0

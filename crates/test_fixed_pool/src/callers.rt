@@ -23,7 +23,8 @@ use test_values::zeros::new_calls;
 pub fn pulled_after<'p>(pool: &'p NumberPool, note: PoolNote<usize>) -> Option<NumberItem<'p>>
     requires { note_page note ≡ pool_identity pool.now }
     ensures pool { IfSome result (λ item. (reusable_item item).page ≡ pool_identity pool.now) }
-    ensures after { IfSome result (λ item. IsPrefixOf (note_history note) (reusable_item item).history) }
+    ensures after { IfSome result (λ item.
+        IsPrefixOf (note_history note) (reusable_item item).history) }
 {
     let pass = PullPass::new();
     match pool.try_pull_from(&pass, note) {
@@ -64,9 +65,11 @@ fn pulled_again<'p>(
     requires one_item { pool_items pool.now ≡ 1 }
     requires returned { EndsWithReturnOf 0 number (note_history note) }
     ensures returned { IfSome result (λ pulled. WasReturnedBefore (reusable_item pulled.0)) }
-    ensures same { IfSome result (λ pulled. IsTrue pulled.1 ↔ ((reusable_item pulled.0).value ≡ number)) }
+    ensures same { IfSome result (λ pulled.
+        IsTrue pulled.1 ↔ ((reusable_item pulled.0).value ≡ number)) }
     ensures unless_used { IfSome result (λ pulled.
-        ((reusable_item pulled.0).value ≡ number) ⊎ WasUsedSince (note_history note) (reusable_item pulled.0)) }
+        ((reusable_item pulled.0).value ≡ number)
+        ⊎ WasUsedSince (note_history note) (reusable_item pulled.0)) }
 {
     let pass = PullPass::new();
     match pool.try_pull_from(&pass, note) {
@@ -85,7 +88,8 @@ fn refused_while_out<'p>(
     number: usize,
 ) -> Option<BusySeen<'p, usize>>
     requires { number < pool_items pool.now }
-    ensures { IfSome result (λ busy. WasOutBetween (pool_opening pool.now) (full_since busy) (full_history busy) number) }
+    ensures { IfSome result (λ busy.
+        WasOutBetween (pool_opening pool.now) (full_since busy) (full_history busy) number) }
 {
     match pool.try_pull(pass) {
         Ok(_) => None,
@@ -109,8 +113,10 @@ fn work(pool: &NumberPool, rounds: usize) -> Result<usize, PullError>
 /// One thread returns 5 on page 0, another 6 on page 2, each with a note. A pull by the first note, then told the second,
 /// stands after both returns.
 fn handed_on<'p, R: Threads + Sync>(rt: &R, pool: &'p NumberPool) -> Option<NumberItem<'p>>
-    ensures first { IfSome result (λ item. (user id : ℕ) × (before : History ℕ) × IsPrefixOf (Return user id 5 ∷ before) (reusable_item item).history) }
-    ensures second { IfSome result (λ item. (user id : ℕ) × (before : History ℕ) × IsPrefixOf (Return user id 6 ∷ before) (reusable_item item).history) }
+    ensures first { IfSome result (λ item. (user id : ℕ) × (before : History ℕ)
+        × IsPrefixOf (Return user id 5 ∷ before) (reusable_item item).history) }
+    ensures second { IfSome result (λ item. (user id : ℕ) × (before : History ℕ)
+        × IsPrefixOf (Return user id 6 ∷ before) (reusable_item item).history) }
 {
     let (first, second) = thread::join(
         rt,
@@ -134,8 +140,10 @@ pub fn pulled_after_both<'p>(
 ) -> Option<NumberItem<'p>>
     requires first { note_page first ≡ pool_identity pool.now }
     requires second { note_page second ≡ pool_identity pool.now }
-    ensures after_first { IfSome result (λ item. IsPrefixOf (note_history first) (reusable_item item).history) }
-    ensures after_second { IfSome result (λ item. IsPrefixOf (note_history second) (reusable_item item).history) }
+    ensures after_first { IfSome result (λ item.
+        IsPrefixOf (note_history first) (reusable_item item).history) }
+    ensures after_second { IfSome result (λ item.
+        IsPrefixOf (note_history second) (reusable_item item).history) }
 {
     let mut both = first;
     pool.tell(&mut both, second.into_witness());

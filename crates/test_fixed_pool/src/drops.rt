@@ -6,14 +6,15 @@ use std::alloc::Global;
 use std::mem;
 use std::sync::Arc;
 use std::test::Fail;
-use test_values::counted::{Counted, CountedValues, Counts, NEVER};
+use test_values::counted::{Counted, CountedValues, NEVER};
+use test_values::tally::Tally;
 
 /// A pool of values that are counted.
 type CountedPool<'c> = FixedObjectPool<Counted<'c>, CountedValues<'c>, Keep, AnyValue>;
 
 fn counted<'c>(
     alloc: Global,
-    counts: &'c Counts,
+    counts: &'c Tally,
     refused: usize,
 ) -> Result<CountedPool<'c>, PullError> {
     FixedObjectPool::new(alloc, CountedValues { counts, refused }, Keep, 33)
@@ -22,7 +23,7 @@ fn counted<'c>(
 #[test]
 fn init_that_refuses_stops_a_new_pool(rt: HostRuntime) {
     for refused in 0..33usize {
-        let counts = Counts::new();
+        let counts = Tally::new();
         let refusal = counted(rt.alloc(), &counts, refused).err();
         assert_eq!(rt; refusal, Some(PullError::Init));
         assert_eq!(rt; counts.now(), (refused.saturating_add(1), refused));
@@ -31,7 +32,7 @@ fn init_that_refuses_stops_a_new_pool(rt: HostRuntime) {
 
 #[test]
 fn a_pool_drops_what_it_has(rt: HostRuntime) -> Result<(), Fail> {
-    let counts = Counts::new();
+    let counts = Tally::new();
     let pool = counted(rt.alloc(), &counts, NEVER)?;
     let item = pool.pull()?;
     assert_eq!(rt; (item.call, counts.now()), (0, (33, 0)));
@@ -45,7 +46,7 @@ fn a_pool_drops_what_it_has(rt: HostRuntime) -> Result<(), Fail> {
 
 #[test]
 fn a_last_owner_drops_what_the_pool_has(rt: HostRuntime) -> Result<(), Fail> {
-    let counts = Counts::new();
+    let counts = Tally::new();
     let pool = Arc::new(rt.alloc(), counted(rt.alloc(), &counts, NEVER)?)?;
     let first = pool.pull_owned()?;
     let second = pool.pull_owned()?;
@@ -60,7 +61,7 @@ fn a_last_owner_drops_what_the_pool_has(rt: HostRuntime) -> Result<(), Fail> {
 
 #[test]
 fn a_refused_owned_pull_lets_its_pool_end(rt: HostRuntime) -> Result<(), Fail> {
-    let counts = Counts::new();
+    let counts = Tally::new();
     let init = CountedValues {
         counts: &counts,
         refused: NEVER,

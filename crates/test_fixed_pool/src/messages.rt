@@ -39,8 +39,10 @@ fn receive<W: Wait>(rt: &W, from: &Receiver<Message>) -> Option<Message> {
 
 /// Pulls after all that the sender of a message knew, returns the item, and tells so by a message of its own.
 fn answered(message: Message) -> Option<Message>
-    ensures pool { IfSome result (λ answer. pool_identity (arc_value answer.pool) ≡ pool_identity (arc_value message.pool)) }
-    ensures after { IfSome result (λ answer. IsPrefixOf (note_history message.note) (note_history answer.note)) }
+    ensures pool { IfSome result (λ answer.
+        pool_identity (arc_value answer.pool) ≡ pool_identity (arc_value message.pool)) }
+    ensures after { IfSome result (λ answer.
+        IsPrefixOf (note_history message.note) (note_history answer.note)) }
 {
     let Message { pool, note } = message;
     let Some(item) = pulled_after(&pool, note) else {

@@ -14,7 +14,6 @@ mod observer;
 mod openings;
 mod others;
 mod pages;
-mod peak_memory;
 mod stack_pools;
 mod supply;
 mod worlds;

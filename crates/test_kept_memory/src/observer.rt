@@ -1,7 +1,7 @@
 //! Whether turns of some kind keep memory, and whether work of some kind takes much.
-use crate::peak_memory::{peak_kilobytes, peak_virtual_kilobytes};
 use anyhow::Result;
 use std::rt::Files;
+use test_peak_memory::{peak_kilobytes, peak_virtual_kilobytes};
 
 /// How many turns are observed.
 const TURNS: usize = 200_000;

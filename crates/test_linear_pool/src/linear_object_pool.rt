@@ -9,7 +9,8 @@ use std::alloc::Global;
 use std::sync::Arc;
 use std::sync::atomic::AtomicUsize;
 use std::sync::atomic::Ordering::SeqCst;
-use test_values::counted::{Counted, CountedValues, Counts, NEVER};
+use test_values::counted::{Counted, CountedValues, NEVER};
+use test_values::tally::Tally;
 use test_values::zeros::{CountedZeros, ToZero, Zero, new_calls};
 
 mod callers;
@@ -56,18 +57,14 @@ fn kept(alloc: Global, calls: &Arc<AtomicUsize>) -> Kept {
     LinearObjectPool::new(alloc, CountedZeros { calls }, Keep)
 }
 
-fn counted<'c>(
-    alloc: Global,
-    counts: &'c Counts,
-    refused: usize,
-) -> Result<Tracked<'c>, PullError> {
+fn counted<'c>(alloc: Global, counts: &'c Tally, refused: usize) -> Result<Tracked<'c>, PullError> {
     LinearObjectPool::new(alloc, CountedValues { counts, refused }, Keep)
 }
 
 /// The same in an `Arc`.
 fn shared<'c>(
     alloc: Global,
-    counts: &'c Counts,
+    counts: &'c Tally,
     refused: usize,
 ) -> Result<Arc<Tracked<'c>>, PullError> {
     Ok(Arc::new(alloc, counted(alloc, counts, refused)?)?)

@@ -3,31 +3,18 @@ use lockfree_object_pool::clean::AnyValue;
 use lockfree_object_pool::closures::{Init, Reset};
 use std::fmt;
 use std::sync::Arc;
-use std::sync::atomic::AtomicU64;
-use std::sync::atomic::Ordering::SeqCst;
+use test_values::tally::Tally;
 
-/// How many items `init` made, how many were reset, and how many were dropped.
-#[derive(Drop)]
-pub struct Tally {
-    made: AtomicU64,
-    reset: AtomicU64,
-    dropped: AtomicU64,
+/// The figures of a tally, as a line of the replay shows them.
+#[derive(Clone, Copy)]
+pub struct Totals<'t> {
+    pub tally: &'t Tally,
 }
 
-impl Tally {
-    pub fn new() -> Tally {
-        Tally {
-            made: AtomicU64::new(0),
-            reset: AtomicU64::new(0),
-            dropped: AtomicU64::new(0),
-        }
-    }
-}
-
-impl fmt::Display for Tally {
+impl fmt::Display for Totals<'_> {
     fn fmt<W: fmt::Write>(&self, f: &mut fmt::Formatter<W>) -> fmt::Result {
-        let (made, reset) = (self.made.load(SeqCst), self.reset.load(SeqCst));
-        let dropped = self.dropped.load(SeqCst);
+        let (made, reset) = (self.tally.made(), self.tally.resets());
+        let dropped = self.tally.drops();
         write!(f, "{made} made, {reset} reset, {dropped} dropped")
     }
 }
@@ -73,7 +60,7 @@ impl Drop for Item {
             number: _,
             content: _,
         } = self;
-        tally.dropped.fetch_add(1, SeqCst);
+        tally.count_drop();
     }
 }
 
@@ -85,8 +72,9 @@ pub struct Numbered {
 
 impl Init<Item, AnyValue> for Numbered {
     fn make(&self) -> Option<Item> {
-        let number = self.tally.made.fetch_add(1, SeqCst);
-        Item::new(&self.tally, number)
+        let number = self.tally.next_call();
+        self.tally.count_made();
+        Item::new(&self.tally, number as u64)
     }
 }
 
@@ -99,7 +87,7 @@ pub struct Restore {
 
 impl Reset<Item, AnyValue> for Restore {
     fn reset(&self, item: &mut Item) {
-        self.tally.reset.fetch_add(1, SeqCst);
+        self.tally.count_reset();
         if self.clears {
             item.content = 0;
         }

@@ -12,7 +12,7 @@ mod replay;
 use anyhow::{Context, Result};
 use arguments::{Arguments, Kind, arguments_of};
 use held::{Given, Source};
-use item::{Item, Numbered, Restore, Tally};
+use item::{Item, Numbered, Restore, Totals};
 use lockfree_object_pool::closures::Init;
 use lockfree_object_pool::free_list::FreeList;
 use lockfree_object_pool::{
@@ -24,6 +24,7 @@ use pools::{
 use replay::replay;
 use std::env;
 use std::sync::{Arc, Wait};
+use test_values::tally::{Tally, new_tally};
 
 fn main(rt: HostRuntime) -> Result<()> {
     let mut arguments = env::args(&rt)?;
@@ -33,9 +34,9 @@ fn main(rt: HostRuntime) -> Result<()> {
     let arguments = arguments_of(&words).context(
         "usage: test_original_answers linear|mutex|spin_lock|none keep|clear",
     )?;
-    let tally = Arc::new(rt.alloc(), Tally::new())?;
+    let tally = new_tally(rt.alloc())?;
     replay_on(&rt, &tally, arguments)?;
-    println!(rt; "end: {}", *tally)?;
+    println!(rt; "end: {}", Totals { tally: &tally })?;
     Ok(())
 }
 

@@ -1,12 +1,13 @@
 //! Calls are read and done one after another, and each is answered.
 use crate::call::{Call, Origin, call_of};
 use crate::held::{Given, Held, Place, Source};
-use crate::item::{Item, Shown, Tally};
+use crate::item::{Item, Shown, Totals};
 use anyhow::{Context, Result, ensure};
 use std::io::{BufRead, BufReader, BufWriter, Write};
 use std::ops::DerefMut;
 use std::sync::Arc;
 use std::{fmt, io, mem};
+use test_values::tally::Tally;
 
 /// What a call gave.
 #[derive(Clone, Copy, Debug)]
@@ -73,7 +74,7 @@ pub fn replay<
                 Answer::Went
             }
         };
-        writeln!(output, "{answer}: {}", **tally)?;
+        writeln!(output, "{answer}: {}", Totals { tally })?;
     }
     output.flush()?;
     Ok(())

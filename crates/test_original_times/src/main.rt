@@ -3,18 +3,17 @@
 #![tactic(auto)]
 
 mod measure;
-mod peak_memory;
 mod task;
 mod turns;
 
 use anyhow::{Context, Result};
 use measure::measure;
-use peak_memory::peak_kilobytes;
 use std::env;
 use std::rt::{Clock, Env, Files};
 use std::sync::Wait;
 use std::thread::Threads;
 use task::{Kind, Task, Work, task_of};
+use test_peak_memory::peak_kilobytes;
 
 /// How often each work is done where no task is asked for.
 const FEW_TURNS: u64 = 100;

@@ -1,6 +1,5 @@
 //! Fixed pools: a refused opening drops what it made, and nothing behind it takes memory.
 use crate::refusals::Refusals;
-use crate::tallied::{Tallied, TalliedValues, Tally, new_tally};
 use lockfree_object_pool::clean::AnyValue;
 use lockfree_object_pool::closures::Keep;
 use lockfree_object_pool::{FixedObjectPool, PullError};
@@ -8,6 +7,8 @@ use std::alloc::Global;
 use std::process::Abort;
 use std::sync::Arc;
 use std::test::Fail;
+use test_values::tallied::{Tallied, TalliedValues};
+use test_values::tally::{Tally, new_tally};
 
 /// How many items the pools here have: three pages, the last with one item.
 const ITEMS: usize = 65;

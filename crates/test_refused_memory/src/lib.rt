@@ -25,6 +25,4 @@ mod sequential_cores;
 #[cfg(test)]
 mod stack_pools;
 #[cfg(test)]
-mod tallied;
-#[cfg(test)]
 mod worlds;

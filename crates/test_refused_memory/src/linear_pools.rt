@@ -1,6 +1,5 @@
 //! Linear pools: what is refused loses no item, and can be asked for again.
 use crate::refusals::Refusals;
-use crate::tallied::{Tallied, TalliedValues, Tally, new_tally};
 use lockfree_object_pool::clean::AnyValue;
 use lockfree_object_pool::closures::Keep;
 use lockfree_object_pool::{LinearObjectPool, PullError};
@@ -9,6 +8,8 @@ use std::mem;
 use std::process::Abort;
 use std::sync::Arc;
 use std::test::Fail;
+use test_values::tallied::{Tallied, TalliedValues};
+use test_values::tally::{Tally, new_tally};
 
 /// A pool of values that are tallied.
 type Tracked = LinearObjectPool<Tallied, TalliedValues, Keep, AnyValue>;

@@ -1,6 +1,5 @@
 //! Pages and chains: what is refused drops what was made for it and links nothing.
 use crate::refusals::Refusals;
-use crate::tallied::{Tallied, Tally, make, new_tally};
 use lockfree_object_pool::PullError;
 use lockfree_object_pool::clean::AnyValue;
 use lockfree_object_pool::linear_page::{Chain, LinearPage};
@@ -9,6 +8,8 @@ use std::mem;
 use std::process::Abort;
 use std::sync::Arc;
 use std::test::Fail;
+use test_values::tallied::Tallied;
+use test_values::tally::{Tally, new_tally};
 
 type TalliedPage<'c> = LinearPage<'c, Tallied, AnyValue>;
 
@@ -18,7 +19,7 @@ fn a_page_that_was_refused_is_asked_again(rt: HostRuntime) -> Result<(), Fail> {
     let tally = refusals.again(&|| new_tally(rt.alloc()))?;
     let page: Page<Tallied, AnyValue> = refusals.again(&|| Page::new(
         rt.alloc(),
-        &|| make(&tally),
+        &|| Tallied::new(&tally),
     ))?;
     assert_eq!(rt; (page.get_mask(), tally.living()), (u32::MAX, 32));
     drop(page);
@@ -42,7 +43,9 @@ fn behind_full<'c>(
     let pass = PullPass::new();
     match page.page().try_alloc(&pass)? {
         Allocated::Slot(_) => Ok(None),
-        Allocated::Full(seen) => page.get_or_create_next(seen, &|| make(tally)).map(Some),
+        Allocated::Full(seen) => page
+            .get_or_create_next(seen, &|| Tallied::new(tally))
+            .map(Some),
     }
 }
 
@@ -52,7 +55,7 @@ fn used_up(
     refusals: &Refusals,
     tally: &Arc<Tally>,
 ) -> Result<Chain<Tallied, AnyValue>, Fail> {
-    let chain = refusals.again(&|| Chain::new(rt.alloc(), &|| make(tally)))?;
+    let chain = refusals.again(&|| Chain::new(rt.alloc(), &|| Tallied::new(tally)))?;
     assert_eq!(rt; tally.living(), 32);
     forget_all(&chain.first()).ok_or("32 items are free")?;
     Ok(chain)
@@ -85,9 +88,9 @@ fn a_walk_that_was_refused_is_asked_again(rt: HostRuntime) -> Result<(), Fail> {
     let tally = refusals.again(&|| new_tally(rt.alloc()))?;
     let chain = used_up(&rt, &refusals, &tally)?;
     let first = chain.first();
-    let (slot, pages) = refusals.again(&|| first.alloc(&|| make(&tally)))?;
+    let (slot, pages) = refusals.again(&|| first.alloc(&|| Tallied::new(&tally)))?;
     assert_eq!(rt; (slot.id(), pages, tally.living()), (0, 1, 64));
-    let (owned, pages) = refusals.again(&|| first.alloc_owned(&|| make(&tally)))?;
+    let (owned, pages) = refusals.again(&|| first.alloc_owned(&|| Tallied::new(&tally)))?;
     assert_eq!(rt; (owned.id(), pages, tally.living()), (1, 1, 64));
     Ok(refusals.tell(&rt)?)
 }
@@ -98,9 +101,9 @@ fn a_bounded_walk_that_was_refused_is_asked_again(rt: HostRuntime) -> Result<(),
     let tally = refusals.again(&|| new_tally(rt.alloc()))?;
     let chain = used_up(&rt, &refusals, &tally)?;
     let first = chain.first();
-    let (owned, pages) = refusals.again(&|| first.alloc_owned_within(2, &|| make(&tally)))?;
+    let (owned, pages) = refusals.again(&|| first.alloc_owned_within(2, &|| Tallied::new(&tally)))?;
     assert_eq!(rt; (owned.id(), pages, tally.living()), (0, 1, 64));
-    let (slot, pages) = refusals.again(&|| first.alloc_within(2, &|| make(&tally)))?;
+    let (slot, pages) = refusals.again(&|| first.alloc_within(2, &|| Tallied::new(&tally)))?;
     assert_eq!(rt; (slot.id(), pages, tally.living()), (1, 1, 64));
     Ok(refusals.tell(&rt)?)
 }

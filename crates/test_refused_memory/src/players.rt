@@ -1,16 +1,17 @@
 //! Players: a command that was refused is answered again as with ample memory, and a run goes on from the commands done.
 use crate::refusals::Refusals;
-use crate::tallied::{Tallied, TalliedValues, Tally, make, new_tally};
 use lockfree_object_pool::PullError;
 use lockfree_object_pool::clean::AnyValue;
 use lockfree_object_pool::closures::{Copied, Keep};
 use object_pool_cores::sequential::{
     AttachError, Command, LinearCore, NoneCore, Player, Reply, RunError, SequentialPool, StackCore,
 };
-use std::alloc::{AllocError, Global};
+use std::alloc::Global;
 use std::process::Abort;
 use std::sync::Arc;
 use std::test::Fail;
+use test_values::tallied::{Tallied, TalliedValues};
+use test_values::tally::{Tally, new_tally};
 
 type Zeros = Copied<u32, AnyValue>;
 
@@ -119,28 +120,6 @@ fn a_command_again_is_answered_as_with_memory(rt: HostRuntime) -> Result<(), Fai
 /// How many pulls a run has.
 const PULLS: usize = 4;
 
-fn pulls(alloc: Global, count: usize) -> Result<Vec<Command<u32>>, AllocError> {
-    let mut commands = Vec::with_capacity(alloc, count)?;
-    for _ in 0..count {
-        commands.push(Command::Pull)?;
-    }
-    Ok(commands)
-}
-
-fn pulls_again(
-    refusals: &Refusals,
-    alloc: Global,
-    count: usize,
-) -> Result<Vec<Command<u32>>, AllocError> {
-    match pulls(alloc, count) {
-        Err(_) => {
-            refusals.note();
-            pulls(alloc, count)
-        }
-        made => made,
-    }
-}
-
 /// How many of the replies tell of a pull. The pulls count the holders from 0 on, and the others were refused for memory.
 fn pulled(rt: &impl Abort, pool: Pool, replies: &[Reply<u32>]) -> usize {
     let mut pulled = 0usize;
@@ -166,7 +145,7 @@ fn runs_on<P: SequentialPool<u32> + Drop>(
 ) -> Result<(), Fail> {
     let mut player = Player::new(alloc, core);
     let mut replies = Vec::new(alloc);
-    let commands = pulls_again(refusals, alloc, PULLS)?;
+    let commands = refusals.list_again(alloc, PULLS, &|| Ok(Command::Pull))?;
     let mut refused = 0usize;
     if player.run(commands, &mut replies).is_err() {
         refusals.note();
@@ -174,7 +153,8 @@ fn runs_on<P: SequentialPool<u32> + Drop>(
         let done = replies.len();
         assert_eq!(rt; pulled(rt, pool, &replies), done, "{pool:?}");
         assert!(rt; done < PULLS && player.held(done).is_none(), "{pool:?}");
-        let rest = pulls_again(refusals, alloc, PULLS.saturating_sub(done))?;
+        let rest = PULLS.saturating_sub(done);
+        let rest = refusals.list_again(alloc, rest, &|| Ok(Command::Pull))?;
         player.run(rest, &mut replies)?;
     } else if replies
         .as_slice()
@@ -252,14 +232,10 @@ fn holds_first(rt: &impl Abort, refusals: &Refusals, player: &mut Player<Tallied
 /// How many writes a run has.
 const WRITES: usize = 6;
 
-/// Writes of values, each with the next number.
-fn writes(alloc: Global, tally: &Arc<Tally>) -> Result<Vec<Command<Tallied>>, PullError> {
-    let mut commands = Vec::with_capacity(alloc, WRITES)?;
-    for _ in 0..WRITES {
-        let value = make(tally).ok_or(PullError::Init)?;
-        commands.push(Command::Write(0, value))?;
-    }
-    Ok(commands)
+/// A write of a value with the next number.
+fn write(tally: &Arc<Tally>) -> Result<Command<Tallied>, PullError> {
+    let value = Tallied::new(tally).ok_or(PullError::Init)?;
+    Ok(Command::Write(0, value))
 }
 
 #[test]
@@ -269,7 +245,7 @@ fn a_run_that_was_refused_drops_the_commands_not_done(rt: HostRuntime) -> Result
     let core: Stack = StackCore::new(rt.alloc(), TalliedValues::new(&tally)?, Keep);
     let mut player = Player::new(rt.alloc(), core);
     holds_first(&rt, &refusals, &mut player);
-    let commands = refusals.again(&|| writes(rt.alloc(), &tally))?;
+    let commands = refusals.list_again(rt.alloc(), WRITES, &|| write(&tally))?;
     assert_eq!(rt; tally.living(), WRITES.saturating_add(1));
     let mut replies = Vec::new(rt.alloc());
     let is_refused = player.run(commands, &mut replies).is_err();
@@ -292,7 +268,7 @@ fn an_attach_that_was_refused_is_a_reply_with_the_value(rt: HostRuntime) -> Resu
     let mut player = Player::new(rt.alloc(), core);
     holds_first(&rt, &refusals, &mut player);
     assert!(rt; matches!(player.play(Command::Return(0)), Ok(Reply::Returned)));
-    let value = make(&tally).ok_or("a value takes no memory")?;
+    let value = Tallied::new(&tally).ok_or("a value takes no memory")?;
     let reply = player.play(Command::Attach(value));
     let number = match &reply {
         Ok(Reply::Attached(holder)) => player.held(*holder).map(|held| held.number),

@@ -1,5 +1,6 @@
 //! What a test has met of refused memory.
 use lockfree_object_pool::PullError;
+use std::alloc::Global;
 use std::cell::Cell;
 use std::io;
 
@@ -34,6 +35,24 @@ impl Refusals {
         }
     }
 
+    /// A list of so many entries, whose room is asked for at once. Where memory was refused, that of a second try.
+    pub fn list_again<X: Drop, F: Fn() -> Result<X, PullError>>(
+        &self,
+        alloc: Global,
+        count: usize,
+        entry: &F,
+    ) -> Result<Vec<X>, PullError>
+        requires { F.pre entry.now }
+    {
+        match list_of(alloc, count, entry) {
+            Err(PullError::Memory) => {
+                self.note();
+                list_of(alloc, count, entry)
+            }
+            answer => answer,
+        }
+    }
+
     /// Prints whether memory was refused.
     pub fn tell(&self, rt: &impl Print) -> io::Result<()> {
         if self.is_met.get() {
@@ -42,4 +61,19 @@ impl Refusals {
             println!(rt; "each request for memory was met")
         }
     }
+}
+
+/// A list of so many entries, whose room is asked for at once.
+fn list_of<X: Drop, F: Fn() -> Result<X, PullError>>(
+    alloc: Global,
+    count: usize,
+    entry: &F,
+) -> Result<Vec<X>, PullError>
+    requires { F.pre entry.now }
+{
+    let mut list = Vec::with_capacity(alloc, count)?;
+    for _ in 0..count {
+        list.push(entry()?)?;
+    }
+    Ok(list)
 }

@@ -1,6 +1,5 @@
 //! Pools of one owner: what is refused changes nothing, and can be asked for again.
 use crate::refusals::Refusals;
-use crate::tallied::{Tallied, TalliedValues, Tally, make, new_tally};
 use lockfree_object_pool::PullError;
 use lockfree_object_pool::clean::AnyValue;
 use lockfree_object_pool::closures::Keep;
@@ -11,6 +10,8 @@ use std::alloc::Global;
 use std::process::Abort;
 use std::sync::Arc;
 use std::test::Fail;
+use test_values::tallied::{Tallied, TalliedValues};
+use test_values::tally::{Tally, new_tally};
 
 type Linear = LinearCore<Tallied, TalliedValues, Keep, AnyValue>;
 
@@ -22,7 +23,7 @@ fn a_page_that_was_refused_is_asked_again(rt: HostRuntime) -> Result<(), Fail> {
     let tally = refusals.again(&|| new_tally(rt.alloc()))?;
     let page: CorePage<Tallied, AnyValue> = refusals.again(&|| CorePage::new(
         rt.alloc(),
-        &|| make(&tally),
+        &|| Tallied::new(&tally),
     ))?;
     assert_eq!(rt; (page.get_mask(), tally.living()), (u32::MAX, 32));
     Ok(refusals.tell(&rt)?)
@@ -104,7 +105,7 @@ fn an_attached_value_comes_back(rt: HostRuntime) -> Result<(), Fail> {
     let refusals = Refusals::new();
     let tally = refusals.again(&|| new_tally(rt.alloc()))?;
     let mut core: Stack = StackCore::new(rt.alloc(), TalliedValues::new(&tally)?, Keep);
-    let value = make(&tally).ok_or("a value takes no memory")?;
+    let value = Tallied::new(&tally).ok_or("a value takes no memory")?;
     let attached = match core.attach(value) {
         Err(AttachError::Memory(back)) => {
             refusals.note();

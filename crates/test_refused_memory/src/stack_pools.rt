@@ -1,6 +1,5 @@
 //! Mutex pools and spin lock pools: what is refused calls no `init`, and can be asked for again.
 use crate::refusals::Refusals;
-use crate::tallied::{Tallied, TalliedValues, Tally, make, new_tally};
 use lockfree_object_pool::clean::AnyValue;
 use lockfree_object_pool::closures::{Copied, Keep};
 use lockfree_object_pool::free_list::FreeList;
@@ -14,6 +13,8 @@ use std::alloc::Global;
 use std::process::Abort;
 use std::sync::{Arc, Wait};
 use std::test::Fail;
+use test_values::tallied::{Tallied, TalliedValues};
+use test_values::tally::{Tally, new_tally};
 
 /// What a pool of tallied values keeps.
 type TrackedValues = MadeOrReset<TalliedValues, Keep, AnyValue>;
@@ -211,7 +212,7 @@ fn ends_behind_attach<F: FreeList<Tallied, TrackedValues>, W: Abort + Wait + Cop
     tally: &Arc<Tally>,
 ) -> Result<(), Fail> {
     refusals.again(&|| pool.fill(rt, 1))?;
-    let value = make(tally).ok_or("a value takes no memory")?;
+    let value = Tallied::new(tally).ok_or("a value takes no memory")?;
     match StackReusable::new(rt, Arc::try_clone(&pool)?, value) {
         Ok(item) => drop(item),
         Err(back) => {

@@ -1,14 +1,15 @@
 //! The world of agents: an event that was refused changes nothing but drops its values, and is answered again as with
 //! ample memory.
 use crate::refusals::Refusals;
-use crate::tallied::{Tallied, Tally, make, new_tally};
 use lockfree_object_pool::PullError;
 use lockfree_object_pool::closures::Keep;
 use object_pool_cores::interleave::{Event, Prepared, Seen, World};
-use std::alloc::{AllocError, Global};
+use std::alloc::Global;
 use std::process::Abort;
 use std::sync::Arc;
 use std::test::Fail;
+use test_values::tallied::Tallied;
+use test_values::tally::{Tally, new_tally};
 
 /// The word of a page all of whose items are free.
 const FULL: u32 = 4294967295;
@@ -22,7 +23,7 @@ fn unbounded(alloc: Global) -> Result<World<u32, Keep>, PullError> {
 }
 
 fn tallied_values(alloc: Global, tally: &Arc<Tally>) -> Result<Prepared<Tallied>, PullError> {
-    Prepared::make(alloc, &|| make(tally))
+    Prepared::make(alloc, &|| Tallied::new(tally))
 }
 
 type TalliedWorld = World<Tallied, Keep>;
@@ -118,39 +119,18 @@ fn a_page_that_was_refused_is_asked_again(rt: HostRuntime) -> Result<(), Fail> {
 /// How many agents begin in a run.
 const AGENTS: usize = 6;
 
-fn begins(alloc: Global, count: usize) -> Result<Vec<Event<u32>>, AllocError> {
-    let mut events = Vec::with_capacity(alloc, count)?;
-    for _ in 0..count {
-        events.push(Event::Begin)?;
-    }
-    Ok(events)
-}
-
-fn begins_again(
-    refusals: &Refusals,
-    alloc: Global,
-    count: usize,
-) -> Result<Vec<Event<u32>>, AllocError> {
-    match begins(alloc, count) {
-        Err(_) => {
-            refusals.note();
-            begins(alloc, count)
-        }
-        made => made,
-    }
-}
-
 #[test]
 fn a_run_goes_on_from_the_events_done(rt: HostRuntime) -> Result<(), Fail> {
     let refusals = Refusals::new();
     let mut world = refusals.again(&|| unbounded(rt.alloc()))?;
     let mut seen = Vec::new(rt.alloc());
-    let events = begins_again(&refusals, rt.alloc(), AGENTS)?;
+    let events = refusals.list_again(rt.alloc(), AGENTS, &|| Ok(Event::Begin))?;
     if world.run(events, &mut seen).is_err() {
         refusals.note();
         // It was the list of answers that couldn't grow: of the world's own tables an answer tells.
         assert!(rt; !seen.as_slice().contains(&Seen::NoMemory));
-        let rest = begins_again(&refusals, rt.alloc(), AGENTS.saturating_sub(seen.len()))?;
+        let rest = AGENTS.saturating_sub(seen.len());
+        let rest = refusals.list_again(rt.alloc(), rest, &|| Ok(Event::Begin))?;
         world.run(rest, &mut seen)?;
     }
     assert_eq!(rt; seen.len(), AGENTS);
@@ -179,7 +159,7 @@ fn held_by_one(
     let _ = world.step(Event::ReadMask(0));
     let _ = world.step(Event::ClearBit(0));
     let _ = world.step(Event::MoveOut(0));
-    let value = make(tally).ok_or("a value takes no memory")?;
+    let value = Tallied::new(tally).ok_or("a value takes no memory")?;
     let number = value.number;
     let wrote = world.step(Event::Write(0, value));
     assert_eq!(rt; wrote, Seen::Wrote(0));
@@ -189,14 +169,10 @@ fn held_by_one(
 /// How many writes a run has.
 const WRITES: usize = 6;
 
-/// Writes of values, each with the next number.
-fn writes(alloc: Global, tally: &Arc<Tally>) -> Result<Vec<Event<Tallied>>, PullError> {
-    let mut events = Vec::with_capacity(alloc, WRITES)?;
-    for _ in 0..WRITES {
-        let value = make(tally).ok_or(PullError::Init)?;
-        events.push(Event::Write(0, value))?;
-    }
-    Ok(events)
+/// A write of a value with the next number.
+fn write(tally: &Arc<Tally>) -> Result<Event<Tallied>, PullError> {
+    let value = Tallied::new(tally).ok_or(PullError::Init)?;
+    Ok(Event::Write(0, value))
 }
 
 #[test]
@@ -204,7 +180,7 @@ fn a_run_that_was_refused_drops_the_events_not_done(rt: HostRuntime) -> Result<(
     let refusals = Refusals::new();
     let tally = refusals.again(&|| new_tally(rt.alloc()))?;
     let (mut world, number) = held_by_one(&rt, &refusals, &tally)?;
-    let events = refusals.again(&|| writes(rt.alloc(), &tally))?;
+    let events = refusals.list_again(rt.alloc(), WRITES, &|| write(&tally))?;
     assert_eq!(rt; tally.living(), WRITES.saturating_add(32));
     let mut seen = Vec::new(rt.alloc());
     let is_refused = world.run(events, &mut seen).is_err();

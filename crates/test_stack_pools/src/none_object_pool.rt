@@ -7,7 +7,8 @@ use std::cell::Cell;
 use std::mem;
 use std::sync::Arc;
 use std::test::Fail;
-use test_values::counted::{Counted, Counts};
+use test_values::counted::Counted;
+use test_values::tally::Tally;
 
 mod owned;
 
@@ -92,7 +93,7 @@ fn each_pull_makes_an_item(rt: HostRuntime) -> Result<(), Fail> {
 
 #[test]
 fn init_that_refuses_once_is_asked_again(rt: HostRuntime) -> Result<(), Fail> {
-    let counts = Counts::new();
+    let counts = Tally::new();
     let pool = NoneObjectPool::new(|| counts.make_but(0));
     assert_eq!(rt; pool.pull().err(), Some(PullError::Init));
     assert_eq!(rt; pool.pull()?.call, 1);
@@ -101,7 +102,7 @@ fn init_that_refuses_once_is_asked_again(rt: HostRuntime) -> Result<(), Fail> {
 
 #[test]
 fn each_item_is_dropped_once(rt: HostRuntime) -> Result<(), Fail> {
-    let counts = Counts::new();
+    let counts = Tally::new();
     let pool = Arc::new(rt.alloc(), NoneObjectPool::new(|| Some(counts.make())))?;
     let (item, owned) = (pool.pull()?, pool.pull_owned()?);
     assert_eq!(rt; (item.call, owned.call, counts.now()), (0, 1, (2, 0)));

@@ -3,7 +3,7 @@ use lockfree_object_pool::PullError;
 use std::alloc::AllocFailed;
 use std::collections::HashSet;
 use std::test::Fail;
-use test_values::counted::Counts;
+use test_values::tally::Tally;
 
 #[test]
 fn each_refusal_has_its_own_words(rt: HostRuntime) -> Result<(), Fail> {
@@ -21,7 +21,7 @@ fn each_refusal_has_its_own_words(rt: HostRuntime) -> Result<(), Fail> {
 
 #[test]
 fn a_value_that_memory_was_refused_for_is_dropped(rt: HostRuntime) {
-    let counts = Counts::new();
+    let counts = Tally::new();
     let refused = AllocFailed {
         value: Some(counts.make()),
     };

@@ -5,7 +5,7 @@ use std::sync::atomic::Ordering::SeqCst;
 use std::sync::{Arc, Wait};
 use std::test::Fail;
 use std::{mem, thread};
-use test_values::counted::Counts;
+use test_values::tally::Tally;
 
 mod callers;
 mod sends;
@@ -66,7 +66,7 @@ fn a_lock_is_made_or_gives_its_data_back(rt: HostRuntime) {
 
 #[test]
 fn a_forgotten_guard_leaves_its_value(rt: HostRuntime) -> Result<(), Fail> {
-    let counts = Counts::new();
+    let counts = Tally::new();
     let lock = SpinLock::new(rt.alloc(), counts.make()).map_err(|_| "memory")?;
     mem::forget(lock.lock(&rt));
     drop(lock);
@@ -76,7 +76,7 @@ fn a_forgotten_guard_leaves_its_value(rt: HostRuntime) -> Result<(), Fail> {
 
 #[test]
 fn drops_each_value_once(rt: HostRuntime) -> Result<(), Fail> {
-    let counts = Counts::new();
+    let counts = Tally::new();
     let lock = SpinLock::new(rt.alloc(), counts.make()).map_err(|_| "memory")?;
     let mut guard = lock.lock(&rt);
     *guard = counts.make();

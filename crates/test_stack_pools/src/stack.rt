@@ -2,7 +2,8 @@ use lockfree_object_pool::PullError;
 use lockfree_object_pool::clean::AnyValue;
 use lockfree_object_pool::stack::{Room, Stack};
 use std::test::Fail;
-use test_values::counted::{Counted, Counts};
+use test_values::counted::Counted;
+use test_values::tally::Tally;
 
 #[test]
 fn takes_the_last_value_first(rt: HostRuntime) -> Result<(), Fail> {
@@ -48,7 +49,7 @@ fn a_room_is_made_or_refused_for_memory(rt: HostRuntime) {
 
 #[test]
 fn drops_each_value_once(rt: HostRuntime) -> Result<(), Fail> {
-    let counts = Counts::new();
+    let counts = Tally::new();
     let mut stack: Stack<Counted<'_>, AnyValue> = Stack::new();
     stack.put(Room::new(rt.alloc())?, counts.make());
     stack.put(Room::new(rt.alloc())?, counts.make());
@@ -64,7 +65,7 @@ fn drops_each_value_once(rt: HostRuntime) -> Result<(), Fail> {
 
 #[test]
 fn ends_with_a_million_values(rt: HostRuntime) -> Result<(), Fail> {
-    let counts = Counts::new();
+    let counts = Tally::new();
     let mut stack: Stack<Counted<'_>, AnyValue> = Stack::new();
     for _ in 0..1_000_000 {
         stack.put(Room::new(rt.alloc())?, counts.make());

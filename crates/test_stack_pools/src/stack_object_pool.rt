@@ -14,7 +14,8 @@ use std::process::Abort;
 use std::sync::atomic::AtomicUsize;
 use std::sync::atomic::Ordering::SeqCst;
 use std::sync::{Arc, Mutex, Wait};
-use tallied::{Tallied, TalliedValues, Tally};
+use test_values::tallied::{Tallied, TalliedValues};
+use test_values::tally::{Tally, new_tally};
 use test_values::zeros::{CountedZeros, Zero, new_calls};
 
 mod callers;
@@ -30,7 +31,6 @@ mod resets;
 mod sends;
 mod sizes;
 mod stock;
-mod tallied;
 mod threads;
 mod waits;
 
@@ -105,11 +105,6 @@ fn tracked<F: Kind<Tallied, TalliedValues, Keep, AnyValue>>(
     tally: &Arc<Tally>,
     refused: usize,
 ) -> Result<Arc<Tracked<F>>, PullError> {
-    let tally = Arc::try_clone(tally)?;
-    let init = TalliedValues { tally, refused };
+    let init = TalliedValues::new_but(tally, refused)?;
     Ok(Arc::new(alloc, F::new_pool(alloc, init, Keep)?)?)
-}
-
-fn new_tally(alloc: Global) -> Result<Arc<Tally>, PullError> {
-    Ok(Arc::new(alloc, Tally::new())?)
 }

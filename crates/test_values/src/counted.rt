@@ -1,47 +1,26 @@
-//! Values of the tests, which count how often they are made and dropped, and what makes them for a pool.
+//! Values that borrow the tally which counts how often they are made and dropped, and what makes them for a pool.
 ghost use Rattle.std.specs.Prelude.{⊤};
 
+use crate::tally::Tally;
 use lockfree_object_pool::clean::AnyValue;
 use lockfree_object_pool::closures::Init;
-use std::sync::atomic::AtomicUsize;
-use std::sync::atomic::Ordering::SeqCst;
 
-/// How many calls there were for a value, and how many values were dropped.
-#[derive(Drop)]
-pub struct Counts {
-    calls: AtomicUsize,
-    drops: AtomicUsize,
-}
-
-impl Counts {
-    pub fn new() -> Counts {
-        Counts {
-            calls: AtomicUsize::new(0),
-            drops: AtomicUsize::new(0),
-        }
-    }
-
-    /// The calls and the drops until now.
-    pub fn now(&self) -> (usize, usize) {
-        (self.calls.load(SeqCst), self.drops())
-    }
-
-    pub fn drops(&self) -> usize {
-        self.drops.load(SeqCst)
-    }
-
+impl Tally {
     /// A value, by one more call.
     pub fn make(&self) -> Counted<'_> {
-        let call = self.calls.fetch_add(1, SeqCst);
+        let call = self.next_call();
+        self.count_made();
         Counted { counts: self, call }
     }
 
     /// As `make`, but for one call, counted from 0, which is refused.
     pub fn make_but(&self, refused: usize) -> Option<Counted<'_>> {
-        let call = self.calls.fetch_add(1, SeqCst);
+        let call = self.next_call();
         if call == refused {
+            self.count_refused();
             None
         } else {
+            self.count_made();
             Some(Counted { counts: self, call })
         }
     }
@@ -49,21 +28,21 @@ impl Counts {
 
 /// A value that knows which call made it, counted from 0, and counts its drop.
 pub struct Counted<'c> {
-    counts: &'c Counts,
+    counts: &'c Tally,
     pub call: usize,
 }
 
 impl Drop for Counted<'_> {
     fn drop(self) {
         let Counted { counts, call: _ } = self;
-        counts.drops.fetch_add(1, SeqCst);
+        counts.count_drop();
     }
 }
 
 /// Makes values that are counted, and refuses at one call, counted from 0.
 #[derive(Drop)]
 pub struct CountedValues<'c> {
-    pub counts: &'c Counts,
+    pub counts: &'c Tally,
     pub refused: usize,
 }
 

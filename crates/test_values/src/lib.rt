@@ -1,6 +1,8 @@
-//! What tests of the pools share: values that are counted, what makes and resets zeros, and asking again.
+//! What tests of the pools share: a tally and the values that it counts, what makes and resets zeros, and asking again.
 #![tactic(auto)]
 
 pub mod counted;
 pub mod refused;
+pub mod tallied;
+pub mod tally;
 pub mod zeros;

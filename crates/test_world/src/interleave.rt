@@ -8,6 +8,8 @@ use std::cell::Cell;
 use std::process::Abort;
 use std::rc::Rc;
 use std::test::Fail;
+use test_values::counted::Counted;
+use test_values::tally::Tally;
 
 mod hints;
 mod late_links;
@@ -58,31 +60,9 @@ fn give_back<T: Drop, R: Reset<T, AnyValue>>(world: &mut World<T, R>, agent: usi
     let _ = world.step(Event::OrMask(agent));
 }
 
-/// An item whose end is counted.
-struct Counted<'c> {
-    ends: &'c Cell<u32>,
-}
-
-impl Drop for Counted<'_> {
-    fn drop(self) {
-        let Self { ends } = self;
-        ends.set(ends.get().saturating_add(1));
-    }
-}
-
-/// 32 items whose makings and ends are counted.
-fn make_counted<'c>(
-    alloc: Global,
-    made: &Cell<u32>,
-    ends: &'c Cell<u32>,
-) -> Result<Prepared<Counted<'c>>, PullError> {
-    Prepared::make(
-        alloc,
-        &|| {
-            made.set(made.get().saturating_add(1));
-            Some(Counted { ends })
-        },
-    )
+/// 32 items whose makings and drops are counted.
+fn make_counted<'c>(alloc: Global, tally: &'c Tally) -> Result<Prepared<Counted<'c>>, PullError> {
+    Prepared::make(alloc, &|| Some(tally.make()))
 }
 
 /// 32 owners more of a value, whose count tells how many of them live.
@@ -114,16 +94,16 @@ fn a_lost_clearing_tries_the_next_bit(rt: HostRuntime) -> Result<(), Fail> {
 #[test]
 fn a_lost_link_takes_from_the_linked_page(rt: HostRuntime) -> Result<(), Fail> {
     for limit in [None, Some(2)] {
-        let (made, ends) = (Cell::new(0), Cell::new(0));
-        let first = make_counted(rt.alloc(), &made, &ends)?;
+        let tally = Tally::new();
+        let first = make_counted(rt.alloc(), &tally)?;
         let mut world = match limit {
             Some(pages) => World::with_limit(rt.alloc(), first, Keep, pages)?,
             None => World::new(rt.alloc(), first, Keep)?,
         };
         hold(&mut world, 32);
         let (a, b) = (
-            make_counted(rt.alloc(), &made, &ends)?,
-            make_counted(rt.alloc(), &made, &ends)?,
+            make_counted(rt.alloc(), &tally)?,
+            make_counted(rt.alloc(), &tally)?,
         );
         play(
             &rt,
@@ -146,7 +126,7 @@ fn a_lost_link_takes_from_the_linked_page(rt: HostRuntime) -> Result<(), Fail> {
                 (Event::ClearBit(33), Seen::Pulled(33, 33)),
             ],
         )?;
-        assert_eq!(rt; (made.get(), ends.get()), (96, 32));
+        assert_eq!(rt; tally.now(), (96, 32));
         assert_eq!(rt; (world.pages(), world.limit()), (2, limit));
     }
     Ok(())
@@ -365,21 +345,11 @@ fn an_agent_alone_is_refused_after_two_events_a_page(rt: HostRuntime) -> Result<
 
 #[test]
 fn a_page_is_made_whole_or_not_at_all(rt: HostRuntime) -> Result<(), Fail> {
-    for last in 1..33u32 {
-        let (calls, ends) = (Cell::new(0u32), Cell::new(0u32));
-        let made = Prepared::make(
-            rt.alloc(),
-            &|| {
-                calls.set(calls.get().saturating_add(1));
-                if calls.get() == last {
-                    None
-                } else {
-                    Some(Counted { ends: &ends })
-                }
-            },
-        );
+    for refused in 0..32usize {
+        let tally = Tally::new();
+        let made = Prepared::make(rt.alloc(), &|| tally.make_but(refused));
         assert!(rt; matches!(made, Err(PullError::Init)));
-        assert_eq!(rt; (calls.get(), ends.get().saturating_add(1)), (last, last));
+        assert_eq!(rt; tally.now(), (refused.saturating_add(1), refused));
     }
     Ok(())
 }

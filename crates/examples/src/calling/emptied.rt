@@ -13,7 +13,8 @@ fn length_left<I: InitBy<Vec<u8>>, R: ResetBy<Vec<u8>>>(
     reset: R,
 ) -> Result<usize, PullError>
     requires may_make { I.may_make init }
-    requires makes_empty { (answer : _) → I.makes init answer → IfSome answer (λ made. made.items ≡ []) }
+    requires makes_empty { (answer : _) → I.makes init answer → IfSome answer
+        (λ made. made.items ≡ []) }
     requires may_reset { R.may_reset reset }
     requires leaves_empty { (old new : _) → R.resets reset old new → new.items ≡ [] }
     ensures comes_empty { IfOk result (λ length. length ≡ 0) }

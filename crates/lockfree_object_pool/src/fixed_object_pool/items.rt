@@ -52,7 +52,7 @@ pub(crate) struct FixedItems<T, K: Clean<T>> {
 
 impl<T, K: Clean<T>> FixedItems<T, K> {
     ghost use Rattle.lockfree_object_pool.specs.Answers.{MayMake};
-    ghost use Rattle.lockfree_object_pool.specs.FixedAnswer.{IsPulledOf, IsPulledWith, IsBusyOf, IsBusyAfter, IsBusyNote, busy_steps, note_steps};
+    ghost use Rattle.lockfree_object_pool.specs.FixedAnswer.{IsPulledFrom, IsPulledWith, IsBusyOf, IsBusyAfter, IsBusyNote, busy_steps, note_steps};
     ghost use Rattle.lockfree_object_pool.specs.FixedPool.{fixed_identity, fixed_opening};
     ghost use Rattle.lockfree_object_pool.specs.FixedItem.{pulled_item, pulled_view};
     ghost use Rattle.lockfree_object_pool.specs.FixedRule.{MissesAll, TakesOne, IsWithin, no_steps, steps_of};
@@ -134,7 +134,7 @@ impl<T, K: Clean<T>> FixedItems<T, K> {
     ) -> Result<PulledItem<T>, BusySeen<'p, T>>
         requires { start < (fixed_identity self.now).words }
         ensures pulled { IfOk result
-            (λ pulled. IsPulledOf (fixed_identity self.now) (fixed_opening self.now)
+            (λ pulled. IsPulledFrom (fixed_identity self.now) (fixed_opening self.now)
             (pulled_item pulled)) }
         ensures meets { IfOk result (λ pulled. K.meets pulled.value) }
         ensures brief { IfOk result
@@ -163,7 +163,7 @@ impl<T, K: Clean<T>> FixedItems<T, K> {
         pass: &'p PullPass,
     ) -> Result<PulledItem<T>, BusySeen<'p, T>>
         ensures pulled { IfOk result
-            (λ pulled. IsPulledOf (fixed_identity self.now) (fixed_opening self.now)
+            (λ pulled. IsPulledFrom (fixed_identity self.now) (fixed_opening self.now)
             (pulled_item pulled)) }
         ensures meets { IfOk result (λ pulled. K.meets pulled.value) }
         ensures brief { IfOk result

@@ -91,7 +91,7 @@ impl<T, K: Clean<T>> Play<Option<T>, UserView<T>> for ClearBit<K> {
 pub struct SetBit;
 
 impl<T> Play<Option<T>, UserView<T>> for SetBit {
-    ghost use Rattle.lockfree_object_pool.specs.PageRule.{Gives};
+    ghost use Rattle.lockfree_object_pool.specs.PageRule.{GivesBack};
 
-    ghost then = { λ _ old _ new. Gives old new };
+    ghost then = { λ _ old _ new. GivesBack old new };
 }

@@ -9,7 +9,7 @@ use Rattle.std.proofs.lemmas.Nat.Bits.{bit_at-zero, bit_at_ones, bit_at-trailing
 use Rattle.std.proofs.lemmas.Option.{get_or_from_slice_get, slice_get_within}
 use Rattle.lockfree_object_pool.specs.Word.{IsLeastBit, ClearsBit}
 use Rattle.object_pool_cores.specs.OnePage.{IsMadePage, IsFreeId, HasNoFreeId, IsMask, TakesLeastId}
-use Rattle.object_pool_cores.specs.Inside.PageWord.{IsKept}
+use Rattle.object_pool_cores.specs.Inside.PageWord.{IsCorePage}
 use Rattle.object_pool_cores.specs.Laws.HeldItems.{slice_get-from_set}
 use Rattle.object_pool_cores.specs.Laws.NumberedPlaces.{value_of-page}
 
@@ -26,7 +26,7 @@ module _ {T : Type 0} where
   never_out (v ∷ values) zero e = absurd cc
   never_out (v ∷ values) (suc id) e = never_out values id e
 
-module _ {T : Type 0} (meets : T → Type 0) (word : ℕ) (page : List (Option T)) (kept : IsKept meets word page) where
+module _ {T : Type 0} (meets : T → Type 0) (word : ℕ) (page : List (Option T)) (kept : IsCorePage meets word page) where
   -- the id of a set bit is free
   pub free_at : (id : ℕ) → id < 32 → bit_at word id ≡ 1 → (v : T) × IsFreeId page id v
   free_at id within set = by_place (place_at page id (let whole = kept.whole in omega arith))
@@ -64,8 +64,8 @@ module _ {T : Type 0} (meets : T → Type 0) (word : ℕ) (page : List (Option T
       free.1 ∙ ap Some value
 
   -- the lowest bit is cleared, and its value is taken
-  pub IsKept-taken : (id rest : ℕ) → ClearsBit word id rest → IsKept meets rest (slice_set page id None)
-  IsKept-taken id rest clears = record {
+  pub IsCorePage-taken : (id rest : ℕ) → ClearsBit word id rest → IsCorePage meets rest (slice_set page id None)
+  IsCorePage-taken id rest clears = record {
     whole = length-set page id None ∙ kept.whole;
     set = λ other v free. elim (slice_get-from_set page id other None (Some v) free) [
       | inl here ↦ let never = here.1 in absurd cc
@@ -93,7 +93,7 @@ module _ {T : Type 0} (meets : T → Type 0) (word : ℕ) (page : List (Option T
 
 -- each bit of a new page's word is set
 pub IsKept-made : {T : Type 0} (answers : Option T → Type 0) (meets : T → Type 0) (page : List (Option T))
-    → IsMadePage answers meets page → IsKept meets 4294967295 page
+    → IsMadePage answers meets page → IsCorePage meets 4294967295 page
 IsKept-made answers meets page made = rw made.free (record {
   whole = length-map made.values Some ∙ made.answered.count;
   set = λ id v free.

@@ -7,7 +7,8 @@ use Rattle.std.proofs.lemmas.List.Elements.{All-set}
 use Rattle.std.proofs.lemmas.Option.{slice_get_within, get_or_from_slice_get}
 use Rattle.object_pool_cores.specs.Pool.{Free, IsOut, IsSame, with_place, place_of}
 use Rattle.object_pool_cores.specs.LeastChoice.{TakesLeast}
-use Rattle.object_pool_cores.specs.Inside.Numbered.{Numbered, IsSound, AreWhole, HasNoneBelow, FindsNone, TakesLeastOf}
+use Rattle.object_pool_cores.specs.Inside.Numbered.{Numbered, IsWellNumbered, AreWhole, HasNoneBelow, FindsNone}
+use Rattle.object_pool_cores.specs.Inside.Numbered.{TakesLeastOf}
 use Rattle.object_pool_cores.specs.Inside.Numbered.{laid_out, listed_pool}
 use Rattle.object_pool_cores.specs.OnePage.{IsOutId, TakesLeastId}
 use Rattle.object_pool_cores.specs.Laws.NumberedPlaces.{place_of-out, place_of-free, listed_pool-set}
@@ -47,10 +48,10 @@ module _ {T : Type 0} where
 
   -- a place changes: to a clean value at or behind the start, or to none
   IsSound-set : (meets : T → Type 0) (items : Numbered T) (n : ℕ) (place : Option T) (start looked : ℕ)
-      → IsSound meets items
+      → IsWellNumbered meets items
       → ((v : T) → place ≡ Some v → meets v × (32 * start ≤ n)) → start ≤ length items.places / 32
       → HasNoneBelow items.places (32 * start)
-      → IsSound meets
+      → IsWellNumbered meets
       (record { places = slice_set items.places n place; limit = items.limit; start = start; looked = looked })
   IsSound-set meets items n place start looked sound clean starts passed = record {
     whole = rw length-set sound.whole;
@@ -121,13 +122,14 @@ module _ {T : Type 0} where
   pub record Puts (meets : T → Type 0) (before : Numbered T) (n : ℕ) (v : T) (pages : List (List (Option T)))
       (start : ℕ) : Type 0 where
     pub whole : AreWhole pages
-    pub sound : IsSound meets (items_of pages before.limit start before.looked)
+    pub sound : IsWellNumbered meets (items_of pages before.limit start before.looked)
     pub returned : IsSame (listed_pool (items_of pages before.limit start before.looked))
         (with_place (listed_pool before) n (Free v))
 
   pub Puts-at : (meets : T → Type 0) (pages : List (List (Option T))) (limit : Option ℕ)
       (start looked k id n : ℕ) (v : T)
-      (page left : List (Option T)) (new_start : ℕ) → AreWhole pages → IsSound meets (items_of pages limit start looked)
+      (page left : List (Option T)) (new_start : ℕ) → AreWhole pages
+      → IsWellNumbered meets (items_of pages limit start looked)
       → slice_get pages k ≡ Some page → id < 32 → n ≡ 32 * k + id → left ≡ slice_set page id (Some v) → meets v
       → new_start ≡ min start k → Puts meets (items_of pages limit start looked) n v (slice_set pages k left) new_start
   Puts-at meets pages limit start looked k id n v page left new_start whole sound here within e puts clean lower =
@@ -143,7 +145,7 @@ module _ {T : Type 0} where
             All-set (λ p. length p ≡ 32) pages k left
             (ap length puts ∙ length-set page id (Some v) ∙ length-at pages k page whole here) whole;
         sound =
-            subst (λ (all : List (Option T)). IsSound meets
+            subst (λ (all : List (Option T)). IsWellNumbered meets
             (record { places = all; limit = limit; start = new_start; looked = looked })) (sym changed)
             (IsSound-set meets items n (Some v) new_start looked sound
             (λ w same. (subst meets (let s : v ≡ w = cc in s) clean, omega arith)) (omega arith)
@@ -162,13 +164,13 @@ module _ {T : Type 0} where
   pub record TakesAt (meets : T → Type 0) (before : Numbered T) (n : ℕ) (v : T) (pages : List (List (Option T)))
       (start looked : ℕ) : Type 0 where
     pub whole : AreWhole pages
-    pub sound : IsSound meets (items_of pages before.limit start looked)
+    pub sound : IsWellNumbered meets (items_of pages before.limit start looked)
     pub least : TakesLeastOf before n v (items_of pages before.limit start looked)
 
   pub TakesAt-page : (meets : T → Type 0) (pages : List (List (Option T))) (limit : Option ℕ)
       (start looked k id n : ℕ) (v : T)
       (page left : List (Option T)) (new_looked : ℕ) → AreWhole pages
-      → IsSound meets (items_of pages limit start looked)
+      → IsWellNumbered meets (items_of pages limit start looked)
       → slice_get pages k ≡ Some page → n ≡ 32 * k + id → TakesLeastId page id v left
       → HasNoneBelow (laid_out pages) (32 * k)
       → TakesAt meets (items_of pages limit start looked) n v (slice_set pages k left) k new_looked
@@ -184,7 +186,7 @@ module _ {T : Type 0} where
             All-set (λ p. length p ≡ 32) pages k left
             (ap length takes.taken ∙ length-set page id None ∙ length-at pages k page whole here) whole;
         sound =
-            subst (λ (all : List (Option T)). IsSound meets
+            subst (λ (all : List (Option T)). IsWellNumbered meets
             (record { places = all; limit = limit; start = k; looked = new_looked })) (sym changed)
             (IsSound-set meets (items_of pages limit start looked) n None k new_looked sound (λ w never. absurd cc)
             (omega arith) passed);
@@ -198,8 +200,8 @@ module _ {T : Type 0} where
   -- all pages are full
   pub IsSound-passed : (meets : T → Type 0) (pages : List (List (Option T))) (limit : Option ℕ)
       (start looked k new_looked : ℕ)
-      → AreWhole pages → IsSound meets (items_of pages limit start looked) → k ≤ length pages
-      → HasNoneBelow (laid_out pages) (32 * k) → IsSound meets (items_of pages limit k new_looked)
+      → AreWhole pages → IsWellNumbered meets (items_of pages limit start looked) → k ≤ length pages
+      → HasNoneBelow (laid_out pages) (32 * k) → IsWellNumbered meets (items_of pages limit k new_looked)
   IsSound-passed meets pages limit start looked k new_looked whole sound bound passed = record {
     whole = sound.whole;
     allowed = sound.allowed;

@@ -64,22 +64,22 @@ module _ {T : Type 0} (f : WorldPageState T → WorldPageState T) where
   length-changed pages k page at = ap length (changed-is pages k page at) ∙ length-set pages k (f page)
 
 -- ---- the number at a place
-pub page_of : (n k id : ℕ) → id < 32 → n ≡ number k id → n / 32 ≡ k
-page_of n k id within is = omega arith
+pub number-page : (n k id : ℕ) → id < 32 → n ≡ number k id → n / 32 ≡ k
+number-page n k id within is = omega arith
 
-pub id_of : (n k id : ℕ) → id < 32 → n ≡ number k id → n % 32 ≡ id
-id_of n k id within is = omega arith
+pub number-id : (n k id : ℕ) → id < 32 → n ≡ number k id → n % 32 ≡ id
+number-id n k id within is = omega arith
 
-pub number_of : (n : ℕ) → n ≡ number (n / 32) (n % 32)
-number_of n = omega arith
+pub number-parts : (n : ℕ) → n ≡ number (n / 32) (n % 32)
+number-parts n = omega arith
 
 module _ {T : Type 0} where
   -- what a number reads as, by its page and id
   reads-place : (world : WorldState T) (k id : ℕ) (page : WorldPageState T) → id < 32
       → slice_get world.pages k ≡ Some page → (abstract_pool world).at (number k id) ≡ place_on (Some page) id
   reads-place world k id page within at =
-      ap (λ j. place_on (slice_get world.pages j) (number k id % 32)) (page_of (number k id) k id within refl)
-      ∙ ap (λ i. place_on (slice_get world.pages k) i) (id_of (number k id) k id within refl)
+      ap (λ j. place_on (slice_get world.pages j) (number k id % 32)) (number-page (number k id) k id within refl)
+      ∙ ap (λ i. place_on (slice_get world.pages k) i) (number-id (number k id) k id within refl)
       ∙ ap (λ lookup. place_on lookup id) at
 
   pub reads-number : (world : WorldState T) (k id : ℕ) (page : WorldPageState T) → id < 32

@@ -25,7 +25,7 @@ use Rattle.object_pool_cores.specs.World.Trace.{Log}
 use Rattle.object_pool_cores.specs.World.Enabled.{IsEnabled, IsExact}
 use Rattle.object_pool_cores.specs.World.Reachable.{IsReachable}
 use Rattle.object_pool_cores.specs.World.Headline.{IsNew, Executes}
-use Rattle.object_pool_cores.specs.World.Inside.Invariant.{TriesBits, Knows, Agrees}
+use Rattle.object_pool_cores.specs.World.Inside.Invariant.{TriesBits, AgentKnows, Agrees}
 use Rattle.object_pool_cores.proofs.World.WordSteps.{known, may_name-is}
 use Rattle.object_pool_cores.proofs.World.Invariant.{Agreement}
 use Rattle.object_pool_cores.proofs.World.Headline.{ran-agrees}
@@ -284,7 +284,7 @@ module _ {T : Type 0} where
   -- what is known of an agent in a world that can be reached
   pub known-reached : (new : WorldState T) (reached : IsReachable new) (a : ℕ) (point : Point T)
       → slice_get new.agents a ≡ Some point
-      → Knows (λ before kept. ⊤) reached.is_new.first reached.log (reached-agrees new reached).acts new a point
+      → AgentKnows (λ before kept. ⊤) reached.is_new.first reached.log (reached-agrees new reached).acts new a point
   known-reached new reached a point at =
       let agreed = reached-agrees new reached in
       known (λ before kept. ⊤) reached.is_new.first reached.log agreed.acts new agreed.agrees a point at

@@ -16,7 +16,7 @@ use Rattle.object_pool_cores.specs.World.Machine.{Outcome, IsOutcome, page_value
 use Rattle.object_pool_cores.specs.World.AbstractPool.{abstract_pool}
 use Rattle.object_pool_cores.specs.World.Trace.{Log, IsHidden, made_by, or_else, last_made, Shows}
 use Rattle.object_pool_cores.specs.World.Inside.Invariant.{FoundAsked, LooksOn, IsPast, IsAtLastPage, TriesBits}
-use Rattle.object_pool_cores.specs.World.Inside.Invariant.{HoldsAt, Knows, KnowsIf, Agrees}
+use Rattle.object_pool_cores.specs.World.Inside.Invariant.{HoldsAt, AgentKnows, AgentKnowsIf, Agrees}
 use Rattle.object_pool_cores.proofs.Runs.{since-later, other-opens, acts_of-other, holds-same}
 use Rattle.object_pool_cores.proofs.World.AbstractPool.{get-set_same, get-set_other}
 
@@ -91,8 +91,8 @@ module _ {T : Type 0} (Leaves : T → T → Type 0) (first : List T) where
       holds = holds-same acts more b (number k id) value carries.own holds.holds;
     }
 
-    knows-carried : (point : Point T) → Knows Leaves first log acts old b point
-        → Knows Leaves first later more new b point
+    knows-carried : (point : Point T) → AgentKnows Leaves first log acts old b point
+        → AgentKnows Leaves first later more new b point
     knows-carried (Reading k asked) knows = looks-carried k asked knows
     knows-carried (Clearing k mask asked) knows = (looks-carried k asked knows.0, bits-carried k mask knows.1)
     knows-carried (AtLink k asked) knows = past-carried k asked knows
@@ -116,8 +116,8 @@ module _ {T : Type 0} (Leaves : T → T → Type 0) (first : List T) where
     )
     knows-carried Ended knows = tt
 
-    pub known-carried : (lookup : Option (Point T)) → KnowsIf Leaves first log acts old b lookup
-        → KnowsIf Leaves first later more new b lookup
+    pub known-carried : (lookup : Option (Point T)) → AgentKnowsIf Leaves first log acts old b lookup
+        → AgentKnowsIf Leaves first later more new b lookup
     known-carried None knows = carries.own ∙ knows
     known-carried (Some point) knows = knows-carried point knows
 
@@ -161,17 +161,17 @@ module _ {T : Type 0} (Leaves : T → T → Type 0) (first : List T) where
 
   -- the agents after one of them moved
   agents-moved : (log later : Log T) (acts more : List (Act T)) (old new : WorldState T) (a : ℕ) (from point : Point T)
-      → slice_get old.agents a ≡ Some from → Knows Leaves first later more new a point
+      → slice_get old.agents a ≡ Some from → AgentKnows Leaves first later more new a point
       → ((b : ℕ) → a ≢ b → Carries first log later acts more old new b)
-      → ((b : ℕ) → KnowsIf Leaves first log acts old b (slice_get old.agents b)) → (b : ℕ)
-      → KnowsIf Leaves first later more new b (slice_get (slice_set old.agents a point) b)
+      → ((b : ℕ) → AgentKnowsIf Leaves first log acts old b (slice_get old.agents b)) → (b : ℕ)
+      → AgentKnowsIf Leaves first later more new b (slice_get (slice_set old.agents a point) b)
   agents-moved log later acts more old new a from point at own others before b =
-      let Known : Option (Point T) → Type 0 = KnowsIf Leaves first later more new b in
+      let Known : Option (Point T) → Type 0 = AgentKnowsIf Leaves first later more new b in
       elim (cases_eq a b) [
         | inl same ↦
             let is : slice_get (slice_set old.agents a point) b ≡ Some point = ap
             (λ c. slice_get (slice_set old.agents a point) c) (sym same) ∙ get-set_same old.agents a from point at in
-            let P : ℕ → Type 0 = λ c. Knows Leaves first later more new c point in
+            let P : ℕ → Type 0 = λ c. AgentKnows Leaves first later more new c point in
             subst Known (sym is) (subst P same own)
         | inr other ↦
             let is : slice_get (slice_set old.agents a point) b ≡ slice_get old.agents b =
@@ -186,7 +186,7 @@ module _ {T : Type 0} (Leaves : T → T → Type 0) (first : List T) where
       (from point : Point T) (pages : List (WorldPageState T)) → Agrees Leaves first log acts world
       → slice_get world.agents a ≡ Some from → IsHidden answer → ((b : ℕ) → a ≢ b → made_by e answer b ≡ None)
       → StepsPages acts acts world pages a
-      → Knows Leaves first ((e, answer) ∷ log) acts (moved world pages a point) a point
+      → AgentKnows Leaves first ((e, answer) ∷ log) acts (moved world pages a point) a point
       → Agrees Leaves first ((e, answer) ∷ log) acts (moved world pages a point)
   hidden-step log acts world e answer a from point pages agrees at hidden made left own = record {
     reads = inl (hidden, agrees.reads);
@@ -215,7 +215,7 @@ module _ {T : Type 0} (Leaves : T → T → Type 0) (first : List T) where
       → slice_get world.agents a ≡ Some from → Shows log e answer act → MayCome Leaves world.limit first acts act
       → FoundOutBefore first acts act → agent_of act ≡ a → ((b : ℕ) → a ≢ b → made_by e answer b ≡ None)
       → StepsPages acts (act ∷ acts) world pages a
-      → Knows Leaves first ((e, answer) ∷ log) (act ∷ acts) (moved world pages a point) a point
+      → AgentKnows Leaves first ((e, answer) ∷ log) (act ∷ acts) (moved world pages a point) a point
       → Agrees Leaves first ((e, answer) ∷ log) (act ∷ acts) (moved world pages a point)
   visible-step log acts world e answer a from point pages act agrees at shows may found_out agent made left
       own = record {
@@ -256,7 +256,7 @@ module _ {T : Type 0} (Leaves : T → T → Type 0) (first : List T) where
   pub stays : (log : Log T) (acts : List (Act T)) (world : WorldState T) (e : Event T) (answer : Seen) (a : ℕ)
       (from point : Point T) → Agrees Leaves first log acts world → slice_get world.agents a ≡ Some from
       → IsHidden answer → ((b : ℕ) → a ≢ b → made_by e answer b ≡ None)
-      → Knows Leaves first ((e, answer) ∷ log) acts (moved world world.pages a point) a point
+      → AgentKnows Leaves first ((e, answer) ∷ log) acts (moved world world.pages a point) a point
       → GoesOn log e answer (moved world world.pages a point)
   stays log acts world e answer a from point agrees at hidden made own = record {
     acts = acts;

@@ -14,7 +14,7 @@ use Rattle.object_pool_cores.specs.declared.interleave.point.Point.{Point}
 use Rattle.object_pool_cores.specs.declared.interleave.point.Point.TheVariants.{Reading, AtLink, Making, Linking, Ended}
 use Rattle.object_pool_cores.specs.Pool.{IsOut, AllowsPages, number}
 use Rattle.object_pool_cores.specs.Run.{Act, Opens, Grows, Refused, acts_of, pages_of, pool_of, Looks, FoundOut}
-use Rattle.object_pool_cores.specs.Run.{FoundAllOut, HadPages, MayCome}
+use Rattle.object_pool_cores.specs.Run.{FoundPagesOut, HadPages, MayCome}
 use Rattle.object_pool_cores.specs.World.State.{WorldPageState, WorldState}
 use Rattle.object_pool_cores.specs.World.Machine.{Outcome, IsOutcome, not_enabled, is_limit, was_asked, comes_to}
 use Rattle.object_pool_cores.specs.World.Machine.{linked_page, value_in, prepared_by, read_next, make_page}
@@ -59,7 +59,7 @@ module _ {T : Type 0} (Leaves : T → T → Type 0) (first : List T) (log : Log 
   refused : (e : Event T) (a k count : ℕ) (from : Point T) (cause : PullError) → slice_get old.agents a ≡ Some from
       → ((b : ℕ) → made_by e (seen.Refused a cause) b ≡ None)
       → MayCome Leaves old.limit first acts (Refused a cause)
-      → FoundAllOut first acts a (k + 1) → HadPages first acts a (k + 1)
+      → FoundPagesOut first acts a (k + 1) → HadPages first acts a (k + 1)
       → GoesOn Leaves first log e (seen.Refused a cause) (moved Leaves first old old.pages a Ended)
   refused e a k count from cause at made may found_out had =
       let act : Act T = Refused a cause in
@@ -83,7 +83,7 @@ module _ {T : Type 0} (Leaves : T → T → Type 0) (first : List T) (log : Log 
       let linked = past.linked in
       let count : length old.pages ≡ k + 1 = omega arith in
       let pages : pages_of acts ≡ k + 1 = agrees.same.pages ∙ count in
-      let Q : ℕ → Type 0 = FoundAllOut first acts a in
+      let Q : ℕ → Type 0 = FoundPagesOut first acts a in
       refused (event.ReadNext a) a k (k + 1) (AtLink k asked) Limit at (λ b. refl)
       (past.looking, (limit ∙ ap Some (sym pages), subst Q (sym pages) past.found_out)) past.found_out
       (had-now a (k + 1) past.looking count)
@@ -248,7 +248,7 @@ module _ {T : Type 0} (Leaves : T → T → Type 0) (first : List T) (log : Log 
       let more : length pages ≡ length old.pages + 1 = length-append old.pages (linked_page values ∷ []) in
       let pool_pages : pages_of acts ≡ k + 1 = agrees.same.pages ∙ count in
       let looking = end.past.looking in
-      let Q : ℕ → Type 0 = FoundAllOut first acts a in
+      let Q : ℕ → Type 0 = FoundPagesOut first acts a in
       let not_opens : act ≢ Opens a = λ is. cc in
       record {
         acts = act ∷ acts;

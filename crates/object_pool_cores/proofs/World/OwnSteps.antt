@@ -312,22 +312,22 @@ module _ {T : Type 0} (Leaves : T → T → Type 0) (first : List T) (log : Log 
 -- ---- over a list of steps
 module _ {T : Type 0} (measure : Point T → Option ℕ) where
   -- where an agent started that hadn't begun, or was at a point
-  abbrev pub start_of : Option (Point T) → Option ℕ
-  start_of None = Some 0
-  start_of (Some point) = measure point
+  abbrev pub measure_from : Option (Point T) → Option ℕ
+  measure_from None = Some 0
+  measure_from (Some point) = measure point
 
   -- an agent went on by as many steps as were its own
   abbrev pub AdvancedTo : Option (Point T) → ℕ → Option (Point T) → Type 0
   AdvancedTo start n None = (n ≡ 0) × (start ≡ None)
   AdvancedTo start n (Some point) = (later : ℕ) → measure point ≡ Some later → (sooner : ℕ)
-      × (start_of start ≡ Some sooner) × (sooner + n ≤ later)
+      × (measure_from start ≡ Some sooner) × (sooner + n ≤ later)
 
   begin-advances : (start old new : Option (Point T)) (n : ℕ) → old ≡ None → new ≡ Some (Reading 0 None)
       → AdvancedTo start n old → AdvancedTo start n new
   begin-advances start old new n was is before =
       let P : Option (Point T) → Type 0 = AdvancedTo start n in
       let (none, same) = subst P was before in
-      let at : AdvancedTo start n (Some (Reading 0 None)) = λ later lookup. (0, ap start_of same, omega arith) in
+      let at : AdvancedTo start n (Some (Reading 0 None)) = λ later lookup. (0, ap measure_from same, omega arith) in
       subst P (sym is) at
 
   -- by one step more

@@ -27,7 +27,7 @@ use Rattle.object_pool_cores.proofs.World.Solo.{unhinted-is, ran-stands, stands-
 use Rattle.object_pool_cores.proofs.World.SoloByHint.{ran-alone_by_hint}
 use Rattle.object_pool_cores.proofs.World.Reachable.{ran-append, ran-reached, ran-advances}
 use Rattle.object_pool_cores.proofs.World.InOrder.{ran-in_order, none-in_order}
-use Rattle.object_pool_cores.proofs.World.OwnSteps.{start_of, AdvancedTo}
+use Rattle.object_pool_cores.proofs.World.OwnSteps.{measure_from, AdvancedTo}
 use Rattle.object_pool_cores.specs.World.Inside.Progress.{progress, position, taken_early}
 use Rattle.object_pool_cores.proofs.World.Progress.{early-most, early-past}
 
@@ -64,14 +64,14 @@ module _ {T : Type 0} where
       → AdvancedTo position start (own_steps log a) lookup → IsAtPage k lookup → own_steps log a < 33
   page-steps-at start new log a k asked reached is (Some (Reading j later)) at advanced here =
       let (sooner, start_is, few) = advanced (69 * j) refl in
-      let same : Some (69 * k) ≡ Some sooner = sym (ap (start_of position) is) ∙ start_is in
+      let same : Some (69 * k) ≡ Some sooner = sym (ap (measure_from position) is) ∙ start_is in
       let equal : 69 * k ≡ sooner = cc in
       omega arith
   page-steps-at start new log a k asked reached is (Some (Clearing j mask later)) at advanced here =
       let bits = (known-reached new reached a (Clearing j mask later) at).1 in
       let within = lowest-lt mask bits.some bits.in_word in
       let (sooner, start_is, few) = advanced (69 * j + 1 + lowest mask) refl in
-      let same : Some (69 * k) ≡ Some sooner = sym (ap (start_of position) is) ∙ start_is in
+      let same : Some (69 * k) ≡ Some sooner = sym (ap (measure_from position) is) ∙ start_is in
       let equal : 69 * k ≡ sooner = cc in
       omega arith
   page-steps-at start new log a k asked reached is _ at advanced here = absurd here
@@ -86,17 +86,17 @@ module _ {T : Type 0} where
       let knows = known-reached new reached a (ClearingHinted hint mask) at in
       let within = lowest-lt mask knows.bits.some knows.bits.in_word in
       let (sooner, start_is, few) = advanced (34 + lowest mask) refl in
-      let same : Some 33 ≡ Some sooner = sym (ap (start_of position) is) ∙ start_is in
+      let same : Some 33 ≡ Some sooner = sym (ap (measure_from position) is) ∙ start_is in
       let equal : 33 ≡ sooner = cc in
       omega arith
   hint-steps-at start new log a reached is _ at advanced here = absurd here
 
   -- the steps of an agent that began
   since-begun : (start : Option (Point T)) (n later : ℕ) → start ≡ None → (sooner : ℕ)
-      → start_of progress start ≡ Some sooner
+      → measure_from progress start ≡ Some sooner
       → sooner + n ≤ later → n ≤ later
   since-begun start n later none sooner is few =
-      let same : Some 0 ≡ Some sooner = sym (ap (start_of progress) none) ∙ is in
+      let same : Some 0 ≡ Some sooner = sym (ap (measure_from progress) none) ∙ is in
       let zero : 0 ≡ sooner = cc in
       omega arith
 

@@ -16,7 +16,7 @@ use Rattle.object_pool_cores.specs.World.Machine.{IsOutcome, has_bit, page_value
 use Rattle.object_pool_cores.specs.World.Machine.{write, puts, begin, MovesHome}
 use Rattle.object_pool_cores.specs.World.AbstractPool.{place_by_bit}
 use Rattle.object_pool_cores.specs.World.Trace.{Log}
-use Rattle.object_pool_cores.specs.World.Inside.Invariant.{HoldsAt, KnowsIf, Agrees}
+use Rattle.object_pool_cores.specs.World.Inside.Invariant.{HoldsAt, AgentKnowsIf, Agrees}
 use Rattle.object_pool_cores.proofs.Runs.{acts_of-own, acts_of-other, since-later, other-opens, holds-written}
 use Rattle.object_pool_cores.proofs.Runs.{holders-run}
 use Rattle.object_pool_cores.proofs.World.AbstractPool.{get-some, get-push_old, get-push_new, length-changed}
@@ -185,7 +185,7 @@ module _ {T : Type 0} (Leaves : T → T → Type 0) (first : List T) (log : Log 
         limit = old.limit;
       } in
       let unknown : (b : ℕ) → length old.agents ≤ b → acts_of b acts ≡ [] = λ b past.
-      let P : Option (Point T) → Type 0 = KnowsIf Leaves first log acts old b in
+      let P : Option (Point T) → Type 0 = AgentKnowsIf Leaves first log acts old b in
       subst P (slice_get_past old.agents b past) (agrees.agents b) in
       let some = pages-some acts in
       let pages = agrees.same.pages in
@@ -210,7 +210,7 @@ module _ {T : Type 0} (Leaves : T → T → Type 0) (first : List T) (log : Log 
           places = agrees.places;
           allowed = agrees.allowed;
           agents = λ b.
-              let Known : Option (Point T) → Type 0 = KnowsIf Leaves first later (act ∷ acts) world b in
+              let Known : Option (Point T) → Type 0 = AgentKnowsIf Leaves first later (act ∷ acts) world b in
               elim (cases_lt b a) [
                 | inl below ↦
                     subst Known (sym (get-push_old old.agents (Reading 0 None) b below))

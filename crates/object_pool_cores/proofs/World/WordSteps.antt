@@ -19,7 +19,8 @@ use Rattle.object_pool_cores.specs.World.Machine.{tries, tries_hinted, clears, m
 use Rattle.object_pool_cores.specs.World.Machine.{clear_bit, or_mask}
 use Rattle.object_pool_cores.specs.World.AbstractPool.{place_by_bit, abstract_pool}
 use Rattle.object_pool_cores.specs.World.Trace.{Log, made_by}
-use Rattle.object_pool_cores.specs.World.Inside.Invariant.{LooksOn, IsPast, TriesBits, TriesHinted, Knows, KnowsIf}
+use Rattle.object_pool_cores.specs.World.Inside.Invariant.{LooksOn, IsPast, TriesBits, TriesHinted, AgentKnows}
+use Rattle.object_pool_cores.specs.World.Inside.Invariant.{AgentKnowsIf}
 use Rattle.object_pool_cores.specs.World.Inside.Invariant.{Agrees}
 use Rattle.object_pool_cores.proofs.Runs.{since-now, holds-pulled, may-pull, may-return, pool-there, pool-operated}
 use Rattle.object_pool_cores.proofs.World.Bits.{has_bit-none, has_bit-without_lowest, lowest-lt, with_bit-lt}
@@ -47,9 +48,9 @@ module _ {T : Type 0} (Leaves : T → T → Type 0) (first : List T) where
   tries-known : (later : Log T) (acts : List (Act T)) (world : WorldState T) (a k mask : ℕ) (asked : Option ℕ)
       → LooksOn first acts (length world.pages) a k asked
       → mask < 2 ^ 32 → ((id : ℕ) → id < 32 → has_bit mask id ≡ false → FoundOut first acts a (number k id))
-      → Knows Leaves first later acts world a (tries k mask asked)
+      → AgentKnows Leaves first later acts world a (tries k mask asked)
   tries-known later acts world a k mask asked looks fits others =
-      let Known : Point T → Type 0 = Knows Leaves first later acts world a in
+      let Known : Point T → Type 0 = AgentKnows Leaves first later acts world a in
       elim (cases_eq mask 0) [
         | inl none ↦
             let is : tries {T = T} k mask asked ≡ AtLink k asked = rw (eq-eqb mask 0 none) refl in
@@ -78,9 +79,9 @@ module _ {T : Type 0} (Leaves : T → T → Type 0) (first : List T) where
       → IsPast first acts (length world.pages) a 0 None
       → 0 < hint → hint < length world.pages → mask < 2 ^ 32
       → ((id : ℕ) → id < 32 → has_bit mask id ≡ false → FoundOut first acts a (number hint id))
-      → Knows Leaves first later acts world a (tries_hinted hint mask)
+      → AgentKnows Leaves first later acts world a (tries_hinted hint mask)
   tries_hinted-known later acts world a hint mask past further linked fits others =
-      let Known : Point T → Type 0 = Knows Leaves first later acts world a in
+      let Known : Point T → Type 0 = AgentKnows Leaves first later acts world a in
       elim (cases_eq mask 0) [
         | inl none ↦
             let is : tries_hinted {T = T} hint mask ≡ AtLink 0 (Some hint) = rw (eq-eqb mask 0 none) refl in
@@ -109,8 +110,9 @@ module _ {T : Type 0} (Leaves : T → T → Type 0) (first : List T) (log : Log 
     (old : WorldState T)
     (agrees : Agrees Leaves first log acts old) where
   -- what the invariant knows of an agent at its point
-  pub known : (a : ℕ) (point : Point T) → slice_get old.agents a ≡ Some point → Knows Leaves first log acts old a point
-  known a point at = let Known : Option (Point T) → Type 0 = KnowsIf Leaves first log acts old a in
+  pub known : (a : ℕ) (point : Point T) → slice_get old.agents a ≡ Some point
+      → AgentKnows Leaves first log acts old a point
+  known a point at = let Known : Option (Point T) → Type 0 = AgentKnowsIf Leaves first log acts old a in
       subst Known at (agrees.agents a)
 
   -- what lies at a number, by its bit and its place
@@ -283,7 +285,7 @@ module _ {T : Type 0} (Leaves : T → T → Type 0) (first : List T) (log : Log 
       → Looks (acts_of a acts)
       → k < length old.pages → TriesBits first acts a k mask
       → (has_bit (word_of old.pages k) (lowest mask) ≡ false
-      → Knows Leaves first ((event.ClearBit a, seen.Found a (word_of old.pages k)) ∷ log) acts
+      → AgentKnows Leaves first ((event.ClearBit a, seen.Found a (word_of old.pages k)) ∷ log) acts
       (moved Leaves first old old.pages a next) a next)
       → (answer : Seen) (new : WorldState T)
       → IsOutcome

@@ -36,7 +36,7 @@ module _ {T : Type 0} where
 
   -- the list has whole pages, no more than there may be, each value meets the condition,
   -- and no page in front of the one at which a pull starts has a free number
-  pub record IsSound (meets : T → Type 0) (items : Numbered T) : Type 0 where
+  pub record IsWellNumbered (meets : T → Type 0) (items : Numbered T) : Type 0 where
     pub whole : length items.places % PAGE_ITEMS ≡ 0
     pub allowed : AllowsPages items.limit (length items.places / PAGE_ITEMS)
     pub clean : (n : ℕ) (v : T) → slice_get items.places n ≡ Some (Some v) → meets v

@@ -6,7 +6,7 @@ use Rattle.lockfree_object_pool.specs.declared.page.TheConstants.{PAGE_ITEMS}
 
 -- there are 32 ids; the bit of a free id is set and its value
 -- meets the condition, the bit of one that is out is clear
-pub record IsKept {T : Type 0} (meets : T → Type 0) (word : ℕ) (page : List (Option T)) : Type 0 where
+pub record IsCorePage {T : Type 0} (meets : T → Type 0) (word : ℕ) (page : List (Option T)) : Type 0 where
   pub whole : length page ≡ PAGE_ITEMS
   pub set : (id : ℕ) (v : T) → IsFreeId page id v → bit_at word id ≡ 1
   pub clear : (id : ℕ) → IsOutId page id → bit_at word id ≡ 0

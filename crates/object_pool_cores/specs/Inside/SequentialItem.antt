@@ -10,14 +10,14 @@ module _ {T : Type 0} where
   item_value item = item.value
 
   -- the number that a home has, if it has one
-  abbrev pub number_of : Home T → Option ℕ
-  number_of (Number n) = Some n
-  number_of (Room room) = None
-  number_of Nowhere = None
+  abbrev pub home_number : Home T → Option ℕ
+  home_number (Number n) = Some n
+  home_number (Room room) = None
+  home_number Nowhere = None
 
   -- the number of an item, if it has one
   abbrev pub item_number : Item T → Option ℕ
-  item_number item = number_of item.home
+  item_number item = home_number item.home
 
   -- the home is a room of its own
   abbrev pub is_room : Home T → Bool

@@ -11,7 +11,7 @@ use Rattle.object_pool_cores.specs.Pool.{IsPool, IsSame, AllowsPages, Absent, Fr
 use Rattle.object_pool_cores.specs.Pool.{with_place}
 use Rattle.object_pool_cores.specs.Move.{after_growth}
 use Rattle.object_pool_cores.specs.Laws.PoolSteps.{with_place-same, with_place-other, grown-old, grown-new}
-use Rattle.object_pool_cores.specs.Inside.Numbered.{Numbered, IsSound, Grows, listed_pool}
+use Rattle.object_pool_cores.specs.Inside.Numbered.{Numbered, IsWellNumbered, Grows, listed_pool}
 
 module _ {T : Type 0} where
   -- a free place has that value
@@ -68,10 +68,10 @@ module _ {T : Type 0} where
       ∙ ap (λ n. length items.places + n) (length-map values Some ∙ count)
 
   -- a page of clean values leaves the items sound
-  pub IsSound-grown : (meets : T → Type 0) (items : Numbered T) (values : List T) → IsSound meets items
+  pub IsWellNumbered-grown : (meets : T → Type 0) (items : Numbered T) (values : List T) → IsWellNumbered meets items
       → items.limit ≢ Some (length items.places / 32) → length values ≡ 32 → All meets values
-      → IsSound meets (record items { places = items.places ++ map Some values })
-  IsSound-grown meets items values sound below count clean = record {
+      → IsWellNumbered meets (record items { places = items.places ++ map Some values })
+  IsWellNumbered-grown meets items values sound below count clean = record {
     whole = let more = length-grown items values count in let whole = sound.whole in omega arith;
     allowed =
         let more = length-grown items values count in
@@ -109,7 +109,7 @@ module _ {T : Type 0} where
 
   -- sound items are a pool
   pub IsPool-sound :
-      (meets : T → Type 0) (items : Numbered T) → IsSound meets items → IsPool items.limit (listed_pool items)
+      (meets : T → Type 0) (items : Numbered T) → IsWellNumbered meets items → IsPool items.limit (listed_pool items)
   IsPool-sound meets items sound = record {
     inside = λ n within.
         let whole = sound.whole in
@@ -140,7 +140,7 @@ module _ {T : Type 0} where
   }
 
   -- a page more in the list is a growth of the pool
-  listed_pool-grown : (meets : T → Type 0) (items : Numbered T) (values : List T) → IsSound meets items
+  listed_pool-grown : (meets : T → Type 0) (items : Numbered T) (values : List T) → IsWellNumbered meets items
       → length values ≡ 32 → IsSame (listed_pool (record items { places = items.places ++ map Some values }))
       (after_growth (listed_pool items) values)
   listed_pool-grown meets items values sound count = record {
@@ -169,7 +169,7 @@ module _ {T : Type 0} where
 
   -- what a page of answers behind a sound list is to the pool
   pub Grows-page : (meets : T → Type 0) (answers : Option T → Type 0) (items : Numbered T) (values : List T)
-      → IsSound meets items → items.limit ≢ Some (length items.places / 32) → length values ≡ 32
+      → IsWellNumbered meets items → items.limit ≢ Some (length items.places / 32) → length values ≡ 32
       → All (λ v. answers (Some v)) values → Grows items.limit answers (listed_pool items)
       (listed_pool (record items { places = items.places ++ map Some values }))
   Grows-page meets answers items values sound below count answered = record {

@@ -19,10 +19,10 @@ pub struct Buffer<'p, I: Init<T, K>, R: Reset<T, K>, T: Drop = Vec<u8>, K: Clean
 impl<'p, I: Init<Vec<u8>, Empty>, R: Reset<Vec<u8>, Empty>> Buffer<'p, I, R> {
     ghost use Rattle.lockfree_object_pool.specs.declared.page.TheConstants.{PAGE_ITEMS};
     ghost use Rattle.lockfree_object_pool.specs.declared.pull_error.PullError.TheVariants.{Memory};
-    ghost use Rattle.object_pool_cores.specs.Buffers.{item_of, bytes_of, capacity_of, page_of, id_of};
+    ghost use Rattle.object_pool_cores.specs.Buffers.{buffer_item, bytes_of, capacity_of, page_of, buffer_id};
 
     pub(super) fn new(item: LinearReusable<'p, Vec<u8>, I, R, Empty>) -> Buffer<'p, I, R>
-        ensures { item_of result ≡ item.entry }
+        ensures { buffer_item result ≡ item.entry }
     {
         Buffer { item }
     }
@@ -48,7 +48,7 @@ impl<'p, I: Init<Vec<u8>, Empty>, R: Reset<Vec<u8>, Empty>> Buffer<'p, I, R> {
         ensures nothing { bytes.now ≡ [] → IsOk result }
         ensures room { capacity_of self.old ≤ capacity_of self.new }
         ensures page { page_of self.new ≡ page_of self.old }
-        ensures id { id_of self.new ≡ id_of self.old }
+        ensures id { buffer_id self.new ≡ buffer_id self.old }
     {
         match self.item.extend_from_slice(bytes) {
             Ok(()) => Ok(()),
@@ -65,7 +65,7 @@ impl<'p, I: Init<Vec<u8>, Empty>, R: Reset<Vec<u8>, Empty>> Buffer<'p, I, R> {
 
     /// The number of the buffer in its page.
     pub fn page_id(&self) -> PageId
-        ensures value { result ≡ id_of self.now }
+        ensures value { result ≡ buffer_id self.now }
         ensures in_page { result < PAGE_ITEMS }
     {
         self.item.page_id()

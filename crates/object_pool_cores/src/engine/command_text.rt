@@ -63,8 +63,9 @@ fn around_space(text: &[u8]) -> Option<(&[u8], &[u8])>
     None
 }
 
-/// The number that digits write.
-fn number_of(text: &[u8]) -> Option<u32>
+/// The number that a text of one to ten decimal digits writes, or `None` where it is another text or the number is above
+/// `u32::MAX`.
+pub fn number_of(text: &[u8]) -> Option<u32>
     ensures { MatchOption result ((n : ℕ) → IsNumber text.now n → ⊥) (λ n. IsNumber text.now n) }
 {
     if text.is_empty() || text.len() > MOST_DIGITS || !text.iter().all(u8::is_ascii_digit) {

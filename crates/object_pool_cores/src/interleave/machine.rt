@@ -18,7 +18,7 @@ ghost use Rattle.object_pool_cores.specs.declared.interleave.event.Seen.TheVaria
 ghost use Rattle.object_pool_cores.specs.declared.interleave.event.Event.TheVariants.{MakePage};
 
 use crate::interleave::moves::{
-    comes_to, has_bit, is_last, is_last_allowed, split_lowest, tries, tries_hinted,
+    comes_to, is_last, is_last_allowed, split_lowest, tries, tries_hinted,
 };
 use crate::interleave::point::Point;
 use crate::interleave::world_page::WorldPage;
@@ -27,7 +27,7 @@ use crate::numbers::number;
 use lockfree_object_pool::PullError;
 use lockfree_object_pool::clean::AnyValue;
 use lockfree_object_pool::closures::Reset;
-use lockfree_object_pool::page::{PAGE_ITEMS, PageId, with_bit, without_bit};
+use lockfree_object_pool::page::{PAGE_ITEMS, PageId, has_bit, with_bit, without_bit};
 use std::alloc::{AllocError, Global};
 use std::marker::Model;
 use std::mem;

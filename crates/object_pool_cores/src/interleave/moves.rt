@@ -1,20 +1,12 @@
 //! The bits that an agent tries, and where it goes next.
 ghost use Rattle.std.specs.Prelude.{◌≡◌, ◌<◌, ◌==◌, ◌+◌, Option};
 ghost use Rattle.lockfree_object_pool.specs.declared.page.TheConstants.{PAGE_ITEMS};
-ghost use Rattle.object_pool_cores.specs.World.Machine.{has_bit, is_limit, lowest, without_lowest, tries, tries_hinted};
+ghost use Rattle.object_pool_cores.specs.World.Machine.{is_limit, lowest, without_lowest, tries, tries_hinted};
 ghost use Rattle.object_pool_cores.specs.World.Machine.{comes_to};
 ghost use Rattle.object_pool_cores.specs.World.Inside.LinkCapacity.{LinksNoPage};
 
 use crate::interleave::point::Point;
 use lockfree_object_pool::page::{PAGE_ITEMS, PageId, take_least};
-
-/// The bit of an id is set in the word.
-pub fn has_bit(word: u32, id: PageId) -> bool
-    requires { id < PAGE_ITEMS }
-    ensures { result ≡ has_bit word id }
-{
-    word >> id & 1 == 1
-}
 
 /// There is a limit, and it is the count after `page`.
 pub fn is_last_allowed(limit: Option<usize>, page: usize) -> bool

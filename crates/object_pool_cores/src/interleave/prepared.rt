@@ -15,13 +15,13 @@ pub struct Prepared<T> {
 
 impl<T> Model for Prepared<T> {
     ghost use Rattle.std.specs.Prelude.{List};
-    ghost use Rattle.object_pool_cores.specs.World.Inside.Prepared.{values_of, IsFull};
+    ghost use Rattle.object_pool_cores.specs.World.Inside.Prepared.{values_of, IsComplete};
 
     ghost Value = { List T };
 
     ghost view = { λ prepared. values_of prepared.places.items };
 
-    ghost invariant = { λ prepared. IsFull prepared.places.items };
+    ghost invariant = { λ prepared. IsComplete prepared.places.items };
 }
 
 impl<T: Drop> Prepared<T> {

@@ -22,13 +22,13 @@ pub struct CorePage<T, K: Clean<T>> {
 
 impl<T, K: Clean<T>> Model for CorePage<T, K> {
     ghost use Rattle.std.specs.Prelude.{List, Option};
-    ghost use Rattle.object_pool_cores.specs.Inside.PageWord.{IsKept};
+    ghost use Rattle.object_pool_cores.specs.Inside.PageWord.{IsCorePage};
 
     ghost Value = { List (Option T) };
 
     ghost view = { λ page. page.places.items };
 
-    ghost invariant = { λ page. IsKept K.meets page.word page.places.items };
+    ghost invariant = { λ page. IsCorePage K.meets page.word page.places.items };
 }
 
 impl<T: Drop, K: Clean<T>> CorePage<T, K> {

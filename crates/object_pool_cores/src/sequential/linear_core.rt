@@ -4,7 +4,7 @@ ghost use Rattle.std.specs.Prelude.{[], IsTrue, IsErrOf, IsErr};
 ghost use Rattle.object_pool_cores.specs.Inside.SequentialItem.{item_value};
 ghost use Rattle.object_pool_cores.specs.Attach.{RefusesAttach};
 ghost use Rattle.object_pool_cores.specs.PageProbes.{ProbesFew};
-ghost use Rattle.object_pool_cores.specs.Linear.{core_pool, limit_of, looked_of, start_of, init_of, reset_of};
+ghost use Rattle.object_pool_cores.specs.Linear.{core_pool, limit_of, looked_of, start_page_of, init_of, reset_of};
 ghost use Rattle.object_pool_cores.specs.Linear.{IsOpening, Pulls, Gives, ProbesUpTo, ProbesTheRest, StartsNoFurther};
 ghost use Rattle.object_pool_cores.specs.Linear.{HeldTogether, IsOutOf};
 
@@ -33,7 +33,7 @@ impl<T: Drop, I: Init<T, K>, R: Reset<T, K>, K: Clean<T>> LinearCore<T, I, R, K>
         ensures opening { IfOk result (λ core. IsOpening (I.answers init) None core) }
         ensures init { IfOk result (λ core. init_of core ≡ init) }
         ensures reset { IfOk result (λ core. reset_of core ≡ reset) }
-        ensures start { IfOk result (λ core. start_of core ≡ 0) }
+        ensures start { IfOk result (λ core. start_page_of core ≡ 0) }
         ensures looked { IfOk result (λ core. looked_of core ≡ 0) }
         ensures refused { result ≡ Err PullError.Init → I.answers init None }
         ensures unlimited { result ≢ Err PullError.Limit }
@@ -56,7 +56,7 @@ impl<T: Drop, I: Init<T, K>, R: Reset<T, K>, K: Clean<T>> LinearCore<T, I, R, K>
         ensures opening { IfOk result (λ core. IsOpening (I.answers init) (Some pages) core) }
         ensures init { IfOk result (λ core. init_of core ≡ init) }
         ensures reset { IfOk result (λ core. reset_of core ≡ reset) }
-        ensures start { IfOk result (λ core. start_of core ≡ 0) }
+        ensures start { IfOk result (λ core. start_page_of core ≡ 0) }
         ensures looked { IfOk result (λ core. looked_of core ≡ 0) }
         ensures refused { result ≡ Err PullError.Init → I.answers init None }
         ensures within { result ≢ Err PullError.Limit }
@@ -76,7 +76,7 @@ impl<T: Drop, I: Init<T, K>, R: Reset<T, K>, K: Clean<T>> LinearCore<T, I, R, K>
         ensures opening { IfOk result (λ core. IsOpening (I.answers init) items.limit core) }
         ensures init { IfOk result (λ core. init_of core ≡ init) }
         ensures reset { IfOk result (λ core. reset_of core ≡ reset) }
-        ensures start { IfOk result (λ core. start_of core ≡ 0) }
+        ensures start { IfOk result (λ core. start_page_of core ≡ 0) }
         ensures looked { IfOk result (λ core. looked_of core ≡ 0) }
         ensures refused { result ≡ Err PullError.Init → I.answers init None }
         ensures within { result ≢ Err PullError.Limit }

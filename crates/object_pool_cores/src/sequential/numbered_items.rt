@@ -29,7 +29,7 @@ pub(crate) struct NumberedItems<T, K: Clean<T>> {
 }
 
 impl<T, K: Clean<T>> Model for NumberedItems<T, K> {
-    ghost use Rattle.object_pool_cores.specs.Inside.Numbered.{AreWhole, Numbered, IsSound, laid_out};
+    ghost use Rattle.object_pool_cores.specs.Inside.Numbered.{AreWhole, Numbered, IsWellNumbered, laid_out};
 
     ghost Value = { Numbered T };
 
@@ -40,7 +40,7 @@ impl<T, K: Clean<T>> Model for NumberedItems<T, K> {
       looked = items.looked;
     } };
 
-    ghost invariant = { λ items. AreWhole items.pages.items × IsSound K.meets
+    ghost invariant = { λ items. AreWhole items.pages.items × IsWellNumbered K.meets
         (record {
           places = laid_out items.pages.items;
           limit = items.limit;

@@ -1,7 +1,8 @@
 //! Vectors: how much room they may have from the start, and that a reset drops their items.
 use super::*;
 use std::test::Fail;
-use test_values::counted::{Counted, Counts};
+use test_values::counted::Counted;
+use test_values::tally::Tally;
 
 #[test]
 fn a_vector_has_room_for_a_hundred_thousand_items(rt: HostRuntime) -> Result<(), Fail> {
@@ -13,7 +14,7 @@ fn a_vector_has_room_for_a_hundred_thousand_items(rt: HostRuntime) -> Result<(),
 
 #[test]
 fn a_cleared_vector_drops_its_items(rt: HostRuntime) -> Result<(), Fail> {
-    let counts = Counts::new();
+    let counts = Tally::new();
     let mut items: Vec<Counted<'_>> = WithCapacity::new(rt.alloc(), 2).make().ok_or("no memory")?;
     items.push(counts.make())?;
     items.push(counts.make())?;

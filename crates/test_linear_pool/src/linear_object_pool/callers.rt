@@ -94,7 +94,8 @@ fn made_and_returned<I: InitBy<u32>, R: ResetBy<u32>>(
     reset: R,
 ) -> Result<(u32, u32), PullError>
     requires may_make { I.may_make init }
-    requires makes { (answer : Option ℕ) → I.makes init answer → IfSome answer (λ value. value ≡ 0) }
+    requires makes { (answer : Option ℕ) → I.makes init answer → IfSome answer
+        (λ value. value ≡ 0) }
     requires may_reset { R.may_reset reset }
     requires leaves { (old new : ℕ) → R.resets reset old new → new ≡ 0 }
     ensures { IfOk result (λ both. (both.0 ≡ 0) × (both.1 ≡ 0)) }

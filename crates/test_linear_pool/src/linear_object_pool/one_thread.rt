@@ -80,7 +80,7 @@ fn a_full_page_is_followed_by_another(rt: HostRuntime) {
 
 #[test]
 fn a_forgotten_item_stays_out(rt: HostRuntime) {
-    let counts = Counts::new();
+    let counts = Tally::new();
     let pool = shared(rt.alloc(), &counts, NEVER).expect(&rt, "a pool is made");
     mem::forget(pool.pull().expect(&rt, "an item is free"));
     for _ in 0..2 {

@@ -27,7 +27,12 @@ type SevenPool<R> = LinearObjectPool<u32, Sevens, R, AnyValue>;
 fn pulled<'p, R: Reset<u32, AnyValue>>(
     pool: &'p SevenPool<R>,
 ) -> Option<LinearReusable<'p, u32, Sevens, R, AnyValue>>
-    ensures { IfSome result (λ item. ((reusable_item item).value ≡ 7) ⊎ ((before : History ℕ) × ((reusable_item item).history ≡ Pull (reusable_item item).holder (reusable_item item).id (reusable_item item).value ∷ before) × WasReturned before (reusable_item item).id (reusable_item item).value)) }
+    ensures { IfSome result (λ item. ((reusable_item item).value ≡ 7)
+        ⊎ ((before : History ℕ)
+        × ((reusable_item item).history
+        ≡ Pull (reusable_item item).holder (reusable_item item).id (reusable_item item).value
+        ∷ before)
+        × WasReturned before (reusable_item item).id (reusable_item item).value)) }
 {
     match pool.pull() {
         Ok(item) => Some(item),

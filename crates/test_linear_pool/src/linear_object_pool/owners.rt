@@ -16,7 +16,7 @@ fn pulled_of_two_pages(pool: &Arc<Tracked<'_>>) -> Result<(usize, usize), PullEr
 
 #[test]
 fn pulled_items_let_their_pool_and_pages_end(rt: HostRuntime) {
-    let counts = Counts::new();
+    let counts = Tally::new();
     let pool = shared(rt.alloc(), &counts, NEVER).expect(&rt, "a pool is made");
     assert_eq!(rt; pulled_of_two_pages(&pool), Ok((0, 1)));
     assert_eq!(rt; counts.now(), (64, 0));
@@ -26,7 +26,7 @@ fn pulled_items_let_their_pool_and_pages_end(rt: HostRuntime) {
 
 #[test]
 fn refused_pulls_let_their_pool_end(rt: HostRuntime) {
-    let counts = Counts::new();
+    let counts = Tally::new();
     let pool = shared(rt.alloc(), &counts, 32).expect(&rt, "a pool is made");
     let items = full(rt.alloc(), &pool).expect(&rt, "32 items are free");
     assert_eq!(rt; pool.pull_owned().err(), Some(PullError::Init));
@@ -37,7 +37,7 @@ fn refused_pulls_let_their_pool_end(rt: HostRuntime) {
 
 #[test]
 fn a_pool_ends_with_its_last_owned_item(rt: HostRuntime) {
-    let counts = Counts::new();
+    let counts = Tally::new();
     let pool = shared(rt.alloc(), &counts, NEVER).expect(&rt, "a pool is made");
     let item = pool.pull_owned().expect(&rt, "an item is free");
     drop(pool);
@@ -61,7 +61,7 @@ fn last_page(
 
 #[test]
 fn owned_items_of_five_pages_let_their_pool_and_pages_end(rt: HostRuntime) {
-    let counts = Counts::new();
+    let counts = Tally::new();
     let pool = shared(rt.alloc(), &counts, NEVER).expect(&rt, "a pool is made");
     assert_eq!(rt; last_page(rt.alloc(), &pool, 160), Ok(Some(4)));
     assert_eq!(rt; counts.now(), (160, 0));
@@ -70,7 +70,7 @@ fn owned_items_of_five_pages_let_their_pool_and_pages_end(rt: HostRuntime) {
 }
 
 /// A pool that may have one page, in an `Arc`.
-fn shared_of_one<'c>(alloc: Global, counts: &'c Counts) -> Result<Arc<Tracked<'c>>, PullError> {
+fn shared_of_one<'c>(alloc: Global, counts: &'c Tally) -> Result<Arc<Tracked<'c>>, PullError> {
     let init = CountedValues {
         counts,
         refused: NEVER,
@@ -81,7 +81,7 @@ fn shared_of_one<'c>(alloc: Global, counts: &'c Counts) -> Result<Arc<Tracked<'c
 
 #[test]
 fn pulls_refused_at_the_limit_let_their_pool_end(rt: HostRuntime) {
-    let counts = Counts::new();
+    let counts = Tally::new();
     let pool = shared_of_one(rt.alloc(), &counts).expect(&rt, "a pool is made");
     let items = full(rt.alloc(), &pool).expect(&rt, "32 items are free");
     assert_eq!(rt; pool.pull_owned().err(), Some(PullError::Limit));

@@ -6,7 +6,7 @@ use test_values::refused::again;
 #[test]
 fn init_that_refuses_stops_a_new_pool(rt: HostRuntime) {
     for refused in 0..32usize {
-        let counts = Counts::new();
+        let counts = Tally::new();
         let refusal = counted(rt.alloc(), &counts, refused).err();
         assert_eq!(rt; refusal, Some(PullError::Init));
         assert_eq!(rt; counts.now(), (refused.saturating_add(1), refused));
@@ -28,7 +28,7 @@ pub fn full<'p, 'c>(
 #[test]
 fn init_that_refuses_stops_a_growth(rt: HostRuntime) {
     for refused in 32..64usize {
-        let counts = Counts::new();
+        let counts = Tally::new();
         let pool = shared(rt.alloc(), &counts, refused).expect(&rt, "a pool is made");
         let items = full(rt.alloc(), &pool).expect(&rt, "32 items are free");
         assert_eq!(rt; pool.pull().err(), Some(PullError::Init));
@@ -46,7 +46,7 @@ fn init_that_refuses_stops_a_growth(rt: HostRuntime) {
 #[test]
 fn init_that_refuses_stops_an_owned_growth(rt: HostRuntime) {
     for refused in 32..64usize {
-        let counts = Counts::new();
+        let counts = Tally::new();
         let pool = shared(rt.alloc(), &counts, refused).expect(&rt, "a pool is made");
         let _items = full(rt.alloc(), &pool).expect(&rt, "32 items are free");
         let refusal = pool.pull_owned().err();
@@ -55,12 +55,6 @@ fn init_that_refuses_stops_an_owned_growth(rt: HostRuntime) {
         let item = pool.pull_owned().expect(&rt, "an item is free");
         assert_eq!(rt; (item.page_number(), item.page_id()), (1, 0));
     }
-}
-
-/// How many values are neither dropped nor refused.
-fn living(counts: &Counts) -> usize {
-    let (calls, drops) = counts.now();
-    calls.saturating_sub(drops)
 }
 
 /// Takes all items of a pool's first page out for good, without memory.
@@ -74,24 +68,24 @@ fn forget_first_page(pool: &Tracked<'_>) -> Result<(), PullError> {
 /// Holds with each request for memory refused in turn too.
 #[test]
 fn a_pool_goes_on_where_memory_was_refused(rt: HostRuntime) {
-    let counts = Counts::new();
+    let counts = Tally::new();
     let pool = again(&|| shared(rt.alloc(), &counts, NEVER)).expect(&rt, "a pool is made");
-    assert_eq!(rt; living(&counts), 32);
+    assert_eq!(rt; counts.living(), 32);
     forget_first_page(&pool).expect(&rt, "32 items are free");
     let refusal = pool.pull().err();
     assert!(rt; matches!(refusal, None | Some(PullError::Memory)));
     let kept = if refusal.is_none() { 64 } else { 32 };
-    assert_eq!(rt; living(&counts), kept);
+    assert_eq!(rt; counts.living(), kept);
     let item = pool.pull().expect(&rt, "an item is free");
     assert_eq!(rt; (item.page_number(), item.page_id()), (1, 0));
-    assert_eq!(rt; living(&counts), 64);
+    assert_eq!(rt; counts.living(), 64);
     let call = item.call;
     drop(item);
     assert_eq!(rt; pool.pull().expect(&rt, "an item is free").call, call);
 }
 
 /// A pool that may have two pages, in an `Arc`.
-fn shared_of_two<'c>(alloc: Global, counts: &'c Counts) -> Result<Arc<Tracked<'c>>, PullError> {
+fn shared_of_two<'c>(alloc: Global, counts: &'c Tally) -> Result<Arc<Tracked<'c>>, PullError> {
     let init = CountedValues {
         counts,
         refused: NEVER,
@@ -103,17 +97,17 @@ fn shared_of_two<'c>(alloc: Global, counts: &'c Counts) -> Result<Arc<Tracked<'c
 /// Holds with each request for memory refused in turn too.
 #[test]
 fn owned_pulls_go_on_where_memory_was_refused(rt: HostRuntime) {
-    let counts = Counts::new();
+    let counts = Tally::new();
     let pool = again(&|| shared_of_two(rt.alloc(), &counts)).expect(&rt, "a pool is made");
-    assert_eq!(rt; living(&counts), 32);
+    assert_eq!(rt; counts.living(), 32);
     forget_first_page(&pool).expect(&rt, "32 items are free");
     let refusal = pool.pull_owned().err();
     assert!(rt; matches!(refusal, None | Some(PullError::Memory)));
     let kept = if refusal.is_none() { 64 } else { 32 };
-    assert_eq!(rt; living(&counts), kept);
+    assert_eq!(rt; counts.living(), kept);
     let item = pool.pull_owned().expect(&rt, "an item is free");
     assert_eq!(rt; (item.page_number(), item.page_id()), (1, 0));
-    assert_eq!(rt; living(&counts), 64);
+    assert_eq!(rt; counts.living(), 64);
     let call = item.call;
     drop(item);
     assert_eq!(rt; pool.pull_owned().expect(&rt, "an item is free").call, call);

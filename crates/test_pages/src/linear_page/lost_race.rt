@@ -4,7 +4,8 @@ use std::sync::atomic::AtomicUsize;
 use std::sync::atomic::Ordering::SeqCst;
 use std::thread;
 use std::thread::Threads;
-use test_values::counted::{Counted, Counts};
+use test_values::counted::Counted;
+use test_values::tally::Tally;
 
 /// A thread that still waits after so many turns gives up, and its test fails.
 const MOST_TURNS: u32 = 10_000_000;
@@ -14,7 +15,7 @@ type CountedPage<'c, 'r> = LinearPage<'c, Counted<'r>, AnyValue>;
 /// How far the two threads of a race are.
 #[derive(Drop)]
 struct Race {
-    counts: Counts,
+    counts: Tally,
     winners: AtomicUsize,
 }
 
@@ -77,7 +78,7 @@ fn run<'c, 'r, R: Threads + Sync>(
 #[test]
 fn a_page_that_comes_too_late_is_dropped(rt: HostRuntime) {
     let race = Race {
-        counts: Counts::new(),
+        counts: Tally::new(),
         winners: AtomicUsize::new(0),
     };
     let chain = Chain::new(rt.alloc(), &|| Some(race.counts.make())).expect(&rt, "a chain is made");

@@ -1,7 +1,8 @@
 //! Walks for owned items, with a limit and without one.
 use super::*;
 use lockfree_object_pool::page::OwnedSlot;
-use test_values::counted::{Counted, Counts, NEVER};
+use test_values::counted::{Counted, NEVER};
+use test_values::tally::Tally;
 
 /// Owned slots with the numbers of their pages.
 type WalkedOwned = Vec<(OwnedSlot<u32, AnyValue>, usize)>;
@@ -34,7 +35,7 @@ fn owned_walks_fill_page_after_page(rt: HostRuntime) {
 /// 33 items that one walk after the other finds, on two pages.
 fn counted_walks<'c>(
     alloc: Global,
-    counts: &'c Counts,
+    counts: &'c Tally,
 ) -> Result<Vec<OwnedSlot<Counted<'c>, AnyValue>>, PullError> {
     let chain = Chain::<_, _, AnyValue>::new(alloc, &|| counts.make_but(NEVER))?;
     let mut slots = Vec::new(alloc);
@@ -48,7 +49,7 @@ fn counted_walks<'c>(
 /// The chain ends before the slots, and its pages end with them.
 #[test]
 fn the_last_slots_that_walks_found_let_their_pages_end(rt: HostRuntime) {
-    let counts = Counts::new();
+    let counts = Tally::new();
     let mut slots = counted_walks(rt.alloc(), &counts).expect(&rt, "33 items are found");
     assert_eq!(rt; counts.now(), (64, 0));
     if let Some(slot) = slots.pop() {

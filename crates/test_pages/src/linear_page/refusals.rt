@@ -6,13 +6,13 @@ use super::*;
 use std::mem;
 use std::sync::atomic::AtomicUsize;
 use std::sync::atomic::Ordering::SeqCst;
-use test_values::counted::Counts;
 use test_values::refused::again;
+use test_values::tally::Tally;
 
 #[test]
 fn init_that_refuses_stops_a_new_chain(rt: HostRuntime) {
     for refused in 0..32usize {
-        let counts = Counts::new();
+        let counts = Tally::new();
         let chain = Chain::<_, AnyValue>::new(rt.alloc(), &|| counts.make_but(refused));
         assert_eq!(rt; chain.err(), Some(PullError::Init));
         assert_eq!(rt; counts.now(), (refused.saturating_add(1), refused));
@@ -21,7 +21,7 @@ fn init_that_refuses_stops_a_new_chain(rt: HostRuntime) {
 
 #[test]
 fn a_refused_page_is_not_linked(rt: HostRuntime) {
-    let counts = Counts::new();
+    let counts = Tally::new();
     let chain = Chain::new(rt.alloc(), &|| Some(counts.make())).expect(&rt, "a chain is made");
     let first = chain.first();
     let _slots = hold_all(rt.alloc(), &first).expect(&rt, "32 items are free");

@@ -33,7 +33,8 @@ fn pulled_after<'s>(
 ) -> Option<PageSlot<'s, u32, AnyValue>>
     requires { note_page note ≡ page_identity page.now }
     ensures page { IfSome result (λ slot. (slot_item slot).page ≡ page_identity page.now) }
-    ensures after { IfSome result (λ slot. IsPrefixOf (note_history note) (slot_item slot).history) }
+    ensures after { IfSome result (λ slot.
+        IsPrefixOf (note_history note) (slot_item slot).history) }
 {
     let pass = PullPass::new();
     match page.try_alloc_from(&pass, note) {
@@ -45,7 +46,8 @@ fn pulled_after<'s>(
 /// Returns 5, and tells it by a note: the return is the last operation that the note knows.
 fn returned_five(page: &NumberPage) -> Option<PageNote<u32>>
     ensures page { IfSome result (λ note. note_page note ≡ page_identity page.now) }
-    ensures last { IfSome result (λ note. (user id : ℕ) × (before : History ℕ) × (note_history note ≡ Return user id 5 ∷ before)) }
+    ensures last { IfSome result (λ note.
+        (user id : ℕ) × (before : History ℕ) × (note_history note ≡ Return user id 5 ∷ before)) }
 {
     let mut slot = page.alloc().ok()??;
     *slot = 5;
@@ -58,7 +60,8 @@ fn handed_on<'s, R: Threads + Sync>(
     rt: &R,
     page: &'s NumberPage,
 ) -> Option<(PageSlot<'s, u32, AnyValue>, PageNote<u32>)>
-    ensures after { IfSome result (λ seen. (user id : ℕ) × (before : History ℕ) × IsPrefixOf (Return user id 5 ∷ before) (slot_item seen.0).history) }
+    ensures after { IfSome result (λ seen. (user id : ℕ) × (before : History ℕ)
+        × IsPrefixOf (Return user id 5 ∷ before) (slot_item seen.0).history) }
     ensures slot_page { IfSome result (λ seen. (slot_item seen.0).page ≡ page_identity page.now) }
     ensures note_page { IfSome result (λ seen. note_page seen.1 ≡ page_identity page.now) }
 {
@@ -66,7 +69,8 @@ fn handed_on<'s, R: Threads + Sync>(
         rt,
         || -> Option<PageNote<u32>>
             ensures page { IfSome result (λ note. note_page note ≡ page_identity page.entry.now) }
-            ensures last { IfSome result (λ note. (user id : ℕ) × (before : History ℕ) × (note_history note ≡ Return user id 5 ∷ before)) }
+            ensures last { IfSome result (λ note. (user id : ℕ) × (before : History ℕ)
+                × (note_history note ≡ Return user id 5 ∷ before)) }
         { returned_five(page) },
         || -> Option<PageNote<u32>>
             ensures page { IfSome result (λ note. note_page note ≡ page_identity page.entry.now) }
@@ -81,7 +85,8 @@ fn compared(page: &NumberPage, one: PageNote<u32>, other: PageNote<u32>) -> Page
     requires one { note_page one ≡ page_identity page.now }
     requires other { note_page other ≡ page_identity page.now }
     ensures page { note_page result ≡ page_identity page.now }
-    ensures compared { IsPrefixOf (note_history one) (note_history other) ⊎ IsPrefixOf (note_history other) (note_history one) }
+    ensures compared { IsPrefixOf (note_history one) (note_history other)
+        ⊎ IsPrefixOf (note_history other) (note_history one) }
 {
     let mut both = one;
     page.tell(&mut both, other.into_witness());

@@ -5,12 +5,13 @@ use lockfree_object_pool::page::{OwnedSlot, Page};
 use std::alloc::Global;
 use std::mem;
 use std::sync::Arc;
-use test_values::counted::{Counted, Counts};
+use test_values::counted::Counted;
+use test_values::tally::Tally;
 
 /// A page whose `init` answers `None` at one of its calls, counted from 0.
 fn counted_page<'c>(
     alloc: Global,
-    counts: &'c Counts,
+    counts: &'c Tally,
     refused_call: usize,
 ) -> Result<Page<Counted<'c>, AnyValue>, PullError> {
     Page::new(alloc, &|| counts.make_but(refused_call))
@@ -18,7 +19,7 @@ fn counted_page<'c>(
 
 #[test]
 fn each_item_is_the_answer_of_its_call(rt: HostRuntime) {
-    let counts = Counts::new();
+    let counts = Tally::new();
     let page = counted_page(rt.alloc(), &counts, 32).expect(&rt, "a page is made");
     assert_eq!(rt; counts.now(), (32, 0));
     for id in 0..32u8 {
@@ -33,7 +34,7 @@ fn each_item_is_the_answer_of_its_call(rt: HostRuntime) {
 #[test]
 fn init_that_refuses_stops_a_new_page(rt: HostRuntime) {
     for refused_call in 0..32usize {
-        let counts = Counts::new();
+        let counts = Tally::new();
         let refused = counted_page(rt.alloc(), &counts, refused_call);
         assert!(rt; matches!(refused, Err(PullError::Init)));
         assert_eq!(rt;
@@ -51,7 +52,7 @@ struct Outcome {
 }
 
 fn make_and_drop(alloc: Global) -> Outcome {
-    let counts = Counts::new();
+    let counts = Tally::new();
     match counted_page(alloc, &counts, 32) {
         Ok(page) => {
             let all_at_home = counts.now() == (32, 0);
@@ -81,7 +82,7 @@ fn a_page_refused_for_memory_loses_no_item(rt: HostRuntime) {
 
 #[test]
 fn a_slot_and_a_page_drop_each_value_once(rt: HostRuntime) {
-    let counts = Counts::new();
+    let counts = Tally::new();
     let page = counted_page(rt.alloc(), &counts, 32).expect(&rt, "a page is made");
     drop(page.alloc());
     assert_eq!(rt; counts.now(), (32, 1));
@@ -107,7 +108,7 @@ fn owned_item<'c>(
 
 #[test]
 fn an_owned_slot_keeps_its_page(rt: HostRuntime) {
-    let counts = Counts::new();
+    let counts = Tally::new();
     let page = counted_page(rt.alloc(), &counts, 32).expect(&rt, "a page is made");
     let page = Arc::new(rt.alloc(), page).expect(&rt, "memory is left");
     let Some(first) = owned_item(&page) else {

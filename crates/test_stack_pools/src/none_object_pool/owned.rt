@@ -4,7 +4,7 @@ use std::test::Fail;
 
 #[test]
 fn a_closure_that_refuses_is_asked_once_an_owned_pull(rt: HostRuntime) -> Result<(), Fail> {
-    let counts = Counts::new();
+    let counts = Tally::new();
     let pool = Arc::new(rt.alloc(), NoneObjectPool::new(|| counts.make_but(0)))?;
     assert_eq!(rt; pool.pull_owned().err(), Some(PullError::Init));
     assert_eq!(rt; pool.pull_owned()?.call, 1);

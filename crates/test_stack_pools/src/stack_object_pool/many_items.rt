@@ -21,7 +21,7 @@ fn keeps_many<F: Kind<Tallied, TalliedValues, Keep, AnyValue>, W: Abort + Wait +
         again.push(pool.pull_owned(rt)?)?;
     }
     for (index, item) in again.iter().enumerate() {
-        assert_eq!(rt; Some(item.call), 1_099usize.checked_sub(index));
+        assert_eq!(rt; Some(item.number), 1_099usize.checked_sub(index));
     }
     assert_eq!(rt; tally.now(), (1_100, 0));
     Ok(())

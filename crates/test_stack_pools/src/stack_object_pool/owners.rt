@@ -31,10 +31,7 @@ fn lets_its_attached_owners_go<
 >(rt: &W, alloc: Global) -> Result<(), Fail> {
     let tally = new_tally(alloc)?;
     let pool = tracked::<F>(alloc, &tally, NEVER)?;
-    let init = TalliedValues {
-        tally: Arc::try_clone(&tally)?,
-        refused: NEVER,
-    };
+    let init = TalliedValues::new(&tally)?;
     let value = init.make().ok_or("init makes a value")?;
     drop(StackReusable::new(rt, Arc::try_clone(&pool)?, value));
     assert_eq!(rt; tally.now(), (1, 0));
@@ -63,7 +60,7 @@ fn is_kept_alive_by_an_item<
     let pool = tracked::<F>(alloc, &tally, NEVER)?;
     let item = pool.pull_owned(rt)?;
     drop(pool);
-    assert_eq!(rt; (item.call, tally.now()), (0, (1, 0)));
+    assert_eq!(rt; (item.number, tally.now()), (0, (1, 0)));
     drop(item);
     assert_eq!(rt; tally.now(), (1, 1));
     Ok(())

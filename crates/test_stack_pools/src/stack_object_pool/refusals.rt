@@ -14,10 +14,10 @@ fn asks_again_after_a_refusal<
     let tally = new_tally(alloc)?;
     let pool = tracked::<F>(alloc, &tally, 0)?;
     assert_eq!(rt; pool.pull(rt).err(), Some(PullError::Init));
-    assert_eq!(rt; pool.pull(rt)?.call, 1);
+    assert_eq!(rt; pool.pull(rt)?.number, 1);
     let pool = tracked::<F>(alloc, &tally, 2)?;
     assert_eq!(rt; pool.pull_owned(rt).err(), Some(PullError::Init));
-    assert_eq!(rt; pool.pull_owned(rt)?.call, 3);
+    assert_eq!(rt; pool.pull_owned(rt)?.number, 3);
     Ok(())
 }
 
@@ -43,15 +43,15 @@ fn goes_on_without_memory<F: Kind<Tallied, TalliedValues, Keep, AnyValue>, W: Ab
         assert_eq!(rt; (refusal, tally.now()), (PullError::Memory, (0, 0)));
     }
     let item = pool.pull(rt)?;
-    assert_eq!(rt; (item.call, tally.now()), (0, (1, 0)));
+    assert_eq!(rt; (item.number, tally.now()), (0, (1, 0)));
     if let Err(refusal) = pool.pull_owned(rt) {
         assert_eq!(rt; (refusal, tally.now()), (PullError::Memory, (1, 0)));
     }
     let owned = pool.pull_owned(rt)?;
-    assert_eq!(rt; (owned.call, tally.now()), (1, (2, 0)));
+    assert_eq!(rt; (owned.number, tally.now()), (1, (2, 0)));
     drop(item);
     drop(owned);
-    assert_eq!(rt; pool.pull(rt)?.call, 1);
+    assert_eq!(rt; pool.pull(rt)?.number, 1);
     assert_eq!(rt; tally.now(), (2, 0));
     drop(pool);
     assert_eq!(rt; tally.now(), (2, 2));
@@ -112,8 +112,8 @@ fn loses_what_is_forgotten<F: Kind<Tallied, TalliedValues, Keep, AnyValue>, W: A
     let tally = new_tally(alloc)?;
     let pool = tracked::<F>(alloc, &tally, NEVER)?;
     mem::forget(pool.pull(rt)?);
-    assert_eq!(rt; pool.pull(rt)?.call, 1);
-    assert_eq!(rt; pool.pull(rt)?.call, 1);
+    assert_eq!(rt; pool.pull(rt)?.number, 1);
+    assert_eq!(rt; pool.pull(rt)?.number, 1);
     drop(pool);
     assert_eq!(rt; tally.now(), (2, 1));
     Ok(())

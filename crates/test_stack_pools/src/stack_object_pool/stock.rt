@@ -15,7 +15,7 @@ fn fills<F: Kind<Tallied, TalliedValues, Keep, AnyValue>, W: Abort + Wait + Copy
     pool.fill(rt, 0)?;
     assert_eq!(rt; (pool.kept(rt), tally.now()), (40, (40, 0)));
     let (item, other) = (pool.pull(rt)?, pool.pull_owned(rt)?);
-    assert_eq!(rt; (item.call, other.call), (39, 38));
+    assert_eq!(rt; (item.number, other.number), (39, 38));
     assert_eq!(rt; (pool.kept(rt), tally.now()), (38, (40, 0)));
     drop(item);
     assert_eq!(rt; pool.kept(rt), 39);
@@ -66,7 +66,7 @@ fn clears<F: Kind<Tallied, TalliedValues, Keep, AnyValue>, W: Abort + Wait + Cop
     drop(item);
     assert_eq!(rt; (pool.kept(rt), tally.now()), (1, (70_000, 69_999)));
     let item = pool.pull(rt)?;
-    assert_eq!(rt; (item.call, pool.pull(rt)?.call), (69_999, 70_000));
+    assert_eq!(rt; (item.number, pool.pull(rt)?.number), (69_999, 70_000));
     pool.clear(rt);
     pool.clear(rt);
     assert_eq!(rt; (pool.kept(rt), tally.now()), (0, (70_001, 70_000)));
@@ -90,9 +90,9 @@ fn detaches<F: Kind<Tallied, TalliedValues, Keep, AnyValue>, W: Abort + Wait + C
     pool.fill(rt, 2)?;
     let first = pool.pull(rt)?.detach();
     let second = pool.pull_owned(rt)?.detach();
-    assert_eq!(rt; (first.call, second.call), (1, 0));
+    assert_eq!(rt; (first.number, second.number), (1, 0));
     assert_eq!(rt; (pool.kept(rt), tally.now()), (0, (2, 0)));
-    assert_eq!(rt; pool.pull(rt)?.call, 2);
+    assert_eq!(rt; pool.pull(rt)?.number, 2);
     drop(pool);
     assert_eq!(rt; tally.now(), (3, 1));
     drop(first);
@@ -136,10 +136,7 @@ fn a_detached_value_is_as_it_was_written(rt: HostRuntime) -> Result<(), Fail> {
 
 /// A value that `init` makes for no pool.
 fn made(tally: &Arc<Tally>) -> Option<Tallied> {
-    let init = TalliedValues {
-        tally: Arc::try_clone(tally).ok()?,
-        refused: NEVER,
-    };
+    let init = TalliedValues::new(tally).ok()?;
     init.make()
 }
 

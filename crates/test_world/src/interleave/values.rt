@@ -37,36 +37,38 @@ fn each_place_has_the_answer_that_init_gave_at_its_turn(rt: HostRuntime) -> Resu
 
 #[test]
 fn a_write_drops_the_value_before_at_once(rt: HostRuntime) -> Result<(), Fail> {
-    let (made, ends) = (Cell::new(0), Cell::new(0));
-    let first = make_counted(rt.alloc(), &made, &ends)?;
+    let tally = Tally::new();
+    let first = make_counted(rt.alloc(), &tally)?;
     let mut world = World::new(rt.alloc(), first, Keep)?;
     hold(&mut world, 1);
-    assert_eq!(rt; ends.get(), 0);
-    for writes in 1..4u32 {
-        let seen = world.step(Event::Write(0, Counted { ends: &ends }));
-        assert_eq!(rt; (seen, ends.get()), (Seen::Wrote(0), writes));
+    assert_eq!(rt; tally.now(), (32, 0));
+    for writes in 1..4usize {
+        let seen = world.step(Event::Write(0, tally.make()));
+        assert_eq!(rt; (seen, tally.drops()), (Seen::Wrote(0), writes));
     }
     give_back(&mut world, 0);
-    assert_eq!(rt; ends.get(), 3);
-    let seen = world.step(Event::Write(0, Counted { ends: &ends }));
-    assert_eq!(rt; (seen, ends.get()), (Seen::NotEnabled, 4));
+    assert_eq!(rt; tally.drops(), 3);
+    let seen = world.step(Event::Write(0, tally.make()));
+    assert_eq!(rt; (seen, tally.drops()), (Seen::NotEnabled, 4));
     drop(world);
-    assert_eq!(rt; (made.get(), ends.get()), (32, 36));
+    // 32 values of the first page, and 4 that were written.
+    assert_eq!(rt; tally.now(), (36, 36));
     Ok(())
 }
 
 #[test]
 fn a_run_drops_the_values_of_events_that_are_not_enabled(rt: HostRuntime) -> Result<(), Fail> {
-    let (made, ends) = (Cell::new(0), Cell::new(0));
-    let first = make_counted(rt.alloc(), &made, &ends)?;
-    let second = make_counted(rt.alloc(), &made, &ends)?;
+    let tally = Tally::new();
+    let first = make_counted(rt.alloc(), &tally)?;
+    let second = make_counted(rt.alloc(), &tally)?;
+    assert_eq!(rt; tally.now(), (64, 0));
     let mut world = World::new(rt.alloc(), first, Keep)?;
     let mut seen = Vec::new(rt.alloc());
     let events = Vec::from_array(
         rt.alloc(),
         [
             Event::Begin,
-            Event::Write(0, Counted { ends: &ends }),
+            Event::Write(0, tally.make()),
             Event::MakePage(0, Ok(second)),
         ],
     )?;
@@ -75,7 +77,7 @@ fn a_run_drops_the_values_of_events_that_are_not_enabled(rt: HostRuntime) -> Res
         seen.as_slice(),
         [Seen::Began(0), Seen::NotEnabled, Seen::NotEnabled].as_slice()
     );
-    assert_eq!(rt; (made.get(), ends.get()), (64, 33));
+    assert_eq!(rt; tally.now(), (65, 33));
     Ok(())
 }
 

@@ -8,7 +8,8 @@ pub returns : goal.returns
 returns c =
     let had = ap (λ (held : Held). held.hand) c.into_inner-page.ensures in
     let left : LeavesNone c.in-Some.held.value.hand = elim c.match-hand.branch [
-      | in-Some-Full w ↦ subst LeavesNone (sym (w.in-Some-Full.is ∙ ap Some w.in-Some-Full.field-0-is) ∙ had) (w.give_back-note.result, w.give_back-note.ensures)
+      | in-Some-Full w ↦ subst LeavesNone (sym (w.in-Some-Full.is ∙ ap Some w.in-Some-Full.field-0-is)
+          ∙ had) (w.give_back-note.result, w.give_back-note.ensures)
       | in-Some-Empty w ↦ subst LeavesNone (sym (w.in-Some-Empty.is ∙ ap Some w.in-Some-Empty.field-0-is) ∙ had) tt
       | in-None w ↦ subst LeavesNone (sym w.in-None.is ∙ had) tt
     ] in

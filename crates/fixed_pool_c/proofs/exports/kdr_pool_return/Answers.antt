@@ -5,13 +5,29 @@ use Rattle.fixed_pool_c.proofs.exports.kdr_pool_return.Goals as goal
 
 pub returns-in-Some-Empty : goal.returns-in-Some-Empty
 returns-in-Some-Empty c =
-    let had = ap (λ (held : Held). held.hand) (sym c.deref_mut.ensures.value) ∙ sym c.take-2.ensures.value ∙ c.in-Some-Empty.is ∙ ap Some c.in-Some-Empty.field-0-is in
+    let had = ap (λ (held : Held). held.hand) (sym c.deref_mut.ensures.value) ∙ sym c.take-2.ensures.value
+    ∙ c.in-Some-Empty.is ∙ ap Some c.in-Some-Empty.field-0-is in
     let kept = c.hold.ensures in
-    inr (inl (refl, (c.in-Some.held.value, kept.0, c.in-Some.ensures.taken, kept.1, record { idle = c.in-Some-Empty.idle; held_none = had; holds_none = kept.2 })))
+    inr (inl (
+      refl,
+      (
+        c.in-Some.held.value,
+        kept.0,
+        c.in-Some.ensures.taken,
+        kept.1,
+        record {
+          idle =
+              c.in-Some-Empty.idle;
+          held_none = had;
+          holds_none = kept.2;
+        },
+      ),
+    ))
 
 pub returns-in-Some-Full : goal.returns-in-Some-Full
 returns-in-Some-Full c =
-    let had = ap (λ (held : Held). held.hand) (sym c.deref_mut.ensures.value) ∙ sym c.take-2.ensures.value ∙ c.in-Some-Full.is ∙ ap Some c.in-Some-Full.field-0-is in
+    let had = ap (λ (held : Held). held.hand) (sym c.deref_mut.ensures.value) ∙ sym c.take-2.ensures.value
+    ∙ c.in-Some-Full.is ∙ ap Some c.in-Some-Full.field-0-is in
     let kept = c.hold-in-Some-Full.ensures in
     let given = c.give_back_with_owner-pool.ensures in
     inl (

@@ -4,13 +4,30 @@ use Rattle.fixed_pool_c.proofs.exports.pull_at.Goals as goal
 
 pub returns-in-Some-Full : goal.returns-in-Some-Full
 returns-in-Some-Full c =
-    let had = ap (λ (held : Held). held.hand) (sym c.deref_mut.ensures.value) ∙ sym c.take.ensures.value ∙ c.in-Some-Full.is ∙ ap Some c.in-Some-Full.field-0-is in
+    let had = ap (λ (held : Held). held.hand) (sym c.deref_mut.ensures.value) ∙ sym c.take.ensures.value
+    ∙ c.in-Some-Full.is ∙ ap Some c.in-Some-Full.field-0-is in
     let kept = c.hold.ensures in
-    inr (inr (inl (refl, refl, (c.args.held.value, kept.0, refl, kept.1, record { out = c.in-Some-Full.out; held_one = had; holds_same = kept.2 }))))
+    inr (inr (inl (
+      refl,
+      refl,
+      (
+        c.args.held.value,
+        kept.0,
+        refl,
+        kept.1,
+        record {
+          out = c.in-Some-Full.out;
+          held_one =
+              had;
+          holds_same = kept.2;
+        },
+      ),
+    )))
 
 pub returns-in-Ok : goal.returns-in-Ok
 returns-in-Ok c =
-    let had = ap (λ (held : Held). held.hand) (sym c.deref_mut.ensures.value) ∙ sym c.take.ensures.value ∙ c.in-Some-Empty.is ∙ ap Some c.in-Some-Empty.field-0-is in
+    let had = ap (λ (held : Held). held.hand) (sym c.deref_mut.ensures.value) ∙ sym c.take.ensures.value
+    ∙ c.in-Some-Empty.is ∙ ap Some c.in-Some-Empty.field-0-is in
     let kept = c.hold-in-Ok.ensures in
     let pulled = c.in-Ok.ensures in
     inl (
@@ -35,7 +52,8 @@ returns-in-Ok c =
 
 pub returns-in-Err : goal.returns-in-Err
 returns-in-Err c =
-    let had = ap (λ (held : Held). held.hand) (sym c.deref_mut.ensures.value) ∙ sym c.take.ensures.value ∙ c.in-Some-Empty.is ∙ ap Some c.in-Some-Empty.field-0-is in
+    let had = ap (λ (held : Held). held.hand) (sym c.deref_mut.ensures.value) ∙ sym c.take.ensures.value
+    ∙ c.in-Some-Empty.is ∙ ap Some c.in-Some-Empty.field-0-is in
     let kept = c.hold-in-Err.ensures in
     let refused = c.in-Err.ensures in
     inr (inl (

@@ -6,7 +6,7 @@ use Rattle.object_pool_cores.specs.declared.interleave.point.Point.TheVariants.{
 use Rattle.object_pool_cores.specs.declared.interleave.point.Point.TheVariants.{ClearingHinted, Making, Linking, Taken}
 use Rattle.object_pool_cores.specs.declared.interleave.point.Point.TheVariants.{Holding, Home, Ended}
 use Rattle.object_pool_cores.specs.Pool.{IsSame, AllowsPages, number}
-use Rattle.object_pool_cores.specs.Run.{Act, acts_of, pool_of, Looks, Holds, FoundOut, FoundAllOut, HadPages, Run}
+use Rattle.object_pool_cores.specs.Run.{Act, acts_of, pool_of, Looks, Holds, FoundOut, FoundPagesOut, HadPages, Run}
 use Rattle.object_pool_cores.specs.Run.{FoundOutBeforeEach}
 use Rattle.object_pool_cores.specs.World.State.{WorldPageState, WorldState}
 use Rattle.object_pool_cores.specs.World.Machine.{has_bit, page_value}
@@ -29,14 +29,14 @@ module _ {T : Type 0} (first : List T) where
   pub record LooksOn (acts : List (Act T)) (pages a k : ℕ) (asked : Option ℕ) : Type 0 where
     pub looking : Looks (acts_of a acts)
     pub linked : k < pages
-    pub found_out : FoundAllOut first acts a k
+    pub found_out : FoundPagesOut first acts a k
     pub asked_full : FoundAsked acts pages a asked
 
   -- an agent found each number of page k and of the pages before it out
   pub record IsPast (acts : List (Act T)) (pages a k : ℕ) (asked : Option ℕ) : Type 0 where
     pub looking : Looks (acts_of a acts)
     pub linked : k < pages
-    pub found_out : FoundAllOut first acts a (k + 1)
+    pub found_out : FoundPagesOut first acts a (k + 1)
     pub asked_full : FoundAsked acts pages a asked
 
   -- and page k was the last page at some place, after which one more is allowed
@@ -67,27 +67,27 @@ module _ {T : Type 0} where
 
 module _ {T : Type 0} (Leaves : T → T → Type 0) (first : List T) where
   -- what is known of an agent at its point
-  abbrev pub Knows : Log T → List (Act T) → WorldState T → ℕ → Point T → Type 0
-  Knows log acts world a (Reading k asked) = LooksOn first acts (length world.pages) a k asked
-  Knows log acts world a (Clearing k mask asked) =
+  abbrev pub AgentKnows : Log T → List (Act T) → WorldState T → ℕ → Point T → Type 0
+  AgentKnows log acts world a (Reading k asked) = LooksOn first acts (length world.pages) a k asked
+  AgentKnows log acts world a (Clearing k mask asked) =
       LooksOn first acts (length world.pages) a k asked × TriesBits first acts a k mask
-  Knows log acts world a (AtLink k asked) = IsPast first acts (length world.pages) a k asked
-  Knows log acts world a (ClearingHinted hint mask) = TriesHinted first acts (length world.pages) a hint mask
-  Knows log acts world a (Making k) = IsAtLastPage first acts world.limit (length world.pages) a k
-  Knows log acts world a (Linking k values) =
+  AgentKnows log acts world a (AtLink k asked) = IsPast first acts (length world.pages) a k asked
+  AgentKnows log acts world a (ClearingHinted hint mask) = TriesHinted first acts (length world.pages) a hint mask
+  AgentKnows log acts world a (Making k) = IsAtLastPage first acts world.limit (length world.pages) a k
+  AgentKnows log acts world a (Linking k values) =
       IsAtLastPage first acts world.limit (length world.pages) a k × (last_made log a ≡ Some values)
-  Knows log acts world a (Taken k id) =
+  AgentKnows log acts world a (Taken k id) =
       (value : T) × HoldsAt acts (length world.pages) a k id value × (page_value world.pages k id ≡ Some value)
-  Knows log acts world a (Holding k id value) = HoldsAt acts (length world.pages) a k id value
-  Knows log acts world a (Home k id) =
+  AgentKnows log acts world a (Holding k id value) = HoldsAt acts (length world.pages) a k id value
+  AgentKnows log acts world a (Home k id) =
       (value : T) × (kept : T) × HoldsAt acts (length world.pages) a k id value × Leaves value kept
       × (page_value world.pages k id ≡ Some kept)
-  Knows log acts world a Ended = ⊤
+  AgentKnows log acts world a Ended = ⊤
 
   -- what is known of an agent that may not have begun
-  abbrev pub KnowsIf : Log T → List (Act T) → WorldState T → ℕ → Option (Point T) → Type 0
-  KnowsIf log acts world a None = acts_of a acts ≡ []
-  KnowsIf log acts world a (Some point) = Knows log acts world a point
+  abbrev pub AgentKnowsIf : Log T → List (Act T) → WorldState T → ℕ → Option (Point T) → Type 0
+  AgentKnowsIf log acts world a None = acts_of a acts ≡ []
+  AgentKnowsIf log acts world a (Some point) = AgentKnows log acts world a point
 
   -- the acts are what the log shows, they are a run, and the world is where they lead
   pub record Agrees (log : Log T) (acts : List (Act T)) (world : WorldState T) : Type 0 where
@@ -99,4 +99,4 @@ module _ {T : Type 0} (Leaves : T → T → Type 0) (first : List T) where
     pub places :
         (k : ℕ) (page : WorldPageState T) → slice_get world.pages k ≡ Some page → length page.places ≡ PAGE_ITEMS
     pub allowed : AllowsPages world.limit (length world.pages)
-    pub agents : (a : ℕ) → KnowsIf log acts world a (slice_get world.agents a)
+    pub agents : (a : ℕ) → AgentKnowsIf log acts world a (slice_get world.agents a)

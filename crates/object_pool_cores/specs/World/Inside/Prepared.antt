@@ -10,6 +10,6 @@ module _ {T : Type 0} where
   values_of (Some value ∷ places) = value ∷ values_of places
 
   -- each of the 32 places has its value
-  pub record IsFull (places : List (Option T)) : Type 0 where
+  pub record IsComplete (places : List (Option T)) : Type 0 where
     pub all : places ≡ map Some (values_of places)
     pub count : length (values_of places) ≡ PAGE_ITEMS

@@ -9,5 +9,6 @@ returns-clause-after_first c = prefix_of_prefix _ _ _ c.tell.ensures.from_own c.
 
 pub returns-clause-after_second : goal.returns-clause-after_second
 returns-clause-after_second c =
-    let told = subst (λ history. IsPrefixOf history (note_history c.tell.new.note)) c.into_witness.ensures.history c.tell.ensures.from_told in
+    let told = subst (λ history. IsPrefixOf history (note_history c.tell.new.note)) c.into_witness.ensures.history
+    c.tell.ensures.from_told in
     prefix_of_prefix _ _ _ told c.in-Some.ensures.after

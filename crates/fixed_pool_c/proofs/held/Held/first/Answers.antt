@@ -13,5 +13,6 @@ returns-in-Some c =
       opens = c.in-Some.ensures;
       count = ap (λ (pool : PlacePool). pool_items pool) same ∙ made.items;
       pages = ap (λ (pool : PlacePool). pool_pages pool) same ∙ made.pages;
-      free = subst (λ (pool : PlacePool). IsFilled c.args.items (λ value. Some value ≡ Some tt) (pool_opening pool)) (sym same) made.opened;
+      free = subst (λ (pool : PlacePool). IsFilled c.args.items
+          (λ value. Some value ≡ Some tt) (pool_opening pool)) (sym same) made.opened;
     }

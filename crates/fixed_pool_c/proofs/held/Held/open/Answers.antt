@@ -10,5 +10,6 @@ returns-in-Ok c = record {
   idle = _;
   holds_none = ap (λ (held : Held). held.hand) c.in-Ok.ensures.ok;
   same_pool = refl;
-  note = subst (λ (pool : PlacePool). IsNoteOf (pool_identity pool) (pool_opening pool) c.note-note.result) c.deref-3.ensures c.note-note.ensures;
+  note = subst (λ (pool : PlacePool). IsNoteOf (pool_identity pool) (pool_opening pool) c.note-note.result)
+      c.deref-3.ensures c.note-note.ensures;
 }

@@ -4,4 +4,5 @@ use Rattle.lockfree_object_pool.proofs.GuardShared.{guard_sync}
 use Rattle.test_stack_pools.proofs.spin_lock.sends.guard_shared.Goals as goal
 
 pub shared-requires-sync-X : goal.shared-requires-sync-X
-shared-requires-sync-X g c κs within = param_sync _ _ (arg_sync _ no _ (guard_sync _ _ c.type_bounds.send-T c.type_bounds.sync-T))
+shared-requires-sync-X g c κs within = param_sync _ _ (arg_sync _ no _ (guard_sync _ _ c.type_bounds.send-T
+    c.type_bounds.sync-T))

@@ -34,7 +34,7 @@ overflow_add-page g c =
 pub exchange-requires : goal.exchange-requires
 exchange-requires g c =
     let took = (c.fetch_and-word.ensures.2.took c.args.bit c.requires.in_word c.without_bit.ensures.bits
-    (c.has_bit.ensures.0 (search rules))).value in (
+    (c.has_bit.ensures.bits.0 (search rules))).value in (
       search rules,
       (
         Some took.0,

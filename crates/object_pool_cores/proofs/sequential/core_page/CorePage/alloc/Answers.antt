@@ -1,10 +1,10 @@
-use Rattle.object_pool_cores.proofs.Cores.KeptWord.{IsFreeId-lowest, IsKept-taken, TakesLeastId-lowest}
+use Rattle.object_pool_cores.proofs.Cores.KeptWord.{IsFreeId-lowest, IsCorePage-taken, TakesLeastId-lowest}
 use Rattle.object_pool_cores.proofs.sequential.core_page.CorePage.alloc.Goals as goal
 
 pub invariant_of-self : goal.invariant_of-self
 invariant_of-self g c =
     rw (c.take.ensures.after, c.from.ensures)
-    (IsKept-taken g.K.Clean.meets _ _ c.self.invariant _ _ c.in_ok-word.ensures.rest)
+    (IsCorePage-taken g.K.Clean.meets _ _ c.self.invariant _ _ c.in_ok-word.ensures.rest)
 
 pub returns-clause-least : goal.returns-clause-least
 returns-clause-least g c =

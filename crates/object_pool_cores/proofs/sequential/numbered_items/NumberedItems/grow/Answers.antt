@@ -2,7 +2,7 @@ use Rattle.std.proofs.Common.{◌≡◌, ◌∙◌, ap, length, rules, Some}
 use Rattle.std.proofs.lemmas.List.{length-map}
 use Rattle.std.proofs.lemmas.List.Elements.{All-push}
 use Rattle.object_pool_cores.proofs.Cores.PagedPlaces.{laid_out-push}
-use Rattle.object_pool_cores.specs.Laws.NumberedPlaces.{IsSound-grown, Grows-page}
+use Rattle.object_pool_cores.specs.Laws.NumberedPlaces.{IsWellNumbered-grown, Grows-page}
 use Rattle.object_pool_cores.proofs.sequential.numbered_items.NumberedItems.grow.Goals as goal
 
 pub invariant_of-self-2 : goal.invariant_of-self-2
@@ -13,7 +13,7 @@ invariant_of-self-2 g c =
       All-push (λ p. length p ≡ 32) _ _ c.self.invariant.0
           (ap length page.free ∙ length-map page.values Some ∙ page.answered.count),
       rw (laid_out-push, page.free)
-          (IsSound-grown g.K.Clean.meets _ page.values c.self.invariant.1 (search rules) page.answered.count
+          (IsWellNumbered-grown g.K.Clean.meets _ page.values c.self.invariant.1 (search rules) page.answered.count
           page.clean),
     )
 

@@ -1,4 +1,6 @@
-//! The most memory that the process had.
+//! The most memory that the process had, for the programs that measure what the pools take.
+#![tactic(auto)]
+
 use anyhow::{Context, Result};
 use std::fs;
 use std::rt::Files;

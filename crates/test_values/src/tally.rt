@@ -1,0 +1,90 @@
+//! What is done with the values of a test, counted on all its threads.
+use lockfree_object_pool::PullError;
+use std::alloc::Global;
+use std::sync::Arc;
+use std::sync::atomic::AtomicUsize;
+use std::sync::atomic::Ordering::SeqCst;
+
+/// How many calls there were for a value, how many of them were refused, and how many values were made, reset and
+/// dropped.
+#[derive(Drop)]
+pub struct Tally {
+    calls: AtomicUsize,
+    refused: AtomicUsize,
+    made: AtomicUsize,
+    resets: AtomicUsize,
+    drops: AtomicUsize,
+}
+
+impl Tally {
+    pub fn new() -> Tally {
+        Tally {
+            calls: AtomicUsize::new(0),
+            refused: AtomicUsize::new(0),
+            made: AtomicUsize::new(0),
+            resets: AtomicUsize::new(0),
+            drops: AtomicUsize::new(0),
+        }
+    }
+
+    /// The number of this call, counted from 0.
+    pub fn next_call(&self) -> usize {
+        self.calls.fetch_add(1, SeqCst)
+    }
+
+    pub fn count_refused(&self) {
+        self.refused.fetch_add(1, SeqCst);
+    }
+
+    pub fn count_made(&self) {
+        self.made.fetch_add(1, SeqCst);
+    }
+
+    pub fn count_reset(&self) {
+        self.resets.fetch_add(1, SeqCst);
+    }
+
+    pub fn count_drop(&self) {
+        self.drops.fetch_add(1, SeqCst);
+    }
+
+    pub fn calls(&self) -> usize {
+        self.calls.load(SeqCst)
+    }
+
+    pub fn refused(&self) -> usize {
+        self.refused.load(SeqCst)
+    }
+
+    pub fn made(&self) -> usize {
+        self.made.load(SeqCst)
+    }
+
+    pub fn resets(&self) -> usize {
+        self.resets.load(SeqCst)
+    }
+
+    pub fn drops(&self) -> usize {
+        self.drops.load(SeqCst)
+    }
+
+    /// The calls and the drops until now.
+    pub fn now(&self) -> (usize, usize) {
+        (self.calls(), self.drops())
+    }
+
+    /// How many calls were not refused.
+    pub fn answered(&self) -> usize {
+        self.calls().wrapping_sub(self.refused())
+    }
+
+    /// How many values were made and not dropped.
+    pub fn living(&self) -> usize {
+        self.made().wrapping_sub(self.drops())
+    }
+}
+
+/// A tally that its values are owners of.
+pub fn new_tally(alloc: Global) -> Result<Arc<Tally>, PullError> {
+    Ok(Arc::new(alloc, Tally::new())?)
+}
