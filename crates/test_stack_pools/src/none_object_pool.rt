@@ -6,7 +6,6 @@ use lockfree_object_pool::{NoneObjectPool, NoneReusable, PullError};
 use std::cell::Cell;
 use std::mem;
 use std::sync::Arc;
-use std::test::Fail;
 use test_values::counted::Counted;
 use test_values::tally::Tally;
 
@@ -61,74 +60,78 @@ fn never_refused<I: Fn() -> Option<u32>>(pool: &NoneObjectPool<u32, I>) -> Resul
 }
 
 #[test]
-fn a_written_value_is_gone(rt: HostRuntime) -> Result<(), Fail> {
+fn a_written_value_is_gone(rt: HostRuntime) {
     let pool = NoneObjectPool::new(|| Some(0u32));
-    let mut item = pool.pull()?;
+    let mut item = pool.pull().expect(&rt, "an item is made");
     write(&mut item, 5);
-    assert_eq!(rt; *item, 5);
+    let written = *item;
     drop(item);
-    assert_eq!(rt; *pool.pull()?, 0);
+    let pulled = *pool.pull().expect(&rt, "an item is made");
     assert_eq!(rt;
-        (pulled_and_written(), never_refused(&pool)),
-        (Ok((3, 9)), Ok(0))
+        (written, pulled, pulled_and_written(), never_refused(&pool)),
+        (5, 0, Ok((3, 9)), Ok(0))
     );
-    Ok(())
 }
 
 #[test]
-fn each_pull_makes_an_item(rt: HostRuntime) -> Result<(), Fail> {
+fn each_pull_makes_an_item(rt: HostRuntime) {
     let calls = Cell::new(0u32);
     let pool = NoneObjectPool::new(|| {
         calls.set(calls.get().saturating_add(1));
         Some(0u32)
     });
     for _ in 0..2 {
-        let mut item = pool.pull()?;
-        assert_eq!(rt; *item, 0);
+        let mut item = pool.pull().expect(&rt, "an item is made");
+        assert!(rt; *item == 0);
         *item += 1;
     }
-    assert_eq!(rt; calls.get(), 2);
-    Ok(())
+    assert!(rt; calls.get() == 2);
 }
 
 #[test]
-fn init_that_refuses_once_is_asked_again(rt: HostRuntime) -> Result<(), Fail> {
+fn init_that_refuses_once_is_asked_again(rt: HostRuntime) {
     let counts = Tally::new();
     let pool = NoneObjectPool::new(|| counts.make_but(0));
-    assert_eq!(rt; pool.pull().err(), Some(PullError::Init));
-    assert_eq!(rt; pool.pull()?.call, 1);
-    Ok(())
+    let refusal = pool.pull().err();
+    let call = pool.pull().expect(&rt, "an item is made").call;
+    assert_eq!(rt; (refusal, call), (Some(PullError::Init), 1));
 }
 
 #[test]
-fn each_item_is_dropped_once(rt: HostRuntime) -> Result<(), Fail> {
+fn each_item_is_dropped_once(rt: HostRuntime) {
     let counts = Tally::new();
-    let pool = Arc::new(rt.alloc(), NoneObjectPool::new(|| Some(counts.make())))?;
-    let (item, owned) = (pool.pull()?, pool.pull_owned()?);
-    assert_eq!(rt; (item.call, owned.call, counts.now()), (0, 1, (2, 0)));
+    let pool = Arc::new(rt.alloc(), NoneObjectPool::new(|| Some(counts.make()))).expect(
+        &rt,
+        "memory is left",
+    );
+    let item = pool.pull().expect(&rt, "an item is made");
+    let owned = pool.pull_owned().expect(&rt, "an item is made");
+    let held = (item.call, owned.call, counts.now());
     drop(pool);
     drop(item);
-    assert_eq!(rt; counts.drops(), 1);
+    let dropped = counts.drops();
     mem::forget(owned);
     let attached: NoneReusable<Counted<'_>> = NoneReusable::new(counts.make());
     drop(attached);
-    assert_eq!(rt; counts.now(), (3, 2));
-    Ok(())
+    assert_eq!(rt; (held, dropped, counts.now()), ((0, 1, (2, 0)), 1, (3, 2)));
 }
 
 /// So the pool ends while they are out.
 #[test]
-fn items_keep_no_owner_of_their_pool(rt: HostRuntime) -> Result<(), Fail> {
-    let pool = Arc::new(rt.alloc(), NoneObjectPool::new(|| Some(3u32)))?;
-    let (item, owned) = (pool.pull()?, pool.pull_owned()?);
+fn items_keep_no_owner_of_their_pool(rt: HostRuntime) {
+    let pool = Arc::new(rt.alloc(), NoneObjectPool::new(|| Some(3u32))).expect(
+        &rt,
+        "memory is left",
+    );
+    let item = pool.pull().expect(&rt, "an item is made");
+    let owned = pool.pull_owned().expect(&rt, "an item is made");
     assert_eq!(rt; (*item, *owned, Arc::strong_count(&pool)), (3, 3, 1));
-    Ok(())
 }
 
 #[test]
-fn a_pool_and_its_item_are_shown(rt: HostRuntime) -> Result<(), Fail> {
+fn a_pool_and_its_item_are_shown(rt: HostRuntime) {
     let pool = NoneObjectPool::new(|| Some(3u32));
-    let shown = format!(in rt.alloc(); "{pool:?} {:?}", pool.pull()?)?;
+    let item = pool.pull().expect(&rt, "an item is made");
+    let shown = format!(in rt.alloc(); "{pool:?} {item:?}").expect(&rt, "memory is left");
     assert_eq!(rt; shown.as_str(), "NoneObjectPool { .. } 3");
-    Ok(())
 }

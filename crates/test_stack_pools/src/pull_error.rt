@@ -2,21 +2,19 @@
 use lockfree_object_pool::PullError;
 use std::alloc::AllocFailed;
 use std::collections::HashSet;
-use std::test::Fail;
 use test_values::tally::Tally;
 
 #[test]
-fn each_refusal_has_its_own_words(rt: HostRuntime) -> Result<(), Fail> {
+fn each_refusal_has_its_own_words(rt: HostRuntime) {
     let (memory, init, limit) = (PullError::Memory, PullError::Init, PullError::Limit);
     let told = format!(in rt.alloc();
         "{memory}; {init}; {limit}; {memory:?}, {init:?}, {limit:?}"
-    )?;
+    ).expect(&rt, "memory is left");
     assert_eq!(rt;
         told.as_str(),
         "out of memory; init gave no item; the pool is at its limit; Memory, Init, Limit"
     );
     assert_eq!(rt; (memory as u8, init as u8, limit as u8), (1, 2, 3));
-    Ok(())
 }
 
 #[test]
@@ -25,12 +23,14 @@ fn a_value_that_memory_was_refused_for_is_dropped(rt: HostRuntime) {
     let refused = AllocFailed {
         value: Some(counts.make()),
     };
-    assert_eq!(rt; PullError::from(refused), PullError::Memory);
-    assert_eq!(rt; counts.now(), (1, 1));
+    assert_eq!(rt;
+        (PullError::from(refused), counts.now()),
+        (PullError::Memory, (1, 1))
+    );
 }
 
 #[test]
-fn each_cause_has_a_hash_of_its_own(rt: HostRuntime) -> Result<(), Fail> {
+fn each_cause_has_a_hash_of_its_own(rt: HostRuntime) {
     let mut causes = HashSet::new(rt.alloc());
     for cause in [
         PullError::Memory,
@@ -38,8 +38,7 @@ fn each_cause_has_a_hash_of_its_own(rt: HostRuntime) -> Result<(), Fail> {
         PullError::Limit,
         PullError::Init,
     ] {
-        causes.insert(cause)?;
+        causes.insert(cause).expect(&rt, "memory is left");
     }
-    assert_eq!(rt; causes.len(), 3);
-    Ok(())
+    assert!(rt; causes.len() == 3);
 }

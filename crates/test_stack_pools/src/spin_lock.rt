@@ -3,7 +3,6 @@ use lockfree_object_pool::spin_lock::SpinLock;
 use std::sync::atomic::AtomicU64;
 use std::sync::atomic::Ordering::SeqCst;
 use std::sync::{Arc, Wait};
-use std::test::Fail;
 use std::{mem, thread};
 use test_values::tally::Tally;
 
@@ -29,18 +28,20 @@ fn add_a_thousand<W: Wait>(rt: &W, sum: &Sum) {
 }
 
 #[test]
-fn two_threads_leave_two_thousand(rt: HostRuntime) -> Result<(), Fail> {
-    let sum = Arc::new(
-        rt.alloc(),
-        Sum {
-            lock: SpinLock::new(rt.alloc(), 0)?,
-            done: AtomicU64::new(0),
-        },
-    )?;
-    let first = Arc::try_clone(&sum)?;
-    let second = Arc::try_clone(&sum)?;
-    let first = thread::spawn(&rt, move || add_a_thousand(&rt, &first))?;
-    let second = thread::spawn(&rt, move || add_a_thousand(&rt, &second))?;
+fn two_threads_leave_two_thousand(rt: HostRuntime) {
+    let lock = SpinLock::new(rt.alloc(), 0).expect(&rt, "memory is left");
+    let done = AtomicU64::new(0);
+    let sum = Arc::new(rt.alloc(), Sum { lock, done }).expect(&rt, "memory is left");
+    let first = Arc::try_clone(&sum).expect(&rt, "an owner is made");
+    let second = Arc::try_clone(&sum).expect(&rt, "an owner is made");
+    let first = thread::spawn(&rt, move || add_a_thousand(&rt, &first)).expect(
+        &rt,
+        "a thread is made",
+    );
+    let second = thread::spawn(&rt, move || add_a_thousand(&rt, &second)).expect(
+        &rt,
+        "a thread is made",
+    );
     for _ in 0..MOST_TURNS {
         if sum.done.load(SeqCst) == 2 {
             break;
@@ -51,7 +52,6 @@ fn two_threads_leave_two_thousand(rt: HostRuntime) -> Result<(), Fail> {
     first.join(&rt);
     second.join(&rt);
     assert_eq!(rt; *sum.lock.lock(&rt), 2_000);
-    Ok(())
 }
 
 /// It passes too where any one of its requests for memory is refused.
@@ -65,56 +65,54 @@ fn a_lock_is_made_or_gives_its_data_back(rt: HostRuntime) {
 }
 
 #[test]
-fn a_forgotten_guard_leaves_its_value(rt: HostRuntime) -> Result<(), Fail> {
+fn a_forgotten_guard_leaves_its_value(rt: HostRuntime) {
     let counts = Tally::new();
-    let lock = SpinLock::new(rt.alloc(), counts.make()).map_err(|_| "memory")?;
+    let lock = SpinLock::new(rt.alloc(), counts.make())
+        .ok()
+        .expect(&rt, "memory is left");
     mem::forget(lock.lock(&rt));
     drop(lock);
-    assert_eq!(rt; counts.drops(), 0);
-    Ok(())
+    assert!(rt; counts.drops() == 0);
 }
 
 #[test]
-fn drops_each_value_once(rt: HostRuntime) -> Result<(), Fail> {
+fn drops_each_value_once(rt: HostRuntime) {
     let counts = Tally::new();
-    let lock = SpinLock::new(rt.alloc(), counts.make()).map_err(|_| "memory")?;
+    let lock = SpinLock::new(rt.alloc(), counts.make())
+        .ok()
+        .expect(&rt, "memory is left");
     let mut guard = lock.lock(&rt);
     *guard = counts.make();
-    assert_eq!(rt; counts.drops(), 1);
+    let written = counts.drops();
     drop(guard);
-    assert_eq!(rt; counts.drops(), 1);
+    let returned = counts.drops();
     drop(lock);
-    assert_eq!(rt; counts.drops(), 2);
-    Ok(())
+    assert_eq!(rt; (written, returned, counts.drops()), (1, 1, 2));
 }
 
 #[test]
-fn a_guard_shows_its_value(rt: HostRuntime) -> Result<(), Fail> {
-    let lock = SpinLock::new(rt.alloc(), 5u32)?;
-    let shown = format!(in rt.alloc(); "{:?}", lock.lock(&rt))?;
-    assert_eq!(rt; shown.as_str(), "5");
-    Ok(())
+fn a_guard_shows_its_value(rt: HostRuntime) {
+    let lock = SpinLock::new(rt.alloc(), 5u32).expect(&rt, "memory is left");
+    let shown = format!(in rt.alloc(); "{:?}", lock.lock(&rt)).expect(&rt, "memory is left");
+    assert!(rt; shown.as_str() == "5");
 }
 
 #[test]
-fn shows_what_was_written_last(rt: HostRuntime) -> Result<(), Fail> {
-    let lock = SpinLock::new(rt.alloc(), 7u32)?;
+fn shows_what_was_written_last(rt: HostRuntime) {
+    let lock = SpinLock::new(rt.alloc(), 7u32).expect(&rt, "memory is left");
     let mut guard = lock.lock(&rt);
-    assert_eq!(rt; *guard, 7);
+    let made = *guard;
     *guard = 8;
-    assert_eq!(rt; *guard, 8);
-    assert!(rt; lock.try_lock().is_none());
+    assert_eq!(rt; (made, *guard, lock.try_lock().is_none()), (7, 8, true));
     drop(guard);
     assert_eq!(rt; lock.try_lock().map(|guard| *guard), Some(8));
-    Ok(())
 }
 
 #[test]
-fn a_forgotten_guard_leaves_the_lock_taken(rt: HostRuntime) -> Result<(), Fail> {
-    let lock = SpinLock::new(rt.alloc(), 7u32)?;
+fn a_forgotten_guard_leaves_the_lock_taken(rt: HostRuntime) {
+    let lock = SpinLock::new(rt.alloc(), 7u32).expect(&rt, "memory is left");
     mem::forget(lock.try_lock());
     for _ in 0..1_000 {
         assert!(rt; lock.try_lock().is_none());
     }
-    Ok(())
 }

@@ -1,43 +1,41 @@
 use lockfree_object_pool::PullError;
 use lockfree_object_pool::clean::AnyValue;
 use lockfree_object_pool::stack::{Room, Stack};
-use std::test::Fail;
 use test_values::counted::Counted;
 use test_values::tally::Tally;
 
 #[test]
-fn takes_the_last_value_first(rt: HostRuntime) -> Result<(), Fail> {
+fn takes_the_last_value_first(rt: HostRuntime) {
     let mut stack: Stack<u32, AnyValue> = Stack::new();
-    assert!(rt; stack.take().is_none());
-    assert_eq!(rt; stack.kept(), 0);
-    stack.put(Room::new(rt.alloc())?, 5);
-    assert_eq!(rt; stack.kept(), 1);
-    let (five, room) = stack.take().ok_or("5 is kept")?;
-    assert_eq!(rt; (five, stack.kept()), (5, 0));
+    let empty = (stack.take().is_none(), stack.kept());
+    stack.put(Room::new(rt.alloc()).expect(&rt, "memory is left"), 5);
+    let one = stack.kept();
+    let (five, room) = stack.take().expect(&rt, "5 is kept");
+    assert_eq!(rt; (empty, one, five, stack.kept()), ((true, 0), 1, 5, 0));
     stack.put(room, 6);
-    assert_eq!(rt; stack.kept(), 1);
-    stack.put(Room::new(rt.alloc())?, 7);
-    assert_eq!(rt; stack.kept(), 2);
-    let (seven, room) = stack.take().ok_or("7 is kept")?;
-    drop(room);
-    assert_eq!(rt; (seven, stack.kept()), (7, 1));
-    let (six, _room) = stack.take().ok_or("6 is kept")?;
-    assert_eq!(rt; (six, stack.kept()), (6, 0));
-    Ok(())
+    let one = stack.kept();
+    stack.put(Room::new(rt.alloc()).expect(&rt, "memory is left"), 7);
+    let two = stack.kept();
+    let seven = stack.take().map(|taken| taken.0);
+    let left = stack.kept();
+    let six = stack.take().map(|taken| taken.0);
+    assert_eq!(rt;
+        ((one, two), (seven, left), (six, stack.kept())),
+        ((1, 2), (Some(7), 1), (Some(6), 0))
+    );
 }
 
 /// It makes one request for memory, so it passes too where any later one is refused.
 #[test]
-fn one_room_serves_again_and_again(rt: HostRuntime) -> Result<(), Fail> {
+fn one_room_serves_again_and_again(rt: HostRuntime) {
     let mut stack: Stack<u32, AnyValue> = Stack::new();
-    stack.put(Room::new(rt.alloc())?, 5);
+    stack.put(Room::new(rt.alloc()).expect(&rt, "memory is left"), 5);
     for next in 6..16 {
-        let (value, room) = stack.take().ok_or("a value is kept")?;
-        assert_eq!(rt; value, next - 1);
+        let (value, room) = stack.take().expect(&rt, "a value is kept");
+        assert!(rt; value == next - 1);
         stack.put(room, next);
     }
-    assert_eq!(rt; stack.kept(), 1);
-    Ok(())
+    assert!(rt; stack.kept() == 1);
 }
 
 /// It passes too where its one request for memory is refused.
@@ -48,30 +46,34 @@ fn a_room_is_made_or_refused_for_memory(rt: HostRuntime) {
 }
 
 #[test]
-fn drops_each_value_once(rt: HostRuntime) -> Result<(), Fail> {
+fn drops_each_value_once(rt: HostRuntime) {
     let counts = Tally::new();
     let mut stack: Stack<Counted<'_>, AnyValue> = Stack::new();
-    stack.put(Room::new(rt.alloc())?, counts.make());
-    stack.put(Room::new(rt.alloc())?, counts.make());
-    stack.put(Room::new(rt.alloc())?, counts.make());
-    let taken = stack.take().ok_or("a value is kept")?;
-    assert_eq!(rt; counts.drops(), 0);
+    for _ in 0..3 {
+        stack.put(
+            Room::new(rt.alloc()).expect(&rt, "memory is left"),
+            counts.make(),
+        );
+    }
+    let taken = stack.take().expect(&rt, "a value is kept");
+    let out = counts.drops();
     drop(taken);
-    assert_eq!(rt; counts.drops(), 1);
+    let dropped = counts.drops();
     drop(stack);
-    assert_eq!(rt; counts.drops(), 3);
-    Ok(())
+    assert_eq!(rt; (out, dropped, counts.drops()), (0, 1, 3));
 }
 
 #[test]
-fn ends_with_a_million_values(rt: HostRuntime) -> Result<(), Fail> {
+fn ends_with_a_million_values(rt: HostRuntime) {
     let counts = Tally::new();
     let mut stack: Stack<Counted<'_>, AnyValue> = Stack::new();
     for _ in 0..1_000_000 {
-        stack.put(Room::new(rt.alloc())?, counts.make());
+        stack.put(
+            Room::new(rt.alloc()).expect(&rt, "memory is left"),
+            counts.make(),
+        );
     }
-    assert_eq!(rt; stack.kept(), 1_000_000);
+    let kept = stack.kept();
     drop(stack);
-    assert_eq!(rt; counts.drops(), 1_000_000);
-    Ok(())
+    assert_eq!(rt; (kept, counts.drops()), (1_000_000, 1_000_000));
 }

@@ -1,13 +1,17 @@
 //! Owned pulls of a pool that keeps nothing: how often the closure is called.
 use super::*;
-use std::test::Fail;
 
 #[test]
-fn a_closure_that_refuses_is_asked_once_an_owned_pull(rt: HostRuntime) -> Result<(), Fail> {
+fn a_closure_that_refuses_is_asked_once_an_owned_pull(rt: HostRuntime) {
     let counts = Tally::new();
-    let pool = Arc::new(rt.alloc(), NoneObjectPool::new(|| counts.make_but(0)))?;
-    assert_eq!(rt; pool.pull_owned().err(), Some(PullError::Init));
-    assert_eq!(rt; pool.pull_owned()?.call, 1);
-    assert_eq!(rt; counts.now(), (2, 1));
-    Ok(())
+    let pool = Arc::new(rt.alloc(), NoneObjectPool::new(|| counts.make_but(0))).expect(
+        &rt,
+        "memory is left",
+    );
+    let refusal = pool.pull_owned().err();
+    let call = pool.pull_owned().expect(&rt, "an item is made").call;
+    assert_eq!(rt;
+        (refusal, call, counts.now()),
+        (Some(PullError::Init), 1, (2, 1))
+    );
 }
