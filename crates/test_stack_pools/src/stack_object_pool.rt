@@ -7,7 +7,7 @@ use lockfree_object_pool::made_or_reset::MadeOrReset;
 use lockfree_object_pool::spin_lock::SpinLock;
 use lockfree_object_pool::stack::Stack;
 use lockfree_object_pool::stack_object_pool::StackObjectPool;
-use lockfree_object_pool::stack_reusable::StackReusable;
+use lockfree_object_pool::stack_reusable::{SharedStackPool, StackReusable};
 use lockfree_object_pool::{MutexObjectPool, PullError, SpinLockObjectPool};
 use std::alloc::Global;
 use std::process::Abort;
@@ -71,6 +71,45 @@ impl<T: Drop, I: Init<T, K>, R: Reset<T, K>, K: Clean<T>> Kind<T, I, R, K>
     }
 }
 
+/// An owner of a pool, or a reference to one: what is done with its items is written once for both.
+pub trait Pulls<T: Drop>: SharedStackPool<T> {
+    /// An owner pulls an owned item, a reference a borrowed one.
+    fn pull_one<W: Wait + Copy>(&self, rt: &W) -> Result<StackReusable<T, Self, W>, PullError>;
+}
+
+impl<
+    T: Drop,
+    I: Init<T, K>,
+    R: Reset<T, K>,
+    K: Clean<T>,
+    F: FreeList<T, MadeOrReset<I, R, K>>,
+> Pulls<T> for &StackObjectPool<T, I, R, K, F> {
+    fn pull_one<W: Wait + Copy>(&self, rt: &W) -> Result<StackReusable<T, Self, W>, PullError> {
+        self.pull(rt)
+    }
+}
+
+impl<
+    T: Drop,
+    I: Init<T, K>,
+    R: Reset<T, K>,
+    K: Clean<T>,
+    F: FreeList<T, MadeOrReset<I, R, K>>,
+> Pulls<T> for Arc<StackObjectPool<T, I, R, K, F>> {
+    fn pull_one<W: Wait + Copy>(&self, rt: &W) -> Result<StackReusable<T, Self, W>, PullError> {
+        self.pull_owned(rt)
+    }
+}
+
+/// A pool that has owners.
+fn shared_pool<T, I: Init<T, K>, R: Reset<T, K>, K: Clean<T>, F: Kind<T, I, R, K>>(
+    alloc: Global,
+    init: I,
+    reset: R,
+) -> Result<Arc<StackObjectPool<T, I, R, K, F>>, PullError> {
+    Ok(Arc::new(alloc, F::new_pool(alloc, init, reset)?)?)
+}
+
 /// A pool that keeps what was written.
 type Kept<F> = StackObjectPool<u32, CountedZeros, Keep, AnyValue, F>;
 
@@ -80,23 +119,22 @@ type Cleared<F> = StackObjectPool<u32, CountedZeros, Copied<u32, Zero>, Zero, F>
 /// A pool of values that know which call made them, and count their drops.
 type Tracked<F> = StackObjectPool<Tallied, TalliedValues, Keep, AnyValue, F>;
 
-fn kept<F: Kind<u32, CountedZeros, Keep, AnyValue>>(
+fn kept<F: Kind<u32, CountedZeros, Keep, AnyValue>, W: Abort>(
+    rt: &W,
     alloc: Global,
     calls: &Arc<AtomicUsize>,
-) -> Result<Arc<Kept<F>>, PullError> {
-    let calls = Arc::try_clone(calls)?;
-    Ok(Arc::new(alloc, F::new_pool(alloc, CountedZeros { calls }, Keep)?)?)
+) -> Arc<Kept<F>> {
+    let calls = Arc::try_clone(calls).expect(rt, "an owner is made");
+    shared_pool(alloc, CountedZeros { calls }, Keep).expect(rt, "a pool is made")
 }
 
-fn cleared<F: Kind<u32, CountedZeros, Copied<u32, Zero>, Zero>>(
+fn cleared<F: Kind<u32, CountedZeros, Copied<u32, Zero>, Zero>, W: Abort>(
+    rt: &W,
     alloc: Global,
     calls: &Arc<AtomicUsize>,
-) -> Result<Arc<Cleared<F>>, PullError> {
-    let calls = Arc::try_clone(calls)?;
-    Ok(Arc::new(
-        alloc,
-        F::new_pool(alloc, CountedZeros { calls }, Copied::new(0))?,
-    )?)
+) -> Arc<Cleared<F>> {
+    let calls = Arc::try_clone(calls).expect(rt, "an owner is made");
+    shared_pool(alloc, CountedZeros { calls }, Copied::new(0)).expect(rt, "a pool is made")
 }
 
 /// `init` refuses at one call, counted from 0.
@@ -105,6 +143,25 @@ fn tracked<F: Kind<Tallied, TalliedValues, Keep, AnyValue>>(
     tally: &Arc<Tally>,
     refused: usize,
 ) -> Result<Arc<Tracked<F>>, PullError> {
-    let init = TalliedValues::new_but(tally, refused)?;
-    Ok(Arc::new(alloc, F::new_pool(alloc, init, Keep)?)?)
+    shared_pool(alloc, TalliedValues::new_but(tally, refused)?, Keep)
+}
+
+/// A tally, and a pool of values that it counts. `init` refuses at one call, counted from 0.
+fn tallied<F: Kind<Tallied, TalliedValues, Keep, AnyValue>, W: Abort>(
+    rt: &W,
+    alloc: Global,
+    refused: usize,
+) -> (Arc<Tally>, Arc<Tracked<F>>) {
+    let tally = new_tally(alloc).expect(rt, "memory is left");
+    let pool = tracked(alloc, &tally, refused).expect(rt, "a pool is made");
+    (tally, pool)
+}
+
+/// How many values a pool keeps, and the calls and the drops until now.
+fn standing<F: Kind<Tallied, TalliedValues, Keep, AnyValue>, W: Wait + Copy>(
+    rt: &W,
+    pool: &Tracked<F>,
+    tally: &Tally,
+) -> (usize, (usize, usize)) {
+    (pool.kept(rt), tally.now())
 }

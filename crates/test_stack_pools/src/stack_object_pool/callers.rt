@@ -4,7 +4,6 @@ ghost use Rattle.lockfree_object_pool.specs.StackPool.{stack_with};
 ghost use Rattle.lockfree_object_pool.specs.declared.pull_error.PullError.TheVariants.{Memory};
 
 use super::*;
-use std::test::Fail;
 
 /// Whatever other threads do and attach, a pulled value meets the condition.
 fn pulled<
@@ -81,34 +80,40 @@ fn refusal<F: FreeList<u32, MadeOrReset<CountedZeros, Copied<u32, Zero>, Zero>>,
     pool.pull(rt).err()
 }
 
+/// What a borrowed item and an owned one show, to which 7 and 8 are written.
+fn written_and_read<F: Kind<u32, CountedZeros, Copied<u32, Zero>, Zero>, W: Abort + Wait + Copy>(
+    rt: &W,
+    pool: &Arc<Cleared<F>>,
+) -> (u32, u32) {
+    let mut item = pool.pull(rt).expect(rt, "an item is made");
+    write(&mut item, 7);
+    let mut owned = pool.pull_owned(rt).expect(rt, "an item is made");
+    write_owned(&mut owned, 8);
+    (*item, *owned)
+}
+
 fn shows_what_its_callers_know<
     F: Kind<u32, CountedZeros, Copied<u32, Zero>, Zero>,
     W: Abort + Wait + Copy,
->(rt: &W, alloc: Global) -> Result<(), Fail> {
-    let pool = cleared::<F>(alloc, &new_calls(alloc)?)?;
-    let mut item = pool.pull(rt)?;
-    write(&mut item, 7);
-    assert_eq!(rt; *item, 7);
-    let mut owned = pool.pull_owned(rt)?;
-    write_owned(&mut owned, 8);
-    assert_eq!(rt; *owned, 8);
-    drop((item, owned));
+>(rt: &W, alloc: Global) {
+    let calls = new_calls(alloc).expect(rt, "memory is left");
+    let pool = cleared::<F, W>(rt, alloc, &calls);
+    let written = written_and_read(rt, &pool);
+    let pulled = (pulled(rt, &pool), pulled_owned(rt, &pool));
     assert_eq!(rt;
-        (pulled(rt, &pool), pulled_owned(rt, &pool)),
-        (Some(0), Some(0))
+        (written, pulled, attached(rt, &*pool), refusal(rt, &*pool)),
+        ((7, 8), (Some(0), Some(0)), Ok(9), None)
     );
-    assert_eq!(rt; (attached(rt, &*pool), refusal(rt, &*pool)), (Ok(9), None));
-    Ok(())
 }
 
 #[test]
-fn a_value_is_written_and_read(rt: HostRuntime) -> Result<(), Fail> {
+fn a_value_is_written_and_read(rt: HostRuntime) {
     shows_what_its_callers_know::<UnderMutex<u32, CountedZeros, Copied<u32, Zero>, Zero>, _>(
         &rt,
         rt.alloc(),
-    )?;
+    );
     shows_what_its_callers_know::<UnderSpinLock<u32, CountedZeros, Copied<u32, Zero>, Zero>, _>(
         &rt,
         rt.alloc(),
-    )
+    );
 }

@@ -3,7 +3,6 @@
 use super::waits::wait_for;
 use super::*;
 use lockfree_object_pool::stack::Room;
-use std::test::Fail;
 use std::thread;
 use std::thread::{JoinHandle, Threads};
 
@@ -90,31 +89,48 @@ fn hold_elsewhere<F: Lockable + Send + Sync + 'static, W: Wait + Threads + Copy 
     thread::spawn(rt, move || list.lock_during(&there, &steps)).ok()
 }
 
-fn waits_for_the_lock<
+/// The room of a 5 that is taken while another thread has the lock.
+fn take_meanwhile<
     F: Lockable + Send + Sync + 'static,
     W: Abort + Wait + Threads + Copy + Send + 'static,
->(rt: &W, alloc: Global) -> Result<(), Fail> {
-    let list = Arc::new(alloc, F::new_list(alloc).ok_or("memory")?)?;
-    list.put(rt, Room::new(alloc)?, 5);
-    let steps = Arc::new(alloc, Steps::new())?;
-    let holder = hold_elsewhere(rt, &list, &steps).ok_or("a thread is made")?;
-    assert!(rt; steps.begin());
-    let (value, room) = list.take(rt).ok_or("5 is kept")?;
+>(rt: &W, alloc: Global, list: &Arc<F>) -> Room<u32> {
+    let steps = Arc::new(alloc, Steps::new()).expect(rt, "memory is left");
+    let holder = hold_elsewhere(rt, list, &steps).expect(rt, "a thread is made");
+    let held = steps.begin();
+    let (value, room) = list.take(rt).expect(rt, "5 is kept");
     steps.end();
     holder.join(rt);
-    assert_eq!(rt; (value, list.count(rt)), (5, 0));
-    let steps = Arc::new(alloc, Steps::new())?;
-    let holder = hold_elsewhere(rt, &list, &steps).ok_or("a thread is made")?;
+    assert_eq!(rt; (held, value, list.count(rt)), (true, 5, 0));
+    room
+}
+
+/// A 6 is put while another thread has the lock.
+fn put_meanwhile<
+    F: Lockable + Send + Sync + 'static,
+    W: Abort + Wait + Threads + Copy + Send + 'static,
+>(rt: &W, alloc: Global, list: &Arc<F>, room: Room<u32>) {
+    let steps = Arc::new(alloc, Steps::new()).expect(rt, "memory is left");
+    let holder = hold_elsewhere(rt, list, &steps).expect(rt, "a thread is made");
     assert!(rt; steps.begin());
     list.put(rt, room, 6);
     steps.end();
     holder.join(rt);
+}
+
+fn waits_for_the_lock<
+    F: Lockable + Send + Sync + 'static,
+    W: Abort + Wait + Threads + Copy + Send + 'static,
+>(rt: &W, alloc: Global) {
+    let list = F::new_list(alloc).expect(rt, "memory is left");
+    let list = Arc::new(alloc, list).expect(rt, "memory is left");
+    list.put(rt, Room::new(alloc).expect(rt, "memory is left"), 5);
+    let room = take_meanwhile(rt, alloc, &list);
+    put_meanwhile(rt, alloc, &list, room);
     assert_eq!(rt; list.take(rt).map(|taken| taken.0), Some(6));
-    Ok(())
 }
 
 #[test]
-fn a_take_and_a_put_wait_for_the_lock(rt: HostRuntime) -> Result<(), Fail> {
-    waits_for_the_lock::<Mutex<Stack<u32, AnyValue>>, _>(&rt, rt.alloc())?;
-    waits_for_the_lock::<SpinLock<Stack<u32, AnyValue>>, _>(&rt, rt.alloc())
+fn a_take_and_a_put_wait_for_the_lock(rt: HostRuntime) {
+    waits_for_the_lock::<Mutex<Stack<u32, AnyValue>>, _>(&rt, rt.alloc());
+    waits_for_the_lock::<SpinLock<Stack<u32, AnyValue>>, _>(&rt, rt.alloc());
 }

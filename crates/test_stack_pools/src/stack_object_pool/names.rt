@@ -6,7 +6,6 @@ use super::*;
 use lockfree_object_pool::{
     MutexOwnedReusable, MutexReusable, SpinLockOwnedReusable, SpinLockReusable,
 };
-use std::test::Fail;
 
 /// A mutex pool that resets to 0.
 type ClearedByMutex = MutexObjectPool<u32, CountedZeros, Copied<u32, Zero>, Zero>;
@@ -59,20 +58,30 @@ fn write_two<K: Clean<u32>, I: Init<u32, K>, R: Reset<u32, K>, W: Wait + Copy>(
 }
 
 #[test]
-fn the_exported_names_serve_as_types(rt: HostRuntime) -> Result<(), Fail> {
-    let calls = new_calls(rt.alloc())?;
-    let mutex: Arc<ClearedByMutex> = cleared(rt.alloc(), &calls)?;
-    let spin_lock: Arc<ClearedBySpinLock> = cleared(rt.alloc(), &calls)?;
-    let (mut item, mut owned) = (mutex.pull(&rt)?, spin_lock.pull_owned(&rt)?);
+fn the_exported_names_serve_as_types(rt: HostRuntime) {
+    let calls = new_calls(rt.alloc()).expect(&rt, "memory is left");
+    let mutex: Arc<ClearedByMutex> = cleared(&rt, rt.alloc(), &calls);
+    let spin_lock: Arc<ClearedBySpinLock> = cleared(&rt, rt.alloc(), &calls);
+    let mut item = mutex.pull(&rt).expect(&rt, "an item is made");
+    let mut owned = spin_lock.pull_owned(&rt).expect(&rt, "an item is made");
     write_two(&mut item, &mut owned);
-    assert_eq!(rt; (*item, *owned), (7, 8));
-    drop((item, owned));
+    let written = (*item, *owned);
+    drop(item);
+    drop(owned);
+    let attached = (by_mutex(&rt, &mutex), by_spin_lock(&rt, &spin_lock));
+    let item = mutex.pull(&rt).expect(&rt, "an item is kept");
+    let owned = spin_lock.pull(&rt).expect(&rt, "an item is kept");
     assert_eq!(rt;
-        (by_mutex(&rt, &mutex), by_spin_lock(&rt, &spin_lock)),
+        (written, attached, (*item, *owned)),
+        ((7, 8), (Ok(9), Ok(9)), (0, 0))
+    );
+    drop(item);
+    drop(owned);
+    assert_eq!(rt;
+        (
+            owned_by_mutex(&rt, mutex),
+            owned_by_spin_lock(&rt, spin_lock)
+        ),
         (Ok(9), Ok(9))
     );
-    assert_eq!(rt; (*mutex.pull(&rt)?, *spin_lock.pull(&rt)?), (0, 0));
-    assert_eq!(rt; owned_by_mutex(&rt, mutex), Ok(9));
-    assert_eq!(rt; owned_by_spin_lock(&rt, spin_lock), Ok(9));
-    Ok(())
 }

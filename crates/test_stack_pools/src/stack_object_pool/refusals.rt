@@ -3,73 +3,97 @@
 use super::kept_items::shown_or_back;
 use super::*;
 use std::mem;
-use std::test::Fail;
 use test_values::counted::NEVER;
 use test_values::refused::again;
+
+/// The refusal of a first pull, and the number of the item that a second one gives.
+fn refused_and_pulled<P: Pulls<Tallied>, W: Abort + Wait + Copy>(
+    rt: &W,
+    pool: &P,
+) -> (Option<PullError>, usize) {
+    let refusal = pool.pull_one(rt).err();
+    (
+        refusal,
+        pool.pull_one(rt).expect(rt, "an item is made").number,
+    )
+}
 
 fn asks_again_after_a_refusal<
     F: Kind<Tallied, TalliedValues, Keep, AnyValue>,
     W: Abort + Wait + Copy,
->(rt: &W, alloc: Global) -> Result<(), Fail> {
-    let tally = new_tally(alloc)?;
-    let pool = tracked::<F>(alloc, &tally, 0)?;
-    assert_eq!(rt; pool.pull(rt).err(), Some(PullError::Init));
-    assert_eq!(rt; pool.pull(rt)?.number, 1);
-    let pool = tracked::<F>(alloc, &tally, 2)?;
-    assert_eq!(rt; pool.pull_owned(rt).err(), Some(PullError::Init));
-    assert_eq!(rt; pool.pull_owned(rt)?.number, 3);
-    Ok(())
+>(rt: &W, alloc: Global) {
+    let (tally, pool) = tallied::<F, W>(rt, alloc, 0);
+    let borrowed = refused_and_pulled(rt, &&*pool);
+    let pool = tracked::<F>(alloc, &tally, 2).expect(rt, "a pool is made");
+    assert_eq!(rt;
+        (borrowed, refused_and_pulled(rt, &pool)),
+        ((Some(PullError::Init), 1), (Some(PullError::Init), 3))
+    );
 }
 
 #[test]
-fn init_that_refuses_once_is_asked_again(rt: HostRuntime) -> Result<(), Fail> {
+fn init_that_refuses_once_is_asked_again(rt: HostRuntime) {
     asks_again_after_a_refusal::<UnderMutex<Tallied, TalliedValues, Keep, AnyValue>, _>(
         &rt,
         rt.alloc(),
-    )?;
+    );
     asks_again_after_a_refusal::<UnderSpinLock<Tallied, TalliedValues, Keep, AnyValue>, _>(
         &rt,
         rt.alloc(),
-    )
+    );
+}
+
+/// An item, where memory was refused that of a second pull. A pull that is refused hasn't called `init`.
+fn pull_again<P: Pulls<Tallied>, W: Abort + Wait + Copy>(
+    rt: &W,
+    pool: &P,
+    tally: &Tally,
+) -> StackReusable<Tallied, P, W> {
+    let before = tally.now();
+    if let Err(refusal) = pool.pull_one(rt) {
+        assert_eq!(rt; (refusal, tally.now()), (PullError::Memory, before));
+    }
+    pool.pull_one(rt).expect(rt, "an item is made")
+}
+
+/// The numbers of a borrowed item and an owned one that are held together, each with the calls and the drops then.
+fn two_pulled<F: Kind<Tallied, TalliedValues, Keep, AnyValue>, W: Abort + Wait + Copy>(
+    rt: &W,
+    pool: &Arc<Tracked<F>>,
+    tally: &Tally,
+) -> [(usize, (usize, usize)); 2] {
+    let item = pull_again(rt, &&**pool, tally);
+    let borrowed = (item.number, tally.now());
+    let owned = pull_again(rt, pool, tally);
+    drop(item);
+    [borrowed, (owned.number, tally.now())]
 }
 
 fn goes_on_without_memory<F: Kind<Tallied, TalliedValues, Keep, AnyValue>, W: Abort + Wait + Copy>(
     rt: &W,
     alloc: Global,
-) -> Result<(), Fail> {
-    let tally = again(&|| new_tally(alloc))?;
-    let pool = again(&|| tracked::<F>(alloc, &tally, NEVER))?;
-    if let Err(refusal) = pool.pull(rt) {
-        assert_eq!(rt; (refusal, tally.now()), (PullError::Memory, (0, 0)));
-    }
-    let item = pool.pull(rt)?;
-    assert_eq!(rt; (item.number, tally.now()), (0, (1, 0)));
-    if let Err(refusal) = pool.pull_owned(rt) {
-        assert_eq!(rt; (refusal, tally.now()), (PullError::Memory, (1, 0)));
-    }
-    let owned = pool.pull_owned(rt)?;
-    assert_eq!(rt; (owned.number, tally.now()), (1, (2, 0)));
-    drop(item);
-    drop(owned);
-    assert_eq!(rt; pool.pull(rt)?.number, 1);
-    assert_eq!(rt; tally.now(), (2, 0));
+) {
+    let tally = again(&|| new_tally(alloc)).expect(rt, "memory is left");
+    let pool = again(&|| tracked::<F>(alloc, &tally, NEVER)).expect(rt, "a pool is made");
+    assert_eq!(rt; two_pulled(rt, &pool, &tally), [(0, (1, 0)), (1, (2, 0))]);
+    let last = pool.pull(rt).expect(rt, "an item is kept").number;
+    let kept = tally.now();
     drop(pool);
-    assert_eq!(rt; tally.now(), (2, 2));
-    Ok(())
+    assert_eq!(rt; (last, kept, tally.now()), (1, (2, 0), (2, 2)));
 }
 
 /// Holds with each request for memory refused in turn too: a pull that is refused hasn't called
 /// `init`.
 #[test]
-fn pulls_go_on_where_memory_was_refused(rt: HostRuntime) -> Result<(), Fail> {
+fn pulls_go_on_where_memory_was_refused(rt: HostRuntime) {
     goes_on_without_memory::<UnderMutex<Tallied, TalliedValues, Keep, AnyValue>, _>(
         &rt,
         rt.alloc(),
-    )?;
+    );
     goes_on_without_memory::<UnderSpinLock<Tallied, TalliedValues, Keep, AnyValue>, _>(
         &rt,
         rt.alloc(),
-    )
+    );
 }
 
 /// A pool of zeros that counts nothing.
@@ -78,55 +102,52 @@ type Plain<F> = StackObjectPool<u32, Copied<u32, AnyValue>, Keep, AnyValue, F>;
 fn plain<F: Kind<u32, Copied<u32, AnyValue>, Keep, AnyValue>>(
     alloc: Global,
 ) -> Result<Arc<Plain<F>>, PullError> {
-    Ok(Arc::new(alloc, F::new_pool(alloc, Copied::new(0), Keep)?)?)
+    shared_pool(alloc, Copied::new(0), Keep)
 }
 
 fn gives_back_what_is_not_attached<
     F: Kind<u32, Copied<u32, AnyValue>, Keep, AnyValue>,
     W: Abort + Wait + Copy,
->(rt: &W, alloc: Global) -> Result<(), Fail> {
-    let pool = again(&|| plain::<F>(alloc))?;
-    assert_eq!(rt; shown_or_back(StackReusable::new(rt, &*pool, 8)), 8);
-    let owner = Arc::try_clone(&pool)?;
-    assert_eq!(rt; shown_or_back(StackReusable::new(rt, owner, 9)), 9);
-    Ok(())
+>(rt: &W, alloc: Global) {
+    let pool = again(&|| plain::<F>(alloc)).expect(rt, "a pool is made");
+    let owner = Arc::try_clone(&pool).expect(rt, "an owner is made");
+    let borrowed = shown_or_back(rt, &*pool, 8);
+    assert_eq!(rt; (borrowed, shown_or_back(rt, owner, 9)), (8, 9));
 }
 
 /// Holds with each request for memory refused in turn too: a value that isn't attached comes back.
 #[test]
-fn an_attached_value_comes_back_where_memory_was_refused(rt: HostRuntime) -> Result<(), Fail> {
+fn an_attached_value_comes_back_where_memory_was_refused(rt: HostRuntime) {
     gives_back_what_is_not_attached::<UnderMutex<u32, Copied<u32, AnyValue>, Keep, AnyValue>, _>(
         &rt,
         rt.alloc(),
-    )?;
+    );
     gives_back_what_is_not_attached::<UnderSpinLock<u32, Copied<u32, AnyValue>, Keep, AnyValue>, _>(
         &rt,
         rt.alloc(),
-    )
+    );
 }
 
 fn loses_what_is_forgotten<F: Kind<Tallied, TalliedValues, Keep, AnyValue>, W: Abort + Wait + Copy>(
     rt: &W,
     alloc: Global,
-) -> Result<(), Fail> {
-    let tally = new_tally(alloc)?;
-    let pool = tracked::<F>(alloc, &tally, NEVER)?;
-    mem::forget(pool.pull(rt)?);
-    assert_eq!(rt; pool.pull(rt)?.number, 1);
-    assert_eq!(rt; pool.pull(rt)?.number, 1);
+) {
+    let (tally, pool) = tallied::<F, W>(rt, alloc, NEVER);
+    mem::forget(pool.pull(rt).expect(rt, "an item is made"));
+    let made = pool.pull(rt).expect(rt, "an item is made").number;
+    let kept = pool.pull(rt).expect(rt, "an item is kept").number;
     drop(pool);
-    assert_eq!(rt; tally.now(), (2, 1));
-    Ok(())
+    assert_eq!(rt; (made, kept, tally.now()), (1, 1, (2, 1)));
 }
 
 #[test]
-fn a_forgotten_item_takes_its_room_with_it(rt: HostRuntime) -> Result<(), Fail> {
+fn a_forgotten_item_takes_its_room_with_it(rt: HostRuntime) {
     loses_what_is_forgotten::<UnderMutex<Tallied, TalliedValues, Keep, AnyValue>, _>(
         &rt,
         rt.alloc(),
-    )?;
+    );
     loses_what_is_forgotten::<UnderSpinLock<Tallied, TalliedValues, Keep, AnyValue>, _>(
         &rt,
         rt.alloc(),
-    )
+    );
 }

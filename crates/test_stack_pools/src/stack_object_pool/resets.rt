@@ -1,9 +1,8 @@
 //! How often a value is reset: once at its return, and not at a pull.
 ghost use Rattle.std.specs.Prelude.{⊤};
 
-use super::kept_items::{dropped_and_pulled, written_and_pulled};
+use super::kept_items::{attached_and_pulled, held_together, written_and_pulled};
 use super::*;
-use std::test::Fail;
 
 /// A reset that shows how often it ran.
 #[derive(Drop)]
@@ -20,50 +19,50 @@ impl Reset<u32, AnyValue> for AddsOne {
 fn adds_one<F: Kind<u32, CountedZeros, AddsOne, AnyValue>, W: Abort + Wait + Copy>(
     rt: &W,
     alloc: Global,
-) -> Result<(), Fail> {
-    let init = CountedZeros {
-        calls: new_calls(alloc)?,
-    };
-    let pool = Arc::new(alloc, F::new_pool(alloc, init, AddsOne)?)?;
-    assert_eq!(rt; *pool.pull(rt)?, 0);
-    assert_eq!(rt; *pool.pull(rt)?, 1);
-    assert_eq!(rt; written_and_pulled(&|| pool.pull(rt)), Ok((5, 6)));
-    assert_eq!(rt; written_and_pulled(&|| pool.pull_owned(rt)), Ok((5, 6)));
-    let item = StackReusable::new(rt, &*pool, 9).ok().ok_or("memory")?;
-    assert_eq!(rt; dropped_and_pulled(item, &|| pool.pull(rt)), Ok((9, 10)));
-    let item = StackReusable::new(rt, Arc::try_clone(&pool)?, 9)
-        .ok()
-        .ok_or("memory")?;
-    assert_eq!(rt;
-        dropped_and_pulled(item, &|| pool.pull_owned(rt)),
-        Ok((9, 10))
+) {
+    let calls = new_calls(alloc).expect(rt, "memory is left");
+    let pool: Arc<StackObjectPool<u32, CountedZeros, AddsOne, AnyValue, F>> = shared_pool(
+        alloc,
+        CountedZeros { calls },
+        AddsOne,
+    ).expect(rt, "a pool is made");
+    let first = *pool.pull(rt).expect(rt, "an item is made");
+    let second = *pool.pull(rt).expect(rt, "an item is kept");
+    let written = (
+        written_and_pulled(rt, &&*pool),
+        written_and_pulled(rt, &pool),
     );
-    Ok(())
+    let attached = attached_and_pulled(rt, &*pool, &&*pool);
+    let owner = Arc::try_clone(&pool).expect(rt, "an owner is made");
+    let attached = (attached, attached_and_pulled(rt, owner, &pool));
+    assert_eq!(rt;
+        ((first, second), written, attached),
+        ((0, 1), ((5, 6), (5, 6)), ((9, 10), (9, 10)))
+    );
 }
 
 #[test]
-fn each_return_resets_once(rt: HostRuntime) -> Result<(), Fail> {
-    adds_one::<UnderMutex<u32, CountedZeros, AddsOne, AnyValue>, _>(&rt, rt.alloc())?;
-    adds_one::<UnderSpinLock<u32, CountedZeros, AddsOne, AnyValue>, _>(&rt, rt.alloc())
+fn each_return_resets_once(rt: HostRuntime) {
+    adds_one::<UnderMutex<u32, CountedZeros, AddsOne, AnyValue>, _>(&rt, rt.alloc());
+    adds_one::<UnderSpinLock<u32, CountedZeros, AddsOne, AnyValue>, _>(&rt, rt.alloc());
 }
 
 /// What a filling makes is pulled as it was made.
 fn fills_without_a_reset<F: Kind<u32, CountedZeros, AddsOne, AnyValue>, W: Abort + Wait + Copy>(
     rt: &W,
     alloc: Global,
-) -> Result<(), Fail> {
-    let init = CountedZeros {
-        calls: new_calls(alloc)?,
-    };
-    let pool = F::new_pool(alloc, init, AddsOne)?;
-    pool.fill(rt, 2)?;
-    let (one, other) = (pool.pull(rt)?, pool.pull(rt)?);
-    assert_eq!(rt; (*one, *other), (0, 0));
-    Ok(())
+) {
+    let calls = new_calls(alloc).expect(rt, "memory is left");
+    let pool = F::new_pool(alloc, CountedZeros { calls }, AddsOne).expect(rt, "a pool is made");
+    pool.fill(rt, 2).expect(rt, "two values are made");
+    assert_eq!(rt; held_together(rt, &&pool), (0, 0));
 }
 
 #[test]
-fn a_filling_resets_nothing(rt: HostRuntime) -> Result<(), Fail> {
-    fills_without_a_reset::<UnderMutex<u32, CountedZeros, AddsOne, AnyValue>, _>(&rt, rt.alloc())?;
-    fills_without_a_reset::<UnderSpinLock<u32, CountedZeros, AddsOne, AnyValue>, _>(&rt, rt.alloc())
+fn a_filling_resets_nothing(rt: HostRuntime) {
+    fills_without_a_reset::<UnderMutex<u32, CountedZeros, AddsOne, AnyValue>, _>(&rt, rt.alloc());
+    fills_without_a_reset::<UnderSpinLock<u32, CountedZeros, AddsOne, AnyValue>, _>(
+        &rt,
+        rt.alloc(),
+    );
 }

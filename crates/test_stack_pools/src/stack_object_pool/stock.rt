@@ -1,169 +1,214 @@
 //! What a pool keeps: filled beforehand, counted, dropped all at once, and items that leave it for good.
 use super::*;
-use std::test::Fail;
 use test_values::counted::NEVER;
+
+/// The numbers of a borrowed item and an owned one that are held together, and how many values the pool keeps
+/// while they are, and once the borrowed one came back.
+fn two_pulled<F: Kind<Tallied, TalliedValues, Keep, AnyValue>, W: Abort + Wait + Copy>(
+    rt: &W,
+    pool: &Arc<Tracked<F>>,
+) -> ((usize, usize), (usize, usize)) {
+    let item = pool.pull(rt).expect(rt, "an item is kept");
+    let other = pool.pull_owned(rt).expect(rt, "an item is kept");
+    let (numbers, held) = ((item.number, other.number), pool.kept(rt));
+    drop(item);
+    (numbers, (held, pool.kept(rt)))
+}
 
 /// A pool is filled with 40 values, and pulls give them without a further call of `init`.
 fn fills<F: Kind<Tallied, TalliedValues, Keep, AnyValue>, W: Abort + Wait + Copy>(
     rt: &W,
     alloc: Global,
-) -> Result<(), PullError> {
-    let tally = new_tally(alloc)?;
-    let pool = tracked::<F>(alloc, &tally, NEVER)?;
-    assert_eq!(rt; (pool.kept(rt), tally.now()), (0, (0, 0)));
-    pool.fill(rt, 40)?;
-    pool.fill(rt, 0)?;
-    assert_eq!(rt; (pool.kept(rt), tally.now()), (40, (40, 0)));
-    let (item, other) = (pool.pull(rt)?, pool.pull_owned(rt)?);
-    assert_eq!(rt; (item.number, other.number), (39, 38));
-    assert_eq!(rt; (pool.kept(rt), tally.now()), (38, (40, 0)));
-    drop(item);
-    assert_eq!(rt; pool.kept(rt), 39);
-    Ok(())
+) {
+    let (tally, pool) = tallied::<F, W>(rt, alloc, NEVER);
+    let at_first = standing(rt, &pool, &tally);
+    pool.fill(rt, 40).expect(rt, "40 values are made");
+    pool.fill(rt, 0).expect(rt, "no value is made");
+    let filled = standing(rt, &pool, &tally);
+    assert_eq!(rt;
+        (at_first, filled, two_pulled(rt, &pool), tally.now()),
+        ((0, (0, 0)), (40, (40, 0)), ((39, 38), (38, 39)), (40, 0))
+    );
 }
 
 #[test]
-fn a_filled_pool_gives_what_it_made(rt: HostRuntime) -> Result<(), Fail> {
-    fills::<UnderMutex<Tallied, TalliedValues, Keep, AnyValue>, _>(&rt, rt.alloc())?;
-    fills::<UnderSpinLock<Tallied, TalliedValues, Keep, AnyValue>, _>(&rt, rt.alloc())?;
-    Ok(())
+fn a_filled_pool_gives_what_it_made(rt: HostRuntime) {
+    fills::<UnderMutex<Tallied, TalliedValues, Keep, AnyValue>, _>(&rt, rt.alloc());
+    fills::<UnderSpinLock<Tallied, TalliedValues, Keep, AnyValue>, _>(&rt, rt.alloc());
 }
 
 /// `init` refuses at its fourth call: the three values before it are kept, and a further filling goes on.
 fn fills_in_part<F: Kind<Tallied, TalliedValues, Keep, AnyValue>, W: Abort + Wait + Copy>(
     rt: &W,
     alloc: Global,
-) -> Result<(), PullError> {
-    let tally = new_tally(alloc)?;
-    let pool = tracked::<F>(alloc, &tally, 3)?;
-    assert_eq!(rt; pool.fill(rt, 5), Err(PullError::Init));
-    assert_eq!(rt; (pool.kept(rt), tally.now()), (3, (4, 0)));
-    pool.fill(rt, 2)?;
-    assert_eq!(rt; (pool.kept(rt), tally.now()), (5, (6, 0)));
-    Ok(())
+) {
+    let (tally, pool) = tallied::<F, W>(rt, alloc, 3);
+    let refused = (pool.fill(rt, 5), standing(rt, &pool, &tally));
+    let filled = (pool.fill(rt, 2), standing(rt, &pool, &tally));
+    assert_eq!(rt;
+        (refused, filled),
+        ((Err(PullError::Init), (3, (4, 0))), (Ok(()), (5, (6, 0))))
+    );
 }
 
 #[test]
-fn a_filling_that_is_refused_keeps_what_it_made(rt: HostRuntime) -> Result<(), Fail> {
-    fills_in_part::<UnderMutex<Tallied, TalliedValues, Keep, AnyValue>, _>(&rt, rt.alloc())?;
-    fills_in_part::<UnderSpinLock<Tallied, TalliedValues, Keep, AnyValue>, _>(&rt, rt.alloc())?;
-    Ok(())
+fn a_filling_that_is_refused_keeps_what_it_made(rt: HostRuntime) {
+    fills_in_part::<UnderMutex<Tallied, TalliedValues, Keep, AnyValue>, _>(&rt, rt.alloc());
+    fills_in_part::<UnderSpinLock<Tallied, TalliedValues, Keep, AnyValue>, _>(&rt, rt.alloc());
+}
+
+/// One item is out while the pool is cleared, and comes back: how the pool stands before, behind it, and at last.
+fn cleared_beside_one<F: Kind<Tallied, TalliedValues, Keep, AnyValue>, W: Abort + Wait + Copy>(
+    rt: &W,
+    pool: &Tracked<F>,
+    tally: &Tally,
+) -> [(usize, (usize, usize)); 3] {
+    let item = pool.pull(rt).expect(rt, "an item is kept");
+    let before = standing(rt, pool, tally);
+    pool.clear(rt);
+    let behind = standing(rt, pool, tally);
+    drop(item);
+    [before, behind, standing(rt, pool, tally)]
+}
+
+/// The numbers of the item that came back and of one that is made beside it and returned, and how the pool stands
+/// once it is cleared twice.
+fn cleared_twice<F: Kind<Tallied, TalliedValues, Keep, AnyValue>, W: Abort + Wait + Copy>(
+    rt: &W,
+    pool: &Tracked<F>,
+    tally: &Tally,
+) -> ((usize, usize), (usize, (usize, usize))) {
+    let item = pool.pull(rt).expect(rt, "an item is kept");
+    let made = pool.pull(rt).expect(rt, "an item is made").number;
+    pool.clear(rt);
+    pool.clear(rt);
+    ((item.number, made), standing(rt, pool, tally))
 }
 
 /// All kept values are dropped at once, those that are out aren't, and the pool goes on.
 fn clears<F: Kind<Tallied, TalliedValues, Keep, AnyValue>, W: Abort + Wait + Copy>(
     rt: &W,
     alloc: Global,
-) -> Result<(), PullError> {
-    let tally = new_tally(alloc)?;
-    let pool = tracked::<F>(alloc, &tally, NEVER)?;
-    pool.fill(rt, 70_000)?;
-    assert_eq!(rt; (pool.kept(rt), tally.now()), (70_000, (70_000, 0)));
-    let item = pool.pull(rt)?;
-    assert_eq!(rt; (pool.kept(rt), tally.now()), (69_999, (70_000, 0)));
-    pool.clear(rt);
-    assert_eq!(rt; (pool.kept(rt), tally.now()), (0, (70_000, 69_999)));
-    drop(item);
-    assert_eq!(rt; (pool.kept(rt), tally.now()), (1, (70_000, 69_999)));
-    let item = pool.pull(rt)?;
-    assert_eq!(rt; (item.number, pool.pull(rt)?.number), (69_999, 70_000));
-    pool.clear(rt);
-    pool.clear(rt);
-    assert_eq!(rt; (pool.kept(rt), tally.now()), (0, (70_001, 70_000)));
-    Ok(())
+) {
+    let (tally, pool) = tallied::<F, W>(rt, alloc, NEVER);
+    pool.fill(rt, 70_000).expect(rt, "70,000 values are made");
+    assert_eq!(rt; standing(rt, &pool, &tally), (70_000, (70_000, 0)));
+    assert_eq!(rt;
+        cleared_beside_one(rt, &pool, &tally),
+        [
+            (69_999, (70_000, 0)),
+            (0, (70_000, 69_999)),
+            (1, (70_000, 69_999))
+        ]
+    );
+    assert_eq!(rt;
+        cleared_twice(rt, &pool, &tally),
+        ((69_999, 70_000), (0, (70_001, 70_000)))
+    );
 }
 
 #[test]
-fn a_cleared_pool_drops_what_it_keeps(rt: HostRuntime) -> Result<(), Fail> {
-    clears::<UnderMutex<Tallied, TalliedValues, Keep, AnyValue>, _>(&rt, rt.alloc())?;
-    clears::<UnderSpinLock<Tallied, TalliedValues, Keep, AnyValue>, _>(&rt, rt.alloc())?;
-    Ok(())
+fn a_cleared_pool_drops_what_it_keeps(rt: HostRuntime) {
+    clears::<UnderMutex<Tallied, TalliedValues, Keep, AnyValue>, _>(&rt, rt.alloc());
+    clears::<UnderSpinLock<Tallied, TalliedValues, Keep, AnyValue>, _>(&rt, rt.alloc());
+}
+
+/// The values of a borrowed item and an owned one that leave their pool.
+fn detach_two<F: Kind<Tallied, TalliedValues, Keep, AnyValue>, W: Abort + Wait + Copy>(
+    rt: &W,
+    pool: &Arc<Tracked<F>>,
+) -> (Tallied, Tallied) {
+    let first = pool.pull(rt).expect(rt, "an item is kept").detach();
+    (
+        first,
+        pool.pull_owned(rt).expect(rt, "an item is kept").detach(),
+    )
 }
 
 /// Two values leave their pool, borrowed and owned: they live on after it, and neither is reset nor kept.
 fn detaches<F: Kind<Tallied, TalliedValues, Keep, AnyValue>, W: Abort + Wait + Copy>(
     rt: &W,
     alloc: Global,
-) -> Result<(), PullError> {
-    let tally = new_tally(alloc)?;
-    let pool = tracked::<F>(alloc, &tally, NEVER)?;
-    pool.fill(rt, 2)?;
-    let first = pool.pull(rt)?.detach();
-    let second = pool.pull_owned(rt)?.detach();
-    assert_eq!(rt; (first.number, second.number), (1, 0));
-    assert_eq!(rt; (pool.kept(rt), tally.now()), (0, (2, 0)));
-    assert_eq!(rt; pool.pull(rt)?.number, 2);
+) {
+    let (tally, pool) = tallied::<F, W>(rt, alloc, NEVER);
+    pool.fill(rt, 2).expect(rt, "two values are made");
+    let (first, second) = detach_two(rt, &pool);
+    let detached = standing(rt, &pool, &tally);
+    let made = pool.pull(rt).expect(rt, "an item is made").number;
     drop(pool);
-    assert_eq!(rt; tally.now(), (3, 1));
+    let numbers = (first.number, second.number, made);
+    let ended = tally.now();
     drop(first);
     drop(second);
-    assert_eq!(rt; tally.now(), (3, 3));
-    Ok(())
+    assert_eq!(rt;
+        (numbers, detached, ended, tally.now()),
+        ((1, 0, 2), (0, (2, 0)), (3, 1), (3, 3))
+    );
 }
 
 #[test]
-fn a_detached_value_leaves_its_pool(rt: HostRuntime) -> Result<(), Fail> {
-    detaches::<UnderMutex<Tallied, TalliedValues, Keep, AnyValue>, _>(&rt, rt.alloc())?;
-    detaches::<UnderSpinLock<Tallied, TalliedValues, Keep, AnyValue>, _>(&rt, rt.alloc())?;
-    Ok(())
+fn a_detached_value_leaves_its_pool(rt: HostRuntime) {
+    detaches::<UnderMutex<Tallied, TalliedValues, Keep, AnyValue>, _>(&rt, rt.alloc());
+    detaches::<UnderSpinLock<Tallied, TalliedValues, Keep, AnyValue>, _>(&rt, rt.alloc());
 }
 
 /// A detached value is as it was written: no reset runs.
 fn detaches_as_written<F: Kind<u32, CountedZeros, Copied<u32, Zero>, Zero>, W: Abort + Wait + Copy>(
     rt: &W,
     alloc: Global,
-) -> Result<(), PullError> {
-    let pool = cleared::<F>(alloc, &new_calls(alloc)?)?;
-    let (mut item, mut other) = (pool.pull(rt)?, pool.pull_owned(rt)?);
+) {
+    let calls = new_calls(alloc).expect(rt, "memory is left");
+    let pool = cleared::<F, W>(rt, alloc, &calls);
+    let mut item = pool.pull(rt).expect(rt, "an item is made");
+    let mut other = pool.pull_owned(rt).expect(rt, "an item is made");
     (*item, *other) = (5, 6);
-    assert_eq!(rt; (item.detach(), other.detach()), (5, 6));
-    assert_eq!(rt; pool.kept(rt), 0);
-    Ok(())
+    assert_eq!(rt; (item.detach(), other.detach(), pool.kept(rt)), (5, 6, 0));
 }
 
 #[test]
-fn a_detached_value_is_as_it_was_written(rt: HostRuntime) -> Result<(), Fail> {
+fn a_detached_value_is_as_it_was_written(rt: HostRuntime) {
     detaches_as_written::<UnderMutex<u32, CountedZeros, Copied<u32, Zero>, Zero>, _>(
         &rt,
         rt.alloc(),
-    )?;
+    );
     detaches_as_written::<UnderSpinLock<u32, CountedZeros, Copied<u32, Zero>, Zero>, _>(
         &rt,
         rt.alloc(),
-    )?;
-    Ok(())
+    );
 }
 
-/// A value that `init` makes for no pool.
-fn made(tally: &Arc<Tally>) -> Option<Tallied> {
-    let init = TalliedValues::new(tally).ok()?;
-    init.make()
+/// A value is attached, and dropped: how the pool stands while the item is out, and then.
+fn attached_beside<
+    P: SharedStackPool<Tallied>,
+    F: Kind<Tallied, TalliedValues, Keep, AnyValue>,
+    W: Abort + Wait + Copy,
+>(rt: &W, owner: P, pool: &Tracked<F>, tally: &Arc<Tally>) -> [(usize, (usize, usize)); 2] {
+    let value = Tallied::new(tally).expect(rt, "a value is made");
+    let attached = StackReusable::new(rt, owner, value).ok();
+    assert!(rt; attached.is_some());
+    let held = standing(rt, pool, tally);
+    drop(attached);
+    [held, standing(rt, pool, tally)]
 }
 
 /// Three values are kept. Two are attached, borrowed and owned: each is kept beside them once it is dropped.
 fn keeps_beside<F: Kind<Tallied, TalliedValues, Keep, AnyValue>, W: Abort + Wait + Copy>(
     rt: &W,
     alloc: Global,
-) -> Result<(), Fail> {
-    let tally = new_tally(alloc)?;
-    let pool = tracked::<F>(alloc, &tally, NEVER)?;
-    pool.fill(rt, 3)?;
-    let value = made(&tally).ok_or("init makes a value")?;
-    let item = StackReusable::new(rt, &*pool, value).ok().ok_or("memory")?;
-    assert_eq!(rt; (pool.kept(rt), tally.now()), (3, (4, 0)));
-    drop(item);
-    assert_eq!(rt; (pool.kept(rt), tally.now()), (4, (4, 0)));
-    let value = made(&tally).ok_or("init makes a value")?;
-    let owner = Arc::try_clone(&pool)?;
-    let item = StackReusable::new(rt, owner, value).ok().ok_or("memory")?;
-    assert_eq!(rt; (pool.kept(rt), tally.now()), (4, (5, 0)));
-    drop(item);
-    assert_eq!(rt; (pool.kept(rt), tally.now()), (5, (5, 0)));
-    Ok(())
+) {
+    let (tally, pool) = tallied::<F, W>(rt, alloc, NEVER);
+    pool.fill(rt, 3).expect(rt, "three values are made");
+    let borrowed = attached_beside(rt, &*pool, &pool, &tally);
+    let owner = Arc::try_clone(&pool).expect(rt, "an owner is made");
+    let owned = attached_beside(rt, owner, &pool, &tally);
+    assert_eq!(rt;
+        (borrowed, owned),
+        ([(3, (4, 0)), (4, (4, 0))], [(4, (5, 0)), (5, (5, 0))])
+    );
 }
 
 #[test]
-fn an_attached_value_is_kept_beside_others(rt: HostRuntime) -> Result<(), Fail> {
-    keeps_beside::<UnderMutex<Tallied, TalliedValues, Keep, AnyValue>, _>(&rt, rt.alloc())?;
-    keeps_beside::<UnderSpinLock<Tallied, TalliedValues, Keep, AnyValue>, _>(&rt, rt.alloc())
+fn an_attached_value_is_kept_beside_others(rt: HostRuntime) {
+    keeps_beside::<UnderMutex<Tallied, TalliedValues, Keep, AnyValue>, _>(&rt, rt.alloc());
+    keeps_beside::<UnderSpinLock<Tallied, TalliedValues, Keep, AnyValue>, _>(&rt, rt.alloc());
 }

@@ -5,13 +5,12 @@
 //! that the test ends.
 ghost use Rattle.std.specs.Prelude.{⊤};
 
-use lockfree_object_pool::PullError;
+use super::Pulls;
 use lockfree_object_pool::clean::AnyValue;
 use lockfree_object_pool::closures::{Init, Reset};
-use std::ops::DerefMut;
-use std::sync::Arc;
 use std::sync::atomic::AtomicUsize;
 use std::sync::atomic::Ordering::SeqCst;
+use std::sync::{Arc, Wait};
 use std::thread;
 
 /// A thread that still waits after so many turns gives up, and its test fails.
@@ -114,22 +113,21 @@ impl Init<WaitsAtDrop, AnyValue> for ValuesThatWait {
 }
 
 /// What a pulled item shows.
-pub fn shown<A: DerefMut<Target = u32> + Drop>(pulled: Result<A, PullError>) -> Option<u32> {
-    let item = pulled.ok()?;
+pub fn shown<P: Pulls<u32>, W: Wait + Copy>(rt: &W, pool: &P) -> Option<u32> {
+    let item = pool.pull_one(rt).ok()?;
     Some(*item)
 }
 
 /// What a thread is shown that pulls and drops while the first call of what waits goes on.
-pub fn shown_meanwhile<A: DerefMut<Target = u32> + Drop, P: Fn() -> Result<A, PullError>>(
-    pull: &P,
+pub fn shown_meanwhile<P: Pulls<u32>, W: Wait + Copy>(
+    rt: &W,
+    pool: &P,
     steps: &Steps,
-) -> Option<u32>
-    requires { P.IsAlwaysCallable pull.now }
-{
+) -> Option<u32> {
     if !wait_for(&steps.calls) {
         return None;
     }
-    let seen = shown(pull());
+    let seen = shown(rt, pool);
     steps.drops.fetch_add(1, SeqCst);
     seen
 }
