@@ -16,12 +16,12 @@ fn takes_the_last_value_first(rt: HostRuntime) {
     let one = stack.kept();
     stack.put(Room::new(rt.alloc()).expect(&rt, "memory is left"), 7);
     let two = stack.kept();
-    let seven = stack.take().map(|taken| taken.0);
+    let seven = stack.take().expect(&rt, "7 is kept").0;
     let left = stack.kept();
-    let six = stack.take().map(|taken| taken.0);
+    let six = stack.take().expect(&rt, "6 is kept").0;
     assert_eq!(rt;
         ((one, two), (seven, left), (six, stack.kept())),
-        ((1, 2), (Some(7), 1), (Some(6), 0))
+        ((1, 2), (7, 1), (6, 0))
     );
 }
 

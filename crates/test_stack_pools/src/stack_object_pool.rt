@@ -146,7 +146,7 @@ fn tracked<F: Kind<Tallied, TalliedValues, Keep, AnyValue>>(
     shared_pool(alloc, TalliedValues::new_but(tally, refused)?, Keep)
 }
 
-/// A tally, and a pool of values that it counts. `init` refuses at one call, counted from 0.
+/// A tally, and a pool of values that it counts, whose `init` refuses at one call, counted from 0.
 fn tallied<F: Kind<Tallied, TalliedValues, Keep, AnyValue>, W: Abort>(
     rt: &W,
     alloc: Global,

@@ -57,17 +57,24 @@ fn write_two<K: Clean<u32>, I: Init<u32, K>, R: Reset<u32, K>, W: Wait + Copy>(
     **owned = 8;
 }
 
+/// What two items show to which 7 and 8 are written.
+fn written_and_read<W: Abort + Wait + Copy>(
+    rt: &W,
+    mutex: &ClearedByMutex,
+    spin_lock: &Arc<ClearedBySpinLock>,
+) -> (u32, u32) {
+    let mut item = mutex.pull(rt).expect(rt, "an item is made");
+    let mut owned = spin_lock.pull_owned(rt).expect(rt, "an item is made");
+    write_two(&mut item, &mut owned);
+    (*item, *owned)
+}
+
 #[test]
 fn the_exported_names_serve_as_types(rt: HostRuntime) {
     let calls = new_calls(rt.alloc()).expect(&rt, "memory is left");
     let mutex: Arc<ClearedByMutex> = cleared(&rt, rt.alloc(), &calls);
     let spin_lock: Arc<ClearedBySpinLock> = cleared(&rt, rt.alloc(), &calls);
-    let mut item = mutex.pull(&rt).expect(&rt, "an item is made");
-    let mut owned = spin_lock.pull_owned(&rt).expect(&rt, "an item is made");
-    write_two(&mut item, &mut owned);
-    let written = (*item, *owned);
-    drop(item);
-    drop(owned);
+    let written = written_and_read(&rt, &mutex, &spin_lock);
     let attached = (by_mutex(&rt, &mutex), by_spin_lock(&rt, &spin_lock));
     let item = mutex.pull(&rt).expect(&rt, "an item is kept");
     let owned = spin_lock.pull(&rt).expect(&rt, "an item is kept");
