@@ -7,7 +7,7 @@ use super::*;
 use lockfree_object_pool::closures::{Copied, InitBy, Makes, ResetBy, Resets};
 
 /// Whatever other threads do, a pulled value meets the condition.
-fn pulled<K: Clean<u32>, I: Init<u32, K>, R: Reset<u32, K>>(
+pub fn pulled<K: Clean<u32>, I: Init<u32, K>, R: Reset<u32, K>>(
     pool: &LinearObjectPool<u32, I, R, K>,
 ) -> Option<u32>
     ensures { IfSome result K.meets }
@@ -15,7 +15,7 @@ fn pulled<K: Clean<u32>, I: Init<u32, K>, R: Reset<u32, K>>(
     Some(*pool.pull().ok()?)
 }
 
-fn pulled_owned<K: Clean<u32>, I: Init<u32, K>, R: Reset<u32, K>>(
+pub fn pulled_owned<K: Clean<u32>, I: Init<u32, K>, R: Reset<u32, K>>(
     pool: &Arc<LinearObjectPool<u32, I, R, K>>,
 ) -> Option<u32>
     ensures { IfSome result K.meets }
@@ -87,6 +87,18 @@ fn page_of_one(alloc: Global, calls: Arc<AtomicUsize>) -> Result<usize, PullErro
     Ok(number)
 }
 
+/// A pulled value, in place of which a 5 is written then.
+fn value_before_five<K: Clean<u32>, I: Init<u32, K>, R: Reset<u32, K>>(
+    pool: &LinearObjectPool<u32, I, R, K>,
+) -> Result<u32, PullError>
+    ensures { IfOk result K.meets }
+{
+    let mut item = pool.pull()?;
+    let value = *item;
+    *item = 5;
+    Ok(value)
+}
+
 /// Two values of a pool of closures: one as it was made, one as it was returned.
 fn made_and_returned<I: InitBy<u32>, R: ResetBy<u32>>(
     alloc: Global,
@@ -103,27 +115,30 @@ fn made_and_returned<I: InitBy<u32>, R: ResetBy<u32>>(
     let init = Makes::<u32, I, Zero>::new(init);
     let reset = Resets::<u32, R, Zero>::new(reset);
     let pool = LinearObjectPool::new(alloc, init, reset)?;
-    let mut item = pool.pull()?;
-    let made = *item;
-    *item = 5;
-    drop(item);
-    let returned = *pool.pull()?;
+    let made = value_before_five(&pool)?;
+    let returned = value_before_five(&pool)?;
     Ok((made, returned))
+}
+
+/// A value that is written, and what is read back then.
+fn written(pool: &ClearedPool) -> Option<(u32, (usize, u8, u32))> {
+    let mut item = pool.pull().ok()?;
+    write(&mut item, 7);
+    Some((*item, read_back(item)))
+}
+
+/// A value that is written to an owned item.
+fn owned_written(pool: &Arc<ClearedPool>) -> Option<u32> {
+    let mut item = pool.pull_owned().ok()?;
+    write_owned(&mut item, 7);
+    Some(*item)
 }
 
 #[test]
 fn a_value_is_written_and_read(rt: HostRuntime) {
-    let calls = new_calls(rt.alloc()).expect(&rt, "memory is left");
-    let pool = cleared(rt.alloc(), &calls).expect(&rt, "a pool is made");
-    let pool = Arc::new(rt.alloc(), pool).expect(&rt, "memory is left");
-    let mut item = pool.pull().expect(&rt, "an item is free");
-    write(&mut item, 7);
-    assert_eq!(rt; *item, 7);
-    assert_eq!(rt; read_back(item), (0, 0, 9));
-    let mut owned = pool.pull_owned().expect(&rt, "an item is free");
-    write_owned(&mut owned, 7);
-    assert_eq!(rt; *owned, 7);
-    drop(owned);
+    let pool = zeros(rt.alloc()).expect(&rt, "a pool is made");
+    assert_eq!(rt; written(&pool), Some((7, (0, 0, 9))));
+    assert_eq!(rt; owned_written(&pool), Some(7));
     assert_eq!(rt; (pulled(&pool), pulled_owned(&pool)), (Some(0), Some(0)));
     assert_eq!(rt; of_first(&pool).map(|item| *item), Some(0));
 }

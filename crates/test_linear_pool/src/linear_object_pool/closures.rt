@@ -1,8 +1,6 @@
 //! Bare closures as what makes a pool's values.
-use super::later_pages::keep_out;
 use super::*;
 use lockfree_object_pool::closures::{InitBy, Makes};
-use std::mem;
 
 /// The refusals of two pulls from a pool whose only page is full, one of them owned.
 fn refusals_past_a_page<I: InitBy<u32>>(
@@ -13,9 +11,7 @@ fn refusals_past_a_page<I: InitBy<u32>>(
 {
     let pool = LinearObjectPool::<u32, _, _, AnyValue>::new(alloc, Makes::new(init), Keep)?;
     let pool = Arc::new(alloc, pool)?;
-    for _ in 0..32 {
-        mem::forget(pool.pull()?);
-    }
+    keep_out(&pool, 32)?;
     Ok((pool.pull().err(), pool.pull_owned().err()))
 }
 
@@ -27,11 +23,8 @@ fn a_closure_that_refuses_is_asked_once(rt: HostRuntime) {
         calls.fetch_add(1, SeqCst);
         None
     };
-    assert_eq!(rt;
-        refusals_past_a_page(rt.alloc(), refuse),
-        Err(PullError::Init)
-    );
-    assert_eq!(rt; calls.load(SeqCst), 1);
+    let refusals = refusals_past_a_page(rt.alloc(), refuse);
+    assert_eq!(rt; (refusals, calls.load(SeqCst)), (Err(PullError::Init), 1));
 }
 
 #[test]
@@ -46,8 +39,10 @@ fn a_closure_that_refuses_a_growth_is_asked_once_a_pull(rt: HostRuntime) {
     };
     let refused = Some(PullError::Init);
     let refusals = refusals_past_a_page(rt.alloc(), fill_a_page);
-    assert_eq!(rt; refusals, Ok((refused, refused)));
-    assert_eq!(rt; calls.load(SeqCst), 34);
+    assert_eq!(rt;
+        (refusals, calls.load(SeqCst)),
+        (Ok((refused, refused)), 34)
+    );
 }
 
 /// The refusals of two pulls from a pool that may have one page more than the three that are full, one of them owned.
@@ -77,6 +72,8 @@ fn a_closure_that_refuses_within_a_limit_is_told_as_such(rt: HostRuntime) {
     };
     let refused = Some(PullError::Init);
     let refusals = refusals_past_three_pages(rt.alloc(), fill_three_pages);
-    assert_eq!(rt; refusals, Ok((refused, refused)));
-    assert_eq!(rt; calls.load(SeqCst), 98);
+    assert_eq!(rt;
+        (refusals, calls.load(SeqCst)),
+        (Ok((refused, refused)), 98)
+    );
 }

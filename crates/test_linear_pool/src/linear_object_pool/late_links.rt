@@ -97,16 +97,19 @@ fn takes_first(pool: &LatePool, steps: &Steps) -> bool {
     taken
 }
 
+/// A pool that may have four pages.
+fn late_pool(alloc: Global, steps: &Arc<Steps>) -> Result<Arc<LatePool>, PullError> {
+    let steps = Arc::try_clone(steps)?;
+    let pool = LatePool::with_limit(alloc, LateValues { steps }, Keep, 4)?;
+    Ok(Arc::new(alloc, pool)?)
+}
+
 /// The late pull drops the page that it made, and takes the last item of the page that is linked. A walk led it there, so that
 /// page's hint is left over, and the next pull has to pass by it.
 #[test]
 fn a_page_that_comes_too_late_is_dropped_and_leaves_a_hint(rt: HostRuntime) {
     let steps = Arc::new(rt.alloc(), Steps::new()).expect(&rt, "memory is left");
-    let init = LateValues {
-        steps: Arc::try_clone(&steps).expect(&rt, "memory is left"),
-    };
-    let pool = LatePool::with_limit(rt.alloc(), init, Keep, 4).expect(&rt, "a pool is made");
-    let pool = Arc::new(rt.alloc(), pool).expect(&rt, "memory is left");
+    let pool = late_pool(rt.alloc(), &steps).expect(&rt, "a pool is made");
     assert!(rt; takes(&pool, 0, 32) && takes(&pool, 1, 32));
     let (there, done) = (
         Arc::try_clone(&pool).expect(&rt, "memory is left"),

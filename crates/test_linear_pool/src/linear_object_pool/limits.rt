@@ -1,42 +1,62 @@
 //! Pools that may have so many pages and no more.
 ghost use Rattle.std.specs.Prelude.{◌≤◌};
 
-use super::later_pages::keep_out;
 use super::*;
 
-pub fn bounded(alloc: Global, calls: &Arc<AtomicUsize>, pages: usize) -> Cleared
+fn bounded(alloc: Global, calls: &Arc<AtomicUsize>, pages: usize) -> Cleared
     requires { 1 ≤ pages }
 {
     let calls = Arc::try_clone(calls)?;
     LinearObjectPool::with_limit(alloc, CountedZeros { calls }, ToZero, pages)
 }
 
+/// The same in an `Arc`.
+fn shared_bounded(
+    alloc: Global,
+    calls: &Arc<AtomicUsize>,
+    pages: usize,
+) -> Result<Arc<ClearedPool>, PullError>
+    requires { 1 ≤ pages }
+{
+    Ok(Arc::new(alloc, bounded(alloc, calls, pages)?)?)
+}
+
+/// The same, where no call is counted.
+pub fn bounded_zeros(alloc: Global, pages: usize) -> Result<Arc<ClearedPool>, PullError>
+    requires { 1 ≤ pages }
+{
+    shared_bounded(alloc, &new_calls(alloc)?, pages)
+}
+
 #[test]
 fn a_limit_is_told(rt: HostRuntime) {
     let calls = new_calls(rt.alloc()).expect(&rt, "memory is left");
-    let unlimited = cleared(rt.alloc(), &calls).expect(&rt, "a pool is made");
-    assert_eq!(rt; unlimited.limit(), None);
-    let limited = bounded(rt.alloc(), &calls, 3).expect(&rt, "a pool is made");
-    assert_eq!(rt; limited.limit(), Some(3));
+    let unlimited = cleared(rt.alloc(), &calls)
+        .expect(&rt, "a pool is made")
+        .limit();
+    let limited = bounded(rt.alloc(), &calls, 3)
+        .expect(&rt, "a pool is made")
+        .limit();
+    assert_eq!(rt; (unlimited, limited), (None, Some(3)));
 }
 
 #[test]
 fn a_full_pool_refuses(rt: HostRuntime) {
     let calls = new_calls(rt.alloc()).expect(&rt, "memory is left");
     let pool = bounded(rt.alloc(), &calls, 1).expect(&rt, "a pool is made");
-    let _before = held(rt.alloc(), &pool, 7).expect(&rt, "items are free");
-    let seventh = pool.pull().expect(&rt, "an item is free");
-    let _behind = held(rt.alloc(), &pool, 24).expect(&rt, "items are free");
-    assert_eq!(rt; pool.pull().err(), Some(PullError::Limit));
+    let seventh = item_between(&pool, 7, 24).expect(&rt, "items are free");
+    let refused = pool.pull().err();
     drop(seventh);
-    assert_eq!(rt; pool.pull().expect(&rt, "an item is free").page_id(), 7);
-    assert_eq!(rt; calls.load(SeqCst), 32);
+    assert_eq!(rt;
+        (refused, place(&pool), calls.load(SeqCst)),
+        (Some(PullError::Limit), Some((0, 7)), 32)
+    );
 }
 
 /// Owned items that are pulled one after the other and held.
 pub fn held_owned(
     alloc: Global,
-    pool: &Arc<LinearObjectPool<u32, CountedZeros, ToZero, Zero>>,
+    pool: &Arc<ClearedPool>,
     count: usize,
 ) -> Result<Vec<LinearOwnedReusable<u32, CountedZeros, ToZero, Zero>>, PullError> {
     let mut items = Vec::with_capacity(alloc, count)?;
@@ -49,51 +69,41 @@ pub fn held_owned(
 #[test]
 fn a_full_pool_refuses_owned_items(rt: HostRuntime) {
     let calls = new_calls(rt.alloc()).expect(&rt, "memory is left");
-    let pool = bounded(rt.alloc(), &calls, 1).expect(&rt, "a pool is made");
-    let pool = Arc::new(rt.alloc(), pool).expect(&rt, "memory is left");
-    let _before = held_owned(rt.alloc(), &pool, 7).expect(&rt, "items are free");
-    let seventh = pool.pull_owned().expect(&rt, "an item is free");
-    let _behind = held_owned(rt.alloc(), &pool, 24).expect(&rt, "items are free");
+    let pool = shared_bounded(rt.alloc(), &calls, 1).expect(&rt, "a pool is made");
+    let mut first_eight = held_owned(rt.alloc(), &pool, 8).expect(&rt, "items are free");
+    let _others = held_owned(rt.alloc(), &pool, 24).expect(&rt, "items are free");
     let refused = pool.pull_owned().err();
-    assert_eq!(rt; refused, Some(PullError::Limit));
-    drop(seventh);
+    drop(first_eight.pop());
     assert_eq!(rt;
-        pool.pull_owned().expect(&rt, "an item is free").page_id(),
-        7
+        (refused, owned_place(&pool), calls.load(SeqCst)),
+        (Some(PullError::Limit), Some((0, 7)), 32)
     );
-    assert_eq!(rt; calls.load(SeqCst), 32);
 }
 
 #[test]
 fn a_return_to_an_early_page_is_found(rt: HostRuntime) {
-    let calls = new_calls(rt.alloc()).expect(&rt, "memory is left");
-    let pool = bounded(rt.alloc(), &calls, 2).expect(&rt, "a pool is made");
-    let pool = Arc::new(rt.alloc(), pool).expect(&rt, "memory is left");
-    let first = pool.pull().expect(&rt, "an item is free");
-    let _others = held(rt.alloc(), &pool, 63).expect(&rt, "items are free");
-    assert_eq!(rt; pool.pull().err(), Some(PullError::Limit));
+    let pool = bounded_zeros(rt.alloc(), 2).expect(&rt, "a pool is made");
+    let first = item_between(&pool, 0, 63).expect(&rt, "items are free");
+    let refused = pool.pull().err();
     drop(first);
-    let item = pool.pull().expect(&rt, "an item is free");
-    assert_eq!(rt; (item.page_number(), item.page_id()), (0, 0));
-    drop(item);
-    let owned = pool.pull_owned().expect(&rt, "an item is free");
-    assert_eq!(rt; (owned.page_number(), owned.page_id()), (0, 0));
+    assert_eq!(rt;
+        (refused, place(&pool), owned_place(&pool)),
+        (Some(PullError::Limit), Some((0, 0)), Some((0, 0)))
+    );
 }
 
 #[test]
 fn three_pages_are_filled_and_no_fourth_is_made(rt: HostRuntime) {
     let calls = new_calls(rt.alloc()).expect(&rt, "memory is left");
     let pool = bounded(rt.alloc(), &calls, 3).expect(&rt, "a pool is made");
-    let _before = held(rt.alloc(), &pool, 40).expect(&rt, "items are free");
-    let item = pool.pull().expect(&rt, "an item is free");
-    let _between = held(rt.alloc(), &pool, 54).expect(&rt, "items are free");
-    let last = pool.pull().expect(&rt, "an item is free");
-    assert_eq!(rt; (last.page_number(), last.page_id()), (2, 31));
-    assert_eq!(rt; pool.pull().err(), Some(PullError::Limit));
+    let item = item_between(&pool, 40, 54).expect(&rt, "items are free");
+    let last = kept_place(&pool);
+    let refused = pool.pull().err();
     drop(item);
-    let again = pool.pull().expect(&rt, "an item is free");
-    assert_eq!(rt; (again.page_number(), again.page_id()), (1, 8));
-    assert_eq!(rt; calls.load(SeqCst), 96);
+    assert_eq!(rt;
+        (last, refused, place(&pool), calls.load(SeqCst)),
+        (Some((2, 31)), Some(PullError::Limit), Some((1, 8)), 96)
+    );
 }
 
 /// The text of a pool with this limit.
@@ -119,11 +129,8 @@ fn each_limit_is_shown(rt: HostRuntime) {
 /// Such a limit allows more items than a word can count.
 #[test]
 fn the_greatest_limit_gives_items_of_later_pages(rt: HostRuntime) {
-    let calls = new_calls(rt.alloc()).expect(&rt, "memory is left");
-    let pool = bounded(rt.alloc(), &calls, usize::MAX).expect(&rt, "a pool is made");
-    let pool = Arc::new(rt.alloc(), pool).expect(&rt, "memory is left");
+    let pool = bounded_zeros(rt.alloc(), usize::MAX).expect(&rt, "a pool is made");
     keep_out(&pool, 64).expect(&rt, "items are free");
-    let item = pool.pull().expect(&rt, "an item is free");
-    let owned = pool.pull_owned().expect(&rt, "an item is free");
-    assert_eq!(rt; (item.page_number(), owned.page_number()), (2, 2));
+    let first = kept_place(&pool);
+    assert_eq!(rt; (first, owned_place(&pool)), (Some((2, 0)), Some((2, 1))));
 }

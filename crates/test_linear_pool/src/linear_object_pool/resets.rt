@@ -1,7 +1,7 @@
 //! How often a value is reset: once at its return, and not at a pull.
 ghost use Rattle.std.specs.Prelude.{⊤};
 
-use super::later_pages::keep_out;
+use super::callers::{pulled, pulled_owned};
 use super::*;
 use std::ops::Deref;
 
@@ -25,29 +25,29 @@ fn adding(alloc: Global) -> Result<Arc<Adding>, PullError> {
     Ok(Arc::new(alloc, pool)?)
 }
 
-#[test]
-fn each_return_resets_once(rt: HostRuntime) {
-    let pool = adding(rt.alloc()).expect(&rt, "a pool is made");
-    assert_eq!(rt; *pool.pull().expect(&rt, "an item is free"), 0);
-    assert_eq!(rt; *pool.pull_owned().expect(&rt, "an item is free"), 1);
-    assert_eq!(rt; *pool.pull().expect(&rt, "an item is free"), 2);
+/// The page of an item, and its value.
+fn page_and_value(pool: &Adding) -> Option<(usize, u32)> {
+    let item = pool.pull().ok()?;
+    Some((item.page_number(), *item))
 }
 
 /// The page of an item, and its value at three pulls, of which the second is owned.
-fn pulled_thrice(pool: &Arc<Adding>) -> Result<(usize, (u32, u32, u32)), PullError> {
-    let item = pool.pull()?;
-    let (page, first) = (item.page_number(), *item);
-    drop(item);
-    let second = *pool.pull_owned()?;
-    let third = *pool.pull()?;
-    Ok((page, (first, second, third)))
+fn pulled_thrice(pool: &Arc<Adding>) -> Option<(usize, (u32, u32, u32))> {
+    let (page, first) = page_and_value(pool)?;
+    Some((page, (first, pulled_owned(pool)?, pulled(pool)?)))
+}
+
+#[test]
+fn each_return_resets_once(rt: HostRuntime) {
+    let pool = adding(rt.alloc()).expect(&rt, "a pool is made");
+    assert_eq!(rt; pulled_thrice(&pool), Some((0, (0, 1, 2))));
 }
 
 #[test]
 fn each_return_to_a_later_page_resets_once(rt: HostRuntime) {
     let pool = adding(rt.alloc()).expect(&rt, "a pool is made");
     for page in 0..10usize {
-        assert_eq!(rt; pulled_thrice(&pool), Ok((page, (0, 1, 2))));
+        assert_eq!(rt; pulled_thrice(&pool), Some((page, (0, 1, 2))));
         keep_out(&pool, 32).expect(&rt, "items are free");
     }
 }

@@ -53,7 +53,7 @@ fn read_twice<R: Threads + Sync>(
 
 #[test]
 fn two_threads_read_one_item(rt: HostRuntime) -> Result<(), Fail> {
-    let pool = cleared(rt.alloc(), &new_calls(rt.alloc())?)?;
+    let pool = zeros(rt.alloc())?;
     let mut item = pool.pull()?;
     *item = 3;
     assert_eq!(rt; read_twice(&rt, &item), (3, 3));

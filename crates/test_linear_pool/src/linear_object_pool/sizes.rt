@@ -18,18 +18,31 @@ fn a_value_may_have_no_bytes(rt: HostRuntime) {
         &rt,
         "a pool is made",
     );
-    let mut items = Vec::with_capacity(rt.alloc(), 64).expect(&rt, "memory is left");
-    for _ in 0..64 {
-        let item = pool.pull().expect(&rt, "an item is free");
-        items.push(item).expect(&rt, "memory is left");
-    }
-    assert_eq!(rt; pool.pull().err(), Some(PullError::Limit));
+    let mut items = held(rt.alloc(), &pool, 64).expect(&rt, "items are free");
+    let refused = pool.pull().err();
     drop(items.pop());
-    let again = pool.pull().expect(&rt, "an item came back");
-    assert_eq!(rt; (again.page_number(), again.page_id()), (1, 31));
+    assert_eq!(rt;
+        (refused, place(&pool)),
+        (Some(PullError::Limit), Some((1, 31)))
+    );
 }
 
 type Blocks = LinearObjectPool<[u8; 4096], Copied<[u8; 4096], AnyValue>, Keep>;
+
+type Block<'p> = LinearReusable<'p, [u8; 4096], Copied<[u8; 4096], AnyValue>, Keep>;
+
+/// Writes the id of each item to its last byte.
+fn mark(items: &mut [Block<'_>]) {
+    for item in items {
+        item[4095] = item.page_id();
+    }
+}
+
+/// The page of an item, and its first and last bytes.
+fn page_and_ends(pool: &Blocks) -> Option<(usize, u8, u8)> {
+    let item = pool.pull().ok()?;
+    Some((item.page_number(), item[0], item[4095]))
+}
 
 #[test]
 fn a_value_may_have_many_bytes(rt: HostRuntime) {
@@ -37,14 +50,12 @@ fn a_value_may_have_many_bytes(rt: HostRuntime) {
         &rt,
         "a pool is made",
     );
-    let mut items = Vec::with_capacity(rt.alloc(), 64).expect(&rt, "memory is left");
-    for _ in 0..64 {
-        let mut item = pool.pull().expect(&rt, "an item is free");
-        item[4095] = item.page_id();
-        items.push(item).expect(&rt, "memory is left");
-    }
-    assert_eq!(rt; pool.pull().err(), Some(PullError::Limit));
+    let mut items = held(rt.alloc(), &pool, 64).expect(&rt, "items are free");
+    mark(&mut items);
+    let refused = pool.pull().err();
     drop(items.pop());
-    let again = pool.pull().expect(&rt, "an item came back");
-    assert_eq!(rt; (again.page_number(), again[0], again[4095]), (1, 3, 31));
+    assert_eq!(rt;
+        (refused, page_and_ends(&pool)),
+        (Some(PullError::Limit), Some((1, 3, 31)))
+    );
 }

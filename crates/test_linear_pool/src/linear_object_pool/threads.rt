@@ -125,21 +125,34 @@ fn mark_often(shared: &Shared, mark: u32) -> bool {
     true
 }
 
+/// The items of ten pages, all of which were out. Eight came back.
+fn all_but_eight<'s>(
+    alloc: Global,
+    shared: &'s Shared,
+) -> Result<Vec<LinearReusable<'s, u32, CountedZeros, ToZero, Zero>>, PullError> {
+    let mut kept = Vec::with_capacity(alloc, 312)?;
+    let mut returned = Vec::with_capacity(alloc, 8)?;
+    for index in 0..320 {
+        let item = shared.pool.pull()?;
+        if index % 40 == 0 {
+            returned.push(item)?;
+        } else {
+            kept.push(item)?;
+        }
+    }
+    Ok(kept)
+}
+
+/// Whether each item has the value of a reset.
+fn are_zero(items: &[LinearReusable<'_, u32, CountedZeros, ToZero, Zero>]) -> bool {
+    items.iter().all(|item| **item == 0)
+}
+
 #[test]
 fn eight_threads_share_what_ten_full_pages_got_back(rt: HostRuntime) {
     let calls = new_calls(rt.alloc()).expect(&rt, "memory is left");
     let shared = unbounded(rt.alloc(), &calls).expect(&rt, "a pool is made");
-    let mut kept = Vec::with_capacity(rt.alloc(), 312).expect(&rt, "memory is left");
-    let mut returned = Vec::with_capacity(rt.alloc(), 8).expect(&rt, "memory is left");
-    for index in 0..320 {
-        let item = shared.pool.pull().expect(&rt, "an item is free");
-        if index % 40 == 0 {
-            returned.push(item).expect(&rt, "memory is left");
-        } else {
-            kept.push(item).expect(&rt, "memory is left");
-        }
-    }
-    drop(returned);
+    let kept = all_but_eight(rt.alloc(), &shared).expect(&rt, "items are free");
     let mut threads = Vec::with_capacity(rt.alloc(), 8).expect(&rt, "memory is left");
     for mark in 1..9 {
         let shared = Arc::try_clone(&shared).expect(&rt, "memory is left");
@@ -152,7 +165,7 @@ fn eight_threads_share_what_ten_full_pages_got_back(rt: HostRuntime) {
     for thread in threads {
         assert!(rt; thread.join(&rt));
     }
-    assert!(rt; kept.iter().all(|item| **item == 0));
+    assert!(rt; are_zero(&kept));
 }
 
 /// How many of eight pulls gave an item, and how many were refused by the limit. The items are held until five threads hold theirs.
