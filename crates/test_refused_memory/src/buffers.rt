@@ -2,15 +2,17 @@
 use crate::refusals::Refusals;
 use lockfree_object_pool::PullError;
 use object_pool_cores::buffers::{Buffer, BufferPool, Clear, WithCapacity, clear, fresh};
-use std::alloc::Global;
 use std::process::Abort;
 use std::test::Fail;
 
 type Buffers = BufferPool<WithCapacity, Clear>;
 
 /// A pool of two pages of buffers without room.
-fn new_pool(alloc: Global) -> Result<Buffers, PullError> {
-    BufferPool::new(alloc, WithCapacity::new(alloc, 0), Clear, 2)
+fn new_pool(rt: &(impl Abort + AllocGlobal), refusals: &Refusals) -> Buffers {
+    refusals.again(
+        rt,
+        &|| { BufferPool::new(rt.alloc(), WithCapacity::new(rt.alloc(), 0), Clear, 2) },
+    )
 }
 
 /// Appends bytes. Where memory was refused, the buffer is as it was, and they are appended by a second try.
@@ -19,65 +21,65 @@ fn append(
     refusals: &Refusals,
     buffer: &mut Buffer<'_, WithCapacity, Clear>,
     bytes: &[u8],
-) -> Result<(), PullError> {
+) {
     let before = buffer.as_slice().len();
-    match buffer.append(bytes) {
-        Ok(()) => Ok(()),
-        Err(cause) => {
-            refusals.note();
-            assert_eq!(rt;
-                (cause, buffer.as_slice().len()),
-                (PullError::Memory, before)
-            );
-            buffer.append(bytes)
-        }
+    if let Err(cause) = buffer.append(bytes) {
+        refusals.note();
+        assert_eq!(rt;
+            (cause, buffer.as_slice().len()),
+            (PullError::Memory, before)
+        );
+        let second = buffer.append(bytes);
+        second.expect(rt, "one request alone is refused");
     }
 }
 
 #[test]
 fn an_append_that_was_refused_is_asked_again(rt: HostRuntime) -> Result<(), Fail> {
     let refusals = Refusals::new();
-    let pool = refusals.again(&|| new_pool(rt.alloc()))?;
-    let mut buffer = pool.pull()?;
-    append(&rt, &refusals, &mut buffer, b"")?;
-    append(&rt, &refusals, &mut buffer, b"first")?;
-    append(&rt, &refusals, &mut buffer, &[b'x'; 5000])?;
+    let pool = new_pool(&rt, &refusals);
+    let mut buffer = pool.pull().expect(&rt, "an item is free");
+    append(&rt, &refusals, &mut buffer, b"");
+    append(&rt, &refusals, &mut buffer, b"first");
+    append(&rt, &refusals, &mut buffer, &[b'x'; 5000]);
     assert_eq!(rt;
         (buffer.as_slice().get(..5), buffer.as_slice().len()),
         (Some(b"first".as_slice()), 5005)
     );
     drop(buffer);
-    let again = pool.pull()?;
+    let again = pool.pull().expect(&rt, "an item is free");
     assert_eq!(rt;
         (again.page_number(), again.page_id(), again.as_slice().len()),
         (0, 0, 0)
     );
-    Ok(refusals.tell(&rt)?)
+    refusals.tell(&rt)
 }
 
 #[test]
 fn a_fresh_buffer_that_was_refused_is_asked_again(rt: HostRuntime) -> Result<(), Fail> {
     let refusals = Refusals::new();
-    let mut bytes = refusals.again(&|| fresh(rt.alloc(), 4096).ok_or(PullError::Memory))?;
-    bytes.extend_from_slice(&[b'x'; 4096])?;
+    let mut bytes = refusals.again(&rt, &|| fresh(rt.alloc(), 4096).ok_or(PullError::Memory));
+    let filled = bytes.extend_from_slice(&[b'x'; 4096]);
+    filled.expect(&rt, "there is room");
     clear(&mut bytes);
-    bytes.extend_from_slice(&[b'y'; 4096])?;
+    let filled = bytes.extend_from_slice(&[b'y'; 4096]);
+    filled.expect(&rt, "there is room");
     assert_eq!(rt; bytes.len(), 4096);
-    Ok(refusals.tell(&rt)?)
+    refusals.tell(&rt)
 }
 
 /// A buffer that comes again has the room that it grew to. What fits there is appended, whichever request is refused.
 #[test]
 fn an_append_where_there_is_room_takes_no_memory(rt: HostRuntime) -> Result<(), Fail> {
     let refusals = Refusals::new();
-    let pool = refusals.again(&|| new_pool(rt.alloc()))?;
-    let mut first = pool.pull()?;
-    append(&rt, &refusals, &mut first, &[b'x'; 64])?;
+    let pool = new_pool(&rt, &refusals);
+    let mut first = pool.pull().expect(&rt, "an item is free");
+    append(&rt, &refusals, &mut first, &[b'x'; 64]);
     drop(first);
-    let mut again = pool.pull()?;
+    let mut again = pool.pull().expect(&rt, "an item is free");
     for _ in 0..64 {
         again.append(b"y").expect(&rt, "there is room");
     }
     assert_eq!(rt; (again.page_id(), again.as_slice().len()), (0, 64));
-    Ok(refusals.tell(&rt)?)
+    refusals.tell(&rt)
 }

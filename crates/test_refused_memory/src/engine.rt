@@ -79,13 +79,13 @@ fn plays(rt: &(impl Wait + Abort), refusals: &Refusals, alloc: Global, kind: Kin
         Ok(()) if text == whole.as_str().as_bytes() => {}
         Ok(()) => {
             refusals.note();
-            assert!(rt; tells_of_one_refusal(kind, text), "{kind:?}");
+            assert!(rt; tells_of_one_refusal(kind, text));
         }
         Err(error) => {
             refusals.note();
-            assert_eq!(rt; error, EngineError::Memory, "{kind:?}");
-            assert!(rt; whole.as_str().as_bytes().starts_with(text), "{kind:?}");
-            assert!(rt; text.last().is_none_or(|byte| *byte == b'\n'), "{kind:?}");
+            assert_eq!(rt; error, EngineError::Memory);
+            assert!(rt; whole.as_str().as_bytes().starts_with(text));
+            assert!(rt; text.last().is_none_or(|byte| *byte == b'\n'));
         }
     }
 }
@@ -94,28 +94,28 @@ fn plays(rt: &(impl Wait + Abort), refusals: &Refusals, alloc: Global, kind: Kin
 fn a_linear_pool_tells_of_refused_memory(rt: HostRuntime) -> Result<(), Fail> {
     let refusals = Refusals::new();
     plays(&rt, &refusals, rt.alloc(), Kind::Linear);
-    Ok(refusals.tell(&rt)?)
+    refusals.tell(&rt)
 }
 
 #[test]
 fn a_bounded_pool_tells_of_refused_memory(rt: HostRuntime) -> Result<(), Fail> {
     let refusals = Refusals::new();
     plays(&rt, &refusals, rt.alloc(), Kind::Bounded(2));
-    Ok(refusals.tell(&rt)?)
+    refusals.tell(&rt)
 }
 
 #[test]
 fn a_stack_tells_of_refused_memory(rt: HostRuntime) -> Result<(), Fail> {
     let refusals = Refusals::new();
     plays(&rt, &refusals, rt.alloc(), Kind::Stack);
-    Ok(refusals.tell(&rt)?)
+    refusals.tell(&rt)
 }
 
 #[test]
 fn fresh_items_tell_of_refused_memory(rt: HostRuntime) -> Result<(), Fail> {
     let refusals = Refusals::new();
     plays(&rt, &refusals, rt.alloc(), Kind::None);
-    Ok(refusals.tell(&rt)?)
+    refusals.tell(&rt)
 }
 
 /// A line that takes no memory, and pulls behind it in the same read.
@@ -151,5 +151,5 @@ fn a_line_before_a_refusal_is_answered(rt: HostRuntime) -> Result<(), Fail> {
     let refusals = Refusals::new();
     answers_the_first_line(&rt, &refusals, rt.alloc(), Kind::Stack);
     answers_the_first_line(&rt, &refusals, rt.alloc(), Kind::None);
-    Ok(refusals.tell(&rt)?)
+    refusals.tell(&rt)
 }

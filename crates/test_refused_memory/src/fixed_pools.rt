@@ -1,14 +1,14 @@
 //! Fixed pools: a refused opening drops what it made, and nothing behind it takes memory.
 use crate::refusals::Refusals;
+use lockfree_object_pool::FixedObjectPool;
 use lockfree_object_pool::clean::AnyValue;
 use lockfree_object_pool::closures::Keep;
-use lockfree_object_pool::{FixedObjectPool, PullError};
 use std::alloc::Global;
 use std::process::Abort;
 use std::sync::Arc;
 use std::test::Fail;
 use test_values::tallied::{Tallied, TalliedValues};
-use test_values::tally::{Tally, new_tally};
+use test_values::tally::Tally;
 
 /// How many items the pools here have: three pages, the last with one item.
 const ITEMS: usize = 65;
@@ -17,41 +17,39 @@ const ITEMS: usize = 65;
 type Tracked = FixedObjectPool<Tallied, TalliedValues, Keep, AnyValue>;
 
 /// Such a pool. Where it is refused, each value that was made for it is dropped.
-fn opened(
-    rt: &impl Abort,
-    alloc: Global,
-    refusals: &Refusals,
-    tally: &Arc<Tally>,
-) -> Result<Arc<Tracked>, PullError> {
-    let pool = refusals.again(&|| {
-        let pool = FixedObjectPool::new(alloc, TalliedValues::new(tally)?, Keep, ITEMS)?;
-        Ok(Arc::new(alloc, pool)?)
-    })?;
+fn opened(rt: &impl Abort, alloc: Global, refusals: &Refusals, tally: &Arc<Tally>) -> Arc<Tracked> {
+    let pool = refusals.again(
+        rt,
+        &|| {
+            let pool = FixedObjectPool::new(alloc, TalliedValues::new(tally)?, Keep, ITEMS)?;
+            Ok(Arc::new(alloc, pool)?)
+        },
+    );
     assert_eq!(rt; tally.living(), ITEMS);
-    Ok(pool)
+    pool
 }
 
 #[test]
 fn a_fixed_pool_that_was_refused_is_made_again(rt: HostRuntime) -> Result<(), Fail> {
     let refusals = Refusals::new();
-    let tally = refusals.again(&|| new_tally(rt.alloc()))?;
-    let pool = opened(&rt, rt.alloc(), &refusals, &tally)?;
+    let tally = refusals.tally(&rt);
+    let pool = opened(&rt, rt.alloc(), &refusals, &tally);
     drop(pool);
     assert_eq!(rt; tally.living(), 0);
-    Ok(refusals.tell(&rt)?)
+    refusals.tell(&rt)
 }
 
 /// Three hundred pulls and returns ask for no memory, whichever request is refused: a refusal would be another than `Limit`.
 #[test]
 fn pulls_and_returns_in_turn_take_no_memory(rt: HostRuntime) -> Result<(), Fail> {
     let refusals = Refusals::new();
-    let tally = refusals.again(&|| new_tally(rt.alloc()))?;
-    let pool = opened(&rt, rt.alloc(), &refusals, &tally)?;
+    let tally = refusals.tally(&rt);
+    let pool = opened(&rt, rt.alloc(), &refusals, &tally);
     for page in 0..100 {
-        drop(pool.pull()?);
-        drop(pool.pull_near(page)?);
-        drop(pool.pull_owned()?);
+        drop(pool.pull().expect(&rt, "an item is free"));
+        drop(pool.pull_near(page).expect(&rt, "an item is free"));
+        drop(pool.pull_owned().expect(&rt, "an item is free"));
     }
     assert_eq!(rt; tally.living(), ITEMS);
-    Ok(refusals.tell(&rt)?)
+    refusals.tell(&rt)
 }

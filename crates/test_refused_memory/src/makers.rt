@@ -7,6 +7,7 @@ use lockfree_object_pool::closures::{Clear, WithCapacity};
 use lockfree_object_pool::recycling::{MutexPool, Recyclable};
 use lockfree_object_pool::{MutexObjectPool, PullError};
 use std::alloc::Global;
+use std::process::Abort;
 use std::test::Fail;
 
 /// A sheet that has its room from the start.
@@ -29,20 +30,22 @@ impl Recyclable for Sheet {
     }
 }
 
-/// The answer of a pull. Where it was refused, that of a second try: `Memory` for the room of its return, `Init` for the value.
+/// What is pulled. Where it was refused, it comes by a second try: `Memory` for the room of its return, `Init` for the value.
 fn pulled<X: Drop, F: Fn() -> Result<X, PullError>>(
+    rt: &impl Abort,
     refusals: &Refusals,
     pull: &F,
-) -> Result<X, PullError>
+) -> X
     requires { F.IsAlwaysCallable pull.now }
 {
-    match pull() {
+    let answer = match pull() {
         Err(PullError::Memory | PullError::Init) => {
             refusals.note();
             pull()
         }
         answer => answer,
-    }
+    };
+    answer.expect(rt, "one request alone is refused")
 }
 
 /// A refusal that a maker hides is missed between those of the rooms: a second item is pulled while the first is held.
@@ -50,10 +53,10 @@ fn pulled<X: Drop, F: Fn() -> Result<X, PullError>>(
 fn a_recyclable_value_that_memory_was_refused_for_is_told(rt: HostRuntime) -> Result<(), Fail> {
     let refusals = Refusals::new();
     let pool = MutexPool::<Sheet>::with_recycler(rt.alloc());
-    let first = pulled(&refusals, &|| pool.pull(&rt))?;
-    let second = pulled(&refusals, &|| pool.pull(&rt))?;
+    let first = pulled(&rt, &refusals, &|| pool.pull(&rt));
+    let second = pulled(&rt, &refusals, &|| pool.pull(&rt));
     assert_eq!(rt; (first.letters.len(), second.letters.len()), (0, 0));
-    Ok(refusals.tell(&rt)?)
+    refusals.tell(&rt)
 }
 
 /// As above, of vectors that are made with room.
@@ -65,8 +68,8 @@ fn a_vector_that_memory_was_refused_for_is_told(rt: HostRuntime) -> Result<(), F
         WithCapacity::new(rt.alloc(), 16),
         Clear,
     );
-    let first = pulled(&refusals, &|| pool.pull(&rt))?;
-    let second = pulled(&refusals, &|| pool.pull(&rt))?;
+    let first = pulled(&rt, &refusals, &|| pool.pull(&rt));
+    let second = pulled(&rt, &refusals, &|| pool.pull(&rt));
     assert_eq!(rt; (first.len(), second.len()), (0, 0));
-    Ok(refusals.tell(&rt)?)
+    refusals.tell(&rt)
 }

@@ -9,22 +9,22 @@ use std::process::Abort;
 use std::sync::Arc;
 use std::test::Fail;
 use test_values::tallied::Tallied;
-use test_values::tally::{Tally, new_tally};
+use test_values::tally::Tally;
 
 type TalliedPage<'c> = LinearPage<'c, Tallied, AnyValue>;
 
 #[test]
 fn a_page_that_was_refused_is_asked_again(rt: HostRuntime) -> Result<(), Fail> {
     let refusals = Refusals::new();
-    let tally = refusals.again(&|| new_tally(rt.alloc()))?;
-    let page: Page<Tallied, AnyValue> = refusals.again(&|| Page::new(
-        rt.alloc(),
-        &|| Tallied::new(&tally),
-    ))?;
+    let tally = refusals.tally(&rt);
+    let page: Page<Tallied, AnyValue> = refusals.again(
+        &rt,
+        &|| Page::new(rt.alloc(), &|| Tallied::new(&tally)),
+    );
     assert_eq!(rt; (page.get_mask(), tally.living()), (u32::MAX, 32));
     drop(page);
     assert_eq!(rt; tally.living(), 0);
-    Ok(refusals.tell(&rt)?)
+    refusals.tell(&rt)
 }
 
 /// Takes all items of a page out for good.
@@ -54,56 +54,59 @@ fn used_up(
     rt: &(impl Abort + AllocGlobal),
     refusals: &Refusals,
     tally: &Arc<Tally>,
-) -> Result<Chain<Tallied, AnyValue>, Fail> {
-    let chain = refusals.again(&|| Chain::new(rt.alloc(), &|| Tallied::new(tally)))?;
+) -> Chain<Tallied, AnyValue> {
+    let chain = refusals.again(rt, &|| Chain::new(rt.alloc(), &|| Tallied::new(tally)));
     assert_eq!(rt; tally.living(), 32);
-    forget_all(&chain.first()).ok_or("32 items are free")?;
-    Ok(chain)
+    forget_all(&chain.first()).expect(rt, "32 items are free");
+    chain
 }
 
 #[test]
 fn a_link_that_was_refused_is_asked_again(rt: HostRuntime) -> Result<(), Fail> {
     let refusals = Refusals::new();
-    let tally = refusals.again(&|| new_tally(rt.alloc()))?;
-    let chain = used_up(&rt, &refusals, &tally)?;
+    let tally = refusals.tally(&rt);
+    let chain = used_up(&rt, &refusals, &tally);
     let first = chain.first();
     let next = match behind_full(&first, &tally) {
         Err(PullError::Memory) => {
             refusals.note();
-            assert!(rt; first.next().is_none());
-            assert_eq!(rt; tally.living(), 32);
-            behind_full(&first, &tally)?
+            assert_eq!(rt; (first.next().is_none(), tally.living()), (true, 32));
+            behind_full(&first, &tally)
         }
-        answer => answer?,
+        answer => answer,
     };
-    let next = next.ok_or("the first page is full")?;
+    let next = next
+        .expect(&rt, "one request alone is refused")
+        .expect(&rt, "the first page is full");
     assert_eq!(rt; (next.number(), tally.living()), (1, 64));
     assert!(rt; first.next().is_some());
-    Ok(refusals.tell(&rt)?)
+    refusals.tell(&rt)
 }
 
 #[test]
 fn a_walk_that_was_refused_is_asked_again(rt: HostRuntime) -> Result<(), Fail> {
     let refusals = Refusals::new();
-    let tally = refusals.again(&|| new_tally(rt.alloc()))?;
-    let chain = used_up(&rt, &refusals, &tally)?;
+    let tally = refusals.tally(&rt);
+    let chain = used_up(&rt, &refusals, &tally);
     let first = chain.first();
-    let (slot, pages) = refusals.again(&|| first.alloc(&|| Tallied::new(&tally)))?;
+    let make = || Tallied::new(&tally);
+    let (slot, pages) = refusals.again(&rt, &|| first.alloc(&make));
     assert_eq!(rt; (slot.id(), pages, tally.living()), (0, 1, 64));
-    let (owned, pages) = refusals.again(&|| first.alloc_owned(&|| Tallied::new(&tally)))?;
+    let (owned, pages) = refusals.again(&rt, &|| first.alloc_owned(&make));
     assert_eq!(rt; (owned.id(), pages, tally.living()), (1, 1, 64));
-    Ok(refusals.tell(&rt)?)
+    refusals.tell(&rt)
 }
 
 #[test]
 fn a_bounded_walk_that_was_refused_is_asked_again(rt: HostRuntime) -> Result<(), Fail> {
     let refusals = Refusals::new();
-    let tally = refusals.again(&|| new_tally(rt.alloc()))?;
-    let chain = used_up(&rt, &refusals, &tally)?;
+    let tally = refusals.tally(&rt);
+    let chain = used_up(&rt, &refusals, &tally);
     let first = chain.first();
-    let (owned, pages) = refusals.again(&|| first.alloc_owned_within(2, &|| Tallied::new(&tally)))?;
+    let make = || Tallied::new(&tally);
+    let (owned, pages) = refusals.again(&rt, &|| first.alloc_owned_within(2, &make));
     assert_eq!(rt; (owned.id(), pages, tally.living()), (0, 1, 64));
-    let (slot, pages) = refusals.again(&|| first.alloc_within(2, &|| Tallied::new(&tally)))?;
+    let (slot, pages) = refusals.again(&rt, &|| first.alloc_within(2, &make));
     assert_eq!(rt; (slot.id(), pages, tally.living()), (1, 1, 64));
-    Ok(refusals.tell(&rt)?)
+    refusals.tell(&rt)
 }

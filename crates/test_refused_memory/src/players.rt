@@ -11,12 +11,12 @@ use std::process::Abort;
 use std::sync::Arc;
 use std::test::Fail;
 use test_values::tallied::{Tallied, TalliedValues};
-use test_values::tally::{Tally, new_tally};
+use test_values::tally::Tally;
 
 type Zeros = Copied<u32, AnyValue>;
 
 /// What a pool does with its items, as far as replies tell.
-#[derive(Clone, Copy, Debug, PartialEq, Eq)]
+#[derive(Clone, Copy, PartialEq, Eq)]
 enum Pool {
     Linear,
     Stack,
@@ -31,12 +31,19 @@ fn number_in(pool: Pool, place: usize) -> Option<u128> {
     }
 }
 
-fn linear(alloc: Global) -> Result<LinearCore<u32, Zeros, Keep, AnyValue>, PullError> {
-    LinearCore::new(alloc, Copied::new(0), Keep)
+fn linear(
+    rt: &(impl Abort + AllocGlobal),
+    refusals: &Refusals,
+) -> LinearCore<u32, Zeros, Keep, AnyValue> {
+    refusals.again(rt, &|| LinearCore::new(rt.alloc(), Copied::new(0), Keep))
 }
 
 fn stack(alloc: Global) -> StackCore<u32, Zeros, Keep, AnyValue> {
     StackCore::new(alloc, Copied::new(0), Keep)
+}
+
+fn fresh() -> NoneCore<u32, Zeros> {
+    NoneCore::new(Copied::new(0))
 }
 
 /// How many commands there are.
@@ -97,24 +104,31 @@ fn plays_each_again<P: SequentialPool<u32> + Drop>(
     let mut player = Player::new(alloc, core);
     for index in 0..COMMANDS {
         let reply = reply_again(refusals, &mut player, index);
-        assert_eq!(rt;
-            reply,
-            Ok(reply_at(pool, index)),
-            "{pool:?}, command {index}"
-        );
+        assert_eq!(rt; reply, Ok(reply_at(pool, index)), "command {index}");
     }
-    assert_eq!(rt; (player.held(0), player.held(1)), (None, None), "{pool:?}");
+    assert_eq!(rt; (player.held(0), player.held(1)), (None, None));
 }
 
 #[test]
-fn a_command_again_is_answered_as_with_memory(rt: HostRuntime) -> Result<(), Fail> {
+fn a_linear_player_answers_a_command_again_as_with_memory(rt: HostRuntime) -> Result<(), Fail> {
     let refusals = Refusals::new();
-    let core = refusals.again(&|| linear(rt.alloc()))?;
+    let core = linear(&rt, &refusals);
     plays_each_again(&rt, &refusals, rt.alloc(), Pool::Linear, core);
+    refusals.tell(&rt)
+}
+
+#[test]
+fn a_stack_player_answers_a_command_again_as_with_memory(rt: HostRuntime) -> Result<(), Fail> {
+    let refusals = Refusals::new();
     plays_each_again(&rt, &refusals, rt.alloc(), Pool::Stack, stack(rt.alloc()));
-    let core: NoneCore<u32, Zeros> = NoneCore::new(Copied::new(0));
-    plays_each_again(&rt, &refusals, rt.alloc(), Pool::Fresh, core);
-    Ok(refusals.tell(&rt)?)
+    refusals.tell(&rt)
+}
+
+#[test]
+fn a_fresh_player_answers_a_command_again_as_with_memory(rt: HostRuntime) -> Result<(), Fail> {
+    let refusals = Refusals::new();
+    plays_each_again(&rt, &refusals, rt.alloc(), Pool::Fresh, fresh());
+    refusals.tell(&rt)
 }
 
 /// How many pulls a run has.
@@ -129,7 +143,7 @@ fn pulled(rt: &impl Abort, pool: Pool, replies: &[Reply<u32>]) -> usize {
                 assert_eq!(rt; (*holder, *number), (pulled, number_in(pool, pulled)));
                 pulled = pulled.saturating_add(1);
             }
-            other => assert_eq!(rt; *other, Reply::Refused(PullError::Memory), "{pool:?}"),
+            other => assert_eq!(rt; *other, Reply::Refused(PullError::Memory)),
         }
     }
     pulled
@@ -142,20 +156,21 @@ fn runs_on<P: SequentialPool<u32> + Drop>(
     alloc: Global,
     pool: Pool,
     core: P,
-) -> Result<(), Fail> {
+) {
     let mut player = Player::new(alloc, core);
     let mut replies = Vec::new(alloc);
-    let commands = refusals.list_again(alloc, PULLS, &|| Ok(Command::Pull))?;
+    let commands = refusals.list_again(rt, alloc, PULLS, &|| Ok(Command::Pull));
     let mut refused = 0usize;
     if player.run(commands, &mut replies).is_err() {
         refusals.note();
         // It was refused for the table or the list of replies, so no pull was.
         let done = replies.len();
-        assert_eq!(rt; pulled(rt, pool, &replies), done, "{pool:?}");
-        assert!(rt; done < PULLS && player.held(done).is_none(), "{pool:?}");
+        assert_eq!(rt; pulled(rt, pool, &replies), done);
+        assert!(rt; done < PULLS && player.held(done).is_none());
         let rest = PULLS.saturating_sub(done);
-        let rest = refusals.list_again(alloc, rest, &|| Ok(Command::Pull))?;
-        player.run(rest, &mut replies)?;
+        let rest = refusals.list_again(rt, alloc, rest, &|| Ok(Command::Pull));
+        let ran = player.run(rest, &mut replies);
+        ran.expect(rt, "one request alone is refused");
     } else if replies
         .as_slice()
         .contains(&Reply::Refused(PullError::Memory))
@@ -163,20 +178,30 @@ fn runs_on<P: SequentialPool<u32> + Drop>(
         refusals.note();
         refused = 1;
     }
-    assert_eq!(rt; replies.len(), PULLS, "{pool:?}");
+    assert_eq!(rt; replies.len(), PULLS);
     assert_eq!(rt; pulled(rt, pool, &replies), PULLS.saturating_sub(refused));
-    Ok(())
 }
 
 #[test]
-fn a_run_goes_on_from_the_commands_done(rt: HostRuntime) -> Result<(), Fail> {
+fn a_run_of_a_linear_player_goes_on_from_the_commands_done(rt: HostRuntime) -> Result<(), Fail> {
     let refusals = Refusals::new();
-    let core = refusals.again(&|| linear(rt.alloc()))?;
-    runs_on(&rt, &refusals, rt.alloc(), Pool::Linear, core)?;
-    runs_on(&rt, &refusals, rt.alloc(), Pool::Stack, stack(rt.alloc()))?;
-    let core: NoneCore<u32, Zeros> = NoneCore::new(Copied::new(0));
-    runs_on(&rt, &refusals, rt.alloc(), Pool::Fresh, core)?;
-    Ok(refusals.tell(&rt)?)
+    let core = linear(&rt, &refusals);
+    runs_on(&rt, &refusals, rt.alloc(), Pool::Linear, core);
+    refusals.tell(&rt)
+}
+
+#[test]
+fn a_run_of_a_stack_player_goes_on_from_the_commands_done(rt: HostRuntime) -> Result<(), Fail> {
+    let refusals = Refusals::new();
+    runs_on(&rt, &refusals, rt.alloc(), Pool::Stack, stack(rt.alloc()));
+    refusals.tell(&rt)
+}
+
+#[test]
+fn a_run_of_a_fresh_player_goes_on_from_the_commands_done(rt: HostRuntime) -> Result<(), Fail> {
+    let refusals = Refusals::new();
+    runs_on(&rt, &refusals, rt.alloc(), Pool::Fresh, fresh());
+    refusals.tell(&rt)
 }
 
 /// How many returns and pulls in turn there are.
@@ -194,25 +219,36 @@ fn takes_turns<P: SequentialPool<u32> + Drop>(
     let mut player = Player::new(alloc, core);
     let number = number_in(pool, 0);
     let first = reply_again(refusals, &mut player, 0);
-    assert_eq!(rt; first, Ok(Reply::Pulled(0, number)), "{pool:?}");
+    assert_eq!(rt; first, Ok(Reply::Pulled(0, number)));
     for holder in 0..TURNS {
         let returned = player.play(Command::Return(holder));
-        assert_eq!(rt; returned, Ok(Reply::Returned), "{pool:?}, holder {holder}");
+        assert_eq!(rt; returned, Ok(Reply::Returned), "holder {holder}");
         let next = holder.saturating_add(1);
         let pulled = player.play(Command::Pull);
-        assert_eq!(rt; pulled, Ok(Reply::Pulled(next, number)), "{pool:?}");
+        assert_eq!(rt; pulled, Ok(Reply::Pulled(next, number)));
     }
 }
 
 #[test]
 fn returns_and_pulls_in_turn_take_no_memory(rt: HostRuntime) -> Result<(), Fail> {
     let refusals = Refusals::new();
-    let core = refusals.again(&|| linear(rt.alloc()))?;
+    let core = linear(&rt, &refusals);
     takes_turns(&rt, &refusals, rt.alloc(), Pool::Linear, core);
+    refusals.tell(&rt)
+}
+
+#[test]
+fn returns_to_a_stack_and_pulls_in_turn_take_no_memory(rt: HostRuntime) -> Result<(), Fail> {
+    let refusals = Refusals::new();
     takes_turns(&rt, &refusals, rt.alloc(), Pool::Stack, stack(rt.alloc()));
-    let core: NoneCore<u32, Zeros> = NoneCore::new(Copied::new(0));
-    takes_turns(&rt, &refusals, rt.alloc(), Pool::Fresh, core);
-    Ok(refusals.tell(&rt)?)
+    refusals.tell(&rt)
+}
+
+#[test]
+fn returns_and_pulls_of_fresh_items_in_turn_take_no_memory(rt: HostRuntime) -> Result<(), Fail> {
+    let refusals = Refusals::new();
+    takes_turns(&rt, &refusals, rt.alloc(), Pool::Fresh, fresh());
+    refusals.tell(&rt)
 }
 
 type Stack = StackCore<Tallied, TalliedValues, Keep, AnyValue>;
@@ -241,11 +277,11 @@ fn write(tally: &Arc<Tally>) -> Result<Command<Tallied>, PullError> {
 #[test]
 fn a_run_that_was_refused_drops_the_commands_not_done(rt: HostRuntime) -> Result<(), Fail> {
     let refusals = Refusals::new();
-    let tally = refusals.again(&|| new_tally(rt.alloc()))?;
+    let tally = refusals.tally(&rt);
     let core: Stack = StackCore::new(rt.alloc(), TalliedValues::new(&tally)?, Keep);
     let mut player = Player::new(rt.alloc(), core);
     holds_first(&rt, &refusals, &mut player);
-    let commands = refusals.list_again(rt.alloc(), WRITES, &|| write(&tally))?;
+    let commands = refusals.list_again(&rt, rt.alloc(), WRITES, &|| write(&tally));
     assert_eq!(rt; tally.living(), WRITES.saturating_add(1));
     let mut replies = Vec::new(rt.alloc());
     let is_refused = player.run(commands, &mut replies).is_err();
@@ -256,19 +292,19 @@ fn a_run_that_was_refused_drops_the_commands_not_done(rt: HostRuntime) -> Result
     // What was written last is held, and lives alone.
     assert_eq!(rt; player.held(0).map(|held| held.number), Some(replies.len()));
     assert_eq!(rt; tally.living(), 1);
-    Ok(refusals.tell(&rt)?)
+    refusals.tell(&rt)
 }
 
 /// The table has room, so an attaching command is a reply in either case. Where memory is refused, the value is in it.
 #[test]
 fn an_attach_that_was_refused_is_a_reply_with_the_value(rt: HostRuntime) -> Result<(), Fail> {
     let refusals = Refusals::new();
-    let tally = refusals.again(&|| new_tally(rt.alloc()))?;
+    let tally = refusals.tally(&rt);
     let core: Stack = StackCore::new(rt.alloc(), TalliedValues::new(&tally)?, Keep);
     let mut player = Player::new(rt.alloc(), core);
     holds_first(&rt, &refusals, &mut player);
     assert!(rt; matches!(player.play(Command::Return(0)), Ok(Reply::Returned)));
-    let value = Tallied::new(&tally).ok_or("a value takes no memory")?;
+    let value = Tallied::new(&tally).expect(&rt, "a value takes no memory");
     let reply = player.play(Command::Attach(value));
     let number = match &reply {
         Ok(Reply::Attached(holder)) => player.held(*holder).map(|held| held.number),
@@ -279,5 +315,5 @@ fn an_attach_that_was_refused_is_a_reply_with_the_value(rt: HostRuntime) -> Resu
         _ => None,
     };
     assert_eq!(rt; number, Some(1));
-    Ok(refusals.tell(&rt)?)
+    refusals.tell(&rt)
 }

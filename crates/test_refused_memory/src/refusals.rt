@@ -2,7 +2,10 @@
 use lockfree_object_pool::PullError;
 use std::alloc::Global;
 use std::cell::Cell;
-use std::io;
+use std::process::Abort;
+use std::sync::Arc;
+use std::test::Fail;
+use test_values::tally::{Tally, new_tally};
 
 /// Whether memory was refused until now.
 #[derive(Drop)]
@@ -22,44 +25,53 @@ impl Refusals {
         self.is_met.set(true);
     }
 
-    /// The answer. Where memory was refused, that of a second try.
-    pub fn again<X: Drop, F: Fn() -> Result<X, PullError>>(&self, ask: &F) -> Result<X, PullError>
+    /// What is asked for. Where memory was refused, it comes by a second try.
+    pub fn again<X: Drop, F: Fn() -> Result<X, PullError>>(&self, rt: &impl Abort, ask: &F) -> X
         requires { F.pre ask.now }
     {
-        match ask() {
+        let answer = match ask() {
             Err(PullError::Memory) => {
                 self.note();
                 ask()
             }
             answer => answer,
-        }
+        };
+        answer.expect(rt, "one request alone is refused")
     }
 
-    /// A list of so many entries, whose room is asked for at once. Where memory was refused, that of a second try.
+    /// A tally. Where memory was refused, it comes by a second try.
+    pub fn tally(&self, rt: &(impl Abort + AllocGlobal)) -> Arc<Tally> {
+        self.again(rt, &|| new_tally(rt.alloc()))
+    }
+
+    /// A list of so many entries, whose room is asked for at once. Where memory was refused, it comes by a second try.
     pub fn list_again<X: Drop, F: Fn() -> Result<X, PullError>>(
         &self,
+        rt: &impl Abort,
         alloc: Global,
         count: usize,
         entry: &F,
-    ) -> Result<Vec<X>, PullError>
+    ) -> Vec<X>
         requires { F.pre entry.now }
     {
-        match list_of(alloc, count, entry) {
+        let list = match list_of(alloc, count, entry) {
             Err(PullError::Memory) => {
                 self.note();
                 list_of(alloc, count, entry)
             }
-            answer => answer,
-        }
+            list => list,
+        };
+        list.expect(rt, "one request alone is refused")
     }
 
     /// Prints whether memory was refused.
-    pub fn tell(&self, rt: &impl Print) -> io::Result<()> {
-        if self.is_met.get() {
+    pub fn tell(&self, rt: &impl Print) -> Result<(), Fail> {
+        let outcome = if self.is_met.get() {
             println!(rt; "a request for memory was refused")
         } else {
             println!(rt; "each request for memory was met")
-        }
+        };
+        Ok(outcome?)
     }
 }
 

@@ -11,7 +11,7 @@ use std::process::Abort;
 use std::sync::Arc;
 use std::test::Fail;
 use test_values::tallied::{Tallied, TalliedValues};
-use test_values::tally::{Tally, new_tally};
+use test_values::tally::Tally;
 
 type Linear = LinearCore<Tallied, TalliedValues, Keep, AnyValue>;
 
@@ -20,13 +20,13 @@ type Stack = StackCore<Tallied, TalliedValues, Keep, AnyValue>;
 #[test]
 fn a_page_that_was_refused_is_asked_again(rt: HostRuntime) -> Result<(), Fail> {
     let refusals = Refusals::new();
-    let tally = refusals.again(&|| new_tally(rt.alloc()))?;
-    let page: CorePage<Tallied, AnyValue> = refusals.again(&|| CorePage::new(
-        rt.alloc(),
-        &|| Tallied::new(&tally),
-    ))?;
+    let tally = refusals.tally(&rt);
+    let page: CorePage<Tallied, AnyValue> = refusals.again(
+        &rt,
+        &|| CorePage::new(rt.alloc(), &|| Tallied::new(&tally)),
+    );
     assert_eq!(rt; (page.get_mask(), tally.living()), (u32::MAX, 32));
-    Ok(refusals.tell(&rt)?)
+    refusals.tell(&rt)
 }
 
 fn unbounded(alloc: Global, tally: &Arc<Tally>) -> Result<Linear, PullError> {
@@ -38,39 +38,36 @@ fn bounded(alloc: Global, tally: &Arc<Tally>) -> Result<Linear, PullError> {
 }
 
 /// Takes all items of the first page out for good, and one item of the second page.
-fn grows(
-    rt: &impl Abort,
-    refusals: &Refusals,
-    core: &mut Linear,
-    tally: &Tally,
-) -> Result<(), PullError> {
+fn grows(rt: &impl Abort, refusals: &Refusals, core: &mut Linear, tally: &Tally) {
     assert_eq!(rt; tally.living(), 32);
     for _ in 0..32 {
-        drop(core.pull()?);
+        drop(core.pull().expect(rt, "32 items are free"));
     }
     let item = match core.pull() {
         Err(PullError::Memory) => {
             refusals.note();
             assert_eq!(rt; (core.pages(), tally.living()), (1, 0));
-            core.pull()?
+            core.pull()
         }
-        answer => answer?,
+        answer => answer,
     };
-    assert_eq!(rt; item.number(), Some(32));
-    assert_eq!(rt; (core.pages(), tally.living()), (2, 32));
-    Ok(())
+    let item = item.expect(rt, "one request alone is refused");
+    assert_eq!(rt;
+        (item.number(), core.pages(), tally.living()),
+        (Some(32), 2, 32)
+    );
 }
 
 #[test]
 fn a_linear_pull_that_was_refused_is_asked_again(rt: HostRuntime) -> Result<(), Fail> {
     let refusals = Refusals::new();
-    let tally = refusals.again(&|| new_tally(rt.alloc()))?;
-    let mut core = refusals.again(&|| unbounded(rt.alloc(), &tally))?;
-    grows(&rt, &refusals, &mut core, &tally)?;
-    let tally = refusals.again(&|| new_tally(rt.alloc()))?;
-    let mut core = refusals.again(&|| bounded(rt.alloc(), &tally))?;
-    grows(&rt, &refusals, &mut core, &tally)?;
-    Ok(refusals.tell(&rt)?)
+    let tally = refusals.tally(&rt);
+    let mut core = refusals.again(&rt, &|| unbounded(rt.alloc(), &tally));
+    grows(&rt, &refusals, &mut core, &tally);
+    let tally = refusals.tally(&rt);
+    let mut core = refusals.again(&rt, &|| bounded(rt.alloc(), &tally));
+    grows(&rt, &refusals, &mut core, &tally);
+    refusals.tell(&rt)
 }
 
 /// Gives an item back, where it is the pool's own.
@@ -85,27 +82,29 @@ fn give_back<P: SequentialPool<Tallied>>(rt: &impl Abort, core: &mut P, item: It
 #[test]
 fn a_stack_pull_that_was_refused_is_asked_again(rt: HostRuntime) -> Result<(), Fail> {
     let refusals = Refusals::new();
-    let tally = refusals.again(&|| new_tally(rt.alloc()))?;
+    let tally = refusals.tally(&rt);
     let mut core: Stack = StackCore::new(rt.alloc(), TalliedValues::new(&tally)?, Keep);
     let item = match core.pull() {
         Err(PullError::Memory) => {
             refusals.note();
             assert_eq!(rt; tally.made(), 0);
-            core.pull()?
+            core.pull()
         }
-        answer => answer?,
+        answer => answer,
     };
+    let item = item.expect(&rt, "one request alone is refused");
     give_back(&rt, &mut core, item);
-    assert_eq!(rt; (core.pull()?.number, tally.made()), (0, 1));
-    Ok(refusals.tell(&rt)?)
+    let again = core.pull().expect(&rt, "an item is kept").number;
+    assert_eq!(rt; (again, tally.made()), (0, 1));
+    refusals.tell(&rt)
 }
 
 #[test]
 fn an_attached_value_comes_back(rt: HostRuntime) -> Result<(), Fail> {
     let refusals = Refusals::new();
-    let tally = refusals.again(&|| new_tally(rt.alloc()))?;
+    let tally = refusals.tally(&rt);
     let mut core: Stack = StackCore::new(rt.alloc(), TalliedValues::new(&tally)?, Keep);
-    let value = Tallied::new(&tally).ok_or("a value takes no memory")?;
+    let value = Tallied::new(&tally).expect(&rt, "a value takes no memory");
     let attached = match core.attach(value) {
         Err(AttachError::Memory(back)) => {
             refusals.note();
@@ -118,20 +117,21 @@ fn an_attached_value_comes_back(rt: HostRuntime) -> Result<(), Fail> {
         panic!(rt; "refused twice")
     };
     give_back(&rt, &mut core, item);
-    assert_eq!(rt; (core.pull()?.number, tally.made()), (0, 1));
-    Ok(refusals.tell(&rt)?)
+    let again = core.pull().expect(&rt, "an item is kept").number;
+    assert_eq!(rt; (again, tally.made()), (0, 1));
+    refusals.tell(&rt)
 }
 
 #[test]
 fn fresh_items_take_no_memory(rt: HostRuntime) -> Result<(), Fail> {
     let refusals = Refusals::new();
-    let tally = refusals.again(&|| new_tally(rt.alloc()))?;
+    let tally = refusals.tally(&rt);
     let mut core = NoneCore::new(TalliedValues::new(&tally)?);
     for number in 0..3usize {
-        let item = core.pull()?;
+        let item = core.pull().expect(&rt, "an item takes no memory");
         assert_eq!(rt; item.number, number);
         core.give(item);
     }
     assert_eq!(rt; tally.living(), 0);
-    Ok(refusals.tell(&rt)?)
+    refusals.tell(&rt)
 }

@@ -14,7 +14,7 @@ use std::process::Abort;
 use std::sync::{Arc, Wait};
 use std::test::Fail;
 use test_values::tallied::{Tallied, TalliedValues};
-use test_values::tally::{Tally, new_tally};
+use test_values::tally::Tally;
 
 /// What a pool of tallied values keeps.
 type TrackedValues = MadeOrReset<TalliedValues, Keep, AnyValue>;
@@ -36,17 +36,32 @@ type KeptByMutex = MutexObjectPool<u32, Copied<u32, AnyValue>, Keep, AnyValue>;
 
 type KeptBySpinLock = SpinLockObjectPool<u32, Copied<u32, AnyValue>, Keep, AnyValue>;
 
-fn tracked_by_mutex(alloc: Global, tally: &Arc<Tally>) -> Result<Arc<TrackedByMutex>, PullError> {
-    let pool = MutexObjectPool::new(alloc, TalliedValues::new(tally)?, Keep);
-    Ok(Arc::new(alloc, pool)?)
+fn tracked_by_mutex(
+    rt: &(impl Abort + AllocGlobal),
+    refusals: &Refusals,
+    tally: &Arc<Tally>,
+) -> Arc<TrackedByMutex> {
+    refusals.again(
+        rt,
+        &|| {
+            let pool = MutexObjectPool::new(rt.alloc(), TalliedValues::new(tally)?, Keep);
+            Ok(Arc::new(rt.alloc(), pool)?)
+        },
+    )
 }
 
 fn tracked_by_spin_lock(
-    alloc: Global,
+    rt: &(impl Abort + AllocGlobal),
+    refusals: &Refusals,
     tally: &Arc<Tally>,
-) -> Result<Arc<TrackedBySpinLock>, PullError> {
-    let pool = SpinLockObjectPool::new(alloc, TalliedValues::new(tally)?, Keep)?;
-    Ok(Arc::new(alloc, pool)?)
+) -> Arc<TrackedBySpinLock> {
+    refusals.again(
+        rt,
+        &|| {
+            let pool = SpinLockObjectPool::new(rt.alloc(), TalliedValues::new(tally)?, Keep)?;
+            Ok(Arc::new(rt.alloc(), pool)?)
+        },
+    )
 }
 
 fn kept_by_mutex(alloc: Global) -> Result<Arc<KeptByMutex>, PullError> {
@@ -57,42 +72,46 @@ fn kept_by_spin_lock(alloc: Global) -> Result<Arc<KeptBySpinLock>, PullError> {
     Ok(Arc::new(alloc, SpinLockObjectPool::new(alloc, Copied::new(0), Keep)?)?)
 }
 
+/// The end of a pool, which drops what it keeps.
+fn ends<P: Drop>(rt: &impl Abort, pool: Arc<P>, tally: &Tally) {
+    drop(pool);
+    assert_eq!(rt; tally.living(), 0);
+}
+
 /// A pull and its drop, and a pull of what is kept.
 fn pulls<F: FreeList<Tallied, TrackedValues>, W: Abort + Wait + Copy>(
     rt: &W,
     refusals: &Refusals,
     pool: &Tracked<F>,
     tally: &Tally,
-) -> Result<(), PullError> {
+) {
     let item = match pool.pull(rt) {
         Err(PullError::Memory) => {
             refusals.note();
             assert_eq!(rt; tally.made(), 0);
-            pool.pull(rt)?
+            pool.pull(rt)
         }
-        answer => answer?,
+        answer => answer,
     };
+    let item = item.expect(rt, "one request alone is refused");
     assert_eq!(rt; (item.number, tally.made()), (0, 1));
     drop(item);
-    let again = pool.pull(rt)?;
+    let again = pool.pull(rt).expect(rt, "an item is kept");
     assert_eq!(rt; (again.number, tally.made(), tally.living()), (0, 1, 1));
-    Ok(())
 }
 
 #[test]
 fn a_pull_that_was_refused_is_asked_again(rt: HostRuntime) -> Result<(), Fail> {
     let refusals = Refusals::new();
-    let tally = refusals.again(&|| new_tally(rt.alloc()))?;
-    let pool = refusals.again(&|| tracked_by_mutex(rt.alloc(), &tally))?;
-    pulls(&rt, &refusals, &pool, &tally)?;
-    drop(pool);
-    assert_eq!(rt; tally.living(), 0);
-    let tally = refusals.again(&|| new_tally(rt.alloc()))?;
-    let pool = refusals.again(&|| tracked_by_spin_lock(rt.alloc(), &tally))?;
-    pulls(&rt, &refusals, &pool, &tally)?;
-    drop(pool);
-    assert_eq!(rt; tally.living(), 0);
-    Ok(refusals.tell(&rt)?)
+    let tally = refusals.tally(&rt);
+    let pool = tracked_by_mutex(&rt, &refusals, &tally);
+    pulls(&rt, &refusals, &pool, &tally);
+    ends(&rt, pool, &tally);
+    let tally = refusals.tally(&rt);
+    let pool = tracked_by_spin_lock(&rt, &refusals, &tally);
+    pulls(&rt, &refusals, &pool, &tally);
+    ends(&rt, pool, &tally);
+    refusals.tell(&rt)
 }
 
 /// A filling that was refused keeps what it made before, and goes on where it is asked again.
@@ -101,27 +120,27 @@ fn fills<F: FreeList<Tallied, TrackedValues>, W: Abort + Wait + Copy>(
     refusals: &Refusals,
     pool: &Tracked<F>,
     tally: &Tally,
-) -> Result<(), PullError> {
+) {
     if pool.fill(rt, 3) == Err(PullError::Memory) {
         refusals.note();
-        pool.fill(rt, 3usize.saturating_sub(tally.made()))?;
+        let filled = pool.fill(rt, 3usize.saturating_sub(tally.made()));
+        filled.expect(rt, "one request alone is refused");
     }
     assert_eq!(rt; (pool.kept(rt), tally.made(), tally.living()), (3, 3, 3));
     pool.clear(rt);
     assert_eq!(rt; (pool.kept(rt), tally.living()), (0, 0));
-    Ok(())
 }
 
 #[test]
 fn a_filling_that_was_refused_goes_on(rt: HostRuntime) -> Result<(), Fail> {
     let refusals = Refusals::new();
-    let tally = refusals.again(&|| new_tally(rt.alloc()))?;
-    let pool = refusals.again(&|| tracked_by_mutex(rt.alloc(), &tally))?;
-    fills(&rt, &refusals, &pool, &tally)?;
-    let tally = refusals.again(&|| new_tally(rt.alloc()))?;
-    let pool = refusals.again(&|| tracked_by_spin_lock(rt.alloc(), &tally))?;
-    fills(&rt, &refusals, &pool, &tally)?;
-    Ok(refusals.tell(&rt)?)
+    let tally = refusals.tally(&rt);
+    let pool = tracked_by_mutex(&rt, &refusals, &tally);
+    fills(&rt, &refusals, &pool, &tally);
+    let tally = refusals.tally(&rt);
+    let pool = tracked_by_spin_lock(&rt, &refusals, &tally);
+    fills(&rt, &refusals, &pool, &tally);
+    refusals.tell(&rt)
 }
 
 /// An owned pull and its drop, and an owned pull of what is kept.
@@ -130,77 +149,96 @@ fn owned_pulls<F: FreeList<Tallied, TrackedValues>, W: Abort + Wait + Copy>(
     refusals: &Refusals,
     pool: &Arc<Tracked<F>>,
     tally: &Tally,
-) -> Result<(), PullError> {
+) {
     let item = match pool.pull_owned(rt) {
         Err(PullError::Memory) => {
             refusals.note();
             assert_eq!(rt; tally.made(), 0);
-            pool.pull_owned(rt)?
+            pool.pull_owned(rt)
         }
-        answer => answer?,
+        answer => answer,
     };
+    let item = item.expect(rt, "one request alone is refused");
     assert_eq!(rt; (item.number, tally.made()), (0, 1));
     drop(item);
-    let again = pool.pull_owned(rt)?;
+    let again = pool.pull_owned(rt).expect(rt, "an item is kept");
     assert_eq!(rt; (again.number, tally.made(), tally.living()), (0, 1, 1));
-    Ok(())
 }
 
 #[test]
 fn an_owned_pull_that_was_refused_is_asked_again(rt: HostRuntime) -> Result<(), Fail> {
     let refusals = Refusals::new();
-    let tally = refusals.again(&|| new_tally(rt.alloc()))?;
-    let pool = refusals.again(&|| tracked_by_mutex(rt.alloc(), &tally))?;
-    owned_pulls(&rt, &refusals, &pool, &tally)?;
-    drop(pool);
-    assert_eq!(rt; tally.living(), 0);
-    let tally = refusals.again(&|| new_tally(rt.alloc()))?;
-    let pool = refusals.again(&|| tracked_by_spin_lock(rt.alloc(), &tally))?;
-    owned_pulls(&rt, &refusals, &pool, &tally)?;
-    drop(pool);
-    assert_eq!(rt; tally.living(), 0);
-    Ok(refusals.tell(&rt)?)
+    let tally = refusals.tally(&rt);
+    let pool = tracked_by_mutex(&rt, &refusals, &tally);
+    owned_pulls(&rt, &refusals, &pool, &tally);
+    ends(&rt, pool, &tally);
+    let tally = refusals.tally(&rt);
+    let pool = tracked_by_spin_lock(&rt, &refusals, &tally);
+    owned_pulls(&rt, &refusals, &pool, &tally);
+    ends(&rt, pool, &tally);
+    refusals.tell(&rt)
 }
 
-/// Attaches 8 and 9, borrowed and owned. Each comes back where it is refused, and is kept after its drop.
+/// One more owner of a pool.
+fn owner_of<P: Drop>(rt: &impl Abort, pool: &Arc<P>) -> Arc<P> {
+    Arc::try_clone(pool).expect(rt, "an owner takes no memory")
+}
+
+/// Attaches 8, borrowed. It comes back where it is refused.
+fn attaches_borrowed<F: FreeList<u32, KeptValues>, W: Abort + Wait + Copy>(
+    rt: &W,
+    refusals: &Refusals,
+    pool: &Kept<F>,
+) {
+    let item = match StackReusable::new(rt, pool, 8) {
+        Err(back) => {
+            refusals.note();
+            StackReusable::new(rt, pool, back)
+        }
+        answer => answer,
+    };
+    let item = item.expect(rt, "one request alone is refused");
+    assert_eq!(rt; *item, 8);
+}
+
+/// Attaches 9, owned. It comes back where it is refused.
+fn attaches_owned<F: FreeList<u32, KeptValues>, W: Abort + Wait + Copy>(
+    rt: &W,
+    refusals: &Refusals,
+    pool: &Arc<Kept<F>>,
+) {
+    let owned = match StackReusable::new(rt, owner_of(rt, pool), 9) {
+        Err(back) => {
+            refusals.note();
+            StackReusable::new(rt, owner_of(rt, pool), back)
+        }
+        answer => answer,
+    };
+    let owned = owned.expect(rt, "one request alone is refused");
+    assert_eq!(rt; *owned, 9);
+}
+
+/// Attaches 8 and 9. Each is kept after its drop.
 fn attaches<F: FreeList<u32, KeptValues>, W: Abort + Wait + Copy>(
     rt: &W,
     refusals: &Refusals,
     pool: &Arc<Kept<F>>,
-) -> Result<(), Fail> {
-    let item = match StackReusable::new(rt, &**pool, 8) {
-        Err(back) => {
-            refusals.note();
-            StackReusable::new(rt, &**pool, back).map_err(|_| "refused twice")?
-        }
-        Ok(item) => item,
-    };
-    assert_eq!(rt; *item, 8);
-    drop(item);
-    let first = pool.pull(rt)?;
-    assert_eq!(rt; *first, 8);
-    let owned = match StackReusable::new(rt, Arc::try_clone(pool)?, 9) {
-        Err(back) => {
-            refusals.note();
-            let owner = Arc::try_clone(pool)?;
-            StackReusable::new(rt, owner, back).map_err(|_| "refused twice")?
-        }
-        Ok(item) => item,
-    };
-    assert_eq!(rt; *owned, 9);
-    drop(owned);
-    assert_eq!(rt; *pool.pull_owned(rt)?, 9);
-    Ok(())
+) {
+    attaches_borrowed(rt, refusals, pool);
+    let first = pool.pull(rt).expect(rt, "an item is kept");
+    attaches_owned(rt, refusals, pool);
+    let second = pool.pull_owned(rt).expect(rt, "an item is kept");
+    assert_eq!(rt; (*first, *second), (8, 9));
 }
 
 #[test]
 fn an_attached_value_comes_back(rt: HostRuntime) -> Result<(), Fail> {
     let refusals = Refusals::new();
-    let pool = refusals.again(&|| kept_by_mutex(rt.alloc()))?;
-    attaches(&rt, &refusals, &pool)?;
-    let pool = refusals.again(&|| kept_by_spin_lock(rt.alloc()))?;
-    attaches(&rt, &refusals, &pool)?;
-    Ok(refusals.tell(&rt)?)
+    let pool = refusals.again(&rt, &|| kept_by_mutex(rt.alloc()));
+    attaches(&rt, &refusals, &pool);
+    let pool = refusals.again(&rt, &|| kept_by_spin_lock(rt.alloc()));
+    attaches(&rt, &refusals, &pool);
+    refusals.tell(&rt)
 }
 
 /// A value that the pool keeps, and one that is attached to an owned item or comes back. The pool ends with its last owner, and
@@ -210,10 +248,10 @@ fn ends_behind_attach<F: FreeList<Tallied, TrackedValues>, W: Abort + Wait + Cop
     refusals: &Refusals,
     pool: Arc<Tracked<F>>,
     tally: &Arc<Tally>,
-) -> Result<(), Fail> {
-    refusals.again(&|| pool.fill(rt, 1))?;
-    let value = Tallied::new(tally).ok_or("a value takes no memory")?;
-    match StackReusable::new(rt, Arc::try_clone(&pool)?, value) {
+) {
+    refusals.again(rt, &|| pool.fill(rt, 1));
+    let value = Tallied::new(tally).expect(rt, "a value takes no memory");
+    match StackReusable::new(rt, owner_of(rt, &pool), value) {
         Ok(item) => drop(item),
         Err(back) => {
             refusals.note();
@@ -222,19 +260,18 @@ fn ends_behind_attach<F: FreeList<Tallied, TrackedValues>, W: Abort + Wait + Cop
     }
     drop(pool);
     assert_eq!(rt; (tally.made(), tally.living()), (2, 0));
-    Ok(())
 }
 
 #[test]
 fn a_pool_ends_behind_an_owned_attach_that_was_refused(rt: HostRuntime) -> Result<(), Fail> {
     let refusals = Refusals::new();
-    let tally = refusals.again(&|| new_tally(rt.alloc()))?;
-    let pool = refusals.again(&|| tracked_by_mutex(rt.alloc(), &tally))?;
-    ends_behind_attach(&rt, &refusals, pool, &tally)?;
-    let tally = refusals.again(&|| new_tally(rt.alloc()))?;
-    let pool = refusals.again(&|| tracked_by_spin_lock(rt.alloc(), &tally))?;
-    ends_behind_attach(&rt, &refusals, pool, &tally)?;
-    Ok(refusals.tell(&rt)?)
+    let tally = refusals.tally(&rt);
+    let pool = tracked_by_mutex(&rt, &refusals, &tally);
+    ends_behind_attach(&rt, &refusals, pool, &tally);
+    let tally = refusals.tally(&rt);
+    let pool = tracked_by_spin_lock(&rt, &refusals, &tally);
+    ends_behind_attach(&rt, &refusals, pool, &tally);
+    refusals.tell(&rt)
 }
 
 #[test]
@@ -243,12 +280,13 @@ fn a_lock_gives_its_value_back(rt: HostRuntime) -> Result<(), Fail> {
     let lock = match SpinLock::new(rt.alloc(), 7u32) {
         Err(back) => {
             refusals.note();
-            SpinLock::new(rt.alloc(), back).map_err(|_| "refused twice")?
+            SpinLock::new(rt.alloc(), back)
         }
-        Ok(lock) => lock,
+        answer => answer,
     };
+    let lock = lock.expect(&rt, "one request alone is refused");
     assert_eq!(rt; *lock.lock(&rt), 7);
-    let room = refusals.again(&|| Room::<u32>::new(rt.alloc()))?;
+    let room = refusals.again(&rt, &|| Room::<u32>::new(rt.alloc()));
     drop(room);
-    Ok(refusals.tell(&rt)?)
+    refusals.tell(&rt)
 }
