@@ -4,6 +4,7 @@ use lockfree_object_pool::clean::{AnyValue, Clean};
 use lockfree_object_pool::linear_page::{Chain, LinearPage};
 use lockfree_object_pool::page::{Allocated, FullSeen, Page, PageSlot, PullPass};
 use std::alloc::Global;
+use std::mem;
 use std::sync::Arc;
 
 mod later_walks;
@@ -30,6 +31,14 @@ fn hold_all<'c, T: Drop>(
     Some(slots)
 }
 
+/// Takes all items of a page out for good, without memory.
+fn forget_all<T: Drop>(page: &LinearPage<'_, T, AnyValue>) -> Option<()> {
+    for _ in 0..32 {
+        mem::forget(page.page().alloc().ok()??);
+    }
+    Some(())
+}
+
 /// The page behind one that is full.
 fn behind_full<'c, T: Drop, I: Fn() -> Option<T>>(
     page: &LinearPage<'c, T, AnyValue>,
@@ -48,4 +57,15 @@ fn behind_full<'c, T: Drop, I: Fn() -> Option<T>>(
 fn first_id<T: Drop>(page: &LinearPage<'_, T, AnyValue>) -> Option<u8> {
     let slot = page.page().alloc().ok()??;
     Some(slot.id())
+}
+
+/// The number of the page behind a full one, and the id that it gives first, which stays out.
+fn place_behind<T: Drop, I: Fn() -> Option<T>>(
+    page: &LinearPage<'_, T, AnyValue>,
+    init: &I,
+) -> Option<(usize, Option<u8>)>
+    requires { I.pre init.now }
+{
+    let next = behind_full(page, init)?;
+    Some((next.number(), first_id(&next)))
 }

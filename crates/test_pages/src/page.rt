@@ -1,4 +1,8 @@
-//! One page in use.
+//! One page in use. Here stands how its tests come to an item.
+use lockfree_object_pool::clean::Clean;
+use lockfree_object_pool::page::{OwnedSlot, Page, PageSlot};
+use std::sync::Arc;
+
 mod histories;
 mod ids;
 mod rounds;
@@ -6,3 +10,15 @@ mod sharing;
 mod slots;
 mod values;
 mod words;
+
+/// An item that a page gives.
+fn item<'s, T: Drop, K: Clean<T>>(page: &'s Page<T, K>) -> Option<PageSlot<'s, T, K>> {
+    page.alloc().ok()?
+}
+
+/// An item that a page gives, with an owner of the page.
+fn owned_item<T: Drop, K: Clean<T>>(page: &Arc<Page<T, K>>) -> Option<OwnedSlot<T, K>> {
+    let owner = Arc::try_clone(page).ok()?;
+    let slot = page.alloc().ok()??;
+    Some(slot.into_owned(owner))
+}

@@ -9,12 +9,12 @@ use super::*;
 const PAGES: usize = 41;
 
 /// How many pages a walk passed, and the id of the item that it found, which stays out.
-fn found(page: &ZeroPage<'_>) -> Result<(usize, usize), PullError> {
+pub fn found(page: &ZeroPage<'_>) -> Result<(usize, usize), PullError> {
     let (slot, passed) = page.alloc(&|| Some(0))?;
     Ok((passed, usize::from(slot.id())))
 }
 
-fn found_within(page: &ZeroPage<'_>, pages: usize) -> Result<(usize, usize), PullError>
+pub fn found_within(page: &ZeroPage<'_>, pages: usize) -> Result<(usize, usize), PullError>
     requires { 1 ≤ pages }
 {
     let (slot, passed) = page.alloc_within(pages, &|| Some(0))?;
@@ -56,18 +56,31 @@ fn are_in_turn(places: &[(usize, usize)], before: usize) -> bool {
     true
 }
 
+/// How many places such turns find, and whether they are those of item after item.
+fn filled_in_turn(
+    alloc: Global,
+    page: &ZeroPage<'_>,
+    before: usize,
+) -> Result<(usize, bool), PullError> {
+    let places = found_in_turn(alloc, page)?;
+    Ok((places.len(), are_in_turn(&places, before)))
+}
+
 /// Pages 0 to 39 are filled from page 0, and then pages 40 to 79 from page 39.
 #[test]
 fn walks_fill_forty_pages_from_the_page_where_they_begin(rt: HostRuntime) {
     let chain = Zeros::new(rt.alloc(), &|| Some(0)).expect(&rt, "a chain is made");
-    let first = chain.first();
-    let places = found_in_turn(rt.alloc(), &first).expect(&rt, "items are found");
-    assert_eq!(rt; (places.len(), are_in_turn(&places, 0)), (1_280, true));
+    let first = filled_in_turn(rt.alloc(), &chain.first(), 0);
     let later = behind(&chain, 39).expect(&rt, "40 pages are linked");
-    let places = found_in_turn(rt.alloc(), &later).expect(&rt, "items are found");
-    assert_eq!(rt; (places.len(), are_in_turn(&places, 32)), (1_280, true));
-    assert_eq!(rt; found_within(&later, PAGES), Err(PullError::Limit));
-    assert_eq!(rt; found_owned_within(&later, PAGES), Err(PullError::Limit));
+    let second = filled_in_turn(rt.alloc(), &later, 32);
+    assert_eq!(rt; (first, second), (Ok((1_280, true)), Ok((1_280, true))));
+    assert_eq!(rt;
+        (
+            found_within(&later, PAGES),
+            found_owned_within(&later, PAGES)
+        ),
+        (Err(PullError::Limit), Err(PullError::Limit))
+    );
 }
 
 /// Page 1 has free items, and is the only page that is asked.
@@ -78,6 +91,8 @@ fn a_walk_within_one_page_may_begin_at_a_later_page(rt: HostRuntime) {
         found(&chain.first()).expect(&rt, "items are found");
     }
     let later = behind(&chain, 1).expect(&rt, "two pages are linked");
-    assert_eq!(rt; found_within(&later, 1), Ok((0, 1)));
-    assert_eq!(rt; found_owned_within(&later, 1), Ok((0, 2)));
+    assert_eq!(rt;
+        (found_within(&later, 1), found_owned_within(&later, 1)),
+        (Ok((0, 1)), Ok((0, 2)))
+    );
 }

@@ -51,20 +51,29 @@ fn grown<'c>(alloc: Global, page: &ZeroPage<'c>, calls: &AtomicUsize) -> Option<
     Some(next)
 }
 
+fn ids_of_both_next(page: &ZeroPage<'_>) -> Option<(Option<u8>, Option<u8>)> {
+    let (one, other) = both_next(page)?;
+    Some((first_id(&one), first_id(&other)))
+}
+
+fn ids_of_linked_and_found(page: &ZeroPage<'_>) -> Option<(Option<u8>, Option<u8>)> {
+    let (linked, found) = linked_and_found(page)?;
+    Some((first_id(&linked), first_id(&found)))
+}
+
 #[test]
 fn a_link_is_set_once(rt: HostRuntime) {
     let chain = Zeros::new(rt.alloc(), &|| Some(0)).expect(&rt, "a chain is made");
     let first = chain.first();
     assert!(rt; first.next().is_none());
-    let _slots = hold_all(rt.alloc(), &first).expect(&rt, "32 items are free");
-    let next = behind_full(&first, &|| Some(0)).expect(&rt, "a page is linked");
-    assert_eq!(rt; (next.number(), first_id(&next)), (1, Some(0)));
-    let again = behind_full(&first, &|| None).expect(&rt, "a page is linked");
-    assert_eq!(rt; (again.number(), first_id(&again)), (1, Some(1)));
-    let (one, other) = both_next(&first).expect(&rt, "a page is linked");
-    assert_eq!(rt; (first_id(&one), first_id(&other)), (Some(2), Some(3)));
-    let (linked, found) = linked_and_found(&first).expect(&rt, "a page is linked");
-    assert_eq!(rt; (first_id(&linked), first_id(&found)), (Some(4), Some(5)));
+    forget_all(&first).expect(&rt, "32 items are free");
+    let linked = place_behind(&first, &|| Some(0));
+    let again = place_behind(&first, &|| None);
+    assert_eq!(rt; (linked, again), (Some((1, Some(0))), Some((1, Some(1)))));
+    assert_eq!(rt;
+        (ids_of_both_next(&first), ids_of_linked_and_found(&first)),
+        (Some((Some(2), Some(3))), Some((Some(4), Some(5))))
+    );
 }
 
 /// The ids that two threads take of the page behind a full one.
@@ -80,18 +89,23 @@ fn race<R: Threads + Sync>(rt: &R, page: &ZeroPage<'_>) -> (Option<u8>, Option<u
 fn two_threads_come_to_one_page(rt: HostRuntime) {
     let chain = Zeros::new(rt.alloc(), &|| Some(0)).expect(&rt, "a chain is made");
     let first = chain.first();
-    let _slots = hold_all(rt.alloc(), &first).expect(&rt, "32 items are free");
+    forget_all(&first).expect(&rt, "32 items are free");
     let ids = race(&rt, &first);
     assert!(rt; ids == (Some(0), Some(1)) || ids == (Some(1), Some(0)));
 }
 
-/// The number of a chain's last page, once so many were linked behind its first one.
-fn grow_by(alloc: Global, chain: &Zeros, pages: usize, calls: &AtomicUsize) -> Option<usize> {
+/// A chain's last page, once so many were linked behind its first one.
+pub fn grow_by<'c>(
+    alloc: Global,
+    chain: &'c Zeros,
+    pages: usize,
+    calls: &AtomicUsize,
+) -> Option<ZeroPage<'c>> {
     let mut page = chain.first();
     for _ in 0..pages {
         page = grown(alloc, &page, calls)?;
     }
-    Some(page.number())
+    Some(page)
 }
 
 /// The place of an item of a chain's first page.
@@ -104,8 +118,10 @@ fn first_place(chain: &Zeros) -> Option<(u8, usize)> {
 fn sixteen_hundred_pages_are_linked_and_dropped(rt: HostRuntime) {
     let calls = AtomicUsize::new(0);
     let chain = Zeros::new(rt.alloc(), &|| Some(0)).expect(&rt, "a chain is made");
-    let last = grow_by(rt.alloc(), &chain, 1_599, &calls);
-    assert_eq!(rt; (last, calls.load(SeqCst)), (Some(1_599), 51_168));
-    assert_eq!(rt; first_place(&chain), Some((0, 0)));
+    let last = grow_by(rt.alloc(), &chain, 1_599, &calls).expect(&rt, "pages are linked");
+    assert_eq!(rt;
+        (last.number(), calls.load(SeqCst), first_place(&chain)),
+        (1_599, 51_168, Some((0, 0)))
+    );
     drop(chain);
 }

@@ -67,12 +67,18 @@ fn win<'c, 'r>(page: &CountedPage<'c, 'r>, race: &'r Race) -> Option<CountedPage
     next
 }
 
+/// What becomes of two threads that link a page behind one: how many values were made and dropped, the ids that each of the
+/// two pages that they come to gives first, and whether the winner's is the last.
 fn run<'c, 'r, R: Threads + Sync>(
     rt: &R,
     page: &CountedPage<'c, 'r>,
     race: &'r Race,
-) -> (Option<CountedPage<'c, 'r>>, Option<CountedPage<'c, 'r>>) {
-    thread::join(rt, || lose(page, race), || win(page, race))
+) -> Option<((usize, usize), (Option<u8>, Option<u8>), bool)> {
+    let (lost, won) = thread::join(rt, || lose(page, race), || win(page, race));
+    let (lost, won) = (lost?, won?);
+    let counts = race.counts.now();
+    let ids = (first_id(&lost), first_id(&won));
+    Some((counts, ids, won.next().is_none()))
 }
 
 #[test]
@@ -83,11 +89,9 @@ fn a_page_that_comes_too_late_is_dropped(rt: HostRuntime) {
     };
     let chain = Chain::new(rt.alloc(), &|| Some(race.counts.make())).expect(&rt, "a chain is made");
     let first = chain.first();
-    let _slots = hold_all(rt.alloc(), &first).expect(&rt, "32 items are free");
-    let (Some(lost), Some(won)) = run(&rt, &first, &race) else {
-        panic!(rt; "both threads have the page that is linked")
-    };
-    assert_eq!(rt; race.counts.now(), (96, 32));
-    assert_eq!(rt; (first_id(&lost), first_id(&won)), (Some(0), Some(1)));
-    assert!(rt; won.next().is_none());
+    forget_all(&first).expect(&rt, "32 items are free");
+    assert_eq!(rt;
+        run(&rt, &first, &race),
+        Some(((96, 32), (Some(0), Some(1)), true))
+    );
 }

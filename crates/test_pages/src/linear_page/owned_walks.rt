@@ -1,8 +1,8 @@
 //! Walks for owned items, with a limit and without one.
 use super::*;
 use lockfree_object_pool::page::OwnedSlot;
-use test_values::counted::{Counted, NEVER};
-use test_values::tally::Tally;
+use test_values::tallied::Tallied;
+use test_values::tally::{Tally, new_tally};
 
 /// Owned slots with the numbers of their pages.
 type WalkedOwned = Vec<(OwnedSlot<u32, AnyValue>, usize)>;
@@ -33,14 +33,14 @@ fn owned_walks_fill_page_after_page(rt: HostRuntime) {
 }
 
 /// 33 items that one walk after the other finds, on two pages.
-fn counted_walks<'c>(
+fn counted_walks(
     alloc: Global,
-    counts: &'c Tally,
-) -> Result<Vec<OwnedSlot<Counted<'c>, AnyValue>>, PullError> {
-    let chain = Chain::<_, _, AnyValue>::new(alloc, &|| counts.make_but(NEVER))?;
+    counts: &Arc<Tally>,
+) -> Result<Vec<OwnedSlot<Tallied, AnyValue>>, PullError> {
+    let chain = Chain::<_, _, AnyValue>::new(alloc, &|| Tallied::new(counts))?;
     let mut slots = Vec::new(alloc);
     for _ in 0..33 {
-        let (slot, _) = chain.first().alloc_owned(&|| counts.make_but(NEVER))?;
+        let (slot, _) = chain.first().alloc_owned(&|| Tallied::new(counts))?;
         slots.push(slot)?;
     }
     Ok(slots)
@@ -49,13 +49,13 @@ fn counted_walks<'c>(
 /// The chain ends before the slots, and its pages end with them.
 #[test]
 fn the_last_slots_that_walks_found_let_their_pages_end(rt: HostRuntime) {
-    let counts = Tally::new();
+    let counts = new_tally(rt.alloc()).expect(&rt, "memory is left");
     let mut slots = counted_walks(rt.alloc(), &counts).expect(&rt, "33 items are found");
-    assert_eq!(rt; counts.now(), (64, 0));
+    let found = counts.now();
     if let Some(slot) = slots.pop() {
         slot.free();
     }
-    assert_eq!(rt; counts.now(), (64, 32));
+    let freed = counts.now();
     drop(slots);
-    assert_eq!(rt; counts.now(), (64, 64));
+    assert_eq!(rt; (found, freed, counts.now()), ((64, 0), (64, 32), (64, 64)));
 }

@@ -7,37 +7,34 @@ use std::mem;
 use std::sync::atomic::AtomicUsize;
 use std::sync::atomic::Ordering::SeqCst;
 use test_values::refused::again;
-use test_values::tally::Tally;
+use test_values::tallied::Tallied;
+use test_values::tally::new_tally;
 
 #[test]
 fn init_that_refuses_stops_a_new_chain(rt: HostRuntime) {
     for refused in 0..32usize {
-        let counts = Tally::new();
-        let chain = Chain::<_, AnyValue>::new(rt.alloc(), &|| counts.make_but(refused));
-        assert_eq!(rt; chain.err(), Some(PullError::Init));
-        assert_eq!(rt; counts.now(), (refused.saturating_add(1), refused));
+        let counts = new_tally(rt.alloc()).expect(&rt, "memory is left");
+        let chain = Chain::<_, AnyValue>::new(rt.alloc(), &|| Tallied::new_but(&counts, refused));
+        let refusal = (chain.err(), counts.now());
+        let calls = refused.saturating_add(1);
+        assert_eq!(rt; refusal, (Some(PullError::Init), (calls, refused)));
     }
 }
 
 #[test]
 fn a_refused_page_is_not_linked(rt: HostRuntime) {
-    let counts = Tally::new();
-    let chain = Chain::new(rt.alloc(), &|| Some(counts.make())).expect(&rt, "a chain is made");
+    let counts = new_tally(rt.alloc()).expect(&rt, "memory is left");
+    let chain = Chain::new(rt.alloc(), &|| Tallied::new(&counts)).expect(&rt, "a chain is made");
     let first = chain.first();
-    let _slots = hold_all(rt.alloc(), &first).expect(&rt, "32 items are free");
-    assert!(rt; behind_full(&first, &|| counts.make_but(40)).is_none());
-    assert_eq!(rt; counts.now(), (41, 8));
-    assert!(rt; first.next().is_none());
-    let next = behind_full(&first, &|| Some(counts.make())).expect(&rt, "a page is linked");
+    forget_all(&first).expect(&rt, "32 items are free");
+    let refused = behind_full(&first, &|| Tallied::new_but(&counts, 40)).is_none();
+    let now = counts.now();
+    assert_eq!(rt;
+        (refused, now, first.next().is_none()),
+        (true, (41, 8), true)
+    );
+    let next = behind_full(&first, &|| Tallied::new(&counts)).expect(&rt, "a page is linked");
     assert_eq!(rt; (next.number(), counts.now()), (1, (73, 8)));
-}
-
-/// Takes all items of a page out for good, without memory.
-fn forget_all(page: &ZeroPage<'_>) -> Option<()> {
-    for _ in 0..32 {
-        mem::forget(page.page().alloc().ok()??);
-    }
-    Some(())
 }
 
 /// Holds with each request for memory refused in turn too: what was refused is asked for again.
@@ -48,9 +45,9 @@ fn a_chain_goes_on_where_memory_was_refused(rt: HostRuntime) {
     let first = chain.first();
     forget_all(&first).expect(&rt, "32 items are free");
     let linked = behind_full(&first, &|| Some(0)).is_some();
-    assert_eq!(rt; first.next().is_some(), linked);
-    let next = behind_full(&first, &|| Some(0)).expect(&rt, "a page is linked");
-    assert_eq!(rt; (next.number(), first_id(&next)), (1, Some(0)));
+    let led_on = first.next().is_some();
+    let place = place_behind(&first, &|| Some(0));
+    assert_eq!(rt; (led_on, place), (linked, Some((1, Some(0)))));
 }
 
 /// Why no page is linked behind a full one whose `init` refuses.
@@ -68,8 +65,11 @@ fn a_link_tells_that_init_refused(rt: HostRuntime) {
     for _ in 0..32 {
         mem::forget(chain.first().alloc(&|| Some(0)));
     }
-    assert_eq!(rt; refusal_behind(chain.first()), Some(PullError::Init));
-    assert!(rt; chain.first().next().is_none());
+    let refusal = refusal_behind(chain.first());
+    assert_eq!(rt;
+        (refusal, chain.first().next().is_none()),
+        (Some(PullError::Init), true)
+    );
 }
 
 /// Why walks of each kind from a page on which all is full find nothing, where `init` refuses: without a limit, within so many
@@ -95,9 +95,16 @@ fn a_walk_tells_that_init_refused_on_each_page(rt: HostRuntime) {
             mem::forget(chain.first().alloc(&|| Some(0)));
         }
         let last = behind(&chain, full - 1).expect(&rt, "so many pages are linked");
-        assert_eq!(rt; refusal_behind(last), init);
-        assert_eq!(rt; refusals(&chain.first(), full.saturating_add(1)), [init; 4]);
-        assert_eq!(rt; refusals(&chain.first(), full), [init, limit, init, limit]);
+        let refused = refusal_behind(last);
+        let first = chain.first();
+        let (within, past) = (
+            refusals(&first, full.saturating_add(1)),
+            refusals(&first, full),
+        );
+        assert_eq!(rt;
+            (refused, within, past),
+            (init, [init; 4], [init, limit, init, limit])
+        );
     }
 }
 

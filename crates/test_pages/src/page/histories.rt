@@ -7,6 +7,7 @@ ghost use Rattle.lockfree_object_pool.specs.Ledger.{History, IsPrefixOf};
 ghost use Rattle.lockfree_object_pool.specs.Slot.{slot_item};
 ghost use Rattle.lockfree_object_pool.specs.declared.page.history.Operation.TheVariants.{Return};
 
+use super::{item, owned_item};
 use lockfree_object_pool::clean::{AnyValue, Clean};
 use lockfree_object_pool::page::{
     Allocated, OwnedSlot, Page, PageNote, PageSlot, PullPass, Witness,
@@ -133,19 +134,13 @@ fn a_pull_stands_after_a_return_of_another_thread(rt: HostRuntime) -> Result<(),
 }
 
 #[test]
-fn an_owned_return_is_told_too(rt: HostRuntime) -> Result<(), Fail> {
-    let page = Arc::new(rt.alloc(), NumberPage::new(rt.alloc(), &|| Some(3))?)?;
-    let Ok(Some(slot)) = page.alloc() else {
-        panic!(rt; "an item is free")
-    };
-    let mut owned = slot.into_owned(Arc::try_clone(&page)?);
+fn an_owned_return_is_told_too(rt: HostRuntime) {
+    let page = NumberPage::new(rt.alloc(), &|| Some(3)).expect(&rt, "a page is made");
+    let page = Arc::new(rt.alloc(), page).expect(&rt, "memory is left");
+    let mut owned = owned_item(&page).expect(&rt, "an item is free");
     *owned = 8;
     drop(owned_returned(owned));
-    let Ok(Some(again)) = page.alloc() else {
-        panic!(rt; "an item is free")
-    };
-    assert_eq!(rt; *again, 8);
-    Ok(())
+    assert_eq!(rt; item(&page).map(|again| *again), Some(8));
 }
 
 /// What is known of a history costs nothing: a note, a witness and what a slot knows have no bytes.

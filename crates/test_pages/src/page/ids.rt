@@ -1,4 +1,5 @@
 //! Pages in use: words, ids and values, on one thread and on two.
+use super::item;
 use lockfree_object_pool::PullError;
 use lockfree_object_pool::clean::AnyValue;
 use lockfree_object_pool::page::{Allocated, Page, PageSlot, PullPass, with_bit};
@@ -33,36 +34,41 @@ fn a_new_page_is_free(rt: HostRuntime) {
     assert_eq!(rt; page.get_mask(), 4294967295);
 }
 
+/// The word of a page once an item came back.
+fn word_after(page: &Zeros, slot: ZeroSlot<'_>) -> u32 {
+    Page::free(slot);
+    page.get_mask()
+}
+
 #[test]
 fn the_word_follows_three_items(rt: HostRuntime) {
     let page = zeros(rt.alloc()).expect(&rt, "a page is made");
-    let Ok(Some(zero)) = page.alloc() else {
-        panic!(rt; "item 0 is free")
-    };
+    let zero = item(&page).expect(&rt, "item 0 is free");
+    let with_zero = (zero.id(), page.get_mask());
+    let one = item(&page).expect(&rt, "item 1 is free");
+    let with_one = (one.id(), page.get_mask());
+    let two = item(&page).expect(&rt, "item 2 is free");
+    let with_two = (two.id(), page.get_mask());
     assert_eq!(rt;
-        (zero.id(), page.get_mask()),
-        (0, 0b11111111111111111111111111111110)
+        (with_zero, with_one, with_two),
+        (
+            (0, 0b11111111111111111111111111111110),
+            (1, 0b11111111111111111111111111111100),
+            (2, 0b11111111111111111111111111111000)
+        )
     );
-    let Ok(Some(one)) = page.alloc() else {
-        panic!(rt; "item 1 is free")
-    };
     assert_eq!(rt;
-        (one.id(), page.get_mask()),
-        (1, 0b11111111111111111111111111111100)
+        (
+            word_after(&page, one),
+            word_after(&page, zero),
+            word_after(&page, two)
+        ),
+        (
+            0b11111111111111111111111111111010,
+            0b11111111111111111111111111111011,
+            4294967295
+        )
     );
-    let Ok(Some(two)) = page.alloc() else {
-        panic!(rt; "item 2 is free")
-    };
-    assert_eq!(rt;
-        (two.id(), page.get_mask()),
-        (2, 0b11111111111111111111111111111000)
-    );
-    Page::free(one);
-    assert_eq!(rt; page.get_mask(), 0b11111111111111111111111111111010);
-    Page::free(zero);
-    assert_eq!(rt; page.get_mask(), 0b11111111111111111111111111111011);
-    Page::free(two);
-    assert_eq!(rt; page.get_mask(), 4294967295);
 }
 
 /// Takes up to `count` slots of a page.
@@ -89,9 +95,16 @@ fn items_come_in_order_until_the_page_is_full(rt: HostRuntime) {
         assert_eq!(rt; slot.id(), next);
         next = next.wrapping_add(1);
     }
-    assert_eq!(rt; next, 32);
-    assert!(rt; page.is_full());
-    assert!(rt; matches!(page.alloc(), Ok(None)));
+    let none_is_left = matches!(page.alloc(), Ok(None));
+    assert_eq!(rt; (next, page.is_full(), none_is_left), (32, true, true));
+}
+
+/// Whether a page is full once an item came back, and once it is out again.
+fn full_after(page: &Zeros, slot: ZeroSlot<'_>) -> (bool, bool) {
+    Page::free(slot);
+    let full = page.is_full();
+    drop(page.alloc()); // the only free item, which stays out
+    (full, page.is_full())
 }
 
 #[test]
@@ -100,17 +113,12 @@ fn a_page_is_full_while_each_item_is_out(rt: HostRuntime) {
     let mut slots = Vec::with_capacity(rt.alloc(), 32).expect(&rt, "memory is left");
     for _ in 0..32 {
         assert!(rt; !page.is_full());
-        let Ok(Some(slot)) = page.alloc() else {
-            panic!(rt; "an item is free")
-        };
+        let slot = item(&page).expect(&rt, "an item is free");
         slots.push(slot).expect(&rt, "memory is left");
     }
     assert!(rt; page.is_full());
     for slot in slots {
-        Page::free(slot);
-        assert!(rt; !page.is_full());
-        drop(page.alloc()); // the only free item, which stays out
-        assert!(rt; page.is_full());
+        assert_eq!(rt; full_after(&page, slot), (false, true));
     }
 }
 
@@ -171,15 +179,14 @@ fn id_for_pull(page: &Zeros) -> u8 {
 #[test]
 fn two_threads_share_the_ids_of_a_page(rt: HostRuntime) {
     let page = zeros(rt.alloc()).expect(&rt, "a page is made");
-    let Some((mut one, two)) = take_halves(&rt, rt.alloc(), &page) else {
-        panic!(rt; "two threads hold 16 slots each")
-    };
-    assert_eq!(rt; (one.len(), two.len()), (16, 16));
-    assert_eq!(rt; ids_of(&one) | ids_of(&two), 4294967295);
-    assert!(rt; is_full_for_pull(&page));
-    let Some(slot) = one.pop() else {
-        panic!(rt; "16 slots are held")
-    };
+    let halves = take_halves(&rt, rt.alloc(), &page);
+    let (mut one, two) = halves.expect(&rt, "two threads hold 16 slots each");
+    let ids = ids_of(&one) | ids_of(&two);
+    assert_eq!(rt;
+        (one.len(), two.len(), ids, is_full_for_pull(&page)),
+        (16, 16, 4294967295, true)
+    );
+    let slot = one.pop().expect(&rt, "16 slots are held");
     let id = slot.id();
     Page::free(slot);
     assert_eq!(rt; id_for_pull(&page), id);
@@ -189,8 +196,8 @@ fn two_threads_share_the_ids_of_a_page(rt: HostRuntime) {
 fn a_dropped_slot_leaves_its_id_out(rt: HostRuntime) {
     let page = zeros(rt.alloc()).expect(&rt, "a page is made");
     drop(page.alloc());
-    assert_eq!(rt; page.get_mask(), 4294967294);
-    assert_eq!(rt; id_of(&page.alloc()), 1);
+    let word = page.get_mask();
+    assert_eq!(rt; (word, id_of(&page.alloc())), (4294967294, 1));
 }
 
 #[test]

@@ -1,8 +1,10 @@
 //! What may be sent to another thread, and what may be shared with one.
+use super::{item, owned_item};
+use lockfree_object_pool::PullError;
 use lockfree_object_pool::clean::{AnyValue, Clean};
 use lockfree_object_pool::page::{FullSeen, OwnedSlot, Page, PageSlot};
+use std::alloc::Global;
 use std::sync::Arc;
-use std::test::Fail;
 use std::thread;
 use std::thread::Threads;
 
@@ -37,32 +39,27 @@ fn read_twice<R: Threads + Sync>(rt: &R, slot: &PageSlot<'_, u32, AnyValue>) -> 
     thread::join(rt, || **slot, || **slot)
 }
 
-#[test]
-fn a_slot_is_shared(rt: HostRuntime) -> Result<(), Fail> {
-    let page = Page::<u32, AnyValue>::new(rt.alloc(), &|| Some(3))?;
-    let Ok(Some(slot)) = page.alloc() else {
-        panic!(rt; "an item is free")
-    };
-    assert_eq!(rt; read_twice(&rt, &slot), (3, 3));
-    Ok(())
+fn threes(alloc: Global) -> Result<Page<u32, AnyValue>, PullError> {
+    Page::new(alloc, &|| Some(3))
 }
 
 #[test]
-fn an_owned_slot_is_sent(rt: HostRuntime) -> Result<(), Fail> {
-    let page = Arc::new(
-        rt.alloc(),
-        Page::<u32, AnyValue>::new(rt.alloc(), &|| Some(3))?,
-    )?;
-    let Ok(Some(slot)) = page.alloc() else {
-        panic!(rt; "an item is free")
-    };
-    let owned = slot.into_owned(Arc::try_clone(&page)?);
+fn a_slot_is_shared(rt: HostRuntime) {
+    let page = threes(rt.alloc()).expect(&rt, "a page is made");
+    let slot = item(&page).expect(&rt, "an item is free");
+    assert_eq!(rt; read_twice(&rt, &slot), (3, 3));
+}
+
+#[test]
+fn an_owned_slot_is_sent(rt: HostRuntime) {
+    let page = threes(rt.alloc()).expect(&rt, "a page is made");
+    let page = Arc::new(rt.alloc(), page).expect(&rt, "memory is left");
+    let owned = owned_item(&page).expect(&rt, "an item is free");
     let reader = thread::spawn(&rt, move || {
         let value = *owned;
         owned.free();
         value
-    })?;
-    assert_eq!(rt; reader.join(&rt), 3);
-    assert_eq!(rt; page.get_mask(), 4294967295);
-    Ok(())
+    });
+    let value = reader.expect(&rt, "a thread is made").join(&rt);
+    assert_eq!(rt; (value, page.get_mask()), (3, 4294967295));
 }

@@ -5,6 +5,7 @@ ghost use Rattle.lockfree_object_pool.specs.OwnedSlot.{owned_slot_with};
 ghost use Rattle.lockfree_object_pool.specs.Page.{page_identity, page_opening};
 ghost use Rattle.lockfree_object_pool.specs.Slot.{slot_item, slot_with};
 
+use super::{item, owned_item};
 use lockfree_object_pool::clean::{AnyValue, Clean};
 use lockfree_object_pool::page::{Allocated, FullSeen, OwnedSlot, Page, PageSlot, PullPass};
 use std::sync::Arc;
@@ -87,34 +88,22 @@ fn full_of<'p>(page: &Page<u32, Zero>, pass: &'p PullPass) -> Option<FullSeen<'p
 #[test]
 fn a_written_value_comes_back(rt: HostRuntime) {
     let page = Page::<u32, AnyValue>::new(rt.alloc(), &|| Some(0)).expect(&rt, "a page is made");
-    let Ok(Some(mut slot)) = page.alloc() else {
-        panic!(rt; "an item is free")
-    };
+    let mut slot = item(&page).expect(&rt, "an item is free");
     write(&mut slot, 5);
     Page::free(slot);
-    let Ok(Some(slot)) = page.alloc() else {
-        panic!(rt; "an item is free")
-    };
-    assert_eq!(rt; (slot.id(), *slot), (0, 5));
-    assert_eq!(rt; read_back(slot), (0, 9));
+    let slot = item(&page).expect(&rt, "an item is free");
+    assert_eq!(rt; (slot.id(), *slot, read_back(slot)), (0, 5, (0, 9)));
 }
 
 #[test]
 fn a_condition_is_kept(rt: HostRuntime) {
     let page = Page::<u32, Zero>::new(rt.alloc(), &|| Some(0)).expect(&rt, "a page is made");
     let page = Arc::new(rt.alloc(), page).expect(&rt, "memory is left");
-    let Ok(Some(slot)) = page.alloc() else {
-        panic!(rt; "an item is free")
-    };
-    give_zero(slot, 7);
-    let Ok(Some(slot)) = page.alloc() else {
-        panic!(rt; "an item is free")
-    };
-    let mut owned = slot.into_owned(Arc::try_clone(&page).expect(&rt, "memory is left"));
+    give_zero(item(&page).expect(&rt, "an item is free"), 7);
+    let mut owned = owned_item(&page).expect(&rt, "an item is free");
     write_owned(&mut owned, 3);
     give_zero_owned(owned, 8);
-    assert_eq!(rt; pulled(&page), Some(0));
-    assert_eq!(rt; page.get_mask(), 4294967294);
-    assert!(rt; full_of(&page, &PullPass::new()).is_none());
-    assert_eq!(rt; own_first(page), Some(0));
+    assert_eq!(rt; (pulled(&page), page.get_mask()), (Some(0), 4294967294));
+    let is_free = full_of(&page, &PullPass::new()).is_none();
+    assert_eq!(rt; (is_free, own_first(page)), (true, Some(0)));
 }

@@ -1,45 +1,51 @@
 //! Values that count how often they are made and dropped.
+use super::owned_item;
 use lockfree_object_pool::PullError;
 use lockfree_object_pool::clean::AnyValue;
-use lockfree_object_pool::page::{OwnedSlot, Page};
+use lockfree_object_pool::page::Page;
 use std::alloc::Global;
 use std::mem;
 use std::sync::Arc;
-use test_values::counted::Counted;
-use test_values::tally::Tally;
+use test_values::refused::again;
+use test_values::tallied::Tallied;
+use test_values::tally::{Tally, new_tally};
 
 /// A page whose `init` answers `None` at one of its calls, counted from 0.
-fn counted_page<'c>(
+fn counted_page(
     alloc: Global,
-    counts: &'c Tally,
+    counts: &Arc<Tally>,
     refused_call: usize,
-) -> Result<Page<Counted<'c>, AnyValue>, PullError> {
-    Page::new(alloc, &|| counts.make_but(refused_call))
+) -> Result<Page<Tallied, AnyValue>, PullError> {
+    Page::new(alloc, &|| Tallied::new_but(counts, refused_call))
+}
+
+/// The id and the number of an item that a page gives, which stays out.
+fn next_item(page: &Page<Tallied, AnyValue>) -> Option<(u8, usize)> {
+    let slot = page.alloc().ok()??;
+    let seen = (slot.id(), slot.number);
+    mem::forget(slot);
+    Some(seen)
 }
 
 #[test]
 fn each_item_is_the_answer_of_its_call(rt: HostRuntime) {
-    let counts = Tally::new();
+    let counts = new_tally(rt.alloc()).expect(&rt, "memory is left");
     let page = counted_page(rt.alloc(), &counts, 32).expect(&rt, "a page is made");
     assert_eq!(rt; counts.now(), (32, 0));
     for id in 0..32u8 {
-        let Ok(Some(slot)) = page.alloc() else {
-            panic!(rt; "an item is free")
-        };
-        assert_eq!(rt; (slot.id(), slot.call), (id, id as usize));
-        mem::forget(slot);
+        assert_eq!(rt; next_item(&page), Some((id, id as usize)));
     }
 }
 
 #[test]
 fn init_that_refuses_stops_a_new_page(rt: HostRuntime) {
     for refused_call in 0..32usize {
-        let counts = Tally::new();
-        let refused = counted_page(rt.alloc(), &counts, refused_call);
-        assert!(rt; matches!(refused, Err(PullError::Init)));
+        let counts = new_tally(rt.alloc()).expect(&rt, "memory is left");
+        let refused = counted_page(rt.alloc(), &counts, refused_call).err();
+        let calls = refused_call.saturating_add(1);
         assert_eq!(rt;
-            counts.now(),
-            (refused_call.saturating_add(1), refused_call)
+            (refused, counts.now()),
+            (Some(PullError::Init), (calls, refused_call))
         );
     }
 }
@@ -51,9 +57,8 @@ struct Outcome {
     lost_none: bool,
 }
 
-fn make_and_drop(alloc: Global) -> Outcome {
-    let counts = Tally::new();
-    match counted_page(alloc, &counts, 32) {
+fn make_and_drop(alloc: Global, counts: &Arc<Tally>) -> Outcome {
+    match counted_page(alloc, counts, 32) {
         Ok(page) => {
             let all_at_home = counts.now() == (32, 0);
             drop(page);
@@ -72,59 +77,51 @@ fn make_and_drop(alloc: Global) -> Outcome {
     }
 }
 
-/// Holds with each request for memory refused in turn too: then one of the two pages is refused, and the other is made.
+/// Holds with each request for memory refused in turn too: then at most one of the two pages is refused, and the other is made.
 #[test]
 fn a_page_refused_for_memory_loses_no_item(rt: HostRuntime) {
-    let (first, second) = (make_and_drop(rt.alloc()), make_and_drop(rt.alloc()));
+    let counts = again(&|| new_tally(rt.alloc())).expect(&rt, "memory is left");
+    let first = make_and_drop(rt.alloc(), &counts);
+    let counts = again(&|| new_tally(rt.alloc())).expect(&rt, "memory is left");
+    let second = make_and_drop(rt.alloc(), &counts);
     assert!(rt; first.lost_none && second.lost_none);
     assert!(rt; first.made || second.made);
 }
 
 #[test]
 fn a_slot_and_a_page_drop_each_value_once(rt: HostRuntime) {
-    let counts = Tally::new();
+    let counts = new_tally(rt.alloc()).expect(&rt, "memory is left");
     let page = counted_page(rt.alloc(), &counts, 32).expect(&rt, "a page is made");
     drop(page.alloc());
-    assert_eq!(rt; counts.now(), (32, 1));
+    let dropped = counts.now();
     if let Ok(Some(slot)) = page.alloc() {
         Page::free(slot);
     }
-    assert_eq!(rt; counts.now(), (32, 1));
-    if let Ok(Some(slot)) = page.alloc() {
-        mem::forget(slot);
-    }
+    let freed = counts.now();
+    mem::forget(page.alloc());
     drop(page);
-    assert_eq!(rt; counts.now(), (32, 31));
-}
-
-/// The first item of a page, with an owner of the page.
-fn owned_item<'c>(
-    page: &Arc<Page<Counted<'c>, AnyValue>>,
-) -> Option<OwnedSlot<Counted<'c>, AnyValue>> {
-    let owner = Arc::try_clone(page).ok()?;
-    let slot = page.alloc().ok()??;
-    Some(slot.into_owned(owner))
+    assert_eq!(rt;
+        (dropped, freed, counts.now()),
+        ((32, 1), (32, 1), (32, 31))
+    );
 }
 
 #[test]
 fn an_owned_slot_keeps_its_page(rt: HostRuntime) {
-    let counts = Tally::new();
+    let counts = new_tally(rt.alloc()).expect(&rt, "memory is left");
     let page = counted_page(rt.alloc(), &counts, 32).expect(&rt, "a page is made");
     let page = Arc::new(rt.alloc(), page).expect(&rt, "memory is left");
-    let Some(first) = owned_item(&page) else {
-        panic!(rt; "an item is free")
-    };
-    let Some(second) = owned_item(&page) else {
-        panic!(rt; "an item is free")
-    };
-    assert_eq!(rt;
-        (first.id(), second.id(), page.get_mask()),
-        (0, 1, 4294967292)
-    );
+    let first = owned_item(&page).expect(&rt, "an item is free");
+    let second = owned_item(&page).expect(&rt, "an item is free");
+    let ids = (first.id(), second.id());
+    let held = page.get_mask();
     first.free();
-    assert_eq!(rt; page.get_mask(), 4294967293);
+    assert_eq!(rt;
+        (ids, held, page.get_mask()),
+        ((0, 1), 4294967292, 4294967293)
+    );
     drop(page);
-    assert_eq!(rt; (second.call, counts.now()), (1, (32, 0)));
+    let kept = (second.number, counts.now());
     drop(second);
-    assert_eq!(rt; counts.now(), (32, 32));
+    assert_eq!(rt; (kept, counts.now()), ((1, (32, 0)), (32, 32)));
 }
