@@ -71,7 +71,7 @@ fn compare_all<R: Print + Eprint + Wait + Copy>(
             break;
         }
         let session = match number {
-            0 => many_held(seed, number),
+            0 => many_held(seed, number, calls),
             1 => many_pages(seed, number, calls),
             _ => drawn(seed, number),
         };

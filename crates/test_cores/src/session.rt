@@ -120,14 +120,15 @@ fn most_asked(kind: Kind, limit: Option<usize>) -> usize {
     }
 }
 
-/// A session in which more pages are held than a row of links has, up to the twelfth row.
-pub fn many_held(seed: u64, number: u64) -> Session {
+/// A session in which more pages are held than a row of links has. Where 1,120,000 calls are wanted, it comes to the twelfth row.
+pub fn many_held(seed: u64, number: u64, calls: u64) -> Session {
+    let most_held = (calls / 16).min(MOST_HELD);
     Session {
         kind: Kind::Linear,
         element: Element::CountedNumber,
         limit: None,
-        calls: 180_000,
-        most_held: 70_000,
+        calls: most_held.saturating_mul(18) / 7,
+        most_held: most_held as usize,
         refuses: true,
         forgets_owners: false,
         ..drawn(seed, number)
@@ -148,6 +149,9 @@ pub fn many_pages(seed: u64, number: u64, calls: u64) -> Session {
         ..drawn(seed, number)
     }
 }
+
+/// The items of somewhat more than 2,048 pages.
+const MOST_HELD: u64 = 70_000;
 
 /// Calls of which half pull the items of somewhat more than 65,536 pages.
 const MOST_CALLS_TO_GROW: u64 = 4_200_000;

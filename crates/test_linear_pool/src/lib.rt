@@ -1,4 +1,4 @@
-//! Tests of the linear pool: one thread, threads, limits, refusals, resets, makers and owners.
+//! Tests of the linear pool: threads, limits, refusals, makers and owners. What one thread pulls and returns is compared with the core.
 #![tactic(auto)]
 
 #[cfg(test)]

@@ -20,16 +20,12 @@ use test_values::zeros::{CountedZeros, Zero, new_calls};
 
 mod callers;
 mod closures;
-mod kept_items;
 mod locks;
 mod many_items;
 mod names;
-mod one_thread;
 mod owners;
 mod refusals;
-mod resets;
 mod sends;
-mod sizes;
 mod stock;
 mod threads;
 mod waits;
@@ -110,23 +106,11 @@ fn shared_pool<T, I: Init<T, K>, R: Reset<T, K>, K: Clean<T>, F: Kind<T, I, R, K
     Ok(Arc::new(alloc, F::new_pool(alloc, init, reset)?)?)
 }
 
-/// A pool that keeps what was written.
-type Kept<F> = StackObjectPool<u32, CountedZeros, Keep, AnyValue, F>;
-
 /// A pool that resets to 0.
 type Cleared<F> = StackObjectPool<u32, CountedZeros, Copied<u32, Zero>, Zero, F>;
 
 /// A pool of values that know which call made them, and count their drops.
 type Tracked<F> = StackObjectPool<Tallied, TalliedValues, Keep, AnyValue, F>;
-
-fn kept<F: Kind<u32, CountedZeros, Keep, AnyValue>, W: Abort>(
-    rt: &W,
-    alloc: Global,
-    calls: &Arc<AtomicUsize>,
-) -> Arc<Kept<F>> {
-    let calls = Arc::try_clone(calls).expect(rt, "an owner is made");
-    shared_pool(alloc, CountedZeros { calls }, Keep).expect(rt, "a pool is made")
-}
 
 fn cleared<F: Kind<u32, CountedZeros, Copied<u32, Zero>, Zero>, W: Abort>(
     rt: &W,
@@ -164,4 +148,11 @@ fn standing<F: Kind<Tallied, TalliedValues, Keep, AnyValue>, W: Wait + Copy>(
     tally: &Tally,
 ) -> (usize, (usize, usize)) {
     (pool.kept(rt), tally.now())
+}
+
+/// What two items show that are pulled and held together.
+fn held_together<P: Pulls<u32>, W: Abort + Wait + Copy>(rt: &W, pool: &P) -> (u32, u32) {
+    let first = pool.pull_one(rt).expect(rt, "an item is free");
+    let second = pool.pull_one(rt).expect(rt, "an item is free");
+    (*first, *second)
 }

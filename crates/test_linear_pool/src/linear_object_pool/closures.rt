@@ -44,36 +44,3 @@ fn a_closure_that_refuses_a_growth_is_asked_once_a_pull(rt: HostRuntime) {
         (Ok((refused, refused)), 34)
     );
 }
-
-/// The refusals of two pulls from a pool that may have one page more than the three that are full, one of them owned.
-fn refusals_past_three_pages<I: InitBy<u32>>(
-    alloc: Global,
-    init: I,
-) -> Result<(Option<PullError>, Option<PullError>), PullError>
-    requires { I.may_make init }
-{
-    let makes = Makes::new(init);
-    let pool = LinearObjectPool::<u32, _, _, AnyValue>::with_limit(alloc, makes, Keep, 4)?;
-    let pool = Arc::new(alloc, pool)?;
-    keep_out(&pool, 96)?;
-    Ok((pool.pull().err(), pool.pull_owned().err()))
-}
-
-/// A page that the limit allows and `init` refuses isn't told as the limit.
-#[test]
-fn a_closure_that_refuses_within_a_limit_is_told_as_such(rt: HostRuntime) {
-    let calls = AtomicUsize::new(0);
-    let fill_three_pages = || -> Option<u32> {
-        if calls.fetch_add(1, SeqCst) < 96 {
-            Some(0)
-        } else {
-            None
-        }
-    };
-    let refused = Some(PullError::Init);
-    let refusals = refusals_past_three_pages(rt.alloc(), fill_three_pages);
-    assert_eq!(rt;
-        (refusals, calls.load(SeqCst)),
-        (Ok((refused, refused)), 98)
-    );
-}

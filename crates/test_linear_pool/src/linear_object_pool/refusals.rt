@@ -2,68 +2,6 @@
 use super::*;
 use test_values::refused::again;
 
-#[test]
-fn init_that_refuses_stops_a_new_pool(rt: HostRuntime) {
-    for refused in 0..32usize {
-        let counts = new_tally(rt.alloc()).expect(&rt, "memory is left");
-        let refusal = counted(rt.alloc(), &counts, refused).err();
-        let calls = refused.saturating_add(1);
-        assert_eq!(rt;
-            (refusal, counts.now()),
-            (Some(PullError::Init), (calls, refused))
-        );
-    }
-}
-
-/// Whether each item of a page has the value of the call that has its number.
-fn are_in_order(items: &[LinearReusable<'_, Tallied, TalliedValues, Keep, AnyValue>]) -> bool {
-    for (id, item) in items.iter().enumerate() {
-        if item.number != id {
-            return false;
-        }
-    }
-    true
-}
-
-#[test]
-fn init_that_refuses_stops_a_growth(rt: HostRuntime) {
-    for refused in 32..64usize {
-        let counts = new_tally(rt.alloc()).expect(&rt, "memory is left");
-        let pool = shared(rt.alloc(), &counts, refused).expect(&rt, "a pool is made");
-        let items = held(rt.alloc(), &pool, 32).expect(&rt, "32 items are free");
-        let refusal = (pool.pull().err(), counts.now());
-        let calls = refused.saturating_add(1);
-        assert_eq!(rt;
-            (refusal, are_in_order(&items)),
-            ((Some(PullError::Init), (calls, refused - 32)), true)
-        );
-        assert_eq!(rt;
-            (place(&pool), counts.now()),
-            (Some((1, 0)), (calls.saturating_add(32), refused - 32))
-        );
-    }
-}
-
-#[test]
-fn init_that_refuses_stops_an_owned_growth(rt: HostRuntime) {
-    for refused in 32..64usize {
-        let counts = new_tally(rt.alloc()).expect(&rt, "memory is left");
-        let pool = shared(rt.alloc(), &counts, refused).expect(&rt, "a pool is made");
-        let _items = held(rt.alloc(), &pool, 32).expect(&rt, "32 items are free");
-        let refusal = (pool.pull_owned().err(), counts.now());
-        assert_eq!(rt;
-            (refusal, owned_place(&pool)),
-            (
-                (
-                    Some(PullError::Init),
-                    (refused.saturating_add(1), refused - 32)
-                ),
-                Some((1, 0))
-            )
-        );
-    }
-}
-
 /// What is seen of an item: its place, the number of its value, and how many values live while it is out.
 type Seen = ((usize, u8), usize, usize);
 

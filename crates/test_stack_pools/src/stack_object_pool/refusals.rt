@@ -1,47 +1,9 @@
 //! Pools that are refused values or memory: nothing is lost, and what was refused can be asked for
 //! again.
-use super::kept_items::shown_or_back;
 use super::*;
 use std::mem;
 use test_values::counted::NEVER;
 use test_values::refused::again;
-
-/// The refusal of a first pull, and the number of the item that a second one gives.
-fn refused_and_pulled<P: Pulls<Tallied>, W: Abort + Wait + Copy>(
-    rt: &W,
-    pool: &P,
-) -> (Option<PullError>, usize) {
-    let refusal = pool.pull_one(rt).err();
-    (
-        refusal,
-        pool.pull_one(rt).expect(rt, "an item is made").number,
-    )
-}
-
-fn asks_again_after_a_refusal<
-    F: Kind<Tallied, TalliedValues, Keep, AnyValue>,
-    W: Abort + Wait + Copy,
->(rt: &W, alloc: Global) {
-    let (tally, pool) = tallied::<F, W>(rt, alloc, 0);
-    let borrowed = refused_and_pulled(rt, &&*pool);
-    let pool = tracked::<F>(alloc, &tally, 2).expect(rt, "a pool is made");
-    assert_eq!(rt;
-        (borrowed, refused_and_pulled(rt, &pool)),
-        ((Some(PullError::Init), 1), (Some(PullError::Init), 3))
-    );
-}
-
-#[test]
-fn init_that_refuses_once_is_asked_again(rt: HostRuntime) {
-    asks_again_after_a_refusal::<UnderMutex<Tallied, TalliedValues, Keep, AnyValue>, _>(
-        &rt,
-        rt.alloc(),
-    );
-    asks_again_after_a_refusal::<UnderSpinLock<Tallied, TalliedValues, Keep, AnyValue>, _>(
-        &rt,
-        rt.alloc(),
-    );
-}
 
 /// An item, where memory was refused that of a second pull. A pull that is refused hasn't called `init`.
 fn pull_again<P: Pulls<Tallied>, W: Abort + Wait + Copy>(
@@ -105,6 +67,14 @@ fn plain<F: Kind<u32, Copied<u32, AnyValue>, Keep, AnyValue>>(
     shared_pool(alloc, Copied::new(0), Keep)
 }
 
+/// What an item shows to which a value is attached, or the value where it came back.
+fn shown_or_back<P: Pulls<u32>, W: Abort + Wait + Copy>(rt: &W, owner: P, value: u32) -> u32 {
+    match StackReusable::new(rt, owner, value) {
+        Ok(item) => *item,
+        Err(back) => back,
+    }
+}
+
 fn gives_back_what_is_not_attached<
     F: Kind<u32, Copied<u32, AnyValue>, Keep, AnyValue>,
     W: Abort + Wait + Copy,
@@ -123,30 +93,6 @@ fn an_attached_value_comes_back_where_memory_was_refused(rt: HostRuntime) {
         rt.alloc(),
     );
     gives_back_what_is_not_attached::<UnderSpinLock<u32, Copied<u32, AnyValue>, Keep, AnyValue>, _>(
-        &rt,
-        rt.alloc(),
-    );
-}
-
-fn loses_what_is_forgotten<F: Kind<Tallied, TalliedValues, Keep, AnyValue>, W: Abort + Wait + Copy>(
-    rt: &W,
-    alloc: Global,
-) {
-    let (tally, pool) = tallied::<F, W>(rt, alloc, NEVER);
-    mem::forget(pool.pull(rt).expect(rt, "an item is made"));
-    let made = pool.pull(rt).expect(rt, "an item is made").number;
-    let kept = pool.pull(rt).expect(rt, "an item is kept").number;
-    drop(pool);
-    assert_eq!(rt; (made, kept, tally.now()), (1, 1, (2, 1)));
-}
-
-#[test]
-fn a_forgotten_item_takes_its_room_with_it(rt: HostRuntime) {
-    loses_what_is_forgotten::<UnderMutex<Tallied, TalliedValues, Keep, AnyValue>, _>(
-        &rt,
-        rt.alloc(),
-    );
-    loses_what_is_forgotten::<UnderSpinLock<Tallied, TalliedValues, Keep, AnyValue>, _>(
         &rt,
         rt.alloc(),
     );

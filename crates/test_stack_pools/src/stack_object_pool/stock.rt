@@ -1,4 +1,6 @@
 //! What a pool keeps: filled beforehand, counted, dropped all at once, and items that leave it for good.
+ghost use Rattle.std.specs.Prelude.{⊤};
+
 use super::*;
 use test_values::counted::NEVER;
 
@@ -55,6 +57,38 @@ fn fills_in_part<F: Kind<Tallied, TalliedValues, Keep, AnyValue>, W: Abort + Wai
 fn a_filling_that_is_refused_keeps_what_it_made(rt: HostRuntime) {
     fills_in_part::<UnderMutex<Tallied, TalliedValues, Keep, AnyValue>, _>(&rt, rt.alloc());
     fills_in_part::<UnderSpinLock<Tallied, TalliedValues, Keep, AnyValue>, _>(&rt, rt.alloc());
+}
+
+/// A reset that shows how often it ran.
+#[derive(Drop)]
+struct AddsOne;
+
+impl Reset<u32, AnyValue> for AddsOne {
+    ghost leaves = { λ _ _ _. ⊤ };
+
+    fn reset(&self, value: &mut u32) {
+        *value = value.wrapping_add(1);
+    }
+}
+
+/// What a filling makes is pulled as it was made.
+fn fills_without_a_reset<F: Kind<u32, CountedZeros, AddsOne, AnyValue>, W: Abort + Wait + Copy>(
+    rt: &W,
+    alloc: Global,
+) {
+    let calls = new_calls(alloc).expect(rt, "memory is left");
+    let pool = F::new_pool(alloc, CountedZeros { calls }, AddsOne).expect(rt, "a pool is made");
+    pool.fill(rt, 2).expect(rt, "two values are made");
+    assert_eq!(rt; held_together(rt, &&pool), (0, 0));
+}
+
+#[test]
+fn a_filling_resets_nothing(rt: HostRuntime) {
+    fills_without_a_reset::<UnderMutex<u32, CountedZeros, AddsOne, AnyValue>, _>(&rt, rt.alloc());
+    fills_without_a_reset::<UnderSpinLock<u32, CountedZeros, AddsOne, AnyValue>, _>(
+        &rt,
+        rt.alloc(),
+    );
 }
 
 /// One item is out while the pool is cleared, and comes back: how the pool stands before, behind it, and at last.
@@ -175,40 +209,4 @@ fn a_detached_value_is_as_it_was_written(rt: HostRuntime) {
         &rt,
         rt.alloc(),
     );
-}
-
-/// A value is attached, and dropped: how the pool stands while the item is out, and then.
-fn attached_beside<
-    P: SharedStackPool<Tallied>,
-    F: Kind<Tallied, TalliedValues, Keep, AnyValue>,
-    W: Abort + Wait + Copy,
->(rt: &W, owner: P, pool: &Tracked<F>, tally: &Arc<Tally>) -> [(usize, (usize, usize)); 2] {
-    let value = Tallied::new(tally).expect(rt, "a value is made");
-    let attached = StackReusable::new(rt, owner, value).ok();
-    assert!(rt; attached.is_some());
-    let held = standing(rt, pool, tally);
-    drop(attached);
-    [held, standing(rt, pool, tally)]
-}
-
-/// Three values are kept. Two are attached, borrowed and owned: each is kept beside them once it is dropped.
-fn keeps_beside<F: Kind<Tallied, TalliedValues, Keep, AnyValue>, W: Abort + Wait + Copy>(
-    rt: &W,
-    alloc: Global,
-) {
-    let (tally, pool) = tallied::<F, W>(rt, alloc, NEVER);
-    pool.fill(rt, 3).expect(rt, "three values are made");
-    let borrowed = attached_beside(rt, &*pool, &pool, &tally);
-    let owner = Arc::try_clone(&pool).expect(rt, "an owner is made");
-    let owned = attached_beside(rt, owner, &pool, &tally);
-    assert_eq!(rt;
-        (borrowed, owned),
-        ([(3, (4, 0)), (4, (4, 0))], [(4, (5, 0)), (5, (5, 0))])
-    );
-}
-
-#[test]
-fn an_attached_value_is_kept_beside_others(rt: HostRuntime) {
-    keeps_beside::<UnderMutex<Tallied, TalliedValues, Keep, AnyValue>, _>(&rt, rt.alloc());
-    keeps_beside::<UnderSpinLock<Tallied, TalliedValues, Keep, AnyValue>, _>(&rt, rt.alloc());
 }

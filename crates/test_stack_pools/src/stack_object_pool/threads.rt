@@ -1,5 +1,4 @@
 //! Threads that share one pool. Each runs to its end.
-use super::kept_items::held_together;
 use super::waits::{
     Steps, ValuesThatWait, WaitsAtDrop, WaitsForDrop, shown, shown_meanwhile, wait_for,
 };
