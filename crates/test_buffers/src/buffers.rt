@@ -11,7 +11,6 @@ use std::sync::Arc;
 use std::test::Fail;
 use std::thread;
 
-mod refusals;
 mod sizes;
 
 /// A thread that still asks after so many refusals gives up, and its test fails.
@@ -84,17 +83,6 @@ fn a_buffer_holds_what_was_appended_and_comes_again_empty(rt: HostRuntime) -> Re
     assert_eq!(rt; (buffer.page_number(), buffer.page_id()), (0, 0));
     joined(&mut buffer, b"to", b"gether")?;
     assert_eq!(rt; buffer.as_slice(), b"together".as_slice());
-    Ok(())
-}
-
-#[test]
-fn a_full_pool_refuses(rt: HostRuntime) -> Result<(), Fail> {
-    let pool = one_page(rt.alloc())?;
-    let mut buffers = Vec::with_capacity(rt.alloc(), 32)?;
-    for _ in 0..32 {
-        buffers.push(pool.pull()?)?;
-    }
-    assert_eq!(rt; pool.pull().err(), Some(PullError::Limit));
     Ok(())
 }
 

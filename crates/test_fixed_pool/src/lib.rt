@@ -14,8 +14,6 @@ mod numbers;
 #[cfg(test)]
 mod owners;
 #[cfg(test)]
-mod resets;
-#[cfg(test)]
 mod sends;
 #[cfg(test)]
 mod sizes;

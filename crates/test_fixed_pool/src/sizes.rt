@@ -2,9 +2,7 @@
 ghost use Rattle.std.specs.Prelude.{◌≤◌};
 
 use crate::numbers::{NumberItem, held, new_pool};
-use lockfree_object_pool::clean::AnyValue;
-use lockfree_object_pool::closures::{Copied, Init, Keep};
-use lockfree_object_pool::{FixedObjectPool, PullError};
+use lockfree_object_pool::PullError;
 use std::alloc::Global;
 use std::mem::size_of;
 use std::sync::atomic::Ordering::SeqCst;
@@ -53,40 +51,6 @@ fn pools_of_many_sizes_hand_out_each_item_once(rt: HostRuntime) -> Result<(), Fa
     assert!(rt; hands_out_each_once(rt.alloc(), 64)?);
     assert!(rt; hands_out_each_once(rt.alloc(), 65)?);
     assert!(rt; hands_out_each_once(rt.alloc(), 70_000)?);
-    Ok(())
-}
-
-/// Makes values of no bytes.
-#[derive(Drop)]
-struct Units;
-
-impl Init<(), AnyValue> for Units {
-    fn make(&self) -> Option<()> {
-        Some(())
-    }
-}
-
-#[test]
-fn a_value_may_have_no_bytes(rt: HostRuntime) -> Result<(), Fail> {
-    let pool = FixedObjectPool::<(), Units, Keep>::new(rt.alloc(), Units, Keep, 2)?;
-    let one = pool.pull()?;
-    let other = pool.pull()?;
-    assert_eq!(rt; (one.number(), other.number(), *one), (0, 1, ()));
-    assert_eq!(rt; pool.pull().err(), Some(PullError::Limit));
-    drop(one);
-    assert_eq!(rt; pool.pull()?.number(), 0);
-    Ok(())
-}
-
-#[test]
-fn a_value_may_have_many_bytes(rt: HostRuntime) -> Result<(), Fail> {
-    let init = Copied::<[u8; 4096], AnyValue>::new([3; 4096]);
-    let pool = FixedObjectPool::<[u8; 4096], _, _>::new(rt.alloc(), init, Keep, 33)?;
-    let mut item = pool.pull()?;
-    item[4095] = 9;
-    drop(item);
-    let again = pool.pull()?;
-    assert_eq!(rt; (again.number(), again[0], again[4095]), (0, 3, 9));
     Ok(())
 }
 

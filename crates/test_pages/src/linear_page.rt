@@ -7,7 +7,6 @@ use std::alloc::Global;
 use std::mem;
 use std::sync::Arc;
 
-mod later_walks;
 mod links;
 mod lost_race;
 mod owned_walks;

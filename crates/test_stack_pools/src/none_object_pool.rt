@@ -3,7 +3,6 @@ ghost use Rattle.std.specs.Prelude.{◌≡◌, None, IsOk, IfOk};
 ghost use Rattle.lockfree_object_pool.specs.NonePool.{none_init, none_with};
 
 use lockfree_object_pool::{NoneObjectPool, NoneReusable, PullError};
-use std::cell::Cell;
 use std::mem;
 use std::sync::Arc;
 use test_values::counted::Counted;
@@ -71,30 +70,6 @@ fn a_written_value_is_gone(rt: HostRuntime) {
         (written, pulled, pulled_and_written(), never_refused(&pool)),
         (5, 0, Ok((3, 9)), Ok(0))
     );
-}
-
-#[test]
-fn each_pull_makes_an_item(rt: HostRuntime) {
-    let calls = Cell::new(0u32);
-    let pool = NoneObjectPool::new(|| {
-        calls.set(calls.get().saturating_add(1));
-        Some(0u32)
-    });
-    for _ in 0..2 {
-        let mut item = pool.pull().expect(&rt, "an item is made");
-        assert!(rt; *item == 0);
-        *item += 1;
-    }
-    assert!(rt; calls.get() == 2);
-}
-
-#[test]
-fn init_that_refuses_once_is_asked_again(rt: HostRuntime) {
-    let counts = Tally::new();
-    let pool = NoneObjectPool::new(|| counts.make_but(0));
-    let refusal = pool.pull().err();
-    let call = pool.pull().expect(&rt, "an item is made").call;
-    assert_eq!(rt; (refusal, call), (Some(PullError::Init), 1));
 }
 
 #[test]

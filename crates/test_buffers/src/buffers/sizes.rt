@@ -1,22 +1,8 @@
-//! Pools of several pages, and buffers of many bytes.
+//! The greatest limit, and buffers of many bytes.
 use super::*;
 
 /// How many bytes a mebibyte is.
 const MEBIBYTE: usize = 1 << 20;
-
-#[test]
-fn three_pages_give_96_buffers_and_no_more(rt: HostRuntime) -> Result<(), Fail> {
-    let alloc = rt.alloc();
-    let pool = BufferPool::new(alloc, WithCapacity::new(alloc, 16), Clear, 3)?;
-    let mut buffers = Vec::with_capacity(alloc, 96)?;
-    for number in 0..96usize {
-        let buffer = pool.pull()?;
-        assert_eq!(rt; buffer.page_number(), number / 32);
-        buffers.push(buffer)?;
-    }
-    assert_eq!(rt; pool.pull().err(), Some(PullError::Limit));
-    Ok(())
-}
 
 #[test]
 fn the_greatest_limit_needs_no_memory_beforehand(rt: HostRuntime) -> Result<(), Fail> {
