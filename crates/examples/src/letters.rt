@@ -26,6 +26,10 @@ impl Letter {
     ghost use Rattle.examples.specs.Letters.{text_of, len_of};
 
     /// A letter with this text, and nothing of what stood on its sheet before.
+    ///
+    /// # Errors
+    ///
+    /// As the pool's `pull_owned`; `Memory` too where the sheet can't grow.
     pub fn new(pool: &Arc<SheetPool>, text: &[u8]) -> Result<Letter, PullError>
         ensures text { IfOk result (λ letter. text_of letter ≡ text.now) }
         ensures limited { result ≡ Err PullError.Limit → IsSome (pool_limit (arc_value pool.now)) }

@@ -12,7 +12,11 @@ use std::thread::Threads;
 /// A pool of empty vectors of bytes.
 pub type ScratchPool = LinearObjectPool<Vec<u8>, WithCapacity, Clear, Empty>;
 
-/// Whether a text reads the same from its end. Memory is taken where the scratch is shorter than the text.
+/// Whether a text reads the same from its end.
+///
+/// # Errors
+///
+/// Where the scratch has less room than the text, and no memory is there.
 pub fn is_palindrome(text: &[u8], scratch: &mut Vec<u8>) -> Result<bool, AllocError>
     requires { scratch.old.items ≡ [] }
     ensures answer { IfOk result (λ answer. IsTrue answer ↔ IsPalindrome text.now) }
@@ -35,7 +39,11 @@ fn answered(pool: &ScratchPool, text: &[u8]) -> Option<bool>
     is_palindrome(text, &mut scratch).ok()
 }
 
-/// The answers to all texts, in their order. Each text has a thread of its own.
+/// The answers to all texts, in their order: `None` where memory was refused. Each text has a thread of its own.
+///
+/// # Errors
+///
+/// Where there is no memory for the answers or the threads.
 pub fn palindromes<R: Threads + Sync>(
     rt: &R,
     alloc: Global,

@@ -12,6 +12,10 @@ use std::alloc::Global;
 pub type Replies = BufferPool<WithCapacity, Clear>;
 
 /// A pool whose buffers have room for `capacity` bytes at first.
+///
+/// # Errors
+///
+/// `Memory`; `Init`, where there is no memory for the room of a buffer.
 pub fn new_replies(alloc: Global, capacity: usize) -> Result<Replies, PullError>
     ensures room { IfOk result (λ replies. (maker_of replies).capacity ≡ capacity) }
     ensures one_page { IfOk result (λ replies. limit_of_pages replies ≡ Some 1) }
@@ -32,6 +36,10 @@ fn greet(buffer: &mut Buffer<'_, WithCapacity, Clear>, name: &[u8]) -> Result<()
 }
 
 /// A greeting by name, with no byte of another one.
+///
+/// # Errors
+///
+/// `Limit`, while 32 replies are under way; `Memory`, where the buffer or the answer can't grow.
 pub fn greeting(alloc: Global, replies: &Replies, name: &[u8]) -> Result<Vec<u8>, PullError>
     ensures { IfOk result (λ reply. reply.items ≡ greeting_of name.now) }
 {

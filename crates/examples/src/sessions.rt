@@ -1,5 +1,5 @@
 //! A table of open sessions. Each has a basket of a pool, into which it puts products, until it is closed.
-ghost use Rattle.std.specs.Prelude.{◌≡◌, ◌≢◌, ℕ, [], ◌∷◌, ◌++◌, None, Some, Err, IsSome, OnOk, OnErr, IfOk, IfErr};
+ghost use Rattle.std.specs.Prelude.{◌≡◌, ◌≢◌, ℕ, [], ◌∷◌, ◌++◌, None, Some, Err, IsSome, OnOk, OnErr, IfErr};
 ghost use Rattle.lockfree_object_pool.specs.declared.pull_error.PullError.TheVariants.{Memory};
 
 use lockfree_object_pool::clean::Empty;
@@ -12,7 +12,7 @@ use std::sync::Arc;
 /// A pool of empty baskets, which several tables may share.
 pub type BasketPool = LinearObjectPool<Vec<u32>, WithCapacity, Clear, Empty>;
 
-/// A basket with the numbers of products. Its end brings it back to its pool.
+/// A basket with the numbers of products. Its drop brings it back to its pool.
 pub type Basket = LinearOwnedReusable<Vec<u32>, WithCapacity, Clear, Empty>;
 
 /// The open sessions, by their numbers.
@@ -36,7 +36,12 @@ impl Sessions {
         }
     }
 
-    /// Opens a session, or opens it anew. Its basket is empty, whoever had the number or the basket before.
+    /// Opens a session, or opens it anew. Its basket is empty, whoever had the number or the basket before. That of an open session goes
+    /// back once the new one is there, so at its limit a pool refuses it.
+    ///
+    /// # Errors
+    ///
+    /// As the pool's `pull_owned`; `Memory` too where the table can't grow. The session is as before then.
     pub fn open(&mut self, session: u64) -> Result<(), PullError>
         ensures empty { OnOk result (basket_of self.new session ≡ Some []) }
         ensures others { (other : ℕ) → other ≢ session
@@ -60,7 +65,11 @@ impl Sessions {
         self.open.remove(&session);
     }
 
-    /// Puts a product into the basket of a session, where it is open.
+    /// Puts a product into the basket of a session. Where it isn't open, nothing happens.
+    ///
+    /// # Errors
+    ///
+    /// `Memory`, where the basket can't grow. It is as before then.
     pub fn add(&mut self, session: u64, product: u32) -> Result<(), PullError>
         ensures added { OnOk result (basket_of self.new session
             ≡ option_map (λ products. products ++ product ∷ []) (basket_of self.old session)) }

@@ -70,7 +70,7 @@ impl Handle {
         }
     }
 
-    /// Opens the handle. What it had before is dropped.
+    /// Opens the handle, which is empty. What it still had would be dropped.
     pub(crate) fn put(&mut self, held: Box<Held>)
         ensures { self.new.held ≡ Some held.value }
     {

@@ -15,7 +15,7 @@ use std::sync::Arc;
 use std::sync::atomic::AtomicUsize;
 use std::sync::atomic::Ordering::SeqCst;
 
-/// How many pages apart handles begin, so that their words lie on cache lines of their own.
+/// How many pages apart handles begin. In a pool of many pages their words then lie on cache lines of their own.
 const PAGES_APART: usize = 17;
 
 impl Hand {

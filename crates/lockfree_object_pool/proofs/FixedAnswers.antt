@@ -8,17 +8,15 @@ use mathlib.Core.Logic.{dite}
 use Rattle.atomic_table.specs.Seated.{TableId}
 use Rattle.lockfree_object_pool.specs.declared.page.history.Operation.TheVariants.{Pull}
 use Rattle.lockfree_object_pool.specs.declared.page.note.PageNote.{PageNote}
-use Rattle.lockfree_object_pool.specs.declared.page.full_seen.FullSeen.{FullSeen}
-use Rattle.lockfree_object_pool.specs.FixedAnswer.{IsPulledFrom, IsPulledWith, IsBusyOf, IsBusyAfter, IsBusyNote}
-use Rattle.lockfree_object_pool.specs.Note.{note_view, note_opening, note_history}
+use Rattle.lockfree_object_pool.specs.FixedAnswer.{IsPulledWith}
+use Rattle.lockfree_object_pool.specs.Note.{note_view}
 use Rattle.lockfree_object_pool.specs.FullSeen.{FoundAllOut}
 use Rattle.lockfree_object_pool.specs.Holding.{item_known}
-use Rattle.lockfree_object_pool.specs.Ledger.{IsPrefixOf, WasOutBetween}
 use Rattle.lockfree_object_pool.specs.Word.{ClearsBit, IsLeastBit}
 use Rattle.lockfree_object_pool.specs.PageRule.{User, item_of, GoesOn, KnowsOut, StartsFrom, LoadsOn, Misses}
 use Rattle.lockfree_object_pool.specs.FixedRule.{MissesAll, TakesOne}
-use Rattle.lockfree_object_pool.proofs.Ledger.{legal_of, goes_on_further, still_out}
-use Rattle.lockfree_object_pool.proofs.PageAnswers.{pulled, pulled_after}
+use Rattle.lockfree_object_pool.proofs.Ledger.{goes_on_further, still_out}
+use Rattle.lockfree_object_pool.proofs.PageAnswers.{pulled_after, found_out, was_out_from}
 
 -- the bits are tried from the lowest on, so a bit that is left has at most as many tries before it as there are bits
 -- below it
@@ -29,12 +27,7 @@ pub more_tried : (untried bit left start before after : ℕ) → IsLeastBit untr
 more_tried untried bit left start before after least clears more within i below one =
     let apart : i ≢ bit = λ same. let clear = clears.clear in let here = ap (bit_at left) same in
     absurd (omega arith) in
-    let was_set : bit_at untried i ≡ 1 = sym (clears.others i apart) ∙ one in
-    let tried = within bit least.in_page least.set in
-    elim (cases_lt i bit) [
-      | inl lower ↦ let none = least.lowest i lower in absurd (omega arith)
-      | inr past ↦ omega arith
-    ]
+    grind (arith, clears.others i apart, within bit least.in_page least.set, least.lowest i)
 
 module _ {T : Type 0} where
   -- one more bit was tried in vain
@@ -110,17 +103,6 @@ module _ {T : Type 0} where
         (goes_on_further [] one.0 two.0 last.0 behind.goes_on before.goes_on);
   }
 
-  -- the item that a pull took whose user had done nothing
-  pub item_pulled : (meets : T → Type 0) (pool : TableId) (opening : List (Option T)) (start known : User T)
-      (seated : TableId) (id : ℕ) (value : T)
-      → start.0.opening ≡ opening → start.0.own ≡ [] → TakesOne meets pool.slots id value start known → seated ≡ pool
-      → IsPulledFrom pool opening (item_known seated known.0 id value)
-  item_pulled meets pool opening start known seated id value opened none taken same = record {
-    is_item = record { of_page = same; in_page = taken.in_pool };
-    same_opening = taken.goes_on.same_opening ∙ opened;
-    pulled = pulled seated start.0 known.0 id value taken.goes_on none;
-  }
-
   -- the item that a pull by a note took
   pub item_pulled_with : (meets : T → Type 0) (pool : TableId) (note : PageNote T) (start known : User T)
       (seated : TableId) (id : ℕ) (value : T)
@@ -132,47 +114,8 @@ module _ {T : Type 0} where
   }
 
   -- what a user has seen that observed each item taken
-  found_all_out : (count : ℕ) (opening : List (Option T)) (start known : User T) → start.0.opening ≡ opening
+  pub found_all_out : (count : ℕ) (opening : List (Option T)) (start known : User T) → start.0.opening ≡ opening
       → MissesAll 0 count start known → FoundAllOut count opening known.0
   found_all_out count opening start known opened missed =
-      let opened_now : known.0.opening ≡ opening = missed.goes_on.same_opening ∙ opened in
-      record {
-        same_opening = opened_now;
-        legal = legal_of opening known.0 opened_now missed.goes_on.sound;
-        goes_on = missed.goes_on.sound.since_load;
-        each_was_out = λ id within. subst (λ o.
-            WasOutBetween o known.0.since known.0.operations id) opened_now
-            (missed.each_was_out id (omega arith) within);
-      }
-
-  -- a pool of which each item was observed taken
-  pub all_busy : (pool : TableId) (opening : List (Option T)) (start : User T) (busy : FullSeen T)
-      → start.0.opening ≡ opening
-      → MissesAll 0 pool.slots start busy.seat.me → busy.seat.table_id ≡ pool → IsBusyOf pool opening busy
-  all_busy pool opening start busy opened missed same =
-      record { of_page = same; found = found_all_out pool.slots opening start busy.seat.me opened missed }
-
-  -- so it is of a pull by a note
-  pub all_busy_after : (pool : TableId) (note : PageNote T) (start : User T) (busy : FullSeen T)
-      → StartsFrom (note_view note) start.0
-      → MissesAll 0 pool.slots start busy.seat.me → busy.seat.table_id ≡ pool → IsBusyAfter pool note busy
-  all_busy_after pool note start busy starts missed same = record {
-    all_out = all_busy pool (note_opening note) start busy starts.same_opening missed same;
-    after_note = subst (IsPrefixOf (note_history note))
-        (sym (missed.goes_on.same_since ∙ starts.from_now)) starts.after_known;
-  }
-
-  -- and of the note that such a pull hands on
-  pub busy_note : (pool : TableId) (old : PageNote T) (start : User T) (new : PageNote T)
-      → StartsFrom (note_view old) start.0
-      → MissesAll 0 pool.slots start new.seat.me → new.seat.table_id ≡ pool → IsBusyNote pool old new
-  busy_note pool old start new starts missed same =
-      record {
-        of_pool = same;
-        same_user = missed.goes_on.same_user ∙ starts.same_user;
-        found = found_all_out pool.slots (note_opening old) start new.seat.me starts.same_opening missed;
-        after_note = subst (IsPrefixOf (note_history old))
-            (sym (missed.goes_on.same_since ∙ starts.from_now)) starts.after_known;
-        same_operations = missed.goes_on.sound.own_operations ∙ missed.goes_on.own ∙ starts.own_same
-            ∙ sym starts.own_before;
-      }
+      found_out count opening start.0 known.0 opened missed.goes_on (λ id within.
+      was_out_from start.0 known.0 id missed.goes_on (missed.each_was_out id (omega arith) within))

@@ -3,8 +3,9 @@ use mir.Syntax.{Lifetime}
 use base.Fml.{Lft}
 use denote.RattleType.{RattleType}
 use denote.Ref.{ShrRef}
-use denote.Param.Send.{IsSend, IsSync, struct_sync, shr_sync, view_sync, sendable}
-use denote.Struct.Declared.{shape}
+use denote.Param.Send.{IsSend, IsSync, shr_sync, view_sync, sendable}
+use denote.Param.SendFields.{as_row_sync, declared_sync}
+use denote.Struct.Field.{row_field}
 use Rattle.std.specs.Arc.{arc_value}
 use Rattle.std.proofs.Crossing.{Arc-sync}
 use Rattle.std.specs.contracts.sync.Arc as Arc
@@ -17,6 +18,7 @@ use Rattle.lockfree_object_pool.specs.declared.closures.Reset as Reset
 use Rattle.lockfree_object_pool.specs.declared.fixed_reusable.SharedFixedPool.{Ghosts}
 use Rattle.lockfree_object_pool.specs.contracts.fixed_object_pool.FixedObjectPool as FixedObjectPool
 use Rattle.lockfree_object_pool.specs.contracts.fixed_reusable.TakenItem as TakenItem
+use Rattle.lockfree_object_pool.specs.contracts.page.holding.Holding as Holding
 use Rattle.lockfree_object_pool.specs.contracts.fixed_reusable.TakenItem.TheInside as TakenInside
 use Rattle.lockfree_object_pool.specs.contracts.fixed_reusable.FixedReusableOf as FixedReusableOf
 use Rattle.lockfree_object_pool.proofs.fixed_object_pool.FixedObjectPool.TheSendSync as fixed_pool
@@ -25,24 +27,13 @@ use Rattle.lockfree_object_pool.proofs.SlotShared.{holding_sync}
 module _ (T P : RattleType) (pool : Ghosts P.Denot T.Denot) where
   taken_sync : IsSend T → IsSync P → IsSync (TakenItem.the_row T P pool)
   taken_sync sent pool_shared =
-      let type = TakenInside.the_type T P pool in
-      let inside : IsSync (TakenInside.the_row T P pool) =
-      record {
-        shared = λ taken.
-            (struct_sync (shape type) (record { shared = pool_shared.shared }, (holding_sync T sent, tt))).shared
-            (type.to taken);
-      } in
-      view_sync (TakenInside.the_row T P pool) _ _ _ _ inside
+      view_sync (TakenInside.the_row T P pool) _ _ _ _
+      (declared_sync (TakenInside.the_type T P pool)
+      (as_row_sync (row_field P) pool_shared, (as_row_sync (Holding.the_field T) (holding_sync T sent), tt)))
 
   pub reusable_sync : IsSend T → IsSync T → IsSync P → IsSync (FixedReusableOf.the_row T P pool)
-  reusable_sync sent shared pool_shared =
-      let type = FixedReusableOf.the_type T P pool in
-      record {
-        shared = λ reusable.
-            (struct_sync (shape type)
-            (search sendable, (taken_sync sent pool_shared, (record { shared = shared.shared }, tt)))).shared
-            (type.to reusable);
-      }
+  reusable_sync sent shared pool_shared = declared_sync (FixedReusableOf.the_type T P pool)
+      (search sendable, (taken_sync sent pool_shared, (as_row_sync (row_field T) shared, tt)))
 
 -- so a borrowed one may where its value may, and a reset of its pool; and an owned one
 module _ (T I R K : RattleType) (answers : Init.Ghosts I.Denot T.Denot K.Denot)

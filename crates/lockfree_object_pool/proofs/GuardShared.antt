@@ -13,6 +13,7 @@ use Rattle.lockfree_object_pool.specs.contracts.spin_lock.SpinLockGuard as guard
 use Rattle.lockfree_object_pool.specs.contracts.spin_lock.SpinLock as lock
 use Rattle.lockfree_object_pool.proofs.spin_lock.SpinLock.TheSendSync.{the_sync as lock_sync}
 
+-- what a seat owns names no thread
 pub seat_sync : (S V : RattleType) → IsSend S → IsSync (seat.the_row S V)
 seat_sync S V s = record { shared = λ view b o κ q. part_keyless (seat.the_row S V) (the_send S V s) q view b o }
 

@@ -1,12 +1,11 @@
 -- That one link leads to a page, so that what a page's number knows of its link is of the link at the number's place.
-use Rattle.std.proofs.Common.{◌≡◌, ℕ, suc, ◌+◌, ◌^◌, ◌<◌, ◌≤◌, Some, ap, subst, sym, inl, inr, ◌∙◌, arith}
+use Rattle.std.proofs.Common.{◌≡◌, ℕ, suc, ◌+◌, ◌^◌, ◌<◌, ◌≤◌, Some, ap, subst, sym, ◌∙◌, arith}
 use Rattle.std.specs.Arc.{arc_value}
 use Rattle.std.specs.Coded.{Coded-set, coded_ℕ, coded_option, coded×}
 use Rattle.std.specs.Option.{option_map}
 use Rattle.std.specs.Prelude.{slice_get}
 use Rattle.std.proofs.Math.Logic.{∥∥₁_elim}
 use Rattle.std.proofs.Math.Nat.{pow-le-pow_right, two-pow-succ}
-use Rattle.std.proofs.lemmas.Bool.{cases_lt}
 use Rattle.std.proofs.lemmas.Nat.{pow_pos}
 use Rattle.atomic_table.specs.Seated.{TableId, table_id_coded}
 use Rattle.once_cell.specs.Once.{cell_name}
@@ -28,13 +27,11 @@ no_later_row number row offset later further here within there before =
 -- a number is in one row
 one_row : (number row offset other further : ℕ) → 2 ^ row + offset ≡ number → offset < 2 ^ row
     → 2 ^ other + further ≡ number → further < 2 ^ other → row ≡ other
-one_row number row offset other further here within there inside = elim (cases_lt row other) [
-  | inl before ↦ absurd (no_later_row number row offset other further here within there before)
-  | inr past ↦ elim (cases_lt other row) [
-    | inl before ↦ absurd (no_later_row number other further row offset there inside here before)
-    | inr same ↦ omega arith
-  ]
-]
+one_row number row offset other further here within there inside = grind (
+  arith,
+  no_later_row number row offset other further here within there,
+  no_later_row number other further row offset there inside here,
+)
 
 -- one link leads to a page
 pub one_link : (rows : Cells) (number : ℕ) (one other : ℕ × ℕ) → IsLinkTo rows number one → IsLinkTo rows number other

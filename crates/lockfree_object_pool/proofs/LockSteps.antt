@@ -1,5 +1,5 @@
 -- Each step on a lock's table keeps its rule.
-use Rattle.std.proofs.Common.{◌≡◌, ℕ, zero, suc, ◌<◌, ◌⊎◌, List, [], ◌∷◌, ◌++◌, length, length-set, refl, sym, ◌∙◌, ap}
+use Rattle.std.proofs.Common.{◌≡◌, ℕ, ◌<◌, List, [], ◌∷◌, ◌++◌, length, length-set, refl, sym, ◌∙◌, ap}
 use Rattle.std.proofs.Common.{subst, inl, inr, arith, Option, Some}
 use Rattle.std.specs.Prelude.{slice_index, slice_set}
 use Rattle.std.proofs.lemmas.Bool.{cases_lt}
@@ -12,23 +12,16 @@ use Rattle.atomic_table.proofs.Lists.{at_last, at_longer, at_set, set_here}
 use Rattle.lockfree_object_pool.specs.declared.spin_lock.rule.Visitor.{Visitor}
 use Rattle.lockfree_object_pool.specs.declared.spin_lock.rule.Visitor.TheVariants.{Passing, Holder}
 use Rattle.lockfree_object_pool.specs.Lock.{IsLock, HasValue, HasNothing, TakesIfFree}
-
--- what stands in a list with one more element at its end
-at_end : {A : Type 0} (l : List A) (last a : A) (j : ℕ) → get_elem? (l ++ last ∷ []) j ≡ some a
-    → (get_elem? l j ≡ some a) ⊎ ((j ≡ length l) × (last ≡ a))
-at_end [] last a zero found = inr (refl, some-injective last a found)
-at_end [] last a (suc j) found = absurd (some-ne-none a (sym found))
-at_end (x ∷ xs) last a zero found = inl found
-at_end (x ∷ xs) last a (suc j) found =
-    elim (at_end xs last a j found) [ inl before ↦ inl before | inr end ↦ inr (ap suc end.0, end.1) ]
+use Rattle.lockfree_object_pool.proofs.PageItems.{at_snoc_last, only_one}
 
 no_holder : (j : ℕ) → get_elem? (Passing ∷ []) j ≡ some Holder → ⊥
-no_holder zero held = cc
-no_holder (suc j) held = absurd (some-ne-none Holder (sym held))
+no_holder j held = let unlike = (only_one Passing Holder j held).1 in cc
 
 module _ {T : Type 0} where
-  opened : (value : T) → IsLock (opening (0 ∷ []) (Some value ∷ []) Passing)
-  opened value = record {
+  -- a new lock is free, with its value at home
+  pub opens : (places : List (Option T)) (value : T) → places ≡ Some value ∷ []
+      → IsLock (opening (0 ∷ []) places Passing)
+  opens places value is = subst (λ row. IsLock (opening (0 ∷ []) row Passing)) (sym is) record {
     one_word = refl;
     one_place = refl;
     free_or_taken = omega arith;
@@ -37,11 +30,6 @@ module _ {T : Type 0} where
     taken_if_held = λ j held. absurd (no_holder j held);
     one_holder = λ j k held _. absurd (no_holder j held);
   }
-
-  -- a new lock is free, with its value at home
-  pub opens : (places : List (Option T)) (value : T) → places ≡ Some value ∷ []
-      → IsLock (opening (0 ∷ []) places Passing)
-  opens places value is = subst (λ row. IsLock (opening (0 ∷ []) row Passing)) (sym is) (opened value)
 
   module _ (s : State (Option T) Visitor) (lock : IsLock s) where
     stored : (n : ℕ) → slice_index (slice_set s.words 0 n) 0 ≡ n
@@ -66,9 +54,9 @@ module _ {T : Type 0} where
     -- where the lock is free nobody holds it, so who comes is the one holder
     comes_alone : slice_index s.words 0 ≡ 0 → (j : ℕ) → get_elem? (s.views ++ Holder ∷ []) j ≡ some Holder
         → j ≡ length s.views
-    comes_alone free j held = elim (at_end s.views Holder Holder j held) [
+    comes_alone free j held = elim (at_snoc_last s.views Holder Holder j held) [
       | inl before ↦ let taken = lock.taken_if_held j before in absurd (omega arith)
-      | inr end ↦ end.0
+      | inr end ↦ sym end.0
     ]
 
     -- who found the lock taken leaves it with its holder
@@ -79,7 +67,7 @@ module _ {T : Type 0} where
     -- and is no holder
     was_there : (j : ℕ) → get_elem? (s.views ++ Passing ∷ []) j ≡ some Holder → get_elem? s.views j ≡ some Holder
     was_there j held = elim
-        (at_end s.views Passing Holder j held) [ inl before ↦ before | inr end ↦ let unlike = end.1 in cc ]
+        (at_snoc_last s.views Passing Holder j held) [ inl before ↦ before | inr end ↦ let unlike = end.1 in cc ]
 
     -- the holder's view is over, and no other is left
     none_left : (id : ℕ) → get_elem? s.views id ≡ some Holder → (j : ℕ)
@@ -91,34 +79,37 @@ module _ {T : Type 0} where
           | inr other ↦ other.0 (lock.one_holder j id other.1 here)
         ]
 
-  tried : (slots : ℕ) → Arrives IsLock slots 0 (λ _. 1) (TakesIfFree {T = T})
-  tried slots s lock _ _ = elim (cases_lt 0 (slice_index s.words 0)) [
-    | inl is_taken ↦
-        let still = taken s lock s.homes Passing lock.one_place (still_held s lock (omega (arith, lock.free_or_taken)))
-        (λ j k one other. lock.one_holder j k (was_there s lock j one) (was_there s lock k other)) in
-        (Passing, keeps, tt, still, ((λ free. absurd (omega arith)), λ _. refl))
-    | inr le ↦
-        let free : slice_index s.words 0 ≡ 0 = omega arith in
-        let home = lock.home_if_free free in
-        let alone = comes_alone s lock free in
-        let now = taken s lock (slice_set s.homes 0 maybe.none) Holder
-        (length-set s.homes 0 maybe.none ∙ lock.one_place)
-        (length s.views, at_last s.views Holder (length s.views) refl) (λ j k one other.
-        alone j one ∙ sym (alone k other)) in
-        (Holder, takes 0 (Some home.0), home.1, now, ((λ _. (home.0, refl)), λ other. absurd (other free)))
-  ]
-
   -- an exchange takes the lock where it is free
   pub tries : (words slots : ℕ) → words ≡ 1 → (0 < words) × Arrives IsLock slots 0 (λ _. 1) (TakesIfFree {T = T})
-  tries words slots one = (omega arith, tried slots)
+  tries words slots one = (
+    omega arith,
+    λ s lock _ _. elim (cases_lt 0 (slice_index s.words 0)) [
+      | inl is_taken ↦
+          let still = taken s lock s.homes Passing lock.one_place
+          (still_held s lock (omega (arith, lock.free_or_taken)))
+          (λ j k one other. lock.one_holder j k (was_there s lock j one) (was_there s lock k other)) in
+          (Passing, keeps, tt, still, ((λ free. absurd (omega arith)), λ _. refl))
+      | inr le ↦
+          let free : slice_index s.words 0 ≡ 0 = omega arith in
+          let home = lock.home_if_free free in
+          let alone = comes_alone s lock free in
+          let now = taken s lock (slice_set s.homes 0 maybe.none) Holder
+          (length-set s.homes 0 maybe.none ∙ lock.one_place)
+          (length s.views, at_last s.views Holder (length s.views) refl) (λ j k one other.
+          alone j one ∙ sym (alone k other)) in
+          (Holder, takes 0 (Some home.0), home.1, now, ((λ _. (home.0, refl)), λ other. absurd (other free)))
+    ],
+  )
 
   -- what a holder has taken out of the place
   pub has_place : (me : Me (Option T) Visitor) → HasValue me → (old : Option T) × (me.1 ≡ (0, old) ∷ rest me.1)
   has_place me has = (Some has.0, ap (λ m. m.1) has.1 ∙ ap (λ m. (0, Some has.0) ∷ rest m.1) (sym has.1))
 
-  freed : (slots id : ℕ) (value : T)
-      → Allows IsLock slots id (Holder, (0, Some value) ∷ []) 0 (λ _. 0) (λ _. HasNothing)
-  freed slots id value s lock _ here _ =
+  -- a store of free by the holder brings the value home
+  pub frees : (slots id : ℕ) (me : Me (Option T) Visitor) (value : T) → me ≡ (Holder, (0, Some value) ∷ [])
+      → Allows IsLock slots id me 0 (λ _. 0) (λ _. HasNothing)
+  frees slots id me value is =
+      subst (λ m. Allows IsLock slots id m 0 (λ _. 0) (λ _. HasNothing)) (sym is) (λ s lock _ here _.
       let nobody = none_left s lock id here in
       let now : IsLock record {
         words = slice_set s.words 0 0;
@@ -133,10 +124,4 @@ module _ {T : Type 0} where
         taken_if_held = λ j held. absurd (nobody j held);
         one_holder = λ j k held _. absurd (nobody j held);
       } in
-      (Passing, gives, tt, now, refl)
-
-  -- a store of free by the holder brings the value home
-  pub frees : (slots id : ℕ) (me : Me (Option T) Visitor) (value : T) → me ≡ (Holder, (0, Some value) ∷ [])
-      → Allows IsLock slots id me 0 (λ _. 0) (λ _. HasNothing)
-  frees slots id me value is =
-      subst (λ m. Allows IsLock slots id m 0 (λ _. 0) (λ _. HasNothing)) (sym is) (freed slots id value)
+      (Passing, gives, tt, now, refl))

@@ -4,7 +4,6 @@ use Rattle.atomic_table.specs.Seated.{TableId}
 use Rattle.lockfree_object_pool.specs.declared.page.history.Operation.TheVariants.{Pull, Return}
 use Rattle.lockfree_object_pool.specs.declared.page.user_view.UserView.{UserView}
 use Rattle.lockfree_object_pool.specs.declared.page.note.PageNote.{PageNote}
-use Rattle.lockfree_object_pool.specs.declared.page.full_seen.FullSeen.{FullSeen}
 use Rattle.lockfree_object_pool.specs.declared.page.full_seen.Allocated.{Allocated}
 use Rattle.lockfree_object_pool.specs.declared.page.full_seen.Allocated.TheVariants.{Slot, Full}
 use Rattle.lockfree_object_pool.specs.Item.{IsPulled}
@@ -12,7 +11,7 @@ use Rattle.lockfree_object_pool.specs.Note.{note_page, note_view, note_opening, 
 use Rattle.lockfree_object_pool.specs.Ledger.{History, operations_of, IsPrefixOf, WasOutBetween}
 use Rattle.lockfree_object_pool.specs.PageRule.{GoesOn, StartsFrom, KnowsOut}
 use Rattle.lockfree_object_pool.specs.Holding.{item_known}
-use Rattle.lockfree_object_pool.specs.FullSeen.{full_page, full_view, full_history, IsFullOf, IsAnswerFrom, IsAnswerOf}
+use Rattle.lockfree_object_pool.specs.FullSeen.{full_view, FoundAllOut, IsAnswerFrom, IsAnswerOf}
 use Rattle.lockfree_object_pool.specs.FullSeen.{IsAnswerAfter}
 use Rattle.lockfree_object_pool.proofs.Ledger.{legal_of, prefix_further}
 use Rattle.lockfree_object_pool.proofs.LedgerHolders.{came_from_legal, spared_return}
@@ -60,22 +59,25 @@ module _ {T : Type 0} where
               ∙ ap (λ user. operations_of user (note_history note)) (sym same_user));
         }
 
-  -- a page that was full, of a call whose user stood here at its load
-  full : (page : TableId) (opening : List (Option T)) (start : UserView T) (seen : FullSeen T) → start.opening ≡ opening
-      → full_page seen ≡ page → GoesOn [] start (full_view seen)
-      → ((id : ℕ) → id < 32 → WasOutBetween start.opening start.since (full_history seen) id)
-      → IsFullOf page opening seen
-  full page opening start seen same of_page goes each = record {
-    of_page = of_page;
-    found = record {
-      same_opening = goes.same_opening ∙ same;
-      legal = legal_of opening (full_view seen) (goes.same_opening ∙ same) goes.sound;
-      goes_on = goes.sound.since_load;
-      each_was_out = λ id within.
-          subst (λ o. WasOutBetween o (full_view seen).since (full_history seen) id) same
-          (subst (λ s. WasOutBetween start.opening s (full_history seen) id) (sym goes.same_since) (each id within));
-    };
+  -- what a call found that observed each of so many items taken, since its user stood here at its load
+  pub found_out : (count : ℕ) (opening : List (Option T)) (start known : UserView T) → start.opening ≡ opening
+      → GoesOn [] start known
+      → ((id : ℕ) → id < count → WasOutBetween start.opening start.since known.operations id)
+      → FoundAllOut count opening known
+  found_out count opening start known same goes each = record {
+    same_opening = goes.same_opening ∙ same;
+    legal = legal_of opening known (goes.same_opening ∙ same) goes.sound;
+    goes_on = goes.sound.since_load;
+    each_was_out = λ id within.
+        subst (λ (p : List (Option T) × History T). WasOutBetween p.0 p.1 known.operations id) (λ i.
+        (same i, sym goes.same_since i)) (each id within);
   }
+
+  -- and that load stands after all that it knew before
+  pub after_known : (before start known : UserView T) → StartsFrom before start → GoesOn [] start known
+      → IsPrefixOf before.operations known.since
+  after_known before start known starts goes =
+      subst (IsPrefixOf before.operations) (sym (goes.same_since ∙ starts.from_now)) starts.after_known
 
   -- a return: nobody was at the item since its pull
   pub returned : (page : TableId) (old new : UserView T) (note : PageNote T) (id : ℕ) (value : T) → note_view note ≡ new
@@ -109,7 +111,8 @@ module _ {T K : Type 0} where
     pulled = pulled slot.taken.holding.seat.table_id start slot.taken.holding.seat.me.0 slot.taken.holding.number
         slot.value is.1 none;
   }
-  answer_fresh meets page opening start (Full seen) same none is = full page opening start seen same is.0 is.1 is.2
+  answer_fresh meets page opening start (Full seen) same none is =
+      record { of_page = is.0; found = found_out _ opening start (full_view seen) same is.1 is.2 }
 
   -- the answer to a user that had a note
   pub answer_after : (meets : T → Type 0) (page : TableId) (note : PageNote T) (start : UserView T)
@@ -121,6 +124,9 @@ module _ {T K : Type 0} where
         slot.value is.1 note starts,
   )
   answer_after meets page note start (Full seen) starts is = record {
-    all_out = full page (note_opening note) start seen starts.same_opening is.0 is.1 is.2;
-    after_note = subst (IsPrefixOf (note_history note)) (sym (is.1.same_since ∙ starts.from_now)) starts.after_known;
+    all_out = record {
+      of_page = is.0;
+      found = found_out _ (note_opening note) start (full_view seen) starts.same_opening is.1 is.2;
+    };
+    after_note = after_known (note_view note) start (full_view seen) starts is.1;
   }

@@ -9,11 +9,25 @@ use mathlib.Core.Logic.{dite}
 use Rattle.atomic_table.proofs.Lists.{at_set, at_snoc, set_here, set_else}
 use Rattle.lockfree_object_pool.specs.declared.page.user_view.UserView.{UserView}
 use Rattle.lockfree_object_pool.specs.Word.{item_bit}
-use Rattle.lockfree_object_pool.specs.PageRule.{PageState, User, IsSet, UserHolds, IsPage}
+use Rattle.lockfree_object_pool.specs.PageRule.{PageState, IsSet, UserHolds, IsPage}
 use Rattle.lockfree_object_pool.proofs.WordBits.{Turns}
 
-pub some_same : (id other : ℕ) → Some id ≡ Some other → id ≡ other
-some_same id other same = cc
+-- what stands in a list of one element
+pub only_one : {A : Type 0} (one there : A) (place : ℕ) → get_elem? (one ∷ []) place ≡ some there
+    → (0 ≡ place) × (one ≡ there)
+only_one one there zero at = (refl, some-injective one there at)
+only_one one there (suc place) at = absurd (some-ne-none there (sym at))
+
+-- what stands in a list with one more element at its end
+pub at_snoc_last : {A : Type 0} (list : List A) (last there : A) (place : ℕ)
+    → get_elem? (list ++ last ∷ []) place ≡ some there
+    → (get_elem? list place ≡ some there) ⊎ ((length list ≡ place) × (last ≡ there))
+at_snoc_last [] last there place at = inr (only_one last there place at)
+at_snoc_last (first ∷ list) last there zero at = inl at
+at_snoc_last (first ∷ list) last there (suc place) at = elim (at_snoc_last list last there place at) [
+  | inl before ↦ inl before
+  | inr is ↦ inr (ap suc is.0, is.1)
+]
 
 module _ {T : Type 0} where
   abbrev pub state : List ℕ → List (maybe.Option (Option T)) → List (UserView T) → PageState T
@@ -27,22 +41,6 @@ module _ {T : Type 0} where
     | inl here ↦ inl (here.0, ap (λ (known : UserView T). known.held) here.1 ∙ holds.2)
     | inr there ↦ inr (there.0, (holds.0, there.1, holds.2))
   ]
-
-  pub at_snoc_last : (views : List (UserView T)) (new known : UserView T) (user : ℕ)
-      → get_elem? (views ++ new ∷ []) user ≡ some known
-      → (get_elem? views user ≡ some known) ⊎ ((length views ≡ user) × (new ≡ known))
-  at_snoc_last [] new known zero at = inr (refl, some-injective new known at)
-  at_snoc_last [] new known (suc user) at = absurd (some-ne-none known (sym at))
-  at_snoc_last (view ∷ views) new known zero at = inl at
-  at_snoc_last (view ∷ views) new known (suc user) at = elim (at_snoc_last views new known user at) [
-    | inl before ↦ inl before
-    | inr last ↦ inr (ap suc last.0, last.1)
-  ]
-
-  abbrev pub carried_value : T → List (ℕ × Option T) → T
-  carried_value other [] = other
-  carried_value other ((place, None) ∷ more) = other
-  carried_value other ((place, Some value) ∷ more) = value
 
 module _ {T : Type 0} (meets : T → Type 0) where
   -- who joins holds nothing
@@ -73,6 +71,10 @@ module _ {T : Type 0} (meets : T → Type 0) where
   takes_item page words user id known is within turned fits free holds_id =
       let after = holds_after page words (set page.homes id none) user known in
       let places = length-set page.homes id none in
+      let alone : (other i : ℕ) → known.held ≡ Some i → UserHolds page other i → ⊥ = λ other i mine theirs.
+      let same : id ≡ i = cc (holds_id, mine) in
+      let here = ap (item_bit page.words) same in
+      omega (arith, (is.held_is_out other i theirs).1) in
       record {
         all_places = let all = is.all_places in let count = turned.same_count in omega arith;
         words_fit = fits;
@@ -82,27 +84,21 @@ module _ {T : Type 0} (meets : T → Type 0) where
             let found = is.free_is_home i (sym (turned.others i other) ∙ set_now) in
             (found.0, set_else page.homes id i none other ∙ found.1, found.2);
         held_is_out = λ other i holds. elim (after other i holds) [
-          | inl mine ↦ let same : id ≡ i = some_same id i (sym holds_id ∙ mine.1) in
+          | inl mine ↦ let same : id ≡ i = cc (holds_id, mine.1) in
               subst (λ i. (i < length (set page.homes id none)) × (item_bit words i ≡ 0)) same
               (omega arith, turned.here)
           | inr theirs ↦
               let out = is.held_is_out other i theirs.1 in
-              let below = out.0 in
-              let differ : i ≢ id = λ same. let here = ap (item_bit page.words) same in let zero = out.1 in
-              absurd (omega arith) in
-              (omega arith, turned.others i differ ∙ out.1)
+              let differ : i ≢ id = λ same. alone other i (holds_id ∙ ap Some (sym same)) theirs.1 in
+              (omega (arith, out.0), turned.others i differ ∙ out.1)
         ];
         one_holder = λ one two i holds_one holds_two. elim (after one i holds_one) [
           | inl mine ↦ elim (after two i holds_two) [
             | inl also ↦ mine.0 ∙ sym also.0
-            | inr theirs ↦ let same : id ≡ i = some_same id i (sym holds_id ∙ mine.1) in
-                let out = (is.held_is_out two i theirs.1).1 in let here = ap (item_bit page.words) same in
-                absurd (omega arith)
+            | inr theirs ↦ absurd (alone two i mine.1 theirs.1)
           ]
           | inr theirs ↦ elim (after two i holds_two) [
-            | inl mine ↦ let same : id ≡ i = some_same id i (sym holds_id ∙ mine.1) in
-                let out = (is.held_is_out one i theirs.1).1 in let here = ap (item_bit page.words) same in
-                absurd (omega arith)
+            | inl mine ↦ absurd (alone one i mine.1 theirs.1)
             | inr both ↦ is.one_holder one two i theirs.1 both.1
           ]
         ];
@@ -112,12 +108,12 @@ module _ {T : Type 0} (meets : T → Type 0) where
   pub keeps_item : (page : PageState T) (words : List ℕ) (user : ℕ) (old known : UserView T) → IsPage meets page
       → length words ≡ length page.words → ((p : ℕ) → get_or words p 0 < 2 ^ 32)
       → ((i : ℕ) → item_bit words i ≡ item_bit page.words i) → get_elem? page.views user ≡ some old
-      → known.held ≡ old.held
+      → ((i : ℕ) → known.held ≡ Some i → old.held ≡ Some i)
       → IsPage meets (state words page.homes (set page.views user known))
-  keeps_item page words user old known is count fits same_bits at holds_same =
+  keeps_item page words user old known is count fits same_bits at held_before =
       let held : (other i : ℕ) → UserHolds (state words page.homes (set page.views user known)) other i
       → UserHolds page other i = λ other i holds. elim (holds_after page words page.homes user known other i holds) [
-        | inl mine ↦ subst (λ one. UserHolds page one i) (sym mine.0) (old, at, sym holds_same ∙ mine.1)
+        | inl mine ↦ subst (λ one. UserHolds page one i) (sym mine.0) (old, at, held_before i mine.1)
         | inr theirs ↦ theirs.1
       ] in
       record {
@@ -131,11 +127,12 @@ module _ {T : Type 0} (meets : T → Type 0) where
       }
 
   -- a bit is set that its holder's value is home for: the item is free again
-  pub gives_item : (page : PageState T) (words : List ℕ) (user id : ℕ) (me : User T) (value : T) (known : UserView T)
+  pub gives_item : (page : PageState T) (words : List ℕ) (user id : ℕ) (old : UserView T) (value : T)
+      (known : UserView T)
       → IsPage meets page → id < length page.homes → Turns page.words id 1 words → ((p : ℕ) → get_or words p 0 < 2 ^ 32)
-      → get_elem? page.views user ≡ some me.0 → me.0.held ≡ Some id → meets value → known.held ≡ None
+      → get_elem? page.views user ≡ some old → old.held ≡ Some id → meets value → known.held ≡ None
       → IsPage meets (state words (set page.homes id (some (Some value))) (set page.views user known))
-  gives_item page words user id me value known is within turned fits at holds met holds_none =
+  gives_item page words user id old value known is within turned fits at holds met holds_none =
       let homes = set page.homes id (some (Some value)) in
       let places = length-set page.homes id (some (Some value)) in
       let after : (other i : ℕ) → UserHolds (state words homes (set page.views user known)) other i
@@ -162,7 +159,7 @@ module _ {T : Type 0} (meets : T → Type 0) where
             let below = out.0 in
             let differ : i ≢ id =
             λ same. theirs.0 (is.one_holder other user id (subst (UserHolds page other) same theirs.1)
-            (me.0, at, holds)) in
+            (old, at, holds)) in
             (omega arith, turned.others i differ ∙ out.1);
         one_holder = λ one two i holds_one holds_two. is.one_holder one two i (after one i holds_one).1
             (after two i holds_two).1;

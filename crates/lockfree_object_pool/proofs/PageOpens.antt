@@ -1,26 +1,26 @@
 -- A new page keeps the rule.
-use Rattle.std.proofs.Common.{◌≡◌, ℕ, zero, suc, ◌<◌, inl, inr, List, [], ◌∷◌, length, get_or, Option, Some, None, refl}
-use Rattle.std.proofs.Common.{sym, ◌∙◌, ap, subst, arith, map}
+use Rattle.std.proofs.Common.{◌≡◌, ℕ, zero, suc, ◌<◌, List, [], ◌∷◌, length, get_or, Option, Some, None, refl}
+use Rattle.std.proofs.Common.{sym, ap, subst, arith, map}
 use Rattle.std.proofs.lemmas.List.{length-map, get_or_past}
-use Rattle.std.proofs.lemmas.Bool.{cases_lt}
 use mathlib.Core.Option.{some, some-injective, some-ne-none}
 use Rattle.std.specs.Prelude.{All, IsSomeAnd}
 use lib.ListN.{get_elem?}
 use Rattle.atomic_table.specs.Table.{opening}
 use Rattle.atomic_table.proofs.Lists.{at_map}
 use Rattle.lockfree_object_pool.specs.declared.page.user_view.UserView.{UserView}
-use Rattle.lockfree_object_pool.proofs.Ledger.{prefix_same, knows_of}
+use Rattle.lockfree_object_pool.proofs.Ledger.{prefix_same}
+use Rattle.lockfree_object_pool.proofs.PageItems.{only_one}
 use Rattle.lockfree_object_pool.specs.Word.{item_bit, IsAllFree}
-use Rattle.lockfree_object_pool.specs.PageRule.{first_view, IsPage, IsKept, IsSound, Knows}
-
--- a page's first user holds nothing
-first_holds_none : {T : Type 0} (opening : List (Option T)) (known : UserView T) (user id : ℕ)
-    → get_elem? (first_view opening ∷ []) user ≡ some known → known.held ≡ Some id → ⊥
-first_holds_none {T} opening known zero id at holds = let none_held : None ≡ Some id =
-    ap (λ (known : UserView T). known.held) (some-injective (first_view opening) known at) ∙ holds in absurd (cc)
-first_holds_none opening known (suc user) id at holds = absurd (some-ne-none known (sym at))
+use Rattle.lockfree_object_pool.specs.PageRule.{first_view, IsPage, IsKept, Knows}
 
 module _ {T : Type 0} where
+  -- a page's first user holds nothing
+  first_holds_none : (opening : List (Option T)) (known : UserView T) (user id : ℕ)
+      → get_elem? (first_view opening ∷ []) user ≡ some known → known.held ≡ Some id → ⊥
+  first_holds_none opening known user id at holds =
+      let first = (only_one (first_view opening) known user at).1 in
+      cc (ap (λ (known : UserView T). known.held) first, holds)
+
   -- what lies at a place of a page at its start
   opening_at : (items : List (Option T)) (id : ℕ) (value : Option T) → get_elem? (map some items) id ≡ some (some value)
       → get_or items id None ≡ value
@@ -43,51 +43,35 @@ module _ {T : Type 0} (meets : T → Type 0) where
     same_count : length (map some items) ≡ length items
     same_count = length-map items some
 
-    -- each item whose bit is set is at home
-    set_inside : (id : ℕ) → item_bit words id ≡ 1 → id < length items
-    set_inside id one =
-        elim (cases_lt id (length items)) [
-          | inl inside ↦ inside
-          | inr past ↦ let none = free.clear id past in
-              absurd (omega arith)
-        ]
-
     -- a page at its start: each item is free and at home, and nothing was done
     opens_page : IsPage meets (opening words items (first_view items))
     opens_page = record {
       all_places = let places = same_count in let all = free.one_for_32 in omega arith;
       words_fit = free.words_fit;
-      free_is_home = λ id one. let found = filled_at items id (set_inside id one) each in
+      free_is_home = λ id one. let found = filled_at items id (let none = free.clear id in grind arith) each in
           (found.0, at_map some items id (Some found.0) found.1, found.2);
       held_is_out = λ user id holds. absurd (first_holds_none items holds.0 user id holds.1 holds.2);
       one_holder = λ user other id holds _. absurd (first_holds_none items holds.0 user id holds.1 holds.2);
     }
 
-    first_sound : IsSound (first_view items)
-    first_sound = record { legal = tt; since_load = prefix_same []; own_operations = refl; holds = refl }
-
     first_informed : (user : ℕ) (known : UserView T) → get_elem? (first_view items ∷ []) user ≡ some known
         → Knows items [] user known
-    first_informed zero known at =
-        subst (Knows items [] 0) (some-injective (first_view items) known at)
-        (knows_of _ _ _ _ record {
-          sound = first_sound;
-          number = refl;
-          same_opening = refl;
-          prefix = prefix_same [];
-          told_before = prefix_same [];
-          own_so_far = refl;
-        })
-    first_informed (suc user) known at = absurd (some-ne-none known (sym at))
+    first_informed user known at =
+        let first = only_one (first_view items) known user at in
+        subst (λ (pair : ℕ × UserView T). Knows items [] pair.0 pair.1) (λ i. (first.0 i, first.1 i)) record {
+          seen = prefix_same [];
+          told = prefix_same [];
+          acting = λ _. record {
+            sound = record { legal = tt; since_load = prefix_same []; own_operations = refl; holds = refl };
+            number = refl;
+            same_opening = refl;
+            own_so_far = refl;
+          };
+        }
 
     -- nothing lies at an item whose bit is clear, since there is none
     nothing_past : (id : ℕ) → item_bit words id ≡ 0 → get_or items id None ≡ None
-    nothing_past id out =
-        elim (cases_lt id (length items)) [
-          | inl inside ↦ let one = free.set id inside in
-              absurd (omega arith)
-          | inr past ↦ get_or_past items id None past
-        ]
+    nothing_past id out = grind (arith, free.set id, get_or_past items id None)
 
     pub opens : IsKept meets items (opening words items (first_view items))
     opens = (

@@ -2,14 +2,14 @@
 use Rattle.std.proofs.Common.{◌≡◌, ℕ, ◌-◌, ◌*◌, ◌/◌, ◌%◌, ◌^◌, ◌<◌, suc, zero, min, List, length, set, get_or}
 use Rattle.std.proofs.Common.{get_or-set_same, length-set, ◌≢◌, ◌+◌, ◌≤◌, bit_and, bit_or, refl, sym, ◌∙◌, ap, arith}
 use Rattle.std.proofs.Common.{inl, inr, replicate}
-use Rattle.std.specs.Int.{bit_at, bit_not, w32}
+use Rattle.std.specs.Int.{bit_at}
 use Rattle.std.specs.Int.Bits.{or_add_and}
 use native.Mathlib.Decide.{ℕ_discrete}
 use mathlib.Core.Logic.{dite}
 use Rattle.std.proofs.lemmas.List.{get_or-set_other, get_or-replicate, get_or_past, length-replicate}
 use Rattle.std.proofs.lemmas.Bool.{cases_lt}
-use Rattle.std.proofs.lemmas.Nat.Bits.{bit_at_lowest, bit_at-suc, bit_at_and, bit_at_set_same, bit_at_set_other}
-use Rattle.std.proofs.lemmas.Nat.Bits.{bit_at_clear_same, bit_at_clear_other, bit_at_above, bit_at-lt, bit_at_ones}
+use Rattle.std.proofs.lemmas.Nat.Bits.{bit_at_lowest, bit_at-suc, bit_at_and}
+use Rattle.std.proofs.lemmas.Nat.Bits.{bit_at_above, bit_at-lt, bit_at_ones}
 use Rattle.std.proofs.lemmas.Nat.Bits.{bit_at_ones_above, bit_at_or, bit_at-zero, same_from_bits}
 use lib.Pow.{pow_mono, ones_lt}
 use Rattle.lockfree_object_pool.specs.Word.{all_bits, SetsBit, ClearsBit, item_bit, IsAllFree}
@@ -40,61 +40,32 @@ bit_at-less_one (suc k) word set lowest (suc i) =
 pub clears_least : (word k : ℕ) → bit_at word k ≡ 1 → ((i : ℕ) → i < k → bit_at word i ≡ 0)
     → ClearsBit word k (bit_and word (word - 1))
 clears_least word k set lowest =
-    let less = bit_at-less_one k word set lowest in
+    let less = λ (i : ℕ). bit_at-less_one k word set lowest i in
     record {
-      clear = bit_at_and word (word - 1) k ∙ ap (min (bit_at word k)) ((less k).0 refl) ∙ omega arith;
-      others = λ i other.
-          let both = bit_at_and word (word - 1) i in
-          elim (cases_lt i k) [
-            | inl below ↦ let zero = lowest i below in omega arith
-            | inr above ↦ let same = (less i).1 (omega arith) in omega arith
-          ];
+      clear = grind (arith, bit_at_and word (word - 1) k, (less k).0 refl, set);
+      others = λ i other. grind (arith, bit_at_and word (word - 1) i, lowest i, (less i).1);
     }
-
--- a word with one bit set
-pub sets_bit : (word id : ℕ) → id < 32 → SetsBit word id (bit_or word (1 * 2 ^ id % 2 ^ 32))
-sets_bit word id within = record {
-  set = bit_at_set_same w32 word id within;
-  others = λ i other. bit_at_set_other w32 word id within i other;
-}
-
--- a word with one bit clear
-pub clears_bit : (word id : ℕ) → word < 2 ^ 32 → id < 32
-    → ClearsBit word id (bit_and word (bit_not w32 (1 * 2 ^ id % 2 ^ 32)))
-clears_bit word id fits within = record {
-  clear = bit_at_clear_same w32 word id within;
-  others = λ i other. elim (cases_lt i 32) [
-    | inl inside ↦ bit_at_clear_other w32 word id within i inside other
-    | inr past ↦
-        let zero = bit_at_above word 32 i fits past in
-        let both = bit_at_and word (bit_not w32 (1 * 2 ^ id % 2 ^ 32)) i in omega arith
-  ];
-}
 
 -- an and with a word that lacks one bit alone clears that bit
 pub and_clears : (word operand id : ℕ) → word < 2 ^ 32 → ClearsBit all_bits id operand
     → ClearsBit word id (bit_and word operand)
 and_clears word operand id fits lacks = record {
-  clear = bit_at_and word operand id ∙ (let zero = lacks.clear in let low = bit_at-lt word id in omega arith);
-  others = λ i other.
-      let both = bit_at_and word operand i in
-      let same = lacks.others i other in
-      let low = bit_at-lt word i in
-      elim (cases_lt i 32) [
-        | inl inside ↦ let one = bit_at_ones 32 i inside in omega arith
-        | inr past ↦ let zero = bit_at_above word 32 i fits past in omega arith
-      ];
+  clear = grind (arith, bit_at_and word operand id, lacks.clear);
+  others = λ i other. grind (
+    arith,
+    bit_at_and word operand i,
+    lacks.others i other,
+    bit_at-lt word i,
+    bit_at_ones 32 i,
+    bit_at_above word 32 i fits,
+  );
 }
 
 -- an or with a word that has one bit alone sets that bit
 pub or_sets : (word operand id : ℕ) → SetsBit 0 id operand → SetsBit word id (bit_or word operand)
 or_sets word operand id has = record {
-  set = bit_at_or word operand id ∙ (let one = has.set in let low = bit_at-lt word id in omega arith);
-  others = λ i other.
-      let both = bit_at_or word operand i in
-      let same = has.others i other in
-      let zero = bit_at-zero i in
-      omega arith;
+  set = grind (arith, bit_at_or word operand id, has.set, bit_at-lt word id);
+  others = λ i other. grind (arith, bit_at_or word operand i, has.others i other, bit_at-zero i);
 }
 
 -- to add a word that has one bit alone is an or with it, where that bit was clear
@@ -102,12 +73,8 @@ pub add_sets : (word operand id : ℕ) → word < 2 ^ 32 → operand < 2 ^ 32 �
     → (word + operand) % 2 ^ 64 ≡ bit_or word operand
 add_sets word operand id word_fits operand_fits has clear =
     let apart : bit_and word operand ≡ 0 = same_from_bits (bit_and word operand) 0 (λ i.
-    let both = bit_at_and word operand i in
-    let zero = bit_at-zero i in
-    let low = bit_at-lt operand i in
-    dite (ℕ_discrete i id)
-    (λ same. let here = ap (bit_at word) same ∙ clear in omega arith)
-    (λ other. let none = has.others i other in omega arith)) in
+    let here : i ≡ id → bit_at word i ≡ 0 = λ same. ap (bit_at word) same ∙ clear in
+    grind (arith, bit_at_and word operand i, bit_at-zero i, bit_at-lt operand i, has.others i)) in
     let sum = or_add_and word operand in
     omega arith
 
@@ -146,68 +113,51 @@ turns words place bit value new within inside here others = record {
 pub fits_after : (words : List ℕ) (place new : ℕ) → place < length words → ((p : ℕ) → get_or words p 0 < 2 ^ 32)
     → new < 2 ^ 32 → (p : ℕ) → get_or (set words place new) p 0 < 2 ^ 32
 fits_after words place new inside fit small p = dite (ℕ_discrete p place)
-    (λ same. let here = ap (λ p. get_or (set words place new) p 0) same ∙ get_or-set_same words place new 0 inside in
-    omega arith)
-    (λ other. let was = fit p in let same = get_or-set_other words place p new 0 other in omega arith)
+    (λ same. rw (same, get_or-set_same words place new 0 inside) small)
+    (λ other. rw (get_or-set_other words place p new 0 other) (fit p))
 
--- words that are all set but the last, of which only the lowest bits are
 -- a word that lacks one bit alone tells which
 pub lacks_one : (operand bit other : ℕ) → other < 32 → ClearsBit all_bits bit operand → ClearsBit all_bits other operand
     → bit ≡ other
-lacks_one operand bit other within one two = dite (ℕ_discrete bit other) (λ same. same)
-    (λ differ. let set = one.others other (λ same. differ (sym same)) in let clear = two.clear in
-    let all = bit_at_ones 32 other within in absurd (omega arith))
+lacks_one operand bit other within one two = grind (arith, one.others other, two.clear, bit_at_ones 32 other within)
 
+-- words that are all set but the last, of which only the lowest bits are
 module _ (full low : ℕ) (some : 0 < low) (within : low ≤ 32) where
+  abbrev words : List ℕ
+  words = replicate (full + 1) all_bits
+
   abbrev pub free_words : List ℕ
-  free_words = set (replicate (full + 1) all_bits) full (2 ^ low - 1)
+  free_words = set words full (2 ^ low - 1)
 
-  words_long : length (replicate (full + 1) all_bits) ≡ full + 1
-  words_long = length-replicate (full + 1) all_bits
-
-  last_word : get_or free_words full 0 ≡ 2 ^ low - 1
-  last_word = let long = words_long in
-      get_or-set_same (replicate (full + 1) all_bits) full (2 ^ low - 1) 0 (omega arith)
-
-  full_word : (place : ℕ) → place < full → get_or free_words place 0 ≡ all_bits
-  full_word place before =
-      get_or-set_other (replicate (full + 1) all_bits) full place (2 ^ low - 1) 0 (λ same.
-      let here : place ≡ full = same in absurd (omega arith))
-      ∙ get_or-replicate (full + 1) place all_bits 0 (omega arith)
-
-  past_word : (place : ℕ) → full < place → get_or free_words place 0 ≡ 0
-  past_word place past = let long = words_long in
-      let same = length-set (replicate (full + 1) all_bits) full (2 ^ low - 1) in
-      get_or_past free_words place 0 (omega arith)
-
-  word_fits : (place : ℕ) → get_or free_words place 0 < 2 ^ 32
-  word_fits place = elim (cases_lt place full) [
-    | inl before ↦ let all = full_word place before in omega arith
-    | inr from ↦ elim (cases_lt full place) [
-      | inl past ↦ let none = past_word place past in omega arith
-      | inr last ↦
-          let here : place ≡ full = omega arith in
-          let is : get_or free_words place 0 ≡ 2 ^ low - 1 = ap (λ p. get_or free_words p 0) here ∙ last_word in
-          let below = ones_lt low in let most : 2 ^ low ≤ 2 ^ 32 = pow_mono within in omega arith
-    ]
-  ]
-
-  bit_of_last : (id : ℕ) → id / 32 ≡ full → item_bit free_words id ≡ bit_at (2 ^ low - 1) (id % 32)
-  bit_of_last id here = ap (λ p. bit_at (get_or free_words p 0) (id % 32)) here ∙ ap (λ w. bit_at w (id % 32)) last_word
+  -- the lowest bits of each word are set, as many as there are items from its first on
+  word_is : (place : ℕ) → get_or free_words place 0 ≡ 2 ^ min 32 (32 * full + low - 32 * place) - 1
+  word_is place =
+      let long = length-replicate (full + 1) all_bits in
+      let same = length-set words full (2 ^ low - 1) in
+      let bits = λ (count : ℕ) (is : count ≡ min 32 (32 * full + low - 32 * place)). ap (λ n. 2 ^ n - 1) is in
+      elim (cases_lt place full) [
+        | inl before ↦
+            get_or-set_other words full place (2 ^ low - 1) 0 (λ same. let here : place ≡ full = same in
+            absurd (omega arith))
+            ∙ get_or-replicate (full + 1) place all_bits 0 (omega arith) ∙ bits 32 (omega arith)
+        | inr from ↦ elim (cases_lt full place) [
+          | inl past ↦ get_or_past free_words place 0 (omega arith) ∙ bits 0 (omega arith)
+          | inr last ↦
+              let here : place ≡ full = omega arith in
+              ap (λ p. get_or free_words p 0) here ∙ get_or-set_same words full (2 ^ low - 1) 0 (omega arith)
+              ∙ bits low (omega arith)
+        ]
+      ]
 
   pub all_free : IsAllFree (32 * full + low) free_words
   all_free = record {
-    one_for_32 = let long = words_long in let same = length-set (replicate (full + 1) all_bits) full (2 ^ low - 1) in
-        omega arith;
-    words_fit = word_fits;
-    set = λ id inside. elim (cases_lt (id / 32) full) [
-      | inl before ↦ ap (λ w. bit_at w (id % 32)) (full_word (id / 32) before) ∙ bit_at_ones 32 (id % 32) (omega arith)
-      | inr from ↦ let here : id / 32 ≡ full = omega arith in
-          bit_of_last id here ∙ bit_at_ones low (id % 32) (omega arith)
-    ];
-    clear = λ id past. elim (cases_lt full (id / 32)) [
-      | inl behind ↦ ap (λ w. bit_at w (id % 32)) (past_word (id / 32) behind) ∙ bit_at-zero (id % 32)
-      | inr to ↦ let here : id / 32 ≡ full = omega arith in
-          bit_of_last id here ∙ bit_at_ones_above low (id % 32) (omega arith)
-    ];
+    one_for_32 = let long = length-replicate (full + 1) all_bits in
+        let same = length-set words full (2 ^ low - 1) in omega arith;
+    words_fit = λ place.
+        let word = word_is place in
+        let count : ℕ = min 32 (32 * full + low - 32 * place) in
+        let below = ones_lt count in
+        let most : 2 ^ count ≤ 2 ^ 32 = pow_mono {i = count} {j = 32} (omega arith) in omega arith;
+    set = λ id inside. ap (λ w. bit_at w (id % 32)) (word_is (id / 32)) ∙ bit_at_ones _ (id % 32) (omega arith);
+    clear = λ id past. ap (λ w. bit_at w (id % 32)) (word_is (id / 32)) ∙ bit_at_ones_above _ (id % 32) (omega arith);
   }

@@ -13,7 +13,7 @@ pub record StepCount : Type 0 where
 abbrev pub no_steps : StepCount
 no_steps = record { loads = 0; tries = 0 }
 
--- an operation has read each of so many words once at most, and tried each of their bits once at most
+-- an operation has made so many loads at most, and 32 tries for each at most
 pub record IsWithin (words : ℕ) (before after : StepCount) : Type 0 where
   pub loads : after.loads ≤ before.loads + words
   pub tries : after.tries ≤ before.tries + 32 * words

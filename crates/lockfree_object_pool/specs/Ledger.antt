@@ -38,14 +38,17 @@ module _ {T : Type 0} where
   held_id (Pull user id value ∷ before) = Some id
   held_id (Return user id value ∷ before) = None
 
-  -- what lies at a number, in a pool that opened with these values: the value of its last return, the opening's where
-  -- no operation was on it, and nothing where its last operation is a pull
+  -- what an operation leaves at its number
+  abbrev pub left_by : Operation T → Option T
+  left_by (Pull user id value) = None
+  left_by (Return user id value) = Some value
+
+  -- what lies at a number, in a pool that opened with these values: what its last operation left, and the opening's where
+  -- no operation was on it
   abbrev pub value_at : List (Option T) → History T → ℕ → Option T
   value_at opening [] id = get_or opening id None
-  value_at opening (Pull user place value ∷ before) id =
-      if place == id then None else value_at opening before id
-  value_at opening (Return user place value ∷ before) id =
-      if place == id then Some value else value_at opening before id
+  value_at opening (operation ∷ before) id =
+      if id_of operation == id then left_by operation else value_at opening before id
 
   -- who holds nothing pulls exactly the value that lies there
   pub record MayPull (opening : List (Option T)) (before : History T) (user id : ℕ) (value : T) : Type 0 where

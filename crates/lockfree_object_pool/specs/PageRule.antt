@@ -63,17 +63,15 @@ module _ {T : Type 0} where
     pub own_operations : operations_of known.user known.operations ≡ known.own
     pub holds : known.held ≡ held_id known.own
 
-  -- what this user knows is so, of these operations of the page up to now
+  -- what this user knows is so, and its own operations are all that it made among these of the page
   pub record IsInformed (opening : List (Option T)) (operations : History T) (user : ℕ)
       (known : UserView T) : Type 0 where
     pub sound : IsSound known
     pub number : known.user ≡ user
     pub same_opening : known.opening ≡ opening
-    pub prefix : IsPrefixOf known.operations operations
-    pub told_before : IsPrefixOf known.told operations
     pub own_so_far : operations_of user operations ≡ known.own
 
-  -- what each user knows, and so it is of each user that hasn't gone
+  -- what each user knows are prefixes of the page's operations up to now, and so it is of each user that hasn't gone
   pub record Knows (opening : List (Option T)) (operations : History T) (user : ℕ) (known : UserView T) : Type 0 where
     pub seen : IsPrefixOf known.operations operations
     pub told : IsPrefixOf known.told operations
@@ -211,46 +209,12 @@ module _ {T : Type 0} where
 
 -- a user that was told what another knew
 abbrev pub told_of : {T : Type 0} → UserView T → UserView T → UserView T
-told_of old other =
-    record {
-      held = old.held;
-      user = old.user;
-      opening = old.opening;
-      operations = old.operations;
-      since = old.since;
-      told = other.operations;
-      gone = old.gone;
-      own = old.own;
-      loads = old.loads;
-      tries = old.tries;
-    }
+told_of old other = record old { told = other.operations }
 
 -- who only remembers what another knew
 abbrev pub witness_of : {T : Type 0} → UserView T → UserView T
-witness_of known = record {
-  held = None;
-  user = 0;
-  opening = known.opening;
-  operations = known.operations;
-  since = [];
-  told = [];
-  gone = true;
-  own = [];
-  loads = 0;
-  tries = 0;
-}
+witness_of known = record (first_view known.opening) { operations = known.operations; gone = true }
 
 -- a user that has gone
 abbrev pub gone_view : {T : Type 0} → UserView T
-gone_view = record {
-  held = None;
-  user = 0;
-  opening = [];
-  operations = [];
-  since = [];
-  told = [];
-  gone = true;
-  own = [];
-  loads = 0;
-  tries = 0;
-}
+gone_view = record (first_view []) { gone = true }

@@ -21,6 +21,7 @@ pub trait Init<T, K: Clean<T>>: Drop {
     /// The answers that may come. An impl that doesn't say leaves any that meets the condition open.
     ghost answers: { Self → Option T → Type 0 } = { λ _ _. ⊤ };
 
+    /// A new value, or `None` as a refusal, also for want of memory: a pull then answers `Init`.
     fn make(&self) -> Option<T>
         ensures answer { answers self.now result }
         ensures meets { IfSome result K.meets };
@@ -32,6 +33,7 @@ pub trait Reset<T, K: Clean<T>>: Drop {
     /// meets the condition open.
     ghost leaves: { Self → T → T → Type 0 } = { λ _ _ _. ⊤ };
 
+    /// Makes a value ready to be kept.
     fn reset(&self, value: &mut T)
         ensures leaves { leaves self.now value.old value.new }
         ensures meets { K.meets value.new };

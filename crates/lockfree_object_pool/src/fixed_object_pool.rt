@@ -114,7 +114,7 @@ impl<T: Drop, I: Init<T, K>, R: Reset<T, K>, K: Clean<T>> FixedObjectPool<T, I, 
     }
 
     /// As `pull`, which begins at this page, counted round and round. It reads and sets no hint, so that threads which keep to
-    /// pages of their own don't meet.
+    /// pages of their own share no word of items; a return to a page that was full reads the pool's hint, and may set it.
     ///
     /// # Errors
     ///
@@ -231,7 +231,7 @@ impl<T: Drop, I: Init<T, K>, R: Reset<T, K>, K: Clean<T>> FixedObjectPool<T, I, 
     ///
     /// # Errors
     ///
-    /// The owner and the note, with the evidence that each item was out during this call.
+    /// The owner and the note, which now knows that each item was out during this call.
     pub fn pull_by_owner(
         self: Arc<Self>,
         page: usize,

@@ -4,7 +4,7 @@ use crate::fixed_object_pool::FixedObjectPool;
 use crate::fixed_reusable::FixedReusableOf;
 use std::sync::Arc;
 
-/// A pulled value, with an owner of its pool. Its end resets it and brings it back.
+/// A pulled value, with an owner of its pool. Its drop resets it and brings it back.
 pub type FixedOwnedReusable<T, I, R, K = AnyValue> = FixedReusableOf<
     T,
     Arc<FixedObjectPool<T, I, R, K>>,

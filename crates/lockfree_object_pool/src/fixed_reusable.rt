@@ -109,14 +109,14 @@ impl<T, P: SharedFixedPool<T>> Model for TakenItem<T, P> {
         × (taken.holding.number < (P.identity taken.pool).slots) };
 }
 
-/// A pulled value, with a shared pool. Its end resets it and brings it back to the pool.
+/// A pulled value, with a shared pool. Its drop resets it and brings it back to the pool.
 pub struct FixedReusableOf<T: Drop, P: SharedFixedPool<T>> {
     lender: Lender,
     taken: TakenItem<T, P>,
     value: T,
 }
 
-/// A pulled value, under a borrow of its pool. Its end resets it and brings it back.
+/// A pulled value, under a borrow of its pool. Its drop resets it and brings it back.
 pub type FixedReusable<'p, T, I, R, K = AnyValue> = FixedReusableOf<
     T,
     &'p FixedObjectPool<T, I, R, K>,

@@ -18,7 +18,7 @@ pub trait FreeList<T, K: Clean<T>>: Drop {
     fn put<W: Wait>(&self, rt: &W, room: Room<T>, value: T)
         requires { K.meets value };
 
-    /// How many values are kept at this moment, `usize::MAX` where there are more.
+    /// How many values are kept at this moment, `usize::MAX` where there are more. The two lists of this crate count them under the lock.
     fn count<W: Wait>(&self, rt: &W) -> usize;
 
     /// Drops all values that are kept, with their rooms. The two lists of this crate drop them without the lock.

@@ -114,6 +114,9 @@ impl<T: Drop, I: Init<T, K>, R: Reset<T, K>, K: Clean<T>> LinearObjectPool<T, I,
     ///
     /// The first page is asked, then one that a hint names, then each page in turn; of a page the lowest free item comes.
     ///
+    /// A hint word stands for 64 pages. A pull that finds no hint asks each linked page, so that the making of many pages costs their
+    /// number squared; who links page `2^b` also makes the links of as many pages.
+    ///
     /// # Errors
     ///
     /// `Limit`, where each item of as many pages as the limit allows was observed taken in this call. Where a page is made:

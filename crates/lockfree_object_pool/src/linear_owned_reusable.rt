@@ -27,7 +27,7 @@ pub(crate) struct OwnedTakenItem<T: Drop, I: Init<T, K>, R: Reset<T, K>, K: Clea
     ghost in_page: { holding.number < PAGE_ITEMS },
 }
 
-/// A pulled value. Its end resets it and brings it back to its page.
+/// A pulled value. Its drop resets it and brings it back to its page.
 pub struct LinearOwnedReusable<T: Drop, I: Init<T, K>, R: Reset<T, K>, K: Clean<T> = AnyValue> {
     taken: OwnedTakenItem<T, I, R, K>,
     value: T,

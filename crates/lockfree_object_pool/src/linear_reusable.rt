@@ -12,7 +12,7 @@ use crate::page::{PageId, PageSlot, TakenId};
 use std::fmt::{self, Debug, Formatter, Write};
 use std::ops::{Deref, DerefMut};
 
-/// A pulled value. Its end resets it and brings it back to its page.
+/// A pulled value. Its drop resets it and brings it back to its page.
 pub struct LinearReusable<'p, T: Drop, I: Init<T, K>, R: Reset<T, K>, K: Clean<T> = AnyValue> {
     pool: &'p LinearObjectPool<T, I, R, K>,
     lender: Lender,

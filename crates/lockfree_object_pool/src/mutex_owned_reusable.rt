@@ -3,6 +3,6 @@ use crate::mutex_object_pool::MutexObjectPool;
 use crate::stack_reusable::StackReusable;
 use std::sync::Arc;
 
-/// A value with the room for its return. Its end waits for the pool's mutex, and brings it back
+/// A value with the room for its return. Its drop waits for the pool's mutex, and brings it back
 /// reset.
 pub type MutexOwnedReusable<T, I, R, K, W> = StackReusable<T, Arc<MutexObjectPool<T, I, R, K>>, W>;

@@ -2,6 +2,6 @@
 use crate::mutex_object_pool::MutexObjectPool;
 use crate::stack_reusable::StackReusable;
 
-/// A value with the room for its return. Its end waits for the pool's mutex, and brings it back
+/// A value with the room for its return. Its drop waits for the pool's mutex, and brings it back
 /// reset.
 pub type MutexReusable<'p, T, I, R, K, W> = StackReusable<T, &'p MutexObjectPool<T, I, R, K>, W>;

@@ -1,4 +1,4 @@
-//! A pool that keeps nothing: each pull makes an item, whose end drops it.
+//! A pool that keeps nothing: each pull makes an item, which is dropped with its reusable.
 ghost use Rattle.std.specs.Prelude.{◌≡◌, Some, None, IfOk, IfErr};
 ghost use Rattle.std.specs.Arc.{arc_value};
 ghost use Rattle.lockfree_object_pool.specs.NonePool.{none_init, none_value};
@@ -21,6 +21,7 @@ pub struct NoneObjectPool<T, I: Fn() -> Option<T>> {
 }
 
 impl<T, I: Fn() -> Option<T>> NoneObjectPool<T, I> {
+    /// A pool whose items this closure makes.
     pub fn new(init: I) -> NoneObjectPool<T, I>
         ensures { none_init result ≡ init }
     {

@@ -4,7 +4,7 @@ ghost use Rattle.std.specs.Prelude.{◌≡◌};
 use std::fmt::{self, Debug, Formatter, Write};
 use std::ops::{Deref, DerefMut};
 
-/// A pulled value. Its end drops it.
+/// A pulled value, which is dropped with it.
 #[derive(Drop)]
 pub struct NoneReusable<T> {
     value: T,
@@ -13,6 +13,7 @@ pub struct NoneReusable<T> {
 impl<T> NoneReusable<T> {
     ghost use Rattle.lockfree_object_pool.specs.NonePool.{none_value};
 
+    /// A reusable of this value, of no pool.
     pub fn new(value: T) -> NoneReusable<T>
         ensures { none_value result ≡ value }
     {

@@ -2,9 +2,9 @@
 //!
 //! This file has the pure steps of a word, and a page with its calls. Below it: what users do with a page's items
 //! (`history`), what holds of a page between any two steps and the kinds of step (`rule`), the steps themselves
-//! (`steps`) on the words and places that a page and a fixed pool have (`items`), what a user knows (`user_view`), an item
-//! that is out, under a borrow or an owner of its page (`slot`, `owned_slot`), the answer of a full page (`full_seen`), and
-//! what is known of a page while no item is held (`note`).
+//! (`steps`) on the words and places that a page and a fixed pool have (`items`), what a user knows (`user_view`) and has of an
+//! item that it took (`holding`), an item that is out, under a borrow or an owner of its page (`slot`, `owned_slot`), the answer
+//! of a full page (`full_seen`), and what is known of a page while no item is held (`note`).
 //!
 //! No call waits for another thread or tries again: a page reads its word once, and then clears single bits.
 ghost use Rattle.std.specs.Prelude.{◌≡◌, ◌==◌, ◌+◌, ◌-◌, ◌^◌, ◌<◌, ◌≤◌, ◌↔◌, ℕ, [], false, Option, None, Some, IsTrue, IsNone, IfSome, IsOk, IfOk, IfErr, bit_and, bit_or};
@@ -132,7 +132,7 @@ impl<T, K: Clean<T>> Page<T, K> {
     ///
     /// # Errors
     ///
-    /// None comes: a page counts no users, and the clause `succeeds` says so.
+    /// There is none: a page counts no users, and the clause `succeeds` says so. `None` has no clause; `try_alloc` gives the evidence.
     pub fn alloc(&self) -> Result<Option<PageSlot<'_, T, K>>, PullError>
         ensures succeeds { IsOk result }
         ensures pulled { IfOk result
@@ -152,7 +152,7 @@ impl<T, K: Clean<T>> Page<T, K> {
     ///
     /// # Errors
     ///
-    /// None comes, as of `alloc`.
+    /// There is none, as of `alloc`.
     pub fn try_alloc<'s, 'p>(
         &'s self,
         pass: &'p PullPass,
@@ -179,7 +179,7 @@ impl<T, K: Clean<T>> Page<T, K> {
     ///
     /// # Errors
     ///
-    /// None comes, as of `alloc`.
+    /// There is none, as of `alloc`.
     pub fn try_alloc_from<'s, 'p>(
         &'s self,
         pass: &'p PullPass,

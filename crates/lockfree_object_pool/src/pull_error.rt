@@ -11,10 +11,10 @@ pub enum PullError {
     /// A growth was refused, or a counter is at its type's end.
     #[error("out of memory")]
     Memory = 1,
-    /// The pool's `init` answered `None`.
+    /// The pool's `init` answered `None`. One that takes memory answers so where there is none, as `WithCapacity` does.
     #[error("init gave no item")]
     Init = 2,
-    /// All pages that the pool may have are linked, and the pull observed each of their items taken.
+    /// Each item of the pages that the pool, or the pull, may have was observed taken in this call.
     #[error("the pool is at its limit")]
     Limit = 3,
 }

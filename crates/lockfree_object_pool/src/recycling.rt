@@ -26,10 +26,11 @@ pub trait Recyclable: Drop {
     /// Nothing of an earlier use is left in the value.
     ghost is_clean: { Self → Type 0 };
 
-    /// A new value, or `None` as a refusal.
+    /// A new value, or `None` as a refusal, also for want of memory: a pull then answers `Init`.
     fn make(alloc: Global) -> Option<Self>
         ensures { IfSome result is_clean };
 
+    /// Makes the value clean.
     fn reset(&mut self)
         ensures { is_clean self.new };
 }
@@ -69,6 +70,7 @@ pub struct Recycler {
 }
 
 impl Recycler {
+    /// Makes values by this allocator.
     pub fn new(alloc: Global) -> Recycler {
         Recycler { alloc }
     }

@@ -2,7 +2,7 @@
 use crate::spin_lock_object_pool::SpinLockObjectPool;
 use crate::stack_reusable::StackReusable;
 
-/// A value with the room for its return. Its end waits for the pool's lock, and brings it back
+/// A value with the room for its return. Its drop waits for the pool's lock, and brings it back
 /// reset.
 pub type SpinLockReusable<'p, T, I, R, K, W> = StackReusable<
     T,

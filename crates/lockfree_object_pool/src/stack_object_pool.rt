@@ -138,7 +138,8 @@ impl<
         Ok(())
     }
 
-    /// How many values are kept at this moment, `usize::MAX` where there are more. Other threads may change it meanwhile.
+    /// How many values are kept at this moment, `usize::MAX` where there are more. They are counted one by one under the lock, and other
+    /// threads may change it meanwhile.
     pub fn kept<W: Wait>(&self, rt: &W) -> usize {
         self.kept.count(rt)
     }

@@ -61,7 +61,7 @@ impl<
     }
 }
 
-/// A value with the room for its return. Its end waits for the pool's lock, and brings it back
+/// A value with the room for its return. Its drop waits for the pool's lock, and brings it back
 /// reset.
 pub struct StackReusable<T: Drop, P: SharedStackPool<T>, W: Wait + Copy> {
     pool: P,
@@ -79,7 +79,7 @@ impl<T: Drop, P: SharedStackPool<T>, W: Wait + Copy> StackReusable<T, P, W> {
     ///
     /// # Errors
     ///
-    /// The value, where there is no memory for the room of its return.
+    /// The value, where there is no memory for the room of its return. The pool, or its owner, that was given is dropped.
     pub fn new(rt: &W, pool: P, value: T) -> Result<StackReusable<T, P, W>, T>
         ensures pool { IfOk result (λ item. stack_pool item ≡ pool) }
         ensures attached { MatchResult result (λ item. stack_value item ≡ value)

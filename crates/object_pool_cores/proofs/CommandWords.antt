@@ -1,5 +1,5 @@
 -- What the words of a line say of its numbers.
-use Rattle.std.proofs.Common.{◌≡◌, ◌≢◌, ℕ, List, [], ◌∷◌, ◌++◌, refl, sym, ap, subst, ◌∙◌, arith}
+use Rattle.std.proofs.Common.{◌≡◌, ◌≢◌, ℕ, List, [], ◌∷◌, ◌++◌, refl, sym, ap, ◌∙◌, arith}
 use Rattle.std.specs.Prelude.{codes, slice_index}
 use Rattle.std.specs.Char.{IsAsciiDigit}
 use Rattle.std.proofs.lemmas.List.Elements.{All-head, All-tail, All-weaker}
@@ -13,7 +13,7 @@ HasNoSpace-number text n number =
 
 -- two numbers have a space between them
 pub AreNumbers-space : (text : List ℕ) (first second : ℕ) → HasNoSpace text → AreNumbers text first second → ⊥
-AreNumbers-space text first second none numbers = with_space numbers.0 numbers.1 (subst HasNoSpace numbers.2 none)
+AreNumbers-space text first second none numbers = with_space numbers.0 numbers.1 (rw numbers.2 at none)
   where
     with_space : (a b : List ℕ) → HasNoSpace (a ++ 32 ∷ b) → ⊥
     with_space [] b clear = All-head (λ byte. byte ≢ 32) 32 b clear refl
@@ -37,10 +37,7 @@ pub AreNumbers-parts : (text front back : List ℕ) (first second : ℕ) → Has
     → AreNumbers text first second → IsNumber front first × IsNumber back second
 AreNumbers-parts text front back first second clear cut numbers =
     let same = same_parts numbers.0 numbers.1 front back (HasNoSpace-number numbers.0 first numbers.3) clear
-    (sym numbers.2 ∙ cut) in (
-      subst (λ (part : List ℕ). IsNumber part first) same.0 numbers.3,
-      subst (λ (part : List ℕ). IsNumber part second) same.1 numbers.4,
-    )
+    (sym numbers.2 ∙ cut) in (rw same.0 at numbers.3, rw same.1 at numbers.4)
 
 -- a line that begins as a write is a write
 pub IsBadLine-write : (line rest : List ℕ) → line ≡ codes "write " ++ rest
@@ -49,7 +46,7 @@ IsBadLine-write line rest begins none Pull is = let letters : 112 ≡ 119 =
     ap (λ bytes. slice_index bytes 0) (sym is ∙ begins) in omega (arith, letters)
 IsBadLine-write line rest begins none (Write index value) is =
     let same : is.0 ≡ rest = let e = sym is.1 ∙ begins in cc in
-    none index value (subst (λ (part : List ℕ). AreNumbers part index value) same is.2)
+    none index value (rw same at is.2)
 IsBadLine-write line rest begins none (Return index) is =
     let letters : 114 ≡ 119 = ap (λ bytes. slice_index bytes 0) (sym is.1 ∙ begins) in omega (arith, letters)
 IsBadLine-write line rest begins none (Forget index) is =

@@ -2,30 +2,16 @@
 -- and what is out has a holder.
 use Rattle.std.proofs.Common.{◌≡◌, ◌≢◌, inl, inr, ℕ, ◌<◌, ◌≤◌, ◌==◌, Bool, true, false, if◌then◌else◌, Option, Some}
 use Rattle.std.proofs.Common.{None, List, [], ◌∷◌, ◌++◌, length, get_or, refl, ap, sym, ◌∙◌}
-use Rattle.std.proofs.lemmas.Bool.{cases_eq, cases_lt, eq-eqb, ne_eqb}
+use Rattle.std.proofs.lemmas.Bool.{cases_eq, cases_lt}
 use Rattle.std.proofs.lemmas.List.{get_or_append_left, get_or_past}
 use Rattle.lockfree_object_pool.specs.declared.page.history.Operation.{Operation}
 use Rattle.lockfree_object_pool.specs.declared.page.history.Operation.TheVariants.{Pull, Return}
-use Rattle.lockfree_object_pool.specs.Ledger.{History, user_of, id_of, operations_of, held_id, value_at, MayFollow}
-use Rattle.lockfree_object_pool.specs.Ledger.{IsLegal, NoOperationOn}
-use Rattle.lockfree_object_pool.proofs.Ledger.{operations_of_own, operations_of_other}
+use Rattle.lockfree_object_pool.specs.Ledger.{History, user_of, id_of, operations_of, held_id, left_by, value_at}
+use Rattle.lockfree_object_pool.specs.Ledger.{MayFollow, IsLegal, NoOperationOn}
+use Rattle.lockfree_object_pool.proofs.Ledger.{operations_of_own, operations_of_other, value_at-here}
+use Rattle.lockfree_object_pool.proofs.Ledger.{value_at-elsewhere}
 
 module _ {T : Type 0} where
-  -- what an operation leaves at its number
-  abbrev pub left_by : Operation T → Option T
-  left_by (Pull user id value) = None
-  left_by (Return user id value) = Some value
-
-  pub value_at-here : (opening : List (Option T)) (operation : Operation T) (before : History T) (id : ℕ)
-      → id_of operation ≡ id → value_at opening (operation ∷ before) id ≡ left_by operation
-  value_at-here opening (Pull user place value) before id same = rw (eq-eqb place id same) refl
-  value_at-here opening (Return user place value) before id same = rw (eq-eqb place id same) refl
-
-  pub value_at-elsewhere : (opening : List (Option T)) (operation : Operation T) (before : History T) (id : ℕ)
-      → id_of operation ≢ id → value_at opening (operation ∷ before) id ≡ value_at opening before id
-  value_at-elsewhere opening (Pull user place value) before id other = rw (ne_eqb place id other) refl
-  value_at-elsewhere opening (Return user place value) before id other = rw (ne_eqb place id other) refl
-
   -- where no operation was on a number, what the pool opened with lies there, and nobody holds it
   pub untouched-value : (opening : List (Option T)) (history : History T) (id : ℕ) → NoOperationOn id history
       → value_at opening history id ≡ get_or opening id None
@@ -82,10 +68,9 @@ module _ {T : Type 0} where
   pub value_at-more : (opening more : List (Option T)) (history : History T) (id : ℕ) → id < length opening
       → value_at (opening ++ more) history id ≡ value_at opening history id
   value_at-more opening more [] id below = get_or_append_left opening more None id below
-  value_at-more opening more (Pull user place value ∷ before) id below =
-      ap (λ lies. if place == id then None else lies) (value_at-more opening more before id below)
-  value_at-more opening more (Return user place value ∷ before) id below =
-      ap (λ lies. if place == id then Some value else lies) (value_at-more opening more before id below)
+  value_at-more opening more (operation ∷ before) id below =
+      ap (λ lies. if id_of operation == id then left_by operation else lies)
+      (value_at-more opening more before id below)
 
   pub legal-more : (opening more : List (Option T)) (history : History T) → IsLegal opening history
       → IsLegal (opening ++ more) history

@@ -1,6 +1,6 @@
 -- A run of commands with their replies goes on by one.
 use Rattle.std.proofs.Common.{◌≡◌, ◌≢◌, List, [], ◌∷◌, ◌++◌, length, Result, IsErr, Ok, Err, OnOk, OnErr, refl, sym, ap}
-use Rattle.std.proofs.Common.{subst, ◌∙◌, append_assoc, arith, ℕ, ◌+◌, ◌≤◌, length-append}
+use Rattle.std.proofs.Common.{◌∙◌, append_assoc, arith, ℕ, ◌+◌, ◌≤◌, length-append}
 use Rattle.lockfree_object_pool.specs.declared.pull_error.PullError.{PullError}
 use Rattle.object_pool_cores.specs.declared.sequential.item.Item.{Item}
 use Rattle.object_pool_cores.specs.declared.sequential.attach_error.AttachError.{AttachError}
@@ -63,7 +63,7 @@ module _ {P T : Type 0} (pulls : P → Result (Item T) PullError → P → Type 
       → Plays pulls gives attaches middle command reply new
       → Replies pulls gives attaches old (commands ++ command ∷ []) (replies ++ reply ∷ []) new
   Replies-append old middle new [] [] command reply done next =
-      (new, subst (λ (state : Playing P T). Plays pulls gives attaches state command reply new) done next, refl)
+      (new, rw done at next, refl)
   Replies-append old middle new (c ∷ commands) (r ∷ replies) command reply done next =
       (done.0, done.1, Replies-append done.0 middle new commands replies command reply done.2 next)
   Replies-append old middle new [] (r ∷ replies) command reply done next = absurd done

@@ -7,8 +7,9 @@ use Rattle.std.proofs.lemmas.List.{length-map, map-append}
 use Rattle.std.proofs.lemmas.Option.{slice_get_past}
 use Rattle.lockfree_object_pool.specs.declared.page.history.Operation.{Operation}
 use Rattle.lockfree_object_pool.specs.declared.page.history.Operation.TheVariants.{Pull, Return}
-use Rattle.lockfree_object_pool.specs.Ledger.{user_of, id_of, operations_of, held_id, value_at, IsLegal, NoOperationOn}
-use Rattle.lockfree_object_pool.proofs.Ledger.{operations_of_own}
+use Rattle.lockfree_object_pool.specs.Ledger.{user_of, id_of, operations_of, held_id, left_by, value_at, IsLegal}
+use Rattle.lockfree_object_pool.specs.Ledger.{NoOperationOn}
+use Rattle.lockfree_object_pool.proofs.Ledger.{operations_of_own, value_at-here, value_at-elsewhere}
 use Rattle.lockfree_object_pool.proofs.LedgerHolders.{held}
 use Rattle.object_pool_cores.specs.Pool.{Place, Pool, Absent, IsFree, IsOut, AllowsPages, place_of, free_with}
 use Rattle.object_pool_cores.specs.Run.{Act, Opens, Writes, Operates, Grows, agent_of, acts_of, ledger_of}
@@ -16,7 +17,7 @@ use Rattle.object_pool_cores.specs.Run.{pages_of, made, opened, pool_of, Looks, 
 use Rattle.object_pool_cores.specs.Run.{HasHolders, IsWhole, AtEachPlace}
 use Rattle.object_pool_cores.specs.Laws.NumberedPlaces.{place_of-free, place_of-out, place_of-there}
 use Rattle.object_pool_cores.specs.Laws.NumberedPlaces.{slice_get-append_back}
-use Rattle.object_pool_cores.proofs.LegalLedgers.{left_by, value_at-here, value_at-elsewhere, untouched-value}
+use Rattle.object_pool_cores.proofs.LegalLedgers.{untouched-value}
 use Rattle.object_pool_cores.proofs.LegalLedgers.{untouched-past, held-inside, value_at-more, legal-more, has-holder}
 
 module _ {T : Type 0} where

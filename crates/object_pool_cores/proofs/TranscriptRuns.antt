@@ -1,5 +1,5 @@
 -- What was served goes on.
-use Rattle.std.proofs.Common.{◌≡◌, ◌≢◌, ℕ, Option, Some, List, [], ◌∷◌, ◌++◌, Result, refl, sym, ap, subst, ◌∙◌}
+use Rattle.std.proofs.Common.{◌≡◌, ◌≢◌, ℕ, Option, Some, List, [], ◌∷◌, ◌++◌, Result, refl, sym, ap, ◌∙◌}
 use Rattle.std.proofs.Common.{append_assoc, append-nil}
 use Rattle.std.specs.Prelude.{flat_map}
 use Rattle.std.specs.Io.KnownBytes.{Appends, Keeps}
@@ -10,12 +10,12 @@ use Rattle.object_pool_cores.specs.declared.sequential.attach_error.AttachError.
 use Rattle.object_pool_cores.specs.Held.{Playing}
 use Rattle.object_pool_cores.specs.Lines.{ended, HasNoLineFeed, with_last_line}
 use Rattle.object_pool_cores.specs.Transcript.{AnswersLine, Transcript}
-use Rattle.object_pool_cores.specs.Served.{AppendsPart, Serves, ServesAll, ServesFront, ServesPart, ServesAllInPart}
-use Rattle.object_pool_cores.specs.Served.{AnswersLast, AnswersLastInPart}
+use Rattle.object_pool_cores.specs.Served.{AppendsPart, Serves, ServesFront, ServesLines, ServesAllLines}
+use Rattle.object_pool_cores.specs.Served.{ServesFrontLines, AnswersLast, AnswersLastLine}
 use Rattle.object_pool_cores.proofs.LineSplits.{IsLines-rest, IsLines-byte, IsLines-feed, IsLines-join, IsLines-front}
 
 -- a part of what comes behind a text
-AppendsPart-behind : (first before after : Option (List ℕ)) (text bytes : List ℕ) → Appends first before text
+pub AppendsPart-behind : (first before after : Option (List ℕ)) (text bytes : List ℕ) → Appends first before text
     → AppendsPart before after bytes → AppendsPart first after (text ++ bytes)
 AppendsPart-behind first before after text bytes written part = record {
   front = text ++ part.front;
@@ -37,7 +37,7 @@ module _ {P : Type 0} (pulls : P → Result (Item ℕ) PullError → P → Type 
       → Transcript pulls gives attaches old lines text middle → Transcript pulls gives attaches middle others more new
       → Transcript pulls gives attaches old (lines ++ others) (text ++ more) new
   Transcript-join old middle new [] others text more first next =
-      rw first.0 (subst (λ (state : Playing P ℕ). Transcript pulls gives attaches state others more new) first.1 next)
+      rw (first.0, sym first.1) next
   Transcript-join old middle new (line ∷ lines) others text more first next = (
     first.0,
     first.1 ++ more,
@@ -108,121 +108,10 @@ module _ {P : Type 0} (pulls : P → Result (Item ℕ) PullError → P → Type 
       };
     }
 
-    pub ServesPart-join : (bytes more rest : List ℕ) (middle : Playing P ℕ) (between after : Option (List ℕ))
-        → Serves pulls gives attaches old before bytes rest middle between
-        → ServesPart pulls gives attaches middle between (rest ++ more) after
-        → ServesPart pulls gives attaches old before (bytes ++ more) after
-    ServesPart-join bytes more rest middle between after served part =
-        let behind = IsLines-front bytes more part.front part.back served.lines part.lines rest part.rest served.split
-        part.cut part.split in
-        record {
-          front = flat_map ended served.lines ++ part.front;
-          back = part.back;
-          lines = served.lines ++ part.lines;
-          rest = part.rest;
-          text = served.text ++ part.text;
-          last = part.last;
-          cut = behind.1;
-          split = behind.0;
-          told = Transcript-join old middle part.last served.lines part.lines served.text part.text
-              served.told part.told;
-          written = AppendsPart-behind before between after served.text part.text served.written part.written;
-        }
-
-    pub ServesFront-join : (bytes more rest : List ℕ) (middle : Playing P ℕ) (between after : Option (List ℕ))
-        → Serves pulls gives attaches old before bytes rest middle between
-        → ServesFront pulls gives attaches middle between (rest ++ more) after
-        → ServesFront pulls gives attaches old before (bytes ++ more) after
-    ServesFront-join bytes more rest middle between after served part =
-        let behind = IsLines-front bytes more part.front part.back served.lines part.served.lines rest part.rest
-        served.split part.cut part.served.split in
-        record {
-          front = flat_map ended served.lines ++ part.front;
-          back = part.back;
-          rest = part.rest;
-          last = part.last;
-          cut = behind.1;
-          served = record {
-            lines = served.lines ++ part.served.lines;
-            text = served.text ++ part.served.text;
-            split = behind.0;
-            told = Transcript-join old middle part.last served.lines part.served.lines served.text part.served.text
-                served.told part.served.told;
-            written = Appends-trans before between after served.text part.served.text served.written
-                part.served.written;
-          };
-        }
-
-    -- a last line joins the lines before it
-    last_line : (lines : List (List ℕ)) (rest : List ℕ) → with_last_line lines rest ≡ lines ++ with_last_line [] rest
-    last_line lines rest = ap (λ all. with_last_line all rest) (sym (append-nil lines))
-        ∙ with_last_line-join lines [] rest
-
-    pub ServesAll-last : (bytes rest : List ℕ) (middle : Playing P ℕ) (between after : Option (List ℕ))
-        → Serves pulls gives attaches old before bytes rest middle between
-        → AnswersLast pulls gives attaches middle between rest after
-        → ServesAll pulls gives attaches old before bytes after
-    ServesAll-last bytes rest middle between after served last = record {
-      lines = served.lines;
-      rest = rest;
-      text = served.text ++ last.text;
-      last = last.last;
-      split = served.split;
-      told =
-          subst (λ (lines : List (List ℕ)). Transcript pulls gives attaches old lines
-          (served.text ++ last.text) last.last) (sym (last_line served.lines rest))
-          (Transcript-join old middle last.last served.lines (with_last_line [] rest) served.text last.text
-          served.told last.told);
-      written = Appends-trans before between after served.text last.text served.written last.written;
-    }
-
-    pub ServesAllInPart-last : (bytes rest : List ℕ) (middle : Playing P ℕ) (between after : Option (List ℕ))
-        → Serves pulls gives attaches old before bytes rest middle between
-        → AnswersLastInPart pulls gives attaches middle between rest after
-        → ServesAllInPart pulls gives attaches old before bytes after
-    ServesAllInPart-last bytes rest middle between after served last = record {
-      lines = served.lines;
-      rest = rest;
-      text = served.text ++ last.text;
-      last = last.last;
-      split = served.split;
-      told =
-          subst (λ (lines : List (List ℕ)). Transcript pulls gives attaches old lines
-          (served.text ++ last.text) last.last) (sym (last_line served.lines rest))
-          (Transcript-join old middle last.last served.lines (with_last_line [] rest) served.text last.text
-          served.told last.told);
-      written = AppendsPart-behind before between after served.text last.text served.written last.written;
-    }
-
     -- a last line that has no byte is none
     pub AnswersLast-none : (rest : List ℕ) → rest ≡ [] → AnswersLast pulls gives attaches old before rest before
     AnswersLast-none [] e = record { text = []; last = old; told = (refl, refl); written = Appends-nil before }
     AnswersLast-none (byte ∷ rest) e = cc
-
-    -- a last line that has a byte was answered
-    pub AnswersLast-line : (rest text : List ℕ) (last : Playing P ℕ) (after : Option (List ℕ)) → rest ≢ []
-        → AnswersLine pulls gives attaches old rest text last → Appends before after text
-        → AnswersLast pulls gives attaches old before rest after
-    AnswersLast-line [] text last after some answer written = absurd (some refl)
-    AnswersLast-line (byte ∷ rest) text last after some answer written =
-        record {
-          text = text;
-          last = last;
-          told = Transcript-line old last (byte ∷ rest) text answer;
-          written = written;
-        }
-
-    pub AnswersLastInPart-line : (rest text : List ℕ) (last : Playing P ℕ) (after : Option (List ℕ)) → rest ≢ []
-        → AnswersLine pulls gives attaches old rest text last → AppendsPart before after text
-        → AnswersLastInPart pulls gives attaches old before rest after
-    AnswersLastInPart-line [] text last after some answer written = absurd (some refl)
-    AnswersLastInPart-line (byte ∷ rest) text last after some answer written =
-        record {
-          text = text;
-          last = last;
-          told = Transcript-line old last (byte ∷ rest) text answer;
-          written = written;
-        }
 
     -- a rest without a line feed has no line to serve
     pub Serves-none : (rest : List ℕ) → HasNoLineFeed rest
@@ -235,58 +124,100 @@ module _ {P : Type 0} (pulls : P → Result (Item ℕ) PullError → P → Type 
       written = Appends-nil before;
     }
 
-    -- what was gathered is written, whole or in part
-    pub Serves-written : (bytes rest text : List ℕ) (new : Playing P ℕ) (after : Option (List ℕ))
-        → Serves pulls gives attaches old (Some []) bytes rest new (Some text) → Appends before after text
-        → Serves pulls gives attaches old before bytes rest new after
-    Serves-written bytes rest text new after served written = record {
-      lines = served.lines;
-      text = served.text;
-      split = served.split;
-      told = served.told;
-      written = subst (Appends before after) served.written written;
-    }
+    -- ---- written whole, or in part
+    module _ (Writes : Option (List ℕ) → Option (List ℕ) → List ℕ → Type 0)
+        (behind : (first between after : Option (List ℕ)) (text bytes : List ℕ) → Appends first between text
+        → Writes between after bytes → Writes first after (text ++ bytes)) where
+      pub ServesFront-join : (bytes more rest : List ℕ) (middle : Playing P ℕ) (between after : Option (List ℕ))
+          → Serves pulls gives attaches old before bytes rest middle between
+          → ServesFrontLines pulls gives attaches Writes middle between (rest ++ more) after
+          → ServesFrontLines pulls gives attaches Writes old before (bytes ++ more) after
+      ServesFront-join bytes more rest middle between after served part =
+          let next = part.served in
+          let lines = IsLines-front bytes more part.front part.back served.lines next.lines rest part.rest
+          served.split part.cut next.split in
+          record {
+            front = flat_map ended served.lines ++ part.front;
+            back = part.back;
+            rest = part.rest;
+            last = part.last;
+            cut = lines.1;
+            served = record {
+              lines = served.lines ++ next.lines;
+              text = served.text ++ next.text;
+              split = lines.0;
+              told = Transcript-join old middle part.last served.lines next.lines served.text next.text
+                  served.told next.told;
+              written = behind before between after served.text next.text served.written next.written;
+            };
+          }
 
-    pub ServesPart-written : (bytes rest text : List ℕ) (new : Playing P ℕ) (after : Option (List ℕ))
-        → Serves pulls gives attaches old (Some []) bytes rest new (Some text) → AppendsPart before after text
-        → ServesPart pulls gives attaches old before bytes after
-    ServesPart-written bytes rest text new after served part = record {
-      front = bytes;
-      back = [];
-      lines = served.lines;
-      rest = rest;
-      text = served.text;
-      last = new;
-      cut = sym (append-nil bytes);
-      split = served.split;
-      told = served.told;
-      written = subst (AppendsPart before after) served.written part;
-    }
+      -- a last line joins the lines before it
+      pub ServesAll-last : (bytes rest : List ℕ) (middle : Playing P ℕ) (between after : Option (List ℕ))
+          → Serves pulls gives attaches old before bytes rest middle between
+          → AnswersLastLine pulls gives attaches Writes middle between rest after
+          → ServesAllLines pulls gives attaches Writes old before bytes after
+      ServesAll-last bytes rest middle between after served last =
+          let joined : with_last_line served.lines rest ≡ served.lines ++ with_last_line [] rest =
+          ap (λ all. with_last_line all rest) (sym (append-nil served.lines))
+          ∙ with_last_line-join served.lines [] rest in
+          record {
+            lines = served.lines;
+            rest = rest;
+            text = served.text ++ last.text;
+            last = last.last;
+            split = served.split;
+            told =
+                rw joined
+                (Transcript-join old middle last.last served.lines (with_last_line [] rest) served.text last.text
+                served.told last.told);
+            written = behind before between after served.text last.text served.written last.written;
+          }
 
-    pub ServesFront-written : (bytes text : List ℕ) (after : Option (List ℕ))
-        → ServesFront pulls gives attaches old (Some []) bytes (Some text) → Appends before after text
-        → ServesFront pulls gives attaches old before bytes after
-    ServesFront-written bytes text after stopped written = record {
-      front = stopped.front;
-      back = stopped.back;
-      rest = stopped.rest;
-      last = stopped.last;
-      cut = stopped.cut;
-      served = Serves-written stopped.front stopped.rest text stopped.last after stopped.served written;
-    }
+      -- a last line that has a byte was answered
+      pub AnswersLast-line : (rest text : List ℕ) (last : Playing P ℕ) (after : Option (List ℕ)) → rest ≢ []
+          → AnswersLine pulls gives attaches old rest text last → Writes before after text
+          → AnswersLastLine pulls gives attaches Writes old before rest after
+      AnswersLast-line [] text last after some answer written = absurd (some refl)
+      AnswersLast-line (byte ∷ rest) text last after some answer written = record {
+        text = text;
+        last = last;
+        told = Transcript-line old last (byte ∷ rest) text answer;
+        written = written;
+      }
 
-    pub ServesPart-front : (bytes text : List ℕ) (after : Option (List ℕ))
-        → ServesFront pulls gives attaches old (Some []) bytes (Some text) → AppendsPart before after text
-        → ServesPart pulls gives attaches old before bytes after
-    ServesPart-front bytes text after stopped part = record {
-      front = stopped.front;
-      back = stopped.back;
-      lines = stopped.served.lines;
-      rest = stopped.rest;
-      text = stopped.served.text;
-      last = stopped.last;
-      cut = stopped.cut;
-      split = stopped.served.split;
-      told = stopped.served.told;
-      written = subst (AppendsPart before after) stopped.served.written part;
-    }
+      -- what was gathered is written
+      pub Serves-written : (bytes rest text : List ℕ) (new : Playing P ℕ) (after : Option (List ℕ))
+          → Serves pulls gives attaches old (Some []) bytes rest new (Some text) → Writes before after text
+          → ServesLines pulls gives attaches Writes old before bytes rest new after
+      Serves-written bytes rest text new after served written = record {
+        lines = served.lines;
+        text = served.text;
+        split = served.split;
+        told = served.told;
+        written = rw served.written at written;
+      }
+
+      pub ServesFront-written : (bytes text : List ℕ) (after : Option (List ℕ))
+          → ServesFront pulls gives attaches old (Some []) bytes (Some text) → Writes before after text
+          → ServesFrontLines pulls gives attaches Writes old before bytes after
+      ServesFront-written bytes text after stopped written = record {
+        front = stopped.front;
+        back = stopped.back;
+        rest = stopped.rest;
+        last = stopped.last;
+        cut = stopped.cut;
+        served = Serves-written stopped.front stopped.rest text stopped.last after stopped.served written;
+      }
+
+      pub Serves-front : (bytes rest text : List ℕ) (new : Playing P ℕ) (after : Option (List ℕ))
+          → Serves pulls gives attaches old (Some []) bytes rest new (Some text) → Writes before after text
+          → ServesFrontLines pulls gives attaches Writes old before bytes after
+      Serves-front bytes rest text new after served written = record {
+        front = bytes;
+        back = [];
+        rest = rest;
+        last = new;
+        cut = sym (append-nil bytes);
+        served = Serves-written bytes rest text new after served written;
+      }

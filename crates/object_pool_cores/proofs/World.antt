@@ -7,13 +7,13 @@ pub mod Invariant
 pub mod LinkCapacity
 pub mod LinkSteps
 pub mod LowestBit
+pub mod Moves
 pub mod OwnSteps
 pub mod Prepared
 pub mod Progress
 pub mod Reachable
 pub mod RunsEvents
 pub mod Solo
-pub mod SoloByHint
 pub mod SoloSteps
 pub mod ValueSteps
 pub mod WordSteps

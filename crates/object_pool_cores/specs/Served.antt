@@ -18,79 +18,71 @@ pub record AppendsPart (before after : Option (List ℕ)) (bytes : List ℕ) : T
 
 module _ {P : Type 0} (pulls : P → Result (Item ℕ) PullError → P → Type 0) (gives : P → Item ℕ → P → Type 0)
     (attaches : P → ℕ → Result (Item ℕ) (AttachError ℕ) → P → Type 0) where
-  -- each line whose line feed is in the bytes was answered
-  pub record Serves (old : Playing P ℕ) (before : Option (List ℕ)) (bytes rest : List ℕ) (new : Playing P ℕ)
-      (after : Option (List ℕ)) : Type 0 where
-    pub lines : List (List ℕ)
-    pub text : List ℕ
-    pub split : IsLines bytes lines rest
-    pub told : Transcript pulls gives attaches old lines text new
-    pub written : Appends before after text
+  -- how the answers were written: whole, or a prefix of them
+  module _ (Writes : Option (List ℕ) → Option (List ℕ) → List ℕ → Type 0) where
+    -- each line whose line feed is in the bytes was answered
+    pub record ServesLines (old : Playing P ℕ) (before : Option (List ℕ)) (bytes rest : List ℕ) (new : Playing P ℕ)
+        (after : Option (List ℕ)) : Type 0 where
+      pub lines : List (List ℕ)
+      pub text : List ℕ
+      pub split : IsLines bytes lines rest
+      pub told : Transcript pulls gives attaches old lines text new
+      pub written : Writes before after text
 
-  -- each line of the bytes was answered, a last one without a line feed too
-  pub record ServesAll (old : Playing P ℕ) (before : Option (List ℕ)) (bytes : List ℕ)
-      (after : Option (List ℕ)) : Type 0 where
-    pub lines : List (List ℕ)
-    pub rest : List ℕ
-    pub text : List ℕ
-    pub last : Playing P ℕ
-    pub split : IsLines bytes lines rest
-    pub told : Transcript pulls gives attaches old (with_last_line lines rest) text last
-    pub written : Appends before after text
+    -- each line of the bytes was answered, a last one without a line feed too
+    pub record ServesAllLines (old : Playing P ℕ) (before : Option (List ℕ)) (bytes : List ℕ)
+        (after : Option (List ℕ)) : Type 0 where
+      pub lines : List (List ℕ)
+      pub rest : List ℕ
+      pub text : List ℕ
+      pub last : Playing P ℕ
+      pub split : IsLines bytes lines rest
+      pub told : Transcript pulls gives attaches old (with_last_line lines rest) text last
+      pub written : Writes before after text
 
-  -- the lines of a prefix of the bytes were answered
-  pub record ServesFront (old : Playing P ℕ) (before : Option (List ℕ)) (bytes : List ℕ)
-      (after : Option (List ℕ)) : Type 0 where
-    pub front : List ℕ
-    pub back : List ℕ
-    pub rest : List ℕ
-    pub last : Playing P ℕ
-    pub cut : bytes ≡ front ++ back
-    pub served : Serves old before front rest last after
+    -- the lines of a prefix of the bytes were answered
+    pub record ServesFrontLines (old : Playing P ℕ) (before : Option (List ℕ)) (bytes : List ℕ)
+        (after : Option (List ℕ)) : Type 0 where
+      pub front : List ℕ
+      pub back : List ℕ
+      pub rest : List ℕ
+      pub last : Playing P ℕ
+      pub cut : bytes ≡ front ++ back
+      pub served : ServesLines old before front rest last after
 
-  -- a prefix of the answers to the lines of a prefix of the bytes was written; each of these lines ends in it
-  pub record ServesPart (old : Playing P ℕ) (before : Option (List ℕ)) (bytes : List ℕ)
-      (after : Option (List ℕ)) : Type 0 where
-    pub front : List ℕ
-    pub back : List ℕ
-    pub lines : List (List ℕ)
-    pub rest : List ℕ
-    pub text : List ℕ
-    pub last : Playing P ℕ
-    pub cut : bytes ≡ front ++ back
-    pub split : IsLines front lines rest
-    pub told : Transcript pulls gives attaches old lines text last
-    pub written : AppendsPart before after text
+    -- the unterminated final line was answered, where it has any bytes
+    pub record AnswersLastLine (old : Playing P ℕ) (before : Option (List ℕ)) (rest : List ℕ)
+        (after : Option (List ℕ)) : Type 0 where
+      pub text : List ℕ
+      pub last : Playing P ℕ
+      pub told : Transcript pulls gives attaches old (with_last_line [] rest) text last
+      pub written : Writes before after text
 
-  -- a prefix of the answers to all lines of the bytes was written, a last line without a line feed too
-  pub record ServesAllInPart (old : Playing P ℕ) (before : Option (List ℕ)) (bytes : List ℕ)
-      (after : Option (List ℕ)) : Type 0 where
-    pub lines : List (List ℕ)
-    pub rest : List ℕ
-    pub text : List ℕ
-    pub last : Playing P ℕ
-    pub split : IsLines bytes lines rest
-    pub told : Transcript pulls gives attaches old (with_last_line lines rest) text last
-    pub written : AppendsPart before after text
+  -- the answers were written whole
+  abbrev pub Serves : Playing P ℕ → Option (List ℕ) → List ℕ → List ℕ → Playing P ℕ → Option (List ℕ) → Type 0
+  Serves = ServesLines Appends
+
+  abbrev pub ServesAll : Playing P ℕ → Option (List ℕ) → List ℕ → Option (List ℕ) → Type 0
+  ServesAll = ServesAllLines Appends
+
+  abbrev pub ServesFront : Playing P ℕ → Option (List ℕ) → List ℕ → Option (List ℕ) → Type 0
+  ServesFront = ServesFrontLines Appends
+
+  abbrev pub AnswersLast : Playing P ℕ → Option (List ℕ) → List ℕ → Option (List ℕ) → Type 0
+  AnswersLast = AnswersLastLine Appends
+
+  -- a prefix of the answers was written; of ServesPart each of the lines ends in that prefix of the bytes
+  abbrev pub ServesPart : Playing P ℕ → Option (List ℕ) → List ℕ → Option (List ℕ) → Type 0
+  ServesPart = ServesFrontLines AppendsPart
+
+  abbrev pub ServesAllInPart : Playing P ℕ → Option (List ℕ) → List ℕ → Option (List ℕ) → Type 0
+  ServesAllInPart = ServesAllLines AppendsPart
+
+  abbrev pub AnswersLastInPart : Playing P ℕ → Option (List ℕ) → List ℕ → Option (List ℕ) → Type 0
+  AnswersLastInPart = AnswersLastLine AppendsPart
 
   -- the writing stopped: at the lines whose line feed was read,
   -- or, only where all was read, at the last line without one
   abbrev pub StopsWriting : Type 0 → Playing P ℕ → Option (List ℕ) → List ℕ → Option (List ℕ) → Type 0
   StopsWriting all_read old before bytes after =
       ServesPart old before bytes after ⊎ (all_read × ServesAllInPart old before bytes after)
-
-  -- the unterminated final line was answered, where it has any bytes
-  pub record AnswersLast (old : Playing P ℕ) (before : Option (List ℕ)) (rest : List ℕ)
-      (after : Option (List ℕ)) : Type 0 where
-    pub text : List ℕ
-    pub last : Playing P ℕ
-    pub told : Transcript pulls gives attaches old (with_last_line [] rest) text last
-    pub written : Appends before after text
-
-  -- a prefix of that answer was written
-  pub record AnswersLastInPart (old : Playing P ℕ) (before : Option (List ℕ)) (rest : List ℕ)
-      (after : Option (List ℕ)) : Type 0 where
-    pub text : List ℕ
-    pub last : Playing P ℕ
-    pub told : Transcript pulls gives attaches old (with_last_line [] rest) text last
-    pub written : AppendsPart before after text

@@ -30,8 +30,8 @@ use std::sync::Wait;
 ///
 /// # Errors
 ///
-/// `Read`, where a read fails. `Write`, where a write fails or takes nothing. `Memory`, where there is none
-/// for the pool or for its player. The replies that were written till then stand.
+/// `Read`, where a read fails. `Write`, where a write fails or takes nothing. One that is interrupted has failed. `Memory`, where there
+/// is none for the pool or for its player. The replies that were written till then stand.
 pub fn run<H: Wait, R: Read, W: Write>(
     rt: &H,
     alloc: Global,

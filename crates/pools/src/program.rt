@@ -1,5 +1,5 @@
 //! The program over any input and output.
-ghost use Rattle.std.specs.Prelude.{◌≡◌, map};
+ghost use Rattle.std.specs.Prelude.{map};
 ghost use Rattle.pools.specs.Ending.{Plays};
 
 use crate::arguments::{Arguments, arguments_of};

@@ -142,25 +142,6 @@ fn five_threads_find_each_buffer_empty(rt: HostRuntime) -> Result<(), Fail> {
     Ok(())
 }
 
-/// Where the second append is refused for memory, the bytes stay as they were, and it can be asked for again.
-#[test]
-fn a_refused_append_leaves_the_bytes(rt: HostRuntime) -> Result<(), Fail> {
-    let pool = one_page(rt.alloc())?;
-    let mut buffer = pool.pull()?;
-    buffer.append(b"kept")?;
-    let more = [1u8; 100];
-    if let Err(refusal) = buffer.append(&more) {
-        assert_eq!(rt; refusal, PullError::Memory);
-        assert_eq!(rt; buffer.as_slice(), b"kept".as_slice());
-        buffer.append(&more)?;
-    }
-    assert_eq!(rt;
-        (buffer.as_slice().len(), buffer.as_slice()[0]),
-        (104, b'k')
-    );
-    Ok(())
-}
-
 #[test]
 fn a_pool_and_its_buffer_are_shown(rt: HostRuntime) -> Result<(), Fail> {
     let pool = one_page(rt.alloc())?;

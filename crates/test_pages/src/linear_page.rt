@@ -2,7 +2,7 @@
 use lockfree_object_pool::PullError;
 use lockfree_object_pool::clean::{AnyValue, Clean};
 use lockfree_object_pool::linear_page::{Chain, LinearPage};
-use lockfree_object_pool::page::{Allocated, FullSeen, Page, PageSlot, PullPass};
+use lockfree_object_pool::page::{Allocated, Page, PageSlot, PullPass};
 use std::alloc::Global;
 use std::mem;
 use std::sync::Arc;

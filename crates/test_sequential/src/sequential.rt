@@ -1,11 +1,10 @@
 //! Worked cases of the linear core and the player.
 use lockfree_object_pool::PullError;
 use lockfree_object_pool::clean::AnyValue;
-use lockfree_object_pool::closures::{Copied, Init, Keep, Reset};
+use lockfree_object_pool::closures::{Copied, Init, Keep};
 use object_pool_cores::sequential::*;
 use std::alloc::Global;
 use std::cell::Cell;
-use std::process::Abort;
 use std::test::Fail;
 
 mod core_page;
@@ -13,7 +12,6 @@ mod held_and_kept;
 mod kept_and_fresh;
 mod linear_core;
 mod many;
-mod refusals;
 mod runs;
 mod values;
 

@@ -54,16 +54,6 @@ fn two_threads_leave_two_thousand(rt: HostRuntime) {
     assert_eq!(rt; *sum.lock.lock(&rt), 2_000);
 }
 
-/// It passes too where any one of its requests for memory is refused.
-#[test]
-fn a_lock_is_made_or_gives_its_data_back(rt: HostRuntime) {
-    let data = match SpinLock::new(rt.alloc(), 7u32) {
-        Ok(lock) => *lock.lock(&rt),
-        Err(data) => data,
-    };
-    assert_eq!(rt; data, 7);
-}
-
 #[test]
 fn a_forgotten_guard_leaves_its_value(rt: HostRuntime) {
     let counts = Tally::new();

@@ -1,4 +1,4 @@
-use lockfree_object_pool::PullError;
+//! A stack in use: which value it gives, how many it keeps, and what it drops.
 use lockfree_object_pool::clean::AnyValue;
 use lockfree_object_pool::stack::{Room, Stack};
 use test_values::counted::Counted;
@@ -36,13 +36,6 @@ fn one_room_serves_again_and_again(rt: HostRuntime) {
         stack.put(room, next);
     }
     assert!(rt; stack.kept() == 1);
-}
-
-/// It passes too where its one request for memory is refused.
-#[test]
-fn a_room_is_made_or_refused_for_memory(rt: HostRuntime) {
-    let refused = Room::<u32>::new(rt.alloc()).err();
-    assert!(rt; matches!(refused, None | Some(PullError::Memory)));
 }
 
 #[test]

@@ -1,5 +1,5 @@
 //! Eight threads on one pool, and what is left of its items behind them.
-use crate::item::{Clears, Item, Maker, Tallied};
+use crate::item::{Clears, Item, Maker};
 use crate::report::Report;
 use crate::tally::Tally;
 use crate::worker::{Post, Turn, Worker};

@@ -17,7 +17,6 @@ impl Tally {
     pub fn make_but(&self, refused: usize) -> Option<Counted<'_>> {
         let call = self.next_call();
         if call == refused {
-            self.count_refused();
             None
         } else {
             self.count_made();

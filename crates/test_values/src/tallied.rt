@@ -25,7 +25,6 @@ impl Tallied {
     pub fn new_but(tally: &Arc<Tally>, refused: usize) -> Option<Tallied> {
         let number = tally.next_call();
         if number == refused {
-            tally.count_refused();
             return None;
         }
         let tally = Arc::try_clone(tally).ok()?;

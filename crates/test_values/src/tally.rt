@@ -5,12 +5,10 @@ use std::sync::Arc;
 use std::sync::atomic::AtomicUsize;
 use std::sync::atomic::Ordering::SeqCst;
 
-/// How many calls there were for a value, how many of them were refused, and how many values were made, reset and
-/// dropped.
+/// How many calls there were for a value, and how many values were made, reset and dropped.
 #[derive(Drop)]
 pub struct Tally {
     calls: AtomicUsize,
-    refused: AtomicUsize,
     made: AtomicUsize,
     resets: AtomicUsize,
     drops: AtomicUsize,
@@ -20,7 +18,6 @@ impl Tally {
     pub fn new() -> Tally {
         Tally {
             calls: AtomicUsize::new(0),
-            refused: AtomicUsize::new(0),
             made: AtomicUsize::new(0),
             resets: AtomicUsize::new(0),
             drops: AtomicUsize::new(0),
@@ -30,10 +27,6 @@ impl Tally {
     /// The number of this call, counted from 0.
     pub fn next_call(&self) -> usize {
         self.calls.fetch_add(1, SeqCst)
-    }
-
-    pub fn count_refused(&self) {
-        self.refused.fetch_add(1, SeqCst);
     }
 
     pub fn count_made(&self) {
@@ -52,10 +45,6 @@ impl Tally {
         self.calls.load(SeqCst)
     }
 
-    pub fn refused(&self) -> usize {
-        self.refused.load(SeqCst)
-    }
-
     pub fn made(&self) -> usize {
         self.made.load(SeqCst)
     }
@@ -71,11 +60,6 @@ impl Tally {
     /// The calls and the drops until now.
     pub fn now(&self) -> (usize, usize) {
         (self.calls(), self.drops())
-    }
-
-    /// How many calls were not refused.
-    pub fn answered(&self) -> usize {
-        self.calls().wrapping_sub(self.refused())
     }
 
     /// How many values were made and not dropped.

@@ -14,7 +14,6 @@ use test_values::tally::Tally;
 mod hints;
 mod late_links;
 mod many;
-mod refusals;
 mod room;
 mod sizes;
 mod values;

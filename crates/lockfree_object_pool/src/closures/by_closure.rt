@@ -16,6 +16,7 @@ pub trait InitBy<T>: Drop {
     /// The answers that may come.
     ghost makes: { Self → Option T → Type 0 };
 
+    /// A new value, or `None` as a refusal.
     fn make_by(&self) -> Option<T>
         requires { may_make self.now }
         ensures { makes self.now result };
@@ -39,6 +40,7 @@ pub trait ResetBy<T>: Drop {
     /// What may be made of a value: the old one, then the new one.
     ghost resets: { Self → T → T → Type 0 };
 
+    /// Makes a value ready to be kept.
     fn reset_by(&self, value: &mut T)
         requires { may_reset self.now }
         ensures { resets self.now value.old value.new };
@@ -72,6 +74,7 @@ impl<T, F: InitBy<T>, K: Clean<T>> Model for Makes<T, F, K> {
 }
 
 impl<T, F: InitBy<T>, K: Clean<T>> Makes<T, F, K> {
+    /// An initializer by this closure.
     pub fn new(closure: F) -> Makes<T, F, K>
         requires may { F.may_make closure }
         requires makes { (answer : Option T) → F.makes closure answer → IfSome answer K.meets }
@@ -110,6 +113,7 @@ impl<T, F: ResetBy<T>, K: Clean<T>> Model for Resets<T, F, K> {
 }
 
 impl<T, F: ResetBy<T>, K: Clean<T>> Resets<T, F, K> {
+    /// A reset by this closure.
     pub fn new(closure: F) -> Resets<T, F, K>
         requires may { F.may_reset closure }
         requires leaves { (old new : T) → F.resets closure old new → K.meets new }

@@ -33,6 +33,7 @@ impl<T, K: Clean<T>> Model for Kept<T, K> {
 }
 
 impl<T, K: Clean<T>> Kept<T, K> {
+    /// The reset of such a type.
     pub fn new() -> Kept<T, K>
         requires { (value : T) → K.meets value }
     {
@@ -67,6 +68,7 @@ impl<T, K: Clean<T>> Model for Copied<T, K> {
 }
 
 impl<T: Copy, K: Clean<T>> Copied<T, K> {
+    /// Copies this value.
     pub fn new(value: T) -> Copied<T, K>
         requires { K.meets value }
         ensures { result ≡ value }

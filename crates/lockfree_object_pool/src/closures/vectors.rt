@@ -5,14 +5,17 @@ use crate::clean::Empty;
 use crate::closures::{Init, Reset};
 use std::alloc::Global;
 
-/// Makes empty vectors with room for a number of items. Where there is no memory for one, it is refused.
+/// Makes empty vectors with room for a number of items. Where there is no memory for one it answers `None`, and a pull `Init`.
 #[derive(Clone, Copy, Debug)]
 pub struct WithCapacity {
+    /// Where the room is taken.
     pub alloc: Global,
+    /// For how many items each vector has room at first.
     pub capacity: usize,
 }
 
 impl WithCapacity {
+    /// Makes vectors with room for so many items.
     pub fn new(alloc: Global, capacity: usize) -> WithCapacity
         ensures { result.capacity ≡ capacity }
     {

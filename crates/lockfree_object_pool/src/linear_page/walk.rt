@@ -4,7 +4,7 @@ ghost use Rattle.std.specs.Arc.{arc_value};
 ghost use Rattle.lockfree_object_pool.specs.Answers.{MayOpen};
 ghost use Rattle.lockfree_object_pool.specs.FullSeen.{full_page};
 ghost use Rattle.lockfree_object_pool.specs.Item.{HasOrigin};
-ghost use Rattle.lockfree_object_pool.specs.LinearPage.{shown_page, page_number, IsItemFrom};
+ghost use Rattle.lockfree_object_pool.specs.LinearPage.{shown_page, IsItemFrom};
 ghost use Rattle.lockfree_object_pool.specs.OwnedSlot.{owned_slot_item};
 ghost use Rattle.lockfree_object_pool.specs.Page.{page_identity};
 ghost use Rattle.lockfree_object_pool.specs.Refusal.{RefusesMaking, RefusesPull};

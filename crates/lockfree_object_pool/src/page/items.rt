@@ -4,7 +4,7 @@ ghost use Rattle.std.specs.Int.{bit_at};
 
 use super::rule::{PageRule, Tells, Witnesses};
 use super::user_view::{UserSeat, UserView};
-use super::{PAGE_ITEMS, PageId, PageNote, Witness, take_least};
+use super::{PAGE_ITEMS, PageNote, Witness, take_least};
 use crate::PullError;
 use crate::clean::Clean;
 use atomic_table::Table;

@@ -1,7 +1,6 @@
 //! What holds of a page between any two steps, and the kinds of step that keep it.
 //!
 //! These types are for the proofs alone.
-ghost use Rattle.std.specs.Prelude.{None};
 
 use super::user_view::UserView;
 use crate::clean::Clean;

@@ -8,7 +8,7 @@ pub struct Node<T> {
     pub next: Option<Box<Node<T>>>,
 }
 
-/// The places are let go one after another, so that a long stack's end takes no deep recursion.
+/// The places are dropped one after another, so that the drop of a long stack takes no deep recursion.
 impl<T: Drop> Drop for Node<T> {
     fn drop(mut self) {
         loop {

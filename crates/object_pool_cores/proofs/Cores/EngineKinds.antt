@@ -1,5 +1,5 @@
 -- What an engine played on a core of each kind, said of the pool that the core stands for.
-use Rattle.std.proofs.Common.{◌≡◌, ℕ, Option, Some, None, List, [], ◌∷◌, length, Result, refl, sym, ap, subst, ◌∙◌}
+use Rattle.std.proofs.Common.{◌≡◌, ℕ, Option, Some, None, List, [], ◌∷◌, length, Result, refl, ap, ◌∙◌}
 use Rattle.std.proofs.Common.{arith, suc, zero}
 use Rattle.std.specs.Prelude.{All, replicate}
 use Rattle.std.proofs.KnownBytes.{Appends-nil}
@@ -21,7 +21,7 @@ use Rattle.object_pool_cores.specs.Linear as linear
 use Rattle.object_pool_cores.specs.Stack as stack
 use Rattle.object_pool_cores.specs.NoPool as fresh
 use Rattle.object_pool_cores.specs.Inside.EngineCore.{IsEngineCore}
-use Rattle.object_pool_cores.specs.Pool.{Pool, IsSame, opening}
+use Rattle.object_pool_cores.specs.Pool.{Pool, opening}
 use Rattle.object_pool_cores.proofs.LineSplits.{IsLines-none}
 
 abbrev by_copy : ℕ → Option ℕ → Type 0
@@ -73,40 +73,30 @@ module _ {R K : Type 0} (leaves : R → ℕ → ℕ → Type 0) (limit : Option 
     pub init : linear.init_of core ≡ 0
     pub kept : linear.reset_of core ≡ reset
 
+  set_after : (old new : LinearCore ℕ ℕ R K) → IsSetLinear old → linear.IsStep old new → IsSetLinear new
+  set_after old new set step = record {
+    limited = step.limit ∙ set.limited;
+    init = step.init ∙ set.init;
+    kept = step.reset ∙ set.kept;
+  }
+
   pub linear_pull : (old new : LinearCore ℕ ℕ R K) (answer : Result (Item ℕ) PullError) → IsSetLinear old
       → linear.Pulls (by_copy (linear.init_of old)) old answer new
       → PullsItem limit makes_zero (linear.core_pool old) answer (linear.core_pool new) × IsSetLinear new
-  linear_pull old new answer set pulled = (
-    subst (λ (by : ℕ). PullsItem limit (by_copy by) (linear.core_pool old) answer (linear.core_pool new)) set.init
-        (subst
-        (λ (most : Option ℕ). PullsItem most (by_copy (linear.init_of old)) (linear.core_pool old) answer
-        (linear.core_pool new)) set.limited pulled.pulled),
-    record {
-      limited = pulled.step.limit ∙ set.limited;
-      init = pulled.step.init ∙ set.init;
-      kept = pulled.step.reset ∙ set.kept;
-    },
-  )
+  linear_pull old new answer set pulled =
+      (rw (set.init, set.limited) at pulled.pulled, set_after old new set pulled.step)
 
   pub linear_give : (old new : LinearCore ℕ ℕ R K) (item : Item ℕ) → IsSetLinear old
       → linear.Gives (leaves (linear.reset_of old)) old item new
       → ReturnsItem (leaves reset) (linear.core_pool old) item (linear.core_pool new) × IsSetLinear new
-  linear_give old new item set gave = (
-    subst (λ (by : R). ReturnsItem (leaves by) (linear.core_pool old) item (linear.core_pool new)) set.kept
-        gave.returned,
-    record {
-      limited = gave.step.limit ∙ set.limited;
-      init = gave.step.init ∙ set.init;
-      kept = gave.step.reset ∙ set.kept;
-    },
-  )
+  linear_give old new item set gave = (rw set.kept at gave.returned, set_after old new set gave.step)
 
   pub linear_attach : (old new : LinearCore ℕ ℕ R K) (value : ℕ) (answer : Result (Item ℕ) (AttachError ℕ))
       → IsSetLinear old
       → RefusesAttach old value answer new → RefusesAttach (linear.core_pool old) value answer (linear.core_pool new)
       × IsSetLinear new
   linear_attach old new value answer set refused =
-      ((refused.0, ap linear.core_pool refused.1), subst IsSetLinear (sym refused.1) set)
+      ((refused.0, ap linear.core_pool refused.1), rw refused.1 set)
 
   pub linear_set : (core : LinearCore ℕ ℕ R K) → IsEngineCore limit reset core → IsSetLinear core
   linear_set core opens = record { limited = opens.opening.most; init = opens.init; kept = opens.kept }
@@ -121,7 +111,7 @@ module _ {R K : Type 0} (leaves : R → ℕ → ℕ → Type 0) (limit : Option 
       by_limit (leaves reset) limit tells (
         record { pool = linear.core_pool old.pool; held = old.held },
         record {
-          pool = subst (λ (vs : List ℕ). IsSame (linear.core_pool old.pool) (opening vs)) values first.pool;
+          pool = rw values at first.pool;
           held = none;
         },
         told,
@@ -137,7 +127,7 @@ module _ {R K : Type 0} (leaves : R → ℕ → ℕ → Type 0) (reset : R) wher
       → stack.Pulls (by_copy (stack.init_of old)) old answer new
       → PullsLast makes_zero (stack.kept_of old) answer (stack.kept_of new) × IsSetStack new
   stack_pull old new answer set pulled = (
-    subst (λ (by : ℕ). PullsLast (by_copy by) (stack.kept_of old) answer (stack.kept_of new)) set.init pulled.pulled,
+    rw set.init at pulled.pulled,
     record { init = pulled.step.init ∙ set.init; kept = pulled.step.reset ∙ set.kept },
   )
 
@@ -145,7 +135,7 @@ module _ {R K : Type 0} (leaves : R → ℕ → ℕ → Type 0) (reset : R) wher
       → stack.Gives (leaves (stack.reset_of old)) old item new
       → ReturnsLast (leaves reset) (stack.kept_of old) item (stack.kept_of new) × IsSetStack new
   stack_give old new item set gave = (
-    subst (λ (by : R). ReturnsLast (leaves by) (stack.kept_of old) item (stack.kept_of new)) set.kept gave.returned,
+    rw set.kept at gave.returned,
     record { init = gave.step.init ∙ set.init; kept = gave.step.reset ∙ set.kept },
   )
 
@@ -153,17 +143,12 @@ module _ {R K : Type 0} (leaves : R → ℕ → ℕ → Type 0) (reset : R) wher
       → IsSetStack old
       → stack.Attaches old value answer new → AttachesLast (stack.kept_of old) value answer (stack.kept_of new)
       × IsSetStack new
-  stack_attach old new value answer set attached = (attached.attached, subst IsSetStack (sym attached.same) set)
+  stack_attach old new value answer set attached = (attached.attached, rw attached.same set)
 
   pub on_stack : (old : Playing (StackCore ℕ ℕ R K) ℕ) → stack.kept_of old.pool ≡ [] → old.held ≡ [] → (tells : Telling)
       → tells (List ℕ) (PullsLast makes_zero) (ReturnsLast (leaves reset)) AttachesLast
       (record { pool = stack.kept_of old.pool; held = old.held }) → OnKind (leaves reset) kind.Stack tells
-  on_stack old none_kept none tells told =
-      subst (λ (held : List (Option (Item ℕ))). tells (List ℕ) (PullsLast makes_zero) (ReturnsLast (leaves reset))
-      AttachesLast
-      (record { pool = []; held = held })) none
-      (subst (λ (values : List ℕ). tells (List ℕ) (PullsLast makes_zero) (ReturnsLast (leaves reset)) AttachesLast
-      (record { pool = values; held = old.held })) none_kept told)
+  on_stack old none_kept none tells told = rw (none, none_kept) at told
 
 -- this makes the core's values
 abbrev pub IsSetNone : NoneCore ℕ ℕ → Type 0
@@ -175,7 +160,7 @@ no_pool core = tt
 pub none_pull : (old new : NoneCore ℕ ℕ) (answer : Result (Item ℕ) PullError) → IsSetNone old
     → fresh.Pulls (by_copy (fresh.init_of old)) old answer new → PullsFresh makes_zero answer × IsSetNone new
 none_pull old new answer set pulled =
-    (subst (λ (by : ℕ). PullsFresh (by_copy by) answer) set pulled.1, ap fresh.init_of pulled.0 ∙ set)
+    (rw set at pulled.1, ap fresh.init_of pulled.0 ∙ set)
 
 pub none_attach : (old new : NoneCore ℕ ℕ) (value : ℕ) (answer : Result (Item ℕ) (AttachError ℕ)) → IsSetNone old
     → RefusesAttach old value answer new → RefusesAttach (no_pool old) value answer (no_pool new) × IsSetNone new
@@ -187,6 +172,4 @@ none_give old new item set same = (tt, ap fresh.init_of same ∙ set)
 pub on_none : (leaves : ℕ → ℕ → Type 0) (old : Playing (NoneCore ℕ ℕ) ℕ) → old.held ≡ [] → (tells : Telling)
     → tells (Unit {0}) (λ old answer new. PullsFresh makes_zero answer) (λ old item new. Unit {0}) RefusesAttach
     (record { pool = tt; held = old.held }) → OnKind leaves kind.None tells
-on_none leaves old none tells told =
-    subst (λ (held : List (Option (Item ℕ))). tells (Unit {0}) (λ old answer new. PullsFresh makes_zero answer)
-    (λ old item new. Unit {0}) RefusesAttach (record { pool = tt; held = held })) none told
+on_none leaves old none tells told = rw none at told

@@ -1,6 +1,6 @@
 -- A page's word and its places change together.
-use Rattle.std.proofs.Common.{◌≡◌, ℕ, ◌<◌, ◌^◌, suc, zero, Option, Some, None, List, [], ◌∷◌, length, map, get_or}
-use Rattle.std.proofs.Common.{slice_set, refl, sym, ap, subst, ◌∙◌, arith, inl, inr, length-set}
+use Rattle.std.proofs.Common.{◌≡◌, ℕ, ◌<◌, ◌^◌, suc, zero, Option, Some, None, List, [], ◌∷◌, map, get_or}
+use Rattle.std.proofs.Common.{slice_set, refl, sym, ap, ◌∙◌, arith, inl, inr, length-set}
 use Rattle.std.specs.List.{slice_get}
 use Rattle.std.specs.Int.{bit_at, w32, trailing_zeros}
 use Rattle.std.proofs.lemmas.Bool.{cases_lt}
@@ -11,16 +11,9 @@ use Rattle.lockfree_object_pool.specs.Word.{IsLeastBit, ClearsBit}
 use Rattle.object_pool_cores.specs.OnePage.{IsMadePage, IsFreeId, HasNoFreeId, IsMask, TakesLeastId}
 use Rattle.object_pool_cores.specs.Inside.PageWord.{IsCorePage}
 use Rattle.object_pool_cores.specs.Laws.HeldItems.{slice_get-from_set}
-use Rattle.object_pool_cores.specs.Laws.NumberedPlaces.{value_of-page}
+use Rattle.object_pool_cores.specs.Laws.NumberedPlaces.{slice_get-some, value_of-page}
 
 module _ {T : Type 0} where
-  -- an id below 32 is out, or free with a value
-  place_at : (page : List (Option T)) (id : ℕ) → id < length page → (place : Option T)
-      × (slice_get page id ≡ Some place)
-  place_at [] id within = absurd (omega arith)
-  place_at (place ∷ page) zero within = (place, refl)
-  place_at (place ∷ page) (suc id) within = place_at page id (omega arith)
-
   never_out : (values : List T) (id : ℕ) → slice_get (map Some values) id ≡ Some None → ⊥
   never_out [] id e = absurd cc
   never_out (v ∷ values) zero e = absurd cc
@@ -29,7 +22,7 @@ module _ {T : Type 0} where
 module _ {T : Type 0} (meets : T → Type 0) (word : ℕ) (page : List (Option T)) (kept : IsCorePage meets word page) where
   -- the id of a set bit is free
   pub free_at : (id : ℕ) → id < 32 → bit_at word id ≡ 1 → (v : T) × IsFreeId page id v
-  free_at id within set = by_place (place_at page id (let whole = kept.whole in omega arith))
+  free_at id within set = by_place (slice_get-some page id (let whole = kept.whole in omega arith))
     where
       by_place : (place : Option T) × (slice_get page id ≡ Some place) → (v : T) × IsFreeId page id v
       by_place (None, out) = let clear = kept.clear id out in absurd (omega arith)
@@ -104,7 +97,7 @@ IsKept-made answers meets page made = rw made.free (record {
   clear = λ id out. absurd (never_out made.values id out);
   clean = λ id v free.
       let value = value_of-page made.values id v free in
-      subst meets (get_or_from_slice_get made.values id v v value)
+      rw (get_or_from_slice_get made.values id v v value) at
       (made.clean id v (slice_get_within made.values id v value));
 })
 

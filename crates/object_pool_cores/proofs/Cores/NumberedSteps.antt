@@ -1,6 +1,6 @@
 -- What changes for the numbers where one place of a page changes.
 use Rattle.std.proofs.Common.{◌≡◌, ℕ, ◌+◌, ◌-◌, ◌*◌, ◌/◌, ◌<◌, ◌≤◌, ◌↔◌, Option, Some, None, List, [], length}
-use Rattle.std.proofs.Common.{slice_set, min, refl, sym, ap, subst, ◌∙◌, arith, inl, inr, length-set}
+use Rattle.std.proofs.Common.{slice_set, min, refl, sym, ap, ◌∙◌, arith, inl, inr, length-set}
 use Rattle.std.specs.List.{slice_get}
 use Rattle.std.proofs.lemmas.Bool.{cases_lt}
 use Rattle.std.proofs.lemmas.List.Elements.{All-set}
@@ -99,9 +99,7 @@ module _ {T : Type 0} where
                 ]
               ];
         };
-        taken = subst (λ (all : List (Option T)). IsSame (listed_pool (record items { places = all }))
-            (with_place (listed_pool items) n (place_of (Some None)))) (sym changed)
-            (listed_pool-set items n None (slice_get_within (laid_out pages) n (Some v) there));
+        taken = rw changed (listed_pool-set items n None (slice_get_within (laid_out pages) n (Some v) there));
       }
 
   -- all pages were passed
@@ -145,19 +143,14 @@ module _ {T : Type 0} where
             All-set (λ p. length p ≡ 32) pages k left
             (ap length puts ∙ length-set page id (Some v) ∙ length-at pages k page whole here) whole;
         sound =
-            subst (λ (all : List (Option T)). IsWellNumbered meets
-            (record { places = all; limit = limit; start = new_start; looked = looked })) (sym changed)
+            rw changed
             (IsSound-set meets items n (Some v) new_start looked sound
-            (λ w same. (subst meets (let s : v ≡ w = cc in s) clean, omega arith)) (omega arith)
+            (λ w same. (rw (let s : w ≡ v = cc in s) clean, omega arith)) (omega arith)
             (HasNoneBelow-fewer (laid_out pages) (32 * new_start) (32 * start) (omega arith) sound.passed));
-        returned = subst (λ (all : List (Option T)). IsSame (listed_pool
-            (record { places = all; limit = limit; start = new_start; looked = looked }))
-            (with_place (listed_pool items) n (Free v)))
-            (sym changed)
-            (let set = listed_pool-set items n (Some v) (omega arith) in record {
-              pages = set.pages;
-              places = set.places;
-            });
+        returned = rw changed (let set = listed_pool-set items n (Some v) (omega arith) in record {
+          pages = set.pages;
+          places = set.places;
+        });
       }
 
   -- the least free number was taken from the first page that isn't full
@@ -186,8 +179,7 @@ module _ {T : Type 0} where
             All-set (λ p. length p ≡ 32) pages k left
             (ap length takes.taken ∙ length-set page id None ∙ length-at pages k page whole here) whole;
         sound =
-            subst (λ (all : List (Option T)). IsWellNumbered meets
-            (record { places = all; limit = limit; start = k; looked = new_looked })) (sym changed)
+            rw changed
             (IsSound-set meets (items_of pages limit start looked) n None k new_looked sound (λ w never. absurd cc)
             (omega arith) passed);
         least = record {

@@ -1,5 +1,5 @@
 -- What was played on a core, said of the pool that the core stands for.
-use Rattle.std.proofs.Common.{◌≡◌, ℕ, Option, Some, None, List, [], ◌∷◌, Result, sym, ap, subst, inl, inr}
+use Rattle.std.proofs.Common.{◌≡◌, ℕ, Option, Some, None, List, [], ◌∷◌, Result, ap, inl, inr}
 use Rattle.lockfree_object_pool.specs.declared.pull_error.PullError.{PullError}
 use Rattle.object_pool_cores.specs.declared.sequential.item.Item.{Item}
 use Rattle.object_pool_cores.specs.declared.sequential.attach_error.AttachError.{AttachError}
@@ -9,11 +9,12 @@ use Rattle.object_pool_cores.specs.declared.sequential.reply.Reply.{Reply}
 use Rattle.object_pool_cores.specs.Held.{Playing, held_at}
 use Rattle.object_pool_cores.specs.Lines.{with_last_line}
 use Rattle.object_pool_cores.specs.Replies.{Plays, AfterWrite, AfterReturn, AfterForget}
-use Rattle.object_pool_cores.specs.Served.{Serves, ServesAll, ServesAllInPart, ServesFront, ServesPart, StopsWriting}
+use Rattle.object_pool_cores.specs.Served.{AppendsPart, Serves, ServesAll, ServesFront, ServesLines, ServesAllLines}
+use Rattle.object_pool_cores.specs.Served.{ServesFrontLines, StopsWriting}
 use Rattle.object_pool_cores.specs.Transcript.{AnswersLine, Transcript}
 use Rattle.std.specs.Prelude.{OnOk}
 use Rattle.std.proofs.Common.{Err}
-use Rattle.std.specs.Io.KnownBytes.{Consumes, IsAtEnd}
+use Rattle.std.specs.Io.KnownBytes.{Appends, Consumes, IsAtEnd}
 use Rattle.object_pool_cores.specs.declared.engine.engine_error.EngineError.{EngineError}
 use Rattle.object_pool_cores.specs.declared.engine.engine_error.EngineError.TheVariants as engine
 use Rattle.object_pool_cores.specs.declared.engine.engine_error.EngineError.TheVariants.{Read, Memory}
@@ -44,28 +45,23 @@ module _ {C P : Type 0} (show : C → P) (IsSet : C → Type 0) (pulls : PullSte
   abbrev pub shown : Playing C ℕ → Playing P ℕ
   shown playing = record { pool = show playing.pool; held = playing.held }
 
-  kept : (old new : Playing C ℕ) → new ≡ old → IsSet old.pool → IsSet new.pool
-  kept old new same set = subst (λ (state : Playing C ℕ). IsSet state.pool) (sym same) set
-
   write_shown : (old new : Playing C ℕ) (index value : ℕ) (held : Option (Item ℕ)) (reply : Reply ℕ) → IsSet old.pool
       → AfterWrite pulls gives attaches old index value held reply new
       → AfterWrite shown_pulls shown_gives shown_attaches (shown old) index value held reply (shown new)
       × IsSet new.pool
-  write_shown old new index value None reply set played = ((played.0, ap shown played.1), kept old new played.1 set)
-  write_shown old new index value (Some item) reply set played =
-      ((played.0, ap shown played.1), subst (λ (state : Playing C ℕ). IsSet state.pool) (sym played.1) set)
+  write_shown old new index value None reply set played = ((played.0, ap shown played.1), rw played.1 set)
+  write_shown old new index value (Some item) reply set played = ((played.0, ap shown played.1), rw played.1 set)
 
   forget_shown : (old new : Playing C ℕ) (index : ℕ) (held : Option (Item ℕ)) (reply : Reply ℕ) → IsSet old.pool
       → AfterForget pulls gives attaches old index held reply new
       → AfterForget shown_pulls shown_gives shown_attaches (shown old) index held reply (shown new) × IsSet new.pool
-  forget_shown old new index None reply set played = ((played.0, ap shown played.1), kept old new played.1 set)
-  forget_shown old new index (Some item) reply set played =
-      ((played.0, ap shown played.1), subst (λ (state : Playing C ℕ). IsSet state.pool) (sym played.1) set)
+  forget_shown old new index None reply set played = ((played.0, ap shown played.1), rw played.1 set)
+  forget_shown old new index (Some item) reply set played = ((played.0, ap shown played.1), rw played.1 set)
 
   return_shown : (old new : Playing C ℕ) (index : ℕ) (held : Option (Item ℕ)) (reply : Reply ℕ) → IsSet old.pool
       → AfterReturn pulls gives attaches old index held reply new
       → AfterReturn shown_pulls shown_gives shown_attaches (shown old) index held reply (shown new) × IsSet new.pool
-  return_shown old new index None reply set played = ((played.0, ap shown played.1), kept old new played.1 set)
+  return_shown old new index None reply set played = ((played.0, ap shown played.1), rw played.1 set)
   return_shown old new index (Some item) reply set played = let gave =
       give_shown old.pool new.pool item set played.1 in ((played.0, gave.0, played.2), gave.1)
 
@@ -104,7 +100,7 @@ module _ {C P : Type 0} (show : C → P) (IsSet : C → Type 0) (pulls : PullSte
         played.1,
       )
   answers_shown old new line text set (inr bad) =
-      (inr (record { bad = bad.bad; same = ap shown bad.same; said = bad.said }), kept old new bad.same set)
+      (inr (record { bad = bad.bad; same = ap shown bad.same; said = bad.said }), rw bad.same set)
 
   transcript_shown : (old new : Playing C ℕ) (lines : List (List ℕ)) (text : List ℕ) → IsSet old.pool
       → Transcript pulls gives attaches old lines text new
@@ -114,74 +110,47 @@ module _ {C P : Type 0} (show : C → P) (IsSet : C → Type 0) (pulls : PullSte
       let answer = answers_shown old told.2 line told.0 set told.4 in
       (told.0, told.1, shown told.2, told.3, answer.0, transcript_shown told.2 new lines told.1 answer.1 told.5)
 
-  module _ (old : Playing C ℕ) (set : IsSet old.pool) (before : Option (List ℕ)) (bytes : List ℕ)
-      (after : Option (List ℕ)) where
-    ServesAll-shown : ServesAll pulls gives attaches old before bytes after
-        → ServesAll shown_pulls shown_gives shown_attaches (shown old) before bytes after
-    ServesAll-shown served = record {
-      lines = served.lines;
-      rest = served.rest;
-      text = served.text;
-      last = shown served.last;
-      split = served.split;
-      told = transcript_shown old served.last (with_last_line served.lines served.rest) served.text set served.told;
-      written = served.written;
-    }
+  module _ (old : Playing C ℕ) (set : IsSet old.pool) (before : Option (List ℕ)) (after : Option (List ℕ)) where
+    module _ (Writes : Option (List ℕ) → Option (List ℕ) → List ℕ → Type 0) where
+      Serves-shown : (bytes rest : List ℕ) (last : Playing C ℕ)
+          → ServesLines pulls gives attaches Writes old before bytes rest last after
+          → ServesLines shown_pulls shown_gives shown_attaches Writes (shown old) before bytes rest (shown last) after
+      Serves-shown bytes rest last served = record {
+        lines = served.lines;
+        text = served.text;
+        split = served.split;
+        told = transcript_shown old last served.lines served.text set served.told;
+        written = served.written;
+      }
 
-    Serves-shown : (rest : List ℕ) (last : Playing C ℕ) → Serves pulls gives attaches old before bytes rest last after
-        → Serves shown_pulls shown_gives shown_attaches (shown old) before bytes rest (shown last) after
-    Serves-shown rest last served = record {
-      lines = served.lines;
-      text = served.text;
-      split = served.split;
-      told = transcript_shown old last served.lines served.text set served.told;
-      written = served.written;
-    }
+      ServesAll-shown : (bytes : List ℕ) → ServesAllLines pulls gives attaches Writes old before bytes after
+          → ServesAllLines shown_pulls shown_gives shown_attaches Writes (shown old) before bytes after
+      ServesAll-shown bytes served = record {
+        lines = served.lines;
+        rest = served.rest;
+        text = served.text;
+        last = shown served.last;
+        split = served.split;
+        told = transcript_shown old served.last (with_last_line served.lines served.rest) served.text set served.told;
+        written = served.written;
+      }
 
-    part_shown : ServesPart pulls gives attaches old before bytes after
-        → ServesPart shown_pulls shown_gives shown_attaches (shown old) before bytes after
-    part_shown served = record {
-      front = served.front;
-      back = served.back;
-      lines = served.lines;
-      rest = served.rest;
-      text = served.text;
-      last = shown served.last;
-      cut = served.cut;
-      split = served.split;
-      told = transcript_shown old served.last served.lines served.text set served.told;
-      written = served.written;
-    }
+      ServesFront-shown : (bytes : List ℕ) → ServesFrontLines pulls gives attaches Writes old before bytes after
+          → ServesFrontLines shown_pulls shown_gives shown_attaches Writes (shown old) before bytes after
+      ServesFront-shown bytes served = record {
+        front = served.front;
+        back = served.back;
+        rest = served.rest;
+        last = shown served.last;
+        cut = served.cut;
+        served = Serves-shown served.front served.rest served.last served.served;
+      }
 
-    all_in_part_shown : ServesAllInPart pulls gives attaches old before bytes after
-        → ServesAllInPart shown_pulls shown_gives shown_attaches (shown old) before bytes after
-    all_in_part_shown served = record {
-      lines = served.lines;
-      rest = served.rest;
-      text = served.text;
-      last = shown served.last;
-      split = served.split;
-      told = transcript_shown old served.last (with_last_line served.lines served.rest) served.text set served.told;
-      written = served.written;
-    }
-
-    StopsWriting-shown : (all_read : Type 0) → StopsWriting pulls gives attaches all_read old before bytes after
+    StopsWriting-shown : (bytes : List ℕ) (all_read : Type 0)
+        → StopsWriting pulls gives attaches all_read old before bytes after
         → StopsWriting shown_pulls shown_gives shown_attaches all_read (shown old) before bytes after
-    StopsWriting-shown all_read (inl served) = inl (part_shown served)
-    StopsWriting-shown all_read (inr served) = inr (served.0, all_in_part_shown served.1)
-
-  module _ (old : Playing C ℕ) (set : IsSet old.pool) (before : Option (List ℕ)) (bytes : List ℕ)
-      (after : Option (List ℕ)) where
-    ServesFront-shown : ServesFront pulls gives attaches old before bytes after
-        → ServesFront shown_pulls shown_gives shown_attaches (shown old) before bytes after
-    ServesFront-shown served = record {
-      front = served.front;
-      back = served.back;
-      rest = served.rest;
-      last = shown served.last;
-      cut = served.cut;
-      served = Serves-shown old set before served.front after served.rest served.last served.served;
-    }
+    StopsWriting-shown bytes all_read (inl served) = inl (ServesFront-shown AppendsPart bytes served)
+    StopsWriting-shown bytes all_read (inr served) = inr (served.0, ServesAll-shown AppendsPart bytes served.1)
 
   -- what was served ends as the kind's definition says
   module _ (old : Playing C ℕ) (set : IsSet old.pool) (kind : Kind) (leaves : ℕ → ℕ → Type 0)
@@ -206,24 +175,24 @@ module _ {C P : Type 0} (show : C → P) (IsSet : C → Type 0) (pulls : PullSte
         served.1,
         served.2,
         on_kind (tells_all before served.0 after)
-            (ServesAll-shown old set before served.0 after served.3),
+            (ServesAll-shown old set before after Appends served.0 served.3),
       )) ok;
       read = λ e. let served = read e in (
         served.0,
         served.3,
         on_kind (tells_lines before served.0 after)
-            (served.1, shown served.2, Serves-shown old set before served.0 after served.1 served.2 served.4),
+            (served.1, shown served.2, Serves-shown old set before after Appends served.0 served.1 served.2 served.4),
       );
       write = λ e. let served = write e in (
         served.0,
         served.1,
         on_kind (tells_part before served.0 after (IsAtEnd left))
-            (StopsWriting-shown old set before served.0 after (IsAtEnd left) served.2),
+            (StopsWriting-shown old set before after served.0 (IsAtEnd left) served.2),
       );
       memory = λ e. let served = memory e in (
         served.0,
         served.1,
         on_kind (tells_front before served.0 after)
-            (ServesFront-shown old set before served.0 after served.2),
+            (ServesFront-shown old set before after Appends served.0 served.2),
       );
     }

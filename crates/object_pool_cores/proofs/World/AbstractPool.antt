@@ -4,7 +4,7 @@ use Rattle.std.proofs.Common.{Some, option_map, option_and_then, List, [], ◌�
 use Rattle.std.proofs.Common.{refl, ap, sym, ◌∙◌, subst, arith, length-append}
 use Rattle.std.proofs.lemmas.Bool.{cases_eq, cases_lt}
 use Rattle.std.proofs.lemmas.List.{length-set}
-use Rattle.std.proofs.lemmas.Option.{slice_get_past, slice_get_cases}
+use Rattle.std.proofs.lemmas.Option.{slice_get_past, slice_get_within}
 use Rattle.object_pool_cores.specs.Pool.{Place, Pool, Free, Out, IsSame, free_with, number}
 use Rattle.object_pool_cores.specs.World.State.{WorldPageState, WorldState}
 use Rattle.object_pool_cores.specs.World.Machine.{has_bit, with_bit, without_bit, value_in, page_value, with_page}
@@ -13,31 +13,8 @@ use Rattle.object_pool_cores.specs.World.AbstractPool.{place_by_bit, place_on, a
 use Rattle.object_pool_cores.proofs.World.Bits.{has_bit-all, has_bit-set_same, has_bit-set_other, has_bit-clear_same}
 use Rattle.object_pool_cores.proofs.World.Bits.{has_bit-clear_other}
 use Rattle.object_pool_cores.proofs.Runs.{IsPlaced, IsGrown}
-pub use Rattle.object_pool_cores.specs.Laws.NumberedPlaces.{slice_get-set_other as get-set_other}
-
--- ---- lists by index
-module _ {X : Type 0} where
-  pub get-set_same : (xs : List X) (k : ℕ) (old new : X) → slice_get xs k ≡ Some old
-      → slice_get (slice_set xs k new) k ≡ Some new
-  get-set_same [] k old new at = cc
-  get-set_same (x ∷ xs) zero old new at = refl
-  get-set_same (x ∷ xs) (suc k) old new at = get-set_same xs k old new at
-
-  pub get-push_old : (xs : List X) (last : X) (j : ℕ) → j < length xs → slice_get (xs ++ last ∷ []) j ≡ slice_get xs j
-  get-push_old [] last j below = absurd (omega arith)
-  get-push_old (x ∷ xs) last zero below = refl
-  get-push_old (x ∷ xs) last (suc j) below = get-push_old xs last j (omega arith)
-
-  pub get-push_new : (xs : List X) (last : X) → slice_get (xs ++ last ∷ []) (length xs) ≡ Some last
-  get-push_new [] last = refl
-  get-push_new (x ∷ xs) last = get-push_new xs last
-
-  pub get-some : (xs : List X) (k : ℕ) → k < length xs → (x : X) × (slice_get xs k ≡ Some x)
-  get-some xs k below =
-      elim (slice_get_cases xs k).1 [
-        | inl some ↦ (some.0, some.2)
-        | inr none ↦ absurd (omega (arith, none.0))
-      ]
+use Rattle.object_pool_cores.specs.Laws.NumberedPlaces.{slice_get-set_same, slice_get-set_other}
+use Rattle.object_pool_cores.specs.Laws.NumberedPlaces.{slice_get-append_front, slice_get-append_last}
 
 -- ---- one page changes
 module _ {T : Type 0} (f : WorldPageState T → WorldPageState T) where
@@ -51,13 +28,13 @@ module _ {T : Type 0} (f : WorldPageState T → WorldPageState T) where
   get-changed_same : (pages : List (WorldPageState T)) (k : ℕ) (page : WorldPageState T)
       → slice_get pages k ≡ Some page → slice_get (changed pages k) k ≡ Some (f page)
   get-changed_same pages k page at = ap (λ all. slice_get all k) (changed-is pages k page at)
-      ∙ get-set_same pages k page (f page) at
+      ∙ slice_get-set_same pages k (f page) (slice_get_within pages k page at)
 
   get-changed_other : (pages : List (WorldPageState T)) (k j : ℕ) (page : WorldPageState T)
       → slice_get pages k ≡ Some page → j ≢ k
       → slice_get (changed pages k) j ≡ slice_get pages j
   get-changed_other pages k j page at other = ap (λ all. slice_get all j) (changed-is pages k page at)
-      ∙ get-set_other pages k j (f page) other
+      ∙ slice_get-set_other pages k j (f page) other
 
   pub length-changed : (pages : List (WorldPageState T)) (k : ℕ) (page : WorldPageState T)
       → slice_get pages k ≡ Some page → length (changed pages k) ≡ length pages
@@ -97,8 +74,7 @@ module _ {T : Type 0} (P : WorldPageState T → Type 0) where
   changed-all f pages k page at here there j p lookup =
       elim (cases_eq j k) [
         | inl same ↦
-            let both : Some (f page) ≡ Some p = sym (get-changed_same f pages k page at)
-            ∙ ap (λ i. slice_get (changed f pages k) i) (sym same) ∙ lookup in
+            let now = get-changed_same f pages k page at in
             let is : f page ≡ p = cc in
             subst P is here
         | inr other ↦ there j p (sym (get-changed_other f pages k j page at other) ∙ lookup)
@@ -109,11 +85,10 @@ module _ {T : Type 0} (P : WorldPageState T → Type 0) where
       → slice_get (pages ++ last ∷ []) j ≡ Some p → P p
   pushed-all pages last here there j p lookup =
       elim (cases_lt j (length pages)) [
-        | inl below ↦ there j p (sym (get-push_old pages last j below) ∙ lookup)
+        | inl below ↦ there j p (sym (slice_get-append_front pages (last ∷ []) j below) ∙ lookup)
         | inr past ↦ elim (cases_eq j (length pages)) [
           | inl same ↦
-              let both : Some last ≡ Some p = sym (get-push_new pages last)
-              ∙ ap (λ i. slice_get (pages ++ last ∷ []) i) (sym same) ∙ lookup in
+              let now = slice_get-append_last pages last in
               let is : last ≡ p = cc in
               subst P is here
           | inr other ↦ let none =
@@ -153,9 +128,8 @@ module _ {T : Type 0} where
       → slice_get pages k ≡ Some page → id < length page.places
       → page_value (with_page_value pages k id value) k id ≡ value
   value-put_same pages k id value page at within =
-      let (old, is) = get-some page.places id within in
       ap (λ lookup. value_in lookup id) (get-changed_same (valued id value) pages k page at)
-      ∙ ap (option_and_then (λ place. place)) (get-set_same page.places id old value is)
+      ∙ ap (option_and_then (λ place. place)) (slice_get-set_same page.places id value within)
 
   pub value-put_other : (pages : List (WorldPageState T)) (k id : ℕ) (value : Option T) (page : WorldPageState T)
       → slice_get pages k ≡ Some page → (j i : ℕ) → ((j ≢ k) ⊎ (i ≢ id))
@@ -163,7 +137,7 @@ module _ {T : Type 0} where
   value-put_other pages k id value page at j i apart =
       reads-changed (λ lookup. value_in lookup i) (valued id value) pages k j page at (λ same. elim apart [
         | inl other ↦ absurd (other same)
-        | inr other ↦ ap (option_and_then (λ place. place)) (get-set_other page.places id i value other)
+        | inr other ↦ ap (option_and_then (λ place. place)) (slice_get-set_other page.places id i value other)
       ])
 
 -- ---- the pool after a change
@@ -230,7 +204,7 @@ module _ {T : Type 0} where
       (record { pages = refl; here = here; there = λ m other. refl }) same is
       (out (value_in (Some (valued id value page)) id))
       (λ i inside other. ap (λ lookup. place_by_bit (has_bit page.word i) (option_and_then (λ place. place) lookup))
-      (get-set_other page.places id i value other))
+      (slice_get-set_other page.places id i value other))
 
   -- a page is linked, with a value at each of its places
   linked-value : (values : List T) (id : ℕ) → value_in (Some (linked_page values)) id ≡ slice_get values id
@@ -252,7 +226,7 @@ module _ {T : Type 0} where
               grown.before n old ∙ same.places n
               ∙ sym (ap (λ all. place_on (slice_get all (n / 32)) (n % 32)) is
               ∙ ap (λ lookup. place_on lookup (n % 32))
-              (get-push_old world.pages (linked_page values) (n / 32) (omega arith)))
+              (slice_get-append_front world.pages (linked_page values ∷ []) (n / 32) (omega arith)))
           | inr past ↦
               grown.page n past
               ∙ elim (cases_lt n (32 * pool.pages + 32)) [
@@ -260,7 +234,8 @@ module _ {T : Type 0} where
                     let id = n - 32 * pool.pages in
                     let own : n ≡ number (length world.pages) id = omega arith in
                     let now : slice_get new.pages (length world.pages) ≡ Some (linked_page values) =
-                    ap (λ all. slice_get all (length world.pages)) is ∙ get-push_new world.pages (linked_page values) in
+                    ap (λ all. slice_get all (length world.pages)) is
+                    ∙ slice_get-append_last world.pages (linked_page values) in
                     sym (ap (abstract_pool new).at own
                     ∙ reads-place new (length world.pages) id (linked_page values) (omega arith) now
                     ∙ ap (λ bit. place_by_bit bit (value_in (Some (linked_page values)) id))

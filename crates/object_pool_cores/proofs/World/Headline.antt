@@ -1,81 +1,93 @@
 -- The steps of a world, one after another, are a run of one pool.
-use Rattle.std.proofs.Common.{◌≡◌, inl, inr, ℕ, ◌^◌, ◌<◌, Option, Some, None, List, [], ◌∷◌, length, slice_get, Ok}
-use Rattle.std.proofs.Common.{Err, refl, sym, ◌∙◌, subst, arith, lit<}
+use Rattle.std.proofs.Common.{◌≡◌, ℕ, ◌^◌, ◌<◌, Option, Some, None, List, [], ◌∷◌, length, slice_get, Ok}
+use Rattle.std.proofs.Common.{Err, true, refl, ap, ◌∙◌, arith, lit<}
 use Rattle.std.proofs.lemmas.List.{length-map}
 use Rattle.object_pool_cores.specs.declared.interleave.event.Event.{Event}
 use Rattle.object_pool_cores.specs.declared.interleave.event.Event.TheVariants as event
 use Rattle.object_pool_cores.specs.declared.interleave.event.Seen.{Seen}
 use Rattle.object_pool_cores.specs.declared.interleave.event.Seen.TheVariants as seen
 use Rattle.object_pool_cores.specs.declared.interleave.point.Point.{Point}
-use Rattle.object_pool_cores.specs.declared.interleave.point.Point.TheVariants.{Taken, Holding, Home}
+use Rattle.object_pool_cores.specs.declared.interleave.point.Point.TheVariants.{Clearing, ClearingHinted, Taken}
+use Rattle.object_pool_cores.specs.declared.interleave.point.Point.TheVariants.{Holding, Home}
 use Rattle.object_pool_cores.specs.Pool.{Pool, Absent, IsSame, AllowsPages, number}
 use Rattle.object_pool_cores.specs.Run.{Act, pool_of, Holds, HasHolders, IsWhole}
-use Rattle.object_pool_cores.specs.World.State.{WorldState}
-use Rattle.object_pool_cores.specs.World.Machine.{Transition, Steps, agent_item, number_out, linked_page, opening_world}
+use Rattle.object_pool_cores.specs.World.State.{WorldPageState, WorldState}
+use Rattle.object_pool_cores.specs.World.Machine.{agent_item, number_out, linked_page, opening_world, point_of}
 use Rattle.object_pool_cores.specs.World.AbstractPool.{abstract_pool}
-use Rattle.object_pool_cores.specs.World.Trace.{Log, made_by}
+use Rattle.object_pool_cores.specs.World.OwnSteps.{is_idle}
+use Rattle.object_pool_cores.specs.World.Trace.{Log, IsHidden, made_by}
 use Rattle.object_pool_cores.specs.World.Headline.{IsRun, Executes, IsNew}
 use Rattle.object_pool_cores.specs.World.Inside.Invariant.{Agrees}
 use Rattle.object_pool_cores.proofs.Runs.{legal-run, pool-opening, holders-run, whole-run, each-place}
 use Rattle.object_pool_cores.proofs.World.AbstractPool.{same-grown, pushed-all}
 use Rattle.object_pool_cores.proofs.World.Invariant.{Agreement, GoesOn, idle, pages-some, allows-fewer}
-use Rattle.object_pool_cores.proofs.World.WordSteps.{read_mask-goes, read_hinted-goes, clear_bit-goes, or_mask-goes}
-use Rattle.object_pool_cores.proofs.World.WordSteps.{known}
-use Rattle.object_pool_cores.proofs.World.ValueSteps.{move_out-goes, write-goes, move_home-goes, begin-goes}
-use Rattle.object_pool_cores.proofs.World.LinkSteps.{read_next-goes, make_page-goes, exchange_next-goes}
+use Rattle.object_pool_cores.proofs.World.Moves.{moved, Moves, Happens, known, happens}
+use Rattle.object_pool_cores.proofs.World.Moves.{Reads, ReadsByHint, Clears, LosesBit, ClearsByHint}
+use Rattle.object_pool_cores.proofs.World.Moves.{LosesBitByHint, MeetsLimit, FindsNoNext, GoesNext, MakesPage}
+use Rattle.object_pool_cores.proofs.World.Moves.{LacksMemory, LacksValues, LinksPage, LosesLink, TakesValue}
+use Rattle.object_pool_cores.proofs.World.Moves.{WritesValue, PutsValue, SetsBit}
+use Rattle.object_pool_cores.proofs.World.Moves.{NotEnabled, NoMemory, Begins, Goes}
+use Rattle.object_pool_cores.proofs.World.WordSteps.{reads, reads-by-hint, won, lost, lost-by-hint, returned}
+use Rattle.object_pool_cores.proofs.World.ValueSteps.{taken, written, put, begun}
+use Rattle.object_pool_cores.proofs.World.LinkSteps.{at-limit, at-end, comes-next, made, lacks-memory, lacks-values}
+use Rattle.object_pool_cores.proofs.World.LinkSteps.{linked, lost-link}
+
+-- an answer with which nothing happens shows nothing
+idle-hidden : (answer : Seen) → is_idle answer ≡ true → IsHidden answer
+idle-hidden seen.NotEnabled idle = tt
+idle-hidden seen.NoMemory idle = tt
+idle-hidden _ idle = absurd (cc)
 
 module _ {T : Type 0} where
-  -- nothing is made where memory is missing
-  nothing-made : (e : Event T) (b : ℕ) → made_by e seen.NoMemory b ≡ None
-  nothing-made event.Begin b = refl
-  nothing-made (event.ReadMask a) b = refl
-  nothing-made (event.ReadHinted a hint) b = refl
-  nothing-made (event.ClearBit a) b = refl
-  nothing-made (event.ReadNext a) b = refl
-  nothing-made (event.MakePage a (Ok values)) b = refl
-  nothing-made (event.MakePage a (Err cause)) b = refl
-  nothing-made (event.ExchangeNext a) b = refl
-  nothing-made (event.MoveOut a) b = refl
-  nothing-made (event.Write a value) b = refl
-  nothing-made (event.MoveHome a) b = refl
-  nothing-made (event.OrMask a) b = refl
+  -- nothing is made where nothing happens
+  nothing-made : (e : Event T) (answer : Seen) → is_idle answer ≡ true → (b : ℕ) → made_by e answer b ≡ None
+  nothing-made (event.MakePage a (Ok values)) (seen.Made c) idle b = absurd (cc)
+  nothing-made (event.MakePage a (Ok values)) _ idle b = refl
+  nothing-made (event.MakePage a (Err cause)) answer idle b = refl
+  nothing-made _ answer idle b = refl
 
 module _ {T : Type 0} (Leaves : T → T → Type 0) (first : List T) (full : length first ≡ 32) where
-  row-goes : (log : Log T) (acts : List (Act T)) (old : WorldState T) → Agrees Leaves first log acts old
-      → (e : Event T) (answer : Seen) (new : WorldState T) → Transition Leaves old e answer new
+  idles : {log : Log T} {acts : List (Act T)} {old : WorldState T} → Agrees Leaves first log acts old
+      → (e : Event T) (answer : Seen) (new : WorldState T) → is_idle answer ≡ true → new ≡ old
       → GoesOn Leaves first log e answer new
-  row-goes log acts old agrees event.Begin answer new row = begin-goes Leaves first log acts old agrees answer new row
-  row-goes log acts old agrees (event.ReadMask a) answer new row =
-      read_mask-goes Leaves first log acts old agrees a (slice_get old.agents a) refl answer new row
-  row-goes log acts old agrees (event.ReadHinted a hint) answer new row =
-      read_hinted-goes Leaves first log acts old agrees a hint (slice_get old.agents a) refl answer new row
-  row-goes log acts old agrees (event.ClearBit a) answer new row =
-      clear_bit-goes Leaves first log acts old agrees a (slice_get old.agents a) refl answer new row
-  row-goes log acts old agrees (event.ReadNext a) answer new row =
-      read_next-goes Leaves first log acts old agrees a (slice_get old.agents a) refl answer new row
-  row-goes log acts old agrees (event.MakePage a prepared) answer new row =
-      make_page-goes Leaves first log acts old agrees a prepared (slice_get old.agents a) refl answer new row
-  row-goes log acts old agrees (event.ExchangeNext a) answer new row =
-      exchange_next-goes Leaves first log acts old agrees full a (slice_get old.agents a) refl answer new row.0 row.1
-  row-goes log acts old agrees (event.MoveOut a) answer new row =
-      move_out-goes Leaves first log acts old agrees full a (slice_get old.agents a) refl answer new row
-  row-goes log acts old agrees (event.Write a value) answer new row =
-      write-goes Leaves first log acts old agrees a value (slice_get old.agents a) refl answer new row
-  row-goes log acts old agrees (event.MoveHome a) answer new row =
-      move_home-goes Leaves first log acts old agrees full a (slice_get old.agents a) refl answer new row
-  row-goes log acts old agrees (event.OrMask a) answer new row =
-      or_mask-goes Leaves first log acts old agrees a (slice_get old.agents a) refl answer new row
+  idles agrees e answer new is same = rw same (idle agrees e answer (idle-hidden answer is) (nothing-made e answer is))
+
+  -- where an agent moves the invariant is kept
+  move-goes : {log : Log T} {acts : List (Act T)} {old : WorldState T} → Agrees Leaves first log acts old
+      → (a : ℕ) {from to : Point T} {e : Event T} {answer : Seen} {pages : List (WorldPageState T)}
+      → slice_get old.agents a ≡ Some from → Moves Leaves old a from e answer pages to
+      → GoesOn Leaves first log e answer (moved old pages a to)
+  move-goes agrees a at (Reads k asked) = reads agrees a k asked at
+  move-goes agrees a at (ReadsByHint hint further linked) = reads-by-hint agrees a hint at further linked
+  move-goes agrees a at (Clears k mask asked set) =
+      let (looks, bits) = known agrees a (Clearing k mask asked) at in
+      won agrees a k mask (Clearing k mask asked) at looks.looking looks.linked bits set
+  move-goes agrees a at (LosesBit k mask asked clear) = lost agrees a k mask asked at clear
+  move-goes agrees a at (ClearsByHint hint mask set) =
+      let tried = known agrees a (ClearingHinted hint mask) at in
+      won agrees a hint mask (ClearingHinted hint mask) at tried.past.looking tried.linked tried.bits set
+  move-goes agrees a at (LosesBitByHint hint mask clear) = lost-by-hint agrees a hint mask at clear
+  move-goes agrees a at (MeetsLimit k asked limit) = at-limit agrees a k asked at limit
+  move-goes agrees a at (FindsNoNext k asked below last) = at-end agrees a k asked at below last
+  move-goes agrees a at (GoesNext k asked more) = comes-next agrees a k asked at more
+  move-goes agrees a at (MakesPage k values) = made agrees a k values at
+  move-goes agrees a at (LacksMemory k) = lacks-memory agrees a k at
+  move-goes agrees a at (LacksValues k) = lacks-values agrees a k at
+  move-goes agrees a at (LinksPage k values whole last) = linked agrees full a k values at whole last
+  move-goes agrees a at (LosesLink k values more) = lost-link agrees a k values at more
+  move-goes agrees a at (TakesValue k id value lies) = taken agrees full a k id value at lies
+  move-goes agrees a at (WritesValue k id before value) = written agrees a k id before value at
+  move-goes agrees a at (PutsValue k id value kept leaves) = put agrees full a k id value kept at leaves
+  move-goes agrees a at (SetsBit k id) = returned agrees a k id at
 
   -- a step keeps the invariant
-  step-goes : (log : Log T) (acts : List (Act T)) (old : WorldState T) → Agrees Leaves first log acts old
-      → (e : Event T) (answer : Seen) (new : WorldState T) → Steps Leaves old e answer new
+  step-goes : {log : Log T} {acts : List (Act T)} {old : WorldState T} → Agrees Leaves first log acts old
+      → (e : Event T) (answer : Seen) (new : WorldState T) → Happens Leaves old e (point_of old e) answer new
       → GoesOn Leaves first log e answer new
-  step-goes log acts old agrees e answer new (inl row) = row-goes log acts old agrees e answer new row
-  step-goes log acts old agrees e answer new (inr (may, lacks, same)) =
-      let P : Seen → Type 0 = λ seen. GoesOn Leaves first log e seen old in
-      let Q : WorldState T → Type 0 = λ world. GoesOn Leaves first log e answer world in
-      subst Q (sym same)
-      (subst P (sym lacks) (idle Leaves first log acts old e seen.NoMemory agrees tt (nothing-made e)))
+  step-goes agrees e answer new (NotEnabled none is same) = idles agrees e answer new (ap is_idle is) same
+  step-goes agrees e answer new (NoMemory may is same) = idles agrees e answer new (ap is_idle is) same
+  step-goes agrees e answer new (Begins is row) = rw (is, row.0, row.1) (begun agrees)
+  step-goes agrees e answer new (Goes a from to pages at moves same) = rw same (move-goes agrees a at moves)
 
   -- the world of one page reads as the pool of no act
   opening-reads : (limit : Option ℕ) → IsSame (pool_of first []) (abstract_pool (opening_world first limit))
@@ -101,11 +113,10 @@ module _ {T : Type 0} (Leaves : T → T → Type 0) (first : List T) (full : len
   pub ran-agrees : (limit : Option ℕ) → AllowsPages limit 1 → (log : Log T) (new : WorldState T)
       → Executes Leaves (opening_world first limit) log new → Agreement Leaves first log new
   ran-agrees limit allowed [] new same =
-      let P : WorldState T → Type 0 = Agreement Leaves first [] in
-      subst P (sym same) (record { acts = []; agrees = opening-agrees limit allowed })
+      rw same (record { acts = []; agrees = opening-agrees limit allowed })
   ran-agrees limit allowed ((e, answer) ∷ log) new (between, ran, step, exact) =
       let before = ran-agrees limit allowed log between ran in
-      step-goes log before.acts between before.agrees e answer new step
+      step-goes before.agrees e answer new (happens before.agrees answer new e step)
 
   -- an agent that has an item in the world holds it in the run
   held-is : (log : Log T) (acts : List (Act T)) (world : WorldState T) → Agrees Leaves first log acts world
@@ -113,10 +124,9 @@ module _ {T : Type 0} (Leaves : T → T → Type 0) (first : List T) (full : len
       → agent_item lookup ≡ Some (n, value)
       → Holds acts a n value
   held-is log acts world agrees a n value (Some (Holding k id has)) at held =
-      let holds = known Leaves first log acts world agrees a (Holding k id has) at in
+      let holds = known agrees a (Holding k id has) at in
       let both : ◌≡◌ {A = ℕ × T} (number k id, has) (n, value) = cc in
-      let P : ℕ × T → Type 0 = λ item. Holds acts a item.0 item.1 in
-      subst P both holds.holds
+      rw (ap (λ item. item.0) both, ap (λ item. item.1) both) at holds.holds
   held-is log acts world agrees a n value _ at held = absurd (cc)
 
   -- an agent that has a number out in the world holds it in the run
@@ -124,17 +134,17 @@ module _ {T : Type 0} (Leaves : T → T → Type 0) (first : List T) (full : len
       → (a n : ℕ) (lookup : Option (Point T)) → slice_get world.agents a ≡ lookup → number_out lookup ≡ Some n
       → (value : T) × Holds acts a n value
   out-is log acts world agrees a n (Some (Taken k id)) at out =
-      let (value, holds, lies) = known Leaves first log acts world agrees a (Taken k id) at in
+      let (value, holds, lies) = known agrees a (Taken k id) at in
       let is : number k id ≡ n = cc in
-      (value, subst (λ (m : ℕ). Holds acts a m value) is holds.holds)
+      (value, rw is at holds.holds)
   out-is log acts world agrees a n (Some (Holding k id value)) at out =
-      let holds = known Leaves first log acts world agrees a (Holding k id value) at in
+      let holds = known agrees a (Holding k id value) at in
       let is : number k id ≡ n = cc in
-      (value, subst (λ (m : ℕ). Holds acts a m value) is holds.holds)
+      (value, rw is at holds.holds)
   out-is log acts world agrees a n (Some (Home k id)) at out =
-      let (value, kept, holds, leaves, lies) = known Leaves first log acts world agrees a (Home k id) at in
+      let (value, kept, holds, leaves, lies) = known agrees a (Home k id) at in
       let is : number k id ≡ n = cc in
-      (value, subst (λ (m : ℕ). Holds acts a m value) is holds.holds)
+      (value, rw is at holds.holds)
   out-is log acts world agrees a n _ at out = absurd (cc)
 
   agrees-run : (log : Log T) (acts : List (Act T)) (world : WorldState T) → Agrees Leaves first log acts world
@@ -164,6 +174,5 @@ pub ran-is_run : {T : Type 0} (Leaves : T → T → Type 0) (old : WorldState T)
     (new : WorldState T)
     → Executes Leaves old log new → IsRun Leaves start.first log new
 ran-is_run {T} Leaves old start log new ran =
-    let P : WorldState T → Type 0 = λ world. Executes Leaves world log new in
-    let agreed = ran-agrees Leaves start.first start.full old.limit start.allowed log new (subst P start.same ran) in
+    let agreed = ran-agrees Leaves start.first start.full old.limit start.allowed log new (rw start.same at ran) in
     agrees-run Leaves start.first start.full log agreed.acts new agreed.agrees

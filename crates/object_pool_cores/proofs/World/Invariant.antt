@@ -1,24 +1,26 @@
 -- What is known of an agent stays known while others step.
-use Rattle.std.proofs.Common.{◌≡◌, ◌≢◌, inl, inr, ℕ, ◌+◌, ◌^◌, ◌<◌, ◌≤◌, Bool, true, false, if◌then◌else◌, Option, Some}
-use Rattle.std.proofs.Common.{None, List, [], ◌∷◌, length, slice_get, slice_set, refl, ap, sym, ◌∙◌, subst, arith}
+use Rattle.std.proofs.Common.{◌≡◌, ◌≢◌, inl, inr, ℕ, ◌+◌, ◌^◌, ◌<◌, ◌≤◌, Option, Some}
+use Rattle.std.proofs.Common.{None, List, [], ◌∷◌, length, slice_get, slice_set, refl, ap, sym, ◌∙◌, arith}
 use Rattle.std.proofs.lemmas.Bool.{cases_eq}
+use Rattle.std.proofs.lemmas.Option.{slice_get_within}
 use Rattle.object_pool_cores.specs.declared.interleave.event.Event.{Event}
 use Rattle.object_pool_cores.specs.declared.interleave.event.Seen.{Seen}
 use Rattle.object_pool_cores.specs.declared.interleave.point.Point.{Point}
 use Rattle.object_pool_cores.specs.declared.interleave.point.Point.TheVariants.{Reading, Clearing, AtLink}
 use Rattle.object_pool_cores.specs.declared.interleave.point.Point.TheVariants.{ClearingHinted, Making, Linking, Taken}
 use Rattle.object_pool_cores.specs.declared.interleave.point.Point.TheVariants.{Holding, Home, Ended}
-use Rattle.object_pool_cores.specs.Pool.{Pool, IsSame, IsOut, AllowsPages, number}
-use Rattle.object_pool_cores.specs.Run.{Act, Grows, agent_of, acts_of, pages_of, pool_of, Looks, Holds, FoundOut}
+use Rattle.object_pool_cores.specs.Pool.{IsSame, IsOut, AllowsPages, number}
+use Rattle.object_pool_cores.specs.Run.{Act, Grows, agent_of, acts_of, pages_of, pool_of, Holds, FoundOut}
 use Rattle.object_pool_cores.specs.Run.{HadPages, MayCome, FoundOutBefore}
 use Rattle.object_pool_cores.specs.World.State.{WorldPageState, WorldState}
-use Rattle.object_pool_cores.specs.World.Machine.{Outcome, IsOutcome, page_value}
+use Rattle.object_pool_cores.specs.World.Machine.{page_value}
 use Rattle.object_pool_cores.specs.World.AbstractPool.{abstract_pool}
 use Rattle.object_pool_cores.specs.World.Trace.{Log, IsHidden, made_by, or_else, last_made, Shows}
-use Rattle.object_pool_cores.specs.World.Inside.Invariant.{FoundAsked, LooksOn, IsPast, IsAtLastPage, TriesBits}
+use Rattle.object_pool_cores.specs.World.Inside.Invariant.{FoundAsked, IsOn, IsAtLastPage, TriesBits}
 use Rattle.object_pool_cores.specs.World.Inside.Invariant.{HoldsAt, AgentKnows, AgentKnowsIf, Agrees}
+use Rattle.object_pool_cores.specs.Laws.NumberedPlaces.{slice_get-set_same, slice_get-set_other}
 use Rattle.object_pool_cores.proofs.Runs.{since-later, other-opens, acts_of-other, holds-same}
-use Rattle.object_pool_cores.proofs.World.AbstractPool.{get-set_same, get-set_other}
+use Rattle.object_pool_cores.proofs.World.Moves.{moved}
 
 -- fewer pages are allowed too
 pub allows-fewer : (limit : Option ℕ) (fewer pages : ℕ) → fewer ≤ pages → AllowsPages limit pages
@@ -38,66 +40,56 @@ module _ {T : Type 0} (first : List T) where
     pub values : (k id : ℕ) (value : T) → k < length old.pages → id < 32 → Holds acts b (number k id) value
         → page_value new.pages k id ≡ page_value old.pages k id
 
-module _ {T : Type 0} (Leaves : T → T → Type 0) (first : List T) where
-  module _ (log later : Log T) (acts more : List (Act T)) (old new : WorldState T) (b : ℕ)
-      (carries : Carries first log later acts more old new b) where
-    asked-carried : (asked : Option ℕ) → FoundAsked first acts (length old.pages) b asked
-        → FoundAsked first more (length new.pages) b asked
-    asked-carried None full = tt
-    asked-carried (Some hint) full = record {
-      linked = let below = full.linked in let more_pages = carries.pages in omega arith;
-      found_out = λ id within. carries.out (number hint id) (full.found_out id within);
-    }
+module _ {T : Type 0} {first : List T} {log later : Log T} {acts more : List (Act T)} {old new : WorldState T} {b : ℕ}
+    (carries : Carries first log later acts more old new b) where
+  asked-carried : (asked : Option ℕ) → FoundAsked first acts (length old.pages) b asked
+      → FoundAsked first more (length new.pages) b asked
+  asked-carried None full = tt
+  asked-carried (Some hint) full = record {
+    linked = let below = full.linked in let more_pages = carries.pages in omega arith;
+    found_out = λ id within. carries.out (number hint id) (full.found_out id within);
+  }
 
-    bits-carried : (k mask : ℕ) → TriesBits first acts b k mask → TriesBits first more b k mask
-    bits-carried k mask bits = record {
-      some = bits.some;
-      in_word = bits.in_word;
-      others = λ id within clear. carries.out (number k id) (bits.others id within clear);
-    }
+  bits-carried : (k mask : ℕ) → TriesBits first acts b k mask → TriesBits first more b k mask
+  bits-carried k mask bits = record {
+    some = bits.some;
+    in_word = bits.in_word;
+    others = λ id within clear. carries.out (number k id) (bits.others id within clear);
+  }
 
-    looks-carried : (k : ℕ) (asked : Option ℕ) → LooksOn first acts (length old.pages) b k asked
-        → LooksOn first more (length new.pages) b k asked
-    looks-carried k asked looks = record {
-      looking = let P : List (Act T) → Type 0 = Looks in subst P (sym carries.own) looks.looking;
-      linked = let below = looks.linked in let more_pages = carries.pages in omega arith;
-      found_out = λ n below. carries.out n (looks.found_out n below);
-      asked_full = asked-carried asked looks.asked_full;
-    }
+  on-carried : (k full : ℕ) (asked : Option ℕ) → IsOn first acts (length old.pages) b k full asked
+      → IsOn first more (length new.pages) b k full asked
+  on-carried k full asked on = record {
+    looking = rw carries.own on.looking;
+    linked = let below = on.linked in let more_pages = carries.pages in omega arith;
+    found_out = λ n below. carries.out n (on.found_out n below);
+    asked_full = asked-carried asked on.asked_full;
+  }
 
-    past-carried : (k : ℕ) (asked : Option ℕ) → IsPast first acts (length old.pages) b k asked
-        → IsPast first more (length new.pages) b k asked
-    past-carried k asked past = record {
-      looking = let P : List (Act T) → Type 0 = Looks in subst P (sym carries.own) past.looking;
-      linked = let below = past.linked in let more_pages = carries.pages in omega arith;
-      found_out = λ n below. carries.out n (past.found_out n below);
-      asked_full = asked-carried asked past.asked_full;
-    }
+  end-carried : (k : ℕ) → IsAtLastPage first acts old.limit (length old.pages) b k
+      → IsAtLastPage first more new.limit (length new.pages) b k
+  end-carried k end = record {
+    past = on-carried k (k + 1) None end.past;
+    last = carries.had (k + 1) end.last;
+    allowed = rw carries.limit end.allowed;
+  }
 
-    end-carried : (k : ℕ) → IsAtLastPage first acts old.limit (length old.pages) b k
-        → IsAtLastPage first more new.limit (length new.pages) b k
-    end-carried k end = record {
-      past = past-carried k None end.past;
-      last = carries.had (k + 1) end.last;
-      allowed = let P : Option ℕ → Type 0 = λ limit. AllowsPages limit (k + 1 + 1) in
-          subst P (sym carries.limit) end.allowed;
-    }
+  holds-carried : (k id : ℕ) (value : T) → HoldsAt acts (length old.pages) b k id value
+      → HoldsAt more (length new.pages) b k id value
+  holds-carried k id value holds = record {
+    linked = let below = holds.linked in let more_pages = carries.pages in omega arith;
+    in_page = holds.in_page;
+    holds = holds-same acts more b (number k id) value carries.own holds.holds;
+  }
 
-    holds-carried : (k id : ℕ) (value : T) → HoldsAt acts (length old.pages) b k id value
-        → HoldsAt more (length new.pages) b k id value
-    holds-carried k id value holds = record {
-      linked = let below = holds.linked in let more_pages = carries.pages in omega arith;
-      in_page = holds.in_page;
-      holds = holds-same acts more b (number k id) value carries.own holds.holds;
-    }
-
+  module _ (Leaves : T → T → Type 0) where
     knows-carried : (point : Point T) → AgentKnows Leaves first log acts old b point
         → AgentKnows Leaves first later more new b point
-    knows-carried (Reading k asked) knows = looks-carried k asked knows
-    knows-carried (Clearing k mask asked) knows = (looks-carried k asked knows.0, bits-carried k mask knows.1)
-    knows-carried (AtLink k asked) knows = past-carried k asked knows
+    knows-carried (Reading k asked) knows = on-carried k k asked knows
+    knows-carried (Clearing k mask asked) knows = (on-carried k k asked knows.0, bits-carried k mask knows.1)
+    knows-carried (AtLink k asked) knows = on-carried k (k + 1) asked knows
     knows-carried (ClearingHinted hint mask) knows = record {
-      past = past-carried 0 None knows.past;
+      past = on-carried 0 1 None knows.past;
       further = knows.further;
       linked = let below = knows.linked in let more_pages = carries.pages in omega arith;
       bits = bits-carried hint mask knows.bits;
@@ -129,10 +121,6 @@ module _ {T : Type 0} where
   pages-some (act ∷ acts) = pages-some acts
 
 module _ {T : Type 0} (Leaves : T → T → Type 0) (first : List T) where
-  -- the world with other pages and an agent at another point
-  abbrev pub moved : WorldState T → List (WorldPageState T) → ℕ → Point T → WorldState T
-  moved world pages a point = record { pages = pages; agents = slice_set world.agents a point; limit = world.limit }
-
   -- pages that an agent may leave by a step: they read as the pool, and what others left lies where it was
   pub record StepsPages (acts more : List (Act T)) (world : WorldState T) (pages : List (WorldPageState T))
       (a : ℕ) : Type 0 where
@@ -146,103 +134,6 @@ module _ {T : Type 0} (Leaves : T → T → Type 0) (first : List T) where
         → Holds acts b (number k id) value
         → page_value pages k id ≡ page_value world.pages k id
 
-  -- the pages stay
-  pub pages-stay : (log : Log T) (acts more : List (Act T)) (world : WorldState T) (a : ℕ)
-      → Agrees Leaves first log acts world
-      → pool_of first more ≡ pool_of first acts → StepsPages acts more world world.pages a
-  pages-stay log acts more world a agrees pool = record {
-    count = omega arith;
-    same = let P : Pool T → Type 0 = λ p. IsSame p (abstract_pool world) in subst P (sym pool) agrees.same;
-    words = agrees.words;
-    places = agrees.places;
-    allowed = agrees.allowed;
-    values = λ b k id value other linked within holds. refl;
-  }
-
-  -- the agents after one of them moved
-  agents-moved : (log later : Log T) (acts more : List (Act T)) (old new : WorldState T) (a : ℕ) (from point : Point T)
-      → slice_get old.agents a ≡ Some from → AgentKnows Leaves first later more new a point
-      → ((b : ℕ) → a ≢ b → Carries first log later acts more old new b)
-      → ((b : ℕ) → AgentKnowsIf Leaves first log acts old b (slice_get old.agents b)) → (b : ℕ)
-      → AgentKnowsIf Leaves first later more new b (slice_get (slice_set old.agents a point) b)
-  agents-moved log later acts more old new a from point at own others before b =
-      let Known : Option (Point T) → Type 0 = AgentKnowsIf Leaves first later more new b in
-      elim (cases_eq a b) [
-        | inl same ↦
-            let is : slice_get (slice_set old.agents a point) b ≡ Some point = ap
-            (λ c. slice_get (slice_set old.agents a point) c) (sym same) ∙ get-set_same old.agents a from point at in
-            let P : ℕ → Type 0 = λ c. AgentKnows Leaves first later more new c point in
-            subst Known (sym is) (subst P same own)
-        | inr other ↦
-            let is : slice_get (slice_set old.agents a point) b ≡ slice_get old.agents b =
-            get-set_other old.agents a b point (λ e. other (sym e)) in
-            subst Known (sym is)
-            (known-carried Leaves first log later acts more old new b (others b other)
-            (slice_get old.agents b) (before b))
-      ]
-
-  -- a step whose answer shows nothing
-  pub hidden-step : (log : Log T) (acts : List (Act T)) (world : WorldState T) (e : Event T) (answer : Seen) (a : ℕ)
-      (from point : Point T) (pages : List (WorldPageState T)) → Agrees Leaves first log acts world
-      → slice_get world.agents a ≡ Some from → IsHidden answer → ((b : ℕ) → a ≢ b → made_by e answer b ≡ None)
-      → StepsPages acts acts world pages a
-      → AgentKnows Leaves first ((e, answer) ∷ log) acts (moved world pages a point) a point
-      → Agrees Leaves first ((e, answer) ∷ log) acts (moved world pages a point)
-  hidden-step log acts world e answer a from point pages agrees at hidden made left own = record {
-    reads = inl (hidden, agrees.reads);
-    run = agrees.run;
-    found_out = agrees.found_out;
-    same = record { pages = left.same.pages; places = left.same.places };
-    words = left.words;
-    places = left.places;
-    allowed = left.allowed;
-    agents = agents-moved log ((e, answer) ∷ log) acts acts world (moved world pages a point) a from point at own
-        (λ b other. record {
-          own = refl;
-          out = λ n out. out;
-          had = λ count had. had;
-          pages = left.count;
-          limit = refl;
-          made = ap (λ lookup. or_else lookup (last_made log b)) (made b other);
-          values = λ k id value linked within holds. left.values b k id value other linked within holds;
-        })
-        agrees.agents;
-  }
-
-  -- a step whose answer shows an act
-  pub visible-step : (log : Log T) (acts : List (Act T)) (world : WorldState T) (e : Event T) (answer : Seen) (a : ℕ)
-      (from point : Point T) (pages : List (WorldPageState T)) (act : Act T) → Agrees Leaves first log acts world
-      → slice_get world.agents a ≡ Some from → Shows log e answer act → MayCome Leaves world.limit first acts act
-      → FoundOutBefore first acts act → agent_of act ≡ a → ((b : ℕ) → a ≢ b → made_by e answer b ≡ None)
-      → StepsPages acts (act ∷ acts) world pages a
-      → AgentKnows Leaves first ((e, answer) ∷ log) (act ∷ acts) (moved world pages a point) a point
-      → Agrees Leaves first ((e, answer) ∷ log) (act ∷ acts) (moved world pages a point)
-  visible-step log acts world e answer a from point pages act agrees at shows may found_out agent made left
-      own = record {
-        reads = inr (act, acts, refl, shows, agrees.reads);
-        run = (may, agrees.run);
-        found_out = (found_out, agrees.found_out);
-        same = record { pages = left.same.pages; places = left.same.places };
-        words = left.words;
-        places = left.places;
-        allowed = left.allowed;
-        agents = agents-moved log ((e, answer) ∷ log) acts (act ∷ acts) world (moved world pages a point) a from
-            point at own
-            (λ b other.
-            let apart : agent_of act ≢ b = λ is. other (sym agent ∙ is) in
-            record {
-              own = acts_of-other act acts b apart;
-              out = λ n out. since-later first act acts b (λ pool. IsOut pool n) (other-opens act b apart) out;
-              had = λ count had. since-later first act acts b (λ pool. pool.pages ≡ count)
-                  (other-opens act b apart) had;
-              pages = left.count;
-              limit = refl;
-              made = ap (λ lookup. or_else lookup (last_made log b)) (made b other);
-              values = λ k id value linked within holds. left.values b k id value other linked within holds;
-            })
-            agrees.agents;
-      }
-
   -- the acts that the steps so far show, which agree with the world
   pub record Agreement (log : Log T) (world : WorldState T) : Type 0 where
     pub acts : List (Act T)
@@ -252,39 +143,115 @@ module _ {T : Type 0} (Leaves : T → T → Type 0) (first : List T) where
   abbrev pub GoesOn : Log T → Event T → Seen → WorldState T → Type 0
   GoesOn log e answer new = Agreement ((e, answer) ∷ log) new
 
-  -- a step whose answer shows nothing, and which leaves the pages
-  pub stays : (log : Log T) (acts : List (Act T)) (world : WorldState T) (e : Event T) (answer : Seen) (a : ℕ)
-      (from point : Point T) → Agrees Leaves first log acts world → slice_get world.agents a ≡ Some from
-      → IsHidden answer → ((b : ℕ) → a ≢ b → made_by e answer b ≡ None)
-      → AgentKnows Leaves first ((e, answer) ∷ log) acts (moved world world.pages a point) a point
-      → GoesOn log e answer (moved world world.pages a point)
-  stays log acts world e answer a from point agrees at hidden made own = record {
-    acts = acts;
-    agrees = hidden-step log acts world e answer a from point world.pages agrees at hidden made
-        (pages-stay log acts acts world a agrees refl) own;
+  -- the agents after one of them moved
+  agents-moved : (log later : Log T) (acts more : List (Act T)) (old new : WorldState T) (a : ℕ) (from point : Point T)
+      → slice_get old.agents a ≡ Some from → AgentKnows Leaves first later more new a point
+      → ((b : ℕ) → a ≢ b → Carries first log later acts more old new b)
+      → ((b : ℕ) → AgentKnowsIf Leaves first log acts old b (slice_get old.agents b)) → (b : ℕ)
+      → AgentKnowsIf Leaves first later more new b (slice_get (slice_set old.agents a point) b)
+  agents-moved log later acts more old new a from point at own others before b =
+      elim (cases_eq a b) [
+        | inl same ↦ rw (sym same, slice_get-set_same old.agents a point (slice_get_within old.agents a from at)) own
+        | inr other ↦
+            rw (slice_get-set_other old.agents a b point (λ e. other (sym e)))
+            (known-carried (others b other) Leaves (slice_get old.agents b) (before b))
+      ]
+
+module _ {T : Type 0} {Leaves : T → T → Type 0} {first : List T} {log : Log T} {acts : List (Act T)}
+    {world : WorldState T} (agrees : Agrees Leaves first log acts world) where
+  -- the pages stay
+  pub pages-stay : {more : List (Act T)} {a : ℕ} → pool_of first more ≡ pool_of first acts
+      → StepsPages Leaves first acts more world world.pages a
+  pages-stay pool = record {
+    count = omega arith;
+    same = rw pool agrees.same;
+    words = agrees.words;
+    places = agrees.places;
+    allowed = agrees.allowed;
+    values = λ b k id value other linked within holds. refl;
   }
 
-  -- an answer and a world are those of an outcome
-  pub from-outcome : (log : Log T) (e : Event T) (outcome : Outcome T) (answer : Seen) (new : WorldState T)
-      → GoesOn log e outcome.0 outcome.1 → IsOutcome outcome answer new → GoesOn log e answer new
-  from-outcome log e outcome answer new goes row =
-      let P : Seen → Type 0 = λ seen. GoesOn log e seen outcome.1 in
-      let Q : WorldState T → Type 0 = λ world. GoesOn log e answer world in
-      subst Q (sym row.1) (subst P (sym row.0) goes)
+  -- a step whose answer shows nothing
+  pub hidden-step : (point : Point T) {e : Event T} {answer : Seen} {a : ℕ} {from : Point T}
+      {pages : List (WorldPageState T)} → slice_get world.agents a ≡ Some from → IsHidden answer
+      → ((b : ℕ) → a ≢ b → made_by e answer b ≡ None)
+      → StepsPages Leaves first acts acts world pages a
+      → AgentKnows Leaves first ((e, answer) ∷ log) acts (moved world pages a point) a point
+      → GoesOn Leaves first log e answer (moved world pages a point)
+  hidden-step point {e = e} {answer = answer} {a = a} {from = from} {pages = pages} at hidden made left own =
+      record {
+        acts = acts;
+        agrees = record {
+          reads = inl (hidden, agrees.reads);
+          run = agrees.run;
+          found_out = agrees.found_out;
+          same = record { pages = left.same.pages; places = left.same.places };
+          words = left.words;
+          places = left.places;
+          allowed = left.allowed;
+          agents = agents-moved Leaves first log ((e, answer) ∷ log) acts acts world (moved world pages a point) a from
+              point at own
+              (λ b other. record {
+                own = refl;
+                out = λ n out. out;
+                had = λ count had. had;
+                pages = left.count;
+                limit = refl;
+                made = ap (λ lookup. or_else lookup (last_made log b)) (made b other);
+                values = λ k id value linked within holds. left.values b k id value other linked within holds;
+              })
+              agrees.agents;
+        };
+      }
 
-  pub from-if : (log : Log T) (e : Event T) (test : Bool) (one other : Outcome T) (answer : Seen) (new : WorldState T)
-      → (test ≡ true → IsOutcome one answer new → GoesOn log e answer new)
-      → (test ≡ false → IsOutcome other answer new → GoesOn log e answer new)
-      → IsOutcome (if test then one else other) answer new
-      → GoesOn log e answer new
-  from-if log e true one other answer new then_goes else_goes row = then_goes refl row
-  from-if log e false one other answer new then_goes else_goes row = else_goes refl row
+  -- a step whose answer shows an act
+  pub visible-step : (act : Act T) (point : Point T) {e : Event T} {answer : Seen} {a : ℕ} {from : Point T}
+      {pages : List (WorldPageState T)} → slice_get world.agents a ≡ Some from → Shows log e answer act
+      → MayCome Leaves world.limit first acts act → FoundOutBefore first acts act → agent_of act ≡ a
+      → ((b : ℕ) → a ≢ b → made_by e answer b ≡ None)
+      → StepsPages Leaves first acts (act ∷ acts) world pages a
+      → AgentKnows Leaves first ((e, answer) ∷ log) (act ∷ acts) (moved world pages a point) a point
+      → GoesOn Leaves first log e answer (moved world pages a point)
+  visible-step act point {e = e} {answer = answer} {a = a} {from = from} {pages = pages} at shows may
+      found_out agent made left own = record {
+        acts = act ∷ acts;
+        agrees = record {
+          reads = inr (act, acts, refl, shows, agrees.reads);
+          run = (may, agrees.run);
+          found_out = (found_out, agrees.found_out);
+          same = record { pages = left.same.pages; places = left.same.places };
+          words = left.words;
+          places = left.places;
+          allowed = left.allowed;
+          agents = agents-moved Leaves first log ((e, answer) ∷ log) acts (act ∷ acts) world
+              (moved world pages a point) a from point at own
+              (λ b other.
+              let apart : agent_of act ≢ b = λ is. other (sym agent ∙ is) in
+              record {
+                own = acts_of-other act acts b apart;
+                out = λ n out. since-later first act acts b (λ pool. IsOut pool n) (other-opens act b apart) out;
+                had = λ count had. since-later first act acts b (λ pool. pool.pages ≡ count)
+                    (other-opens act b apart) had;
+                pages = left.count;
+                limit = refl;
+                made = ap (λ lookup. or_else lookup (last_made log b)) (made b other);
+                values = λ k id value linked within holds. left.values b k id value other linked within holds;
+              })
+              agrees.agents;
+        };
+      }
+
+  -- a step whose answer shows nothing, and which leaves the pages
+  pub stays : (point : Point T) {e : Event T} {answer : Seen} {a : ℕ} {from : Point T}
+      → slice_get world.agents a ≡ Some from → IsHidden answer → ((b : ℕ) → a ≢ b → made_by e answer b ≡ None)
+      → AgentKnows Leaves first ((e, answer) ∷ log) acts (moved world world.pages a point) a point
+      → GoesOn Leaves first log e answer (moved world world.pages a point)
+  stays point at hidden made own = hidden-step point at hidden made (pages-stay refl) own
 
   -- nothing happens
-  pub idle : (log : Log T) (acts : List (Act T)) (world : WorldState T) (e : Event T) (answer : Seen)
-      → Agrees Leaves first log acts world → IsHidden answer → ((b : ℕ) → made_by e answer b ≡ None)
-      → GoesOn log e answer world
-  idle log acts world e answer agrees hidden made = record {
+  pub idle : (e : Event T) (answer : Seen) → IsHidden answer → ((b : ℕ) → made_by e answer b ≡ None)
+      → GoesOn Leaves first log e answer world
+  idle e answer hidden made = record {
     acts = acts;
     agrees = record {
       reads = inl (hidden, agrees.reads);
@@ -294,16 +261,14 @@ module _ {T : Type 0} (Leaves : T → T → Type 0) (first : List T) where
       words = agrees.words;
       places = agrees.places;
       allowed = agrees.allowed;
-      agents = λ b. known-carried Leaves first log ((e, answer) ∷ log) acts acts world world b
-          (record {
-            own = refl;
-            out = λ n out. out;
-            had = λ count had. had;
-            pages = omega arith;
-            limit = refl;
-            made = ap (λ lookup. or_else lookup (last_made log b)) (made b);
-            values = λ k id value linked within holds. refl;
-          })
-          (slice_get world.agents b) (agrees.agents b);
+      agents = λ b. known-carried {log = log} {later = (e, answer) ∷ log} {old = world} {new = world} (record {
+        own = refl;
+        out = λ n out. out;
+        had = λ count had. had;
+        pages = omega arith;
+        limit = refl;
+        made = ap (λ lookup. or_else lookup (last_made log b)) (made b);
+        values = λ k id value linked within holds. refl;
+      }) Leaves (slice_get world.agents b) (agrees.agents b);
     };
   }

@@ -1,13 +1,13 @@
 -- How far an agent is that looks: each of its steps counts, and its page.
 use Rattle.std.proofs.Common.{◌≡◌, inl, inr, ℕ, ◌+◌, ◌*◌, ◌^◌, ◌<◌, ◌≤◌, nat_lt, false, Option, Some}
-use Rattle.std.proofs.Common.{None, List, refl, ap, sym, ◌∙◌, subst, arith}
+use Rattle.std.proofs.Common.{None, List, refl, ap, sym, ◌∙◌, arith}
 use Rattle.std.specs.Int.{w32, bit_at}
 use Rattle.std.proofs.lemmas.Bool.{eq-eqb, ne_eqb, eqb-false, lt-ltb, ltb-true, cases_eq, cases_lt, cases_Bool}
 use Rattle.std.proofs.lemmas.Nat.Bits.{bit_at-trailing_zeros}
 use Rattle.lockfree_object_pool.proofs.WordBits.{clears_least}
 use Rattle.object_pool_cores.specs.declared.interleave.point.Point.{Point}
-use Rattle.object_pool_cores.specs.declared.interleave.point.Point.TheVariants.{Reading, Clearing, AtLink}
-use Rattle.object_pool_cores.specs.declared.interleave.point.Point.TheVariants.{ClearingHinted, Making, Linking}
+use Rattle.object_pool_cores.specs.declared.interleave.point.Point.TheVariants.{Reading, AtLink}
+use Rattle.object_pool_cores.specs.declared.interleave.point.Point.TheVariants.{Making, Linking}
 use Rattle.object_pool_cores.specs.World.Inside.Progress.{taken_early, link_position, progress, position, Rises}
 use Rattle.object_pool_cores.specs.World.Inside.Progress.{MovesOn}
 use Rattle.object_pool_cores.specs.World.Machine.{lowest, without_lowest, tries, tries_hinted, comes_to, was_asked}
@@ -68,22 +68,28 @@ link-between k None = (omega arith, omega arith)
 link-between k (Some hint) = (omega arith, omega arith)
 
 module _ {T : Type 0} where
-  pub rises-to : (measure : Point T → Option ℕ) (from point : Point T) (sooner later : ℕ) → measure from ≡ Some sooner
-      → measure point ≡ Some later
-      → sooner + 1 ≤ later → Rises measure from point
-  rises-to measure from point sooner later is to less other lookup =
-      let same : Some later ≡ Some other = sym to ∙ lookup in
+  rises-to : (measure : Point T → Option ℕ) {from point : Point T} {sooner later : ℕ} → measure from ≡ Some sooner
+      → measure point ≡ Some later → sooner + 1 ≤ later → Rises measure from point
+  rises-to measure {sooner = sooner} {later = later} is to less other lookup =
       let equal : later ≡ other = cc in
       (sooner, is, omega arith)
 
-  pub rises-past : (measure : Point T → Option ℕ) (from point : Point T) → measure point ≡ None
-      → Rises measure from point
+  rises-past : (measure : Point T → Option ℕ) (from point : Point T) → measure point ≡ None → Rises measure from point
   rises-past measure from point none later lookup = absurd (let both : None ≡ Some later = sym none ∙ lookup in cc)
 
   pub advances-past : (from point : Point T) → progress point ≡ None → position point ≡ None → MovesOn from point
   advances-past from point none nowhere = record {
     steps = rises-past progress from point none;
     pages = rises-past position from point nowhere;
+  }
+
+  -- one step further by its steps and by its page
+  advances-to : {from point : Point T} {sooner later here there : ℕ} → progress from ≡ Some sooner
+      → progress point ≡ Some later → position from ≡ Some here → position point ≡ Some there
+      → sooner + 1 ≤ later → here + 1 ≤ there → MovesOn from point
+  advances-to is to at at_to less further = record {
+    steps = rises-to progress is to less;
+    pages = rises-to position at at_to further;
   }
 
   -- on a page of the chain, with these bits to try
@@ -93,26 +99,12 @@ module _ {T : Type 0} where
       → (0 < mask → (sooner + 1 ≤ 36 * k + 1 + lowest mask) × (on_page + 1 ≤ 69 * k + 1 + lowest mask))
       → MovesOn from (tries k mask asked)
   advances-tries from k mask asked sooner on_page is here link page bits =
-      let P : Point T → Type 0 = MovesOn from in
-      let early = taken_early asked k in
+      let (least, most) = link-between k asked in
       elim (cases_eq mask 0) [
-        | inl none ↦
-            let at : tries {T = T} k mask asked ≡ AtLink k asked = rw (eq-eqb mask 0 none) refl in
-            let (least, most) = link-between k asked in
-            subst P (sym at) (record {
-              steps = rises-to progress from (AtLink k asked) (sooner + early) (36 * k + 33 + early) is refl
-                  (omega arith);
-              pages = rises-to position from (AtLink k asked) on_page (link_position k asked) here refl (omega arith);
-            })
+        | inl none ↦ rw (eq-eqb mask 0 none) (advances-to is refl here refl (omega arith) (omega arith))
         | inr some ↦
-            let at : tries {T = T} k mask asked ≡ Clearing k mask asked = rw (ne_eqb mask 0 some) refl in
             let (up, up_page) = bits (omega arith) in
-            subst P (sym at) (record {
-              steps = rises-to progress from (Clearing k mask asked) (sooner + early)
-                  (36 * k + 1 + lowest mask + early) is refl (omega arith);
-              pages = rises-to position from (Clearing k mask asked) on_page (69 * k + 1 + lowest mask) here refl
-                  (omega arith);
-            })
+            rw (ne_eqb mask 0 some) (advances-to is refl here refl (omega arith) (omega arith))
       ]
 
   -- on a page that a hint named
@@ -120,52 +112,26 @@ module _ {T : Type 0} where
       → position from ≡ Some sooner → 0 < hint
       → sooner + 1 ≤ 66 → (0 < mask → sooner + 1 ≤ 34 + lowest mask) → MovesOn from (tries_hinted hint mask)
   advances-hinted from hint mask sooner is here further link bits =
-      let P : Point T → Type 0 = MovesOn from in
       let early = early-before hint 0 further in
       elim (cases_eq mask 0) [
-        | inl none ↦
-            let at : tries_hinted {T = T} hint mask ≡ AtLink 0 (Some hint) = rw (eq-eqb mask 0 none) refl in
-            subst P (sym at) (record {
-              steps = rises-to progress from (AtLink 0 (Some hint)) sooner (36 * 0 + 33 + taken_early (Some hint) 0)
-                  is refl (omega arith);
-              pages = rises-to position from (AtLink 0 (Some hint)) sooner 66 here refl (omega arith);
-            })
+        | inl none ↦ rw (eq-eqb mask 0 none) (advances-to is refl here refl (omega arith) (omega arith))
         | inr some ↦
-            let at : tries_hinted {T = T} hint mask ≡ ClearingHinted hint mask = rw (ne_eqb mask 0 some) refl in
             let up = bits (omega arith) in
-            subst P (sym at) (record {
-              steps = rises-to progress from (ClearingHinted hint mask) sooner (34 + lowest mask) is refl (omega arith);
-              pages = rises-to position from (ClearingHinted hint mask) sooner (34 + lowest mask) here refl
-                  (omega arith);
-            })
+            rw (ne_eqb mask 0 some) (advances-to is refl here refl (omega arith) (omega arith))
       ]
 
   -- over the link to the next page, or past it where a hint led there in vain
   pub advances-next : (k : ℕ) (asked : Option ℕ) → MovesOn {T = T} (AtLink k asked) (comes_to (k + 1) asked)
   advances-next k asked =
-      let P : Point T → Type 0 = MovesOn (AtLink k asked) in
       let (least, most) = link-between k asked in
-      let early = taken_early asked k in
       elim (cases_Bool (was_asked asked (k + 1))) [
         | inl is ↦
-            let at : comes_to {T = T} (k + 1) asked ≡ AtLink (k + 1) asked = rw is refl in
             let (from_there, to_there) = link-between (k + 1) asked in
             let little = early-most asked k in
-            subst P (sym at) (record {
-              steps = rises-to progress (AtLink k asked) (AtLink (k + 1) asked) (36 * k + 33 + early)
-                  (36 * (k + 1) + 33 + taken_early asked (k + 1)) refl refl (omega arith);
-              pages = rises-to position (AtLink k asked) (AtLink (k + 1) asked) (link_position k asked)
-                  (link_position (k + 1) asked) refl refl (omega arith);
-            })
+            rw is (advances-to refl refl refl refl (omega arith) (omega arith))
         | inr not ↦
-            let at : comes_to {T = T} (k + 1) asked ≡ Reading (k + 1) asked = rw not refl in
             let stays = early-next asked k not in
-            subst P (sym at) (record {
-              steps = rises-to progress (AtLink k asked) (Reading (k + 1) asked) (36 * k + 33 + early)
-                  (36 * (k + 1) + taken_early asked (k + 1)) refl refl (omega arith);
-              pages = rises-to position (AtLink k asked) (Reading (k + 1) asked) (link_position k asked)
-                  (69 * (k + 1)) refl refl (omega arith);
-            })
+            rw not (advances-to refl refl refl refl (omega arith) (omega arith))
       ]
 
   -- at the end of the chain, behind each page that a hint may have named
@@ -173,23 +139,10 @@ module _ {T : Type 0} where
       → MovesOn {T = T} (AtLink k asked) (Making k)
   advances-end k asked none =
       let (least, most) = link-between k asked in
-      record {
-        steps = rises-to progress (AtLink k asked) (Making k) (36 * k + 33 + taken_early asked k)
-            (36 * k + 34) refl refl (omega arith);
-        pages = rises-to position (AtLink k asked) (Making k) (link_position k asked) (69 * k + 67) refl refl
-            (omega arith);
-      }
+      advances-to refl refl refl refl (omega arith) (omega arith)
 
   pub advances-made : (k : ℕ) (values : List T) → MovesOn (Making k) (Linking k values)
-  advances-made k values = record {
-    steps = rises-to progress (Making k) (Linking k values) (36 * k + 34) (36 * k + 35) refl refl (omega arith);
-    pages = rises-to position (Making k) (Linking k values) (69 * k + 67) (69 * k + 68) refl refl (omega arith);
-  }
+  advances-made k values = advances-to refl refl refl refl (omega arith) (omega arith)
 
   pub advances-linked : (k : ℕ) (values : List T) → MovesOn (Linking k values) (Reading (k + 1) None)
-  advances-linked k values = record {
-    steps = rises-to progress (Linking k values) (Reading (k + 1) None) (36 * k + 35) (36 * (k + 1) + 0) refl refl
-        (omega arith);
-    pages = rises-to position (Linking k values) (Reading (k + 1) None) (69 * k + 68) (69 * (k + 1)) refl refl
-        (omega arith);
-  }
+  advances-linked k values = advances-to refl refl refl refl (omega arith) (omega arith)

@@ -1,13 +1,12 @@
 -- Steps one after another, from a world that can be reached.
-use Rattle.std.specs.Bool.{⊤}
-use Rattle.std.proofs.Common.{ℕ, Option, [], ◌∷◌, ◌++◌, slice_get, sym, subst}
+use Rattle.std.proofs.Common.{ℕ, Option, [], ◌∷◌, ◌++◌, slice_get}
 use Rattle.object_pool_cores.specs.declared.interleave.point.Point.{Point}
 use Rattle.object_pool_cores.specs.World.State.{WorldState}
 use Rattle.object_pool_cores.specs.World.Trace.{Log}
 use Rattle.object_pool_cores.specs.World.Headline.{Executes}
 use Rattle.object_pool_cores.specs.World.Reachable.{IsReachable}
 use Rattle.object_pool_cores.specs.World.OwnSteps.{own_steps, is_step_of}
-use Rattle.object_pool_cores.proofs.World.Enabled.{any-step, reached-step, reached-agrees}
+use Rattle.object_pool_cores.proofs.World.Enabled.{reached-step, reached-agrees, reached-happens}
 use Rattle.object_pool_cores.specs.World.Inside.Progress.{MovesOn, Rises}
 use Rattle.object_pool_cores.proofs.World.OwnSteps.{AdvancedTo, effect-advances, none-advanced, step-does}
 
@@ -16,18 +15,14 @@ module _ {T : Type 0} (Leaves : T → T → Type 0) where
   pub ran-append : (old between : WorldState T) (earlier : Log T) → Executes Leaves old earlier between
       → (later : Log T) (new : WorldState T)
       → Executes Leaves between later new → Executes Leaves old (later ++ earlier) new
-  ran-append old between earlier before [] new same =
-      let P : WorldState T → Type 0 = Executes Leaves old earlier in
-      subst P (sym same) before
+  ran-append old between earlier before [] new same = rw same before
   ran-append old between earlier before ((e, answer) ∷ later) new (last, ran, step, exact) =
       (last, ran-append old between earlier before later last ran, step, exact)
 
   -- what steps lead to can be reached
   pub ran-reached : (old : WorldState T) → IsReachable old → (log : Log T) (new : WorldState T)
       → Executes Leaves old log new → IsReachable new
-  ran-reached old reached [] new same =
-      let P : WorldState T → Type 0 = IsReachable in
-      subst P (sym same) reached
+  ran-reached old reached [] new same = rw same reached
   ran-reached old reached ((e, answer) ∷ log) new (between, ran, step, exact) =
       reached-step Leaves between e answer new (ran-reached old reached log between ran) step
 
@@ -37,15 +32,12 @@ module _ {T : Type 0} (Leaves : T → T → Type 0) where
       → (old : WorldState T) → IsReachable old → (a : ℕ) (log : Log T) (new : WorldState T)
       → Executes Leaves old log new
       → AdvancedTo measure (slice_get old.agents a) (own_steps log a) (slice_get new.agents a)
-  ran-advances measure counts old reached a [] new same =
-      let P : WorldState T → Type 0 = λ world. AdvancedTo measure (slice_get old.agents a) 0
-      (slice_get world.agents a) in
-      subst P (sym same) (none-advanced measure (slice_get old.agents a))
+  ran-advances measure counts old reached a [] new same = rw same (none-advanced measure (slice_get old.agents a))
   ran-advances measure counts old reached a ((e, answer) ∷ log) new (between, ran, step, exact) =
       let there = ran-reached old reached log between ran in
       let agreed = reached-agrees between there in
       effect-advances measure counts (slice_get old.agents a) (slice_get between.agents a) (slice_get new.agents a)
       (own_steps log a) (is_step_of e answer a)
-      (step-does (λ before kept. ⊤) there.is_new.first there.log agreed.acts between agreed.agrees answer new e
-      (any-step Leaves between e answer new step) a)
+      (step-does agreed.agrees e answer new
+      (reached-happens Leaves between e answer new there step) a)
       (ran-advances measure counts old reached a log between ran)

@@ -1,15 +1,16 @@
 -- Events that are done one after another.
-use Rattle.std.proofs.Common.{◌≡◌, ◌⊎◌, inl, inr, ℕ, ◌+◌, ◌-◌, ◌*◌, ◌<◌, ◌≤◌, Option, Some, None, slice_get, List, []}
+use Rattle.std.proofs.Common.{◌≡◌, inl, inr, ℕ, ◌+◌, ◌-◌, ◌*◌, ◌<◌, ◌≤◌, Option, Some, None, slice_get, List, []}
 use Rattle.std.proofs.Common.{◌∷◌, ◌++◌, length, map, reverse, Result, Ok, Err, IsErr, OnOk, arith, refl, ap, sym, ◌∙◌}
-use Rattle.std.proofs.Common.{subst, append_assoc}
+use Rattle.std.proofs.Common.{append_assoc}
 use Rattle.std.proofs.lemmas.List.{map-append, reverse-append, append-nil}
 use Rattle.object_pool_cores.specs.declared.interleave.event.Event.{Event}
 use Rattle.object_pool_cores.specs.declared.interleave.event.Seen.{Seen}
 use Rattle.object_pool_cores.specs.declared.run_error.RunError.{RunError}
 use Rattle.object_pool_cores.specs.World.State.{WorldState}
-use Rattle.object_pool_cores.specs.World.Machine.{Steps, lowest}
+use Rattle.object_pool_cores.specs.World.Machine.{Steps}
 use Rattle.object_pool_cores.specs.World.Trace.{Log}
-use Rattle.object_pool_cores.specs.World.Headline.{IsNew, Executes, Segment, Advances, SinceNew, RunsEvents}
+use Rattle.object_pool_cores.specs.World.Headline.{IsNew, Executes, Segment, IsPart, Advances, SinceNew}
+use Rattle.object_pool_cores.specs.World.Headline.{RunsEvents}
 use Rattle.object_pool_cores.specs.World.Reachable.{IsReachable}
 use Rattle.object_pool_cores.specs.World.Enabled.{IsExact}
 use Rattle.object_pool_cores.specs.World.OwnSteps.{own_steps, IsAtPage, IsAtHintedPage, IsLooking}
@@ -23,10 +24,9 @@ use Rattle.std.proofs.lemmas.Bool.{cases_lt}
 use Rattle.object_pool_cores.proofs.World.Bits.{lowest-lt}
 use Rattle.object_pool_cores.proofs.World.Headline.{ran-is_run}
 use Rattle.object_pool_cores.proofs.World.Enabled.{reached-new, reached-agrees, known-reached}
-use Rattle.object_pool_cores.proofs.World.Solo.{unhinted-is, ran-stands, stands-alone}
-use Rattle.object_pool_cores.proofs.World.SoloByHint.{ran-alone_by_hint}
+use Rattle.object_pool_cores.proofs.World.Solo.{unhinted-is, ran-solo, ran-solo_by_hint}
 use Rattle.object_pool_cores.proofs.World.Reachable.{ran-append, ran-reached, ran-advances}
-use Rattle.object_pool_cores.proofs.World.InOrder.{ran-in_order, none-in_order}
+use Rattle.object_pool_cores.proofs.World.InOrder.{ran-in_order}
 use Rattle.object_pool_cores.proofs.World.OwnSteps.{measure_from, AdvancedTo}
 use Rattle.object_pool_cores.specs.World.Inside.Progress.{progress, position, taken_early}
 use Rattle.object_pool_cores.proofs.World.Progress.{early-most, early-past}
@@ -41,21 +41,29 @@ pub no-elements : {X : Type 0} (xs : List X) → length xs ≡ 0 → reverse xs 
 no-elements [] none = refl
 no-elements (x ∷ xs) none = absurd (omega arith)
 
+-- no more pages are allowed than the limit
+allows-most : (limit : Option ℕ) {most pages : ℕ} → limit ≡ Some most → AllowsPages limit pages → pages ≤ most
+allows-most None is allowed = absurd (cc)
+allows-most (Some limit) {most = most} is allowed = let same : limit ≡ most = cc in omega arith
+
 module _ {T : Type 0} where
-  -- no entries have no part
-  no-events : (later part earlier : Log T) → later ++ part ++ earlier ≡ [] → part ≡ []
-  no-events [] [] earlier none = refl
-  no-events [] (entry ∷ part) earlier none = absurd (cc)
-  no-events (entry ∷ later) part earlier none = absurd (cc)
-
-  no-steps : (later part earlier : Log T) (a : ℕ) → later ++ part ++ earlier ≡ [] → own_steps part a ≡ 0
-  no-steps later part earlier a none = ap (λ log. own_steps log a) (no-events later part earlier none)
-
-  allowed-under : (new : WorldState T) → IsReachable new → (limit : ℕ) → new.limit ≡ Some limit
+  allowed-under : (new : WorldState T) → IsReachable new → {limit : ℕ} → new.limit ≡ Some limit
       → length new.pages ≤ limit
-  allowed-under new reached limit is =
-      let P : Option ℕ → Type 0 = λ limit. AllowsPages limit (length new.pages) in
-      subst P is (reached-agrees new reached).agrees.allowed
+  allowed-under new reached is = allows-most new.limit is (reached-agrees new reached).agrees.allowed
+
+  -- as many steps as lie between two points
+  steps-between : (measure : Point T → Option ℕ) (n : ℕ) (start now : Option (Point T)) {sooner later : ℕ}
+      → measure_from measure start ≡ Some sooner → AdvancedTo measure start n now
+      → measure_from measure now ≡ Some later → sooner + n ≤ later
+  steps-between measure n start None {sooner = sooner} at (none, same) now =
+      let is : Some sooner ≡ Some 0 = sym at ∙ ap (measure_from measure) same in
+      let first : sooner ≡ 0 = cc in
+      omega arith
+  steps-between measure n start (Some point) {sooner = sooner} {later = later} at advanced now =
+      let (began, began_at, few) = advanced later now in
+      let is : Some sooner ≡ Some began = sym at ∙ began_at in
+      let same : sooner ≡ began = cc in
+      omega arith
 
   -- the steps on one page
   page-steps-at : (start : Option (Point T)) (new : WorldState T) (log : Log T) (a k : ℕ) (asked : Option ℕ)
@@ -63,16 +71,14 @@ module _ {T : Type 0} where
       → start ≡ Some (Reading k asked) → (lookup : Option (Point T)) → slice_get new.agents a ≡ lookup
       → AdvancedTo position start (own_steps log a) lookup → IsAtPage k lookup → own_steps log a < 33
   page-steps-at start new log a k asked reached is (Some (Reading j later)) at advanced here =
-      let (sooner, start_is, few) = advanced (69 * j) refl in
-      let same : Some (69 * k) ≡ Some sooner = sym (ap (measure_from position) is) ∙ start_is in
-      let equal : 69 * k ≡ sooner = cc in
+      let few = steps-between position (own_steps log a) start (Some (Reading j later)) (ap (measure_from position) is)
+      advanced refl in
       omega arith
   page-steps-at start new log a k asked reached is (Some (Clearing j mask later)) at advanced here =
       let bits = (known-reached new reached a (Clearing j mask later) at).1 in
       let within = lowest-lt mask bits.some bits.in_word in
-      let (sooner, start_is, few) = advanced (69 * j + 1 + lowest mask) refl in
-      let same : Some (69 * k) ≡ Some sooner = sym (ap (measure_from position) is) ∙ start_is in
-      let equal : 69 * k ≡ sooner = cc in
+      let few = steps-between position (own_steps log a) start (Some (Clearing j mask later))
+      (ap (measure_from position) is) advanced refl in
       omega arith
   page-steps-at start new log a k asked reached is _ at advanced here = absurd here
 
@@ -85,20 +91,10 @@ module _ {T : Type 0} where
   hint-steps-at start new log a reached is (Some (ClearingHinted hint mask)) at advanced here =
       let knows = known-reached new reached a (ClearingHinted hint mask) at in
       let within = lowest-lt mask knows.bits.some knows.bits.in_word in
-      let (sooner, start_is, few) = advanced (34 + lowest mask) refl in
-      let same : Some 33 ≡ Some sooner = sym (ap (measure_from position) is) ∙ start_is in
-      let equal : 33 ≡ sooner = cc in
+      let few = steps-between position (own_steps log a) start (Some (ClearingHinted hint mask))
+      (ap (measure_from position) is) advanced refl in
       omega arith
   hint-steps-at start new log a reached is _ at advanced here = absurd here
-
-  -- the steps of an agent that began
-  since-begun : (start : Option (Point T)) (n later : ℕ) → start ≡ None → (sooner : ℕ)
-      → measure_from progress start ≡ Some sooner
-      → sooner + n ≤ later → n ≤ later
-  since-begun start n later none sooner is few =
-      let same : Some 0 ≡ Some sooner = sym (ap (measure_from progress) none) ∙ is in
-      let zero : 0 ≡ sooner = cc in
-      omega arith
 
   -- those that were taken early, on a page that is linked, are within the limit
   early-within : (asked : Option ℕ) (first : List T) (acts : List (Act T)) (pages a k : ℕ)
@@ -112,130 +108,82 @@ module _ {T : Type 0} where
         | inr past ↦ let none = early-past hint k past in omega arith
       ]
 
+  -- how far an agent that looks may be, by the limit
+  looking-within : (new : WorldState T) (a limit : ℕ) → IsReachable new → new.limit ≡ Some limit
+      → (lookup : Option (Point T)) → slice_get new.agents a ≡ lookup → IsLooking lookup → (far : ℕ)
+      × (measure_from progress lookup ≡ Some far) × (far < 36 * limit - 2)
+  looking-within new a limit reached is (Some (Reading k asked)) at looks =
+      let knows = known-reached new reached a (Reading k asked) at in
+      let within = early-within asked _ _ (length new.pages) a k knows.asked_full knows.linked in
+      let allowed = allowed-under new reached is in
+      (_, refl, omega arith)
+  looking-within new a limit reached is (Some (Clearing k mask asked)) at looks =
+      let (knows, bits) = known-reached new reached a (Clearing k mask asked) at in
+      let least = lowest-lt mask bits.some bits.in_word in
+      let within = early-within asked _ _ (length new.pages) a k knows.asked_full knows.linked in
+      let allowed = allowed-under new reached is in
+      (_, refl, omega arith)
+  looking-within new a limit reached is (Some (AtLink k asked)) at looks =
+      let knows = known-reached new reached a (AtLink k asked) at in
+      let within = early-within asked _ _ (length new.pages) a k knows.asked_full knows.linked in
+      let allowed = allowed-under new reached is in
+      (_, refl, omega arith)
+  looking-within new a limit reached is (Some (ClearingHinted hint mask)) at looks =
+      let knows = known-reached new reached a (ClearingHinted hint mask) at in
+      let least = lowest-lt mask knows.bits.some knows.bits.in_word in
+      let further = knows.further in
+      let linked = knows.linked in
+      let allowed = allowed-under new reached is in
+      (_, refl, omega arith)
+  looking-within new a limit reached is (Some (Making k)) at looks =
+      let most = allows-most new.limit is (known-reached new reached a (Making k) at).allowed in
+      (_, refl, omega arith)
+  looking-within new a limit reached is (Some (Linking k values)) at looks =
+      let most = allows-most new.limit is (known-reached new reached a (Linking k values) at).0.allowed in
+      (_, refl, omega arith)
+  looking-within new a limit reached is _ at looks = absurd looks
+
   limit-steps-at : (start : Option (Point T)) (new : WorldState T) (log : Log T) (a limit : ℕ) → IsReachable new
       → new.limit ≡ Some limit
       → start ≡ None → (lookup : Option (Point T)) → slice_get new.agents a ≡ lookup
       → AdvancedTo progress start (own_steps log a) lookup → IsLooking lookup → own_steps log a < 36 * limit - 2
-  limit-steps-at start new log a limit reached is none (Some (Reading k asked)) at advanced looks =
-      let later = 36 * k + taken_early asked k in
-      let (sooner, start_is, few) = advanced later refl in
-      let most = since-begun start (own_steps log a) later none sooner start_is few in
-      let knows = known-reached new reached a (Reading k asked) at in
-      let within = early-within asked _ _ (length new.pages) a k knows.asked_full knows.linked in
-      let allowed = allowed-under new reached limit is in
+  limit-steps-at start new log a limit reached is none lookup at advanced looks =
+      let (far, now, within) = looking-within new a limit reached is lookup at looks in
+      let most = steps-between progress (own_steps log a) start lookup (ap (measure_from progress) none) advanced now in
       omega arith
-  limit-steps-at start new log a limit reached is none (Some (Clearing k mask asked)) at advanced looks =
-      let later = 36 * k + 1 + lowest mask + taken_early asked k in
-      let (sooner, start_is, few) = advanced later refl in
-      let most = since-begun start (own_steps log a) later none sooner start_is few in
-      let (looks_on, bits) = known-reached new reached a (Clearing k mask asked) at in
-      let within = lowest-lt mask bits.some bits.in_word in
-      let early = early-within asked _ _ (length new.pages) a k looks_on.asked_full looks_on.linked in
-      let allowed = allowed-under new reached limit is in
-      omega arith
-  limit-steps-at start new log a limit reached is none (Some (AtLink k asked)) at advanced looks =
-      let later = 36 * k + 33 + taken_early asked k in
-      let (sooner, start_is, few) = advanced later refl in
-      let most = since-begun start (own_steps log a) later none sooner start_is few in
-      let knows = known-reached new reached a (AtLink k asked) at in
-      let within = early-within asked _ _ (length new.pages) a k knows.asked_full knows.linked in
-      let allowed = allowed-under new reached limit is in
-      omega arith
-  limit-steps-at start new log a limit reached is none (Some (ClearingHinted hint mask)) at advanced looks =
-      let (sooner, start_is, few) = advanced (34 + lowest mask) refl in
-      let most = since-begun start (own_steps log a) (34 + lowest mask) none sooner start_is few in
-      let knows = known-reached new reached a (ClearingHinted hint mask) at in
-      let within = lowest-lt mask knows.bits.some knows.bits.in_word in
-      let further = knows.further in
-      let linked = knows.linked in
-      let allowed = allowed-under new reached limit is in
-      omega arith
-  limit-steps-at start new log a limit reached is none (Some (Making k)) at advanced looks =
-      let (sooner, start_is, few) = advanced (36 * k + 34) refl in
-      let most = since-begun start (own_steps log a) (36 * k + 34) none sooner start_is few in
-      let P : Option ℕ → Type 0 = λ limit. AllowsPages limit (k + 1 + 1) in
-      let next : k + 1 + 1 ≤ limit = subst P is (known-reached new reached a (Making k) at).allowed in
-      omega arith
-  limit-steps-at start new log a limit reached is none (Some (Linking k values)) at advanced looks =
-      let (sooner, start_is, few) = advanced (36 * k + 35) refl in
-      let most = since-begun start (own_steps log a) (36 * k + 35) none sooner start_is few in
-      let P : Option ℕ → Type 0 = λ limit. AllowsPages limit (k + 1 + 1) in
-      let next : k + 1 + 1 ≤ limit = subst P is (known-reached new reached a (Linking k values) at).0.allowed in
-      omega arith
-  limit-steps-at start new log a limit reached is none _ at advanced looks = absurd looks
 
 module _ {T : Type 0} (Leaves : T → T → Type 0) where
-  none-goes : (old new : WorldState T) (a : ℕ) (log : Log T) → log ≡ [] → Executes Leaves old log new
-      → slice_get new.agents a ≡ slice_get old.agents a
-  none-goes old new a [] none same = ap (λ world. slice_get world.agents a) same
-  none-goes old new a (entry ∷ log) none ran = absurd (cc)
-
   -- what own steps come to, from a world that can be reached
   reached-leads : (whole : Segment T) → IsReachable whole.from → Advances Leaves whole
-  reached-leads whole reached = record {
-    per_page = λ part is a k asked at here.
-        let there = ran-reached Leaves whole.from reached is.earlier part.from is.before in
-        let end = ran-reached Leaves part.from there part.log part.to is.steps in
-        page-steps-at (slice_get part.from.agents a) part.to part.log a k asked end at (slice_get part.to.agents a) refl
-        (ran-advances Leaves position (λ from point further. further.pages) part.from there a part.log part.to
-        is.steps) here;
-    per_hint = λ part is a at here.
-        let there = ran-reached Leaves whole.from reached is.earlier part.from is.before in
-        let end = ran-reached Leaves part.from there part.log part.to is.steps in
-        hint-steps-at (slice_get part.from.agents a) part.to part.log a end at (slice_get part.to.agents a) refl
-        (ran-advances Leaves position (λ from point further. further.pages) part.from there a part.log part.to
-        is.steps) here;
-    bounded = λ part is a limit none limited looks.
-        let there = ran-reached Leaves whole.from reached is.earlier part.from is.before in
-        let end = ran-reached Leaves part.from there part.log part.to is.steps in
-        limit-steps-at (slice_get part.from.agents a) part.to part.log a limit end limited none
-        (slice_get part.to.agents a) refl
-        (ran-advances Leaves progress (λ from point further. further.steps) part.from there a part.log part.to
-        is.steps) looks;
-    alone = λ part is a at only unhinted.
-        let there = ran-reached Leaves whole.from reached is.earlier part.from is.before in
-        stands-alone part.from part.log part.to a
-        (ran-stands Leaves part.from there a at part.log part.to is.steps (unhinted-is a part.log only unhinted));
-    in_order = λ part is a at only unhinted.
-        let there = ran-reached Leaves whole.from reached is.earlier part.from is.before in
-        ran-in_order Leaves part.from there a at part.log part.to is.steps (unhinted-is a part.log only unhinted);
-    alone_by_hint = λ part is a at only.
-        let there = ran-reached Leaves whole.from reached is.earlier part.from is.before in
-        ran-alone_by_hint Leaves part.from there a at part.log part.to is.steps only;
-  }
-
-  -- where no steps were done there is none on any part
-  nothing-leads : (whole : Segment T) → whole.log ≡ [] → Advances Leaves whole
-  nothing-leads whole empty = record {
-    per_page = λ part is a k asked at here. let none = no-steps is.later part.log is.earlier a (is.logs ∙ empty) in
-        omega arith;
-    per_hint = λ part is a at here. let none = no-steps is.later part.log is.earlier a (is.logs ∙ empty) in omega arith;
-    bounded = λ part is a limit begins limited looks.
-        let P : Option (Point T) → Type 0 = IsLooking in
-        absurd
-        (subst P
-        (none-goes part.from part.to a part.log (no-events is.later part.log is.earlier (is.logs ∙ empty))
-        is.steps ∙ begins) looks);
-    alone = λ part is a at only unhinted.
-        let none = no-steps is.later part.log is.earlier a (is.logs ∙ empty) in
-        record {
-          takes = λ k free. record { answered = λ many. absurd (omega arith); held = λ now. absurd (omega arith) };
-          links = λ all unlimited brings. record {
-            answered = λ many. absurd (omega arith);
-            held = λ now. absurd (omega arith);
-          };
-          refused = λ all limited many. let some = all.some in absurd (omega arith);
-        };
-    in_order = λ part is a at only unhinted. none-in_order part.from part.log part.to a
-        (no-events is.later part.log is.earlier (is.logs ∙ empty));
-    alone_by_hint = λ part is a at only.
-        let none = no-steps is.later part.log is.earlier a (is.logs ∙ empty) in
-        record {
-          takes = λ k free many. absurd (omega arith);
-          links = λ all unlimited brings many. absurd (omega arith);
-          refused = λ all limited many. absurd (omega arith);
-        };
-  }
+  reached-leads whole reached =
+      let there : (part : Segment T) → IsPart Leaves part whole → IsReachable part.from = λ part is.
+      ran-reached Leaves whole.from reached is.earlier part.from is.before in
+      let end : (part : Segment T) → IsPart Leaves part whole → IsReachable part.to = λ part is.
+      ran-reached Leaves part.from (there part is) part.log part.to is.steps in
+      record {
+        per_page = λ part is a k asked at here.
+            page-steps-at (slice_get part.from.agents a) part.to part.log a k asked (end part is) at
+            (slice_get part.to.agents a) refl
+            (ran-advances Leaves position (λ from point further. further.pages) part.from (there part is) a part.log
+            part.to is.steps) here;
+        per_hint = λ part is a at here.
+            hint-steps-at (slice_get part.from.agents a) part.to part.log a (end part is) at
+            (slice_get part.to.agents a) refl
+            (ran-advances Leaves position (λ from point further. further.pages) part.from (there part is) a part.log
+            part.to is.steps) here;
+        bounded = λ part is a limit none limited looks.
+            limit-steps-at (slice_get part.from.agents a) part.to part.log a limit (end part is) limited none
+            (slice_get part.to.agents a) refl
+            (ran-advances Leaves progress (λ from point further. further.steps) part.from (there part is) a part.log
+            part.to is.steps) looks;
+        alone = λ part is a at only unhinted.
+            ran-solo Leaves part.from (there part is) a at part.log part.to is.steps only unhinted;
+        in_order = λ part is a at only unhinted.
+            ran-in_order Leaves part.from (there part is) a at part.log part.to is.steps
+            (unhinted-is a part.log only unhinted);
+        alone_by_hint = λ part is a at only.
+            ran-solo_by_hint Leaves part.from (there part is) a at part.log part.to is.steps only;
+      }
 
   -- an agent that hadn't begun
   new-limit : (start : WorldState T) → IsNew start → (a : ℕ) → slice_get start.agents a ≡ None
@@ -265,32 +213,23 @@ module _ {T : Type 0} (Leaves : T → T → Type 0) (old : WorldState T) (events
     pub done : map (λ entry. entry.0) (reverse log) ++ rest ≡ events
     pub answers : before ++ map (λ entry. entry.1) (reverse log) ≡ after
     pub steps : Executes Leaves old log new
-    pub reached : ((log ≡ []) × (new ≡ old)) ⊎ IsReachable old
+    pub reached : IsReachable old
 
-  pub replayed-none : Replayed events before old
-  replayed-none = record {
+  pub replayed-none : IsReachable old → Replayed events before old
+  replayed-none reached = record {
     log = [];
     done = refl;
     answers = append-nil before;
     steps = refl;
-    reached = inl (refl, refl);
+    reached = reached;
   }
-
-  -- the first world can be reached, since the one before a step can
-  first-reached : (log : Log T) (between : WorldState T) → (((log ≡ []) × (between ≡ old)) ⊎ IsReachable old)
-      → IsReachable between → IsReachable old
-  first-reached log between (inl none) reached =
-      let P : WorldState T → Type 0 = IsReachable in
-      subst P none.1 reached
-  first-reached log between (inr first) reached = first
 
   -- one event more
   replayed-more : (rest : List (Event T)) (after : List Seen) (between : WorldState T) (e : Event T) (answer : Seen)
       (new : WorldState T)
-      → Replayed (e ∷ rest) after between → IsReachable between → Steps Leaves between e answer new
-      → IsExact between e answer new
+      → Replayed (e ∷ rest) after between → Steps Leaves between e answer new → IsExact between e answer new
       → Replayed rest (after ++ answer ∷ []) new
-  replayed-more rest after between e answer new replayed reached step exact =
+  replayed-more rest after between e answer new replayed step exact =
       let log : Log T = replayed.log in
       let entry : Event T × Seen = (e, answer) in
       let events_so_far : List (Event T × Seen) → List (Event T) = map (λ entry. entry.0) in
@@ -309,28 +248,18 @@ module _ {T : Type 0} (Leaves : T → T → Type 0) (old : WorldState T) (events
             ∙ sym (append_assoc before (answers_so_far (reverse log)) (answer ∷ []))
             ∙ ap (λ all. all ++ answer ∷ []) replayed.answers;
         steps = (between, replayed.steps, step, exact);
-        reached = inr (first-reached log between replayed.reached reached);
+        reached = replayed.reached;
       }
 
   -- the same, of a list whose last event is done next
   pub replayed-next : (items rest : List (Event T)) (after later : List Seen) (between : WorldState T) (e : Event T)
       (answer : Seen)
       (new : WorldState T) → items ≡ rest ++ e ∷ [] → later ≡ after ++ answer ∷ []
-      → Replayed (reverse items) after between
-      → IsReachable between → Steps Leaves between e answer new → IsExact between e answer new
+      → Replayed (reverse items) after between → Steps Leaves between e answer new → IsExact between e answer new
       → Replayed (reverse rest) later new
-  replayed-next items rest after later between e answer new last answered replayed reached step exact =
-      let P : List (Event T) → Type 0 = λ all. Replayed all after between in
-      let Q : List Seen → Type 0 = λ all. Replayed (reverse rest) all new in
-      let next : Replayed (e ∷ reverse rest) after between =
-      subst P (ap reverse last ∙ reverse-append rest (e ∷ [])) replayed in
-      subst Q (sym answered) (replayed-more (reverse rest) after between e answer new next reached step exact)
-
-  -- what own steps come to in what was done
-  replayed-leads : (log : Log T) (new : WorldState T) → (((log ≡ []) × (new ≡ old)) ⊎ IsReachable old)
-      → Advances Leaves (record { from = old; log = log; to = new })
-  replayed-leads log new (inl none) = nothing-leads Leaves (record { from = old; log = log; to = new }) none.0
-  replayed-leads log new (inr reached) = reached-leads Leaves (record { from = old; log = log; to = new }) reached
+  replayed-next items rest after later between e answer new last answered replayed step exact =
+      let next : Replayed (e ∷ reverse rest) after between = rw (last, reverse-append rest (e ∷ [])) at replayed in
+      rw answered (replayed-more (reverse rest) after between e answer new next step exact)
 
   pub runs_events-from : (rest : List (Event T)) (after : List Seen) (new : WorldState T)
       (result : Result (Unit {0}) RunError)
@@ -346,5 +275,5 @@ module _ {T : Type 0} (Leaves : T → T → Type 0) (old : WorldState T) (events
     all = all;
     answers = replayed.answers;
     steps = replayed.steps;
-    advances = replayed-leads replayed.log new replayed.reached;
+    advances = reached-leads Leaves (record { from = old; log = replayed.log; to = new }) replayed.reached;
   }

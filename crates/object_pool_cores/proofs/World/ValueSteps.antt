@@ -1,39 +1,37 @@
 -- The moves of values keep the invariant: out of a place, written, and home again; and a new agent.
 use Rattle.std.proofs.Common.{◌≡◌, ◌≢◌, ◌⊎◌, inl, inr, ℕ, ◌^◌, ◌<◌, ◌≤◌, false, Option, Some, None, List, [], ◌∷◌, ◌++◌}
-use Rattle.std.proofs.Common.{length, slice_get, slice_set, refl, ap, sym, ◌∙◌, subst, arith, length-append}
+use Rattle.std.proofs.Common.{length, slice_get, slice_set, refl, ap, sym, ◌∙◌, arith, length-append}
 use Rattle.std.proofs.lemmas.Bool.{cases_eq, cases_lt, cases_Bool}
 use Rattle.std.proofs.lemmas.List.{length-set}
 use Rattle.std.proofs.lemmas.Option.{slice_get_past}
 use Rattle.object_pool_cores.specs.declared.interleave.event.Event.TheVariants as event
-use Rattle.object_pool_cores.specs.declared.interleave.event.Seen.{Seen}
 use Rattle.object_pool_cores.specs.declared.interleave.event.Seen.TheVariants as seen
-use Rattle.object_pool_cores.specs.declared.interleave.point.Point.{Point}
 use Rattle.object_pool_cores.specs.declared.interleave.point.Point.TheVariants.{Reading, Taken, Holding, Home}
 use Rattle.object_pool_cores.specs.Pool.{Out, IsOut, free_with, number}
-use Rattle.object_pool_cores.specs.Run.{Act, Opens, Writes, acts_of, pool_of, Looks, Holds}
+use Rattle.object_pool_cores.specs.Run.{Act, Opens, Writes, acts_of, pool_of}
 use Rattle.object_pool_cores.specs.World.State.{WorldPageState, WorldState}
-use Rattle.object_pool_cores.specs.World.Machine.{IsOutcome, has_bit, page_value, with_page_value, takes, move_out}
-use Rattle.object_pool_cores.specs.World.Machine.{write, puts, begin, MovesHome}
+use Rattle.object_pool_cores.specs.World.Machine.{has_bit, page_value, with_page_value}
+use Rattle.object_pool_cores.specs.World.Machine.{begin}
 use Rattle.object_pool_cores.specs.World.AbstractPool.{place_by_bit}
 use Rattle.object_pool_cores.specs.World.Trace.{Log}
-use Rattle.object_pool_cores.specs.World.Inside.Invariant.{HoldsAt, AgentKnowsIf, Agrees}
+use Rattle.object_pool_cores.specs.World.Inside.Invariant.{HoldsAt, Agrees}
+use Rattle.object_pool_cores.specs.Laws.NumberedPlaces.{slice_get-some, slice_get-append_front, slice_get-append_last}
 use Rattle.object_pool_cores.proofs.Runs.{acts_of-own, acts_of-other, since-later, other-opens, holds-written}
 use Rattle.object_pool_cores.proofs.Runs.{holders-run}
-use Rattle.object_pool_cores.proofs.World.AbstractPool.{get-some, get-push_old, get-push_new, length-changed}
+use Rattle.object_pool_cores.proofs.World.AbstractPool.{length-changed}
 use Rattle.object_pool_cores.proofs.World.AbstractPool.{changed-all, value-put_same, value-put_other, same-moved}
 use Rattle.object_pool_cores.proofs.World.Invariant.{GoesOn, StepsPages, pages-stay, hidden-step, visible-step}
-use Rattle.object_pool_cores.proofs.World.Invariant.{from-outcome, allows-fewer, pages-some, Carries}
-use Rattle.object_pool_cores.proofs.World.Invariant.{known-carried}
-use Rattle.object_pool_cores.proofs.World.WordSteps.{known, lies-at, disabled}
+use Rattle.object_pool_cores.proofs.World.Invariant.{allows-fewer, pages-some, Carries, known-carried}
+use Rattle.object_pool_cores.proofs.World.Moves.{moved, known}
+use Rattle.object_pool_cores.proofs.World.WordSteps.{lies-at}
 
 -- a value that there may be isn't out
 free_with-in : {T : Type 0} (value : Option T) → free_with value ≢ Out
 free_with-in None e = cc
 free_with-in (Some v) e = cc
 
-module _ {T : Type 0} (Leaves : T → T → Type 0) (first : List T) (log : Log T) (acts : List (Act T))
-    (old : WorldState T)
-    (agrees : Agrees Leaves first log acts old) where
+module _ {T : Type 0} {Leaves : T → T → Type 0} {first : List T} {log : Log T} {acts : List (Act T)}
+    {old : WorldState T} (agrees : Agrees Leaves first log acts old) where
   -- the bit of a number that an agent holds is clear
   clear-held : length first ≡ 32 → (a k id : ℕ) (value : T) (page : WorldPageState T)
       → HoldsAt acts (length old.pages) a k id value
@@ -43,7 +41,7 @@ module _ {T : Type 0} (Leaves : T → T → Type 0) (first : List T) (log : Log 
       let out = holders.out (number k id) a holds.holds.number in
       elim (cases_Bool (has_bit page.word id)) [
         | inl set ↦ absurd (free_with-in (page_value old.pages k id)
-            (sym (lies-at Leaves first log acts old agrees k id page holds.in_page here
+            (sym (lies-at agrees k id page holds.in_page here
             ∙ ap (λ bit. place_by_bit bit (page_value old.pages k id)) set) ∙ out))
         | inr clear ↦ clear
       ]
@@ -82,99 +80,58 @@ module _ {T : Type 0} (Leaves : T → T → Type 0) (first : List T) (log : Log 
       }
 
   -- the value goes to the agent
-  moved-out : length first ≡ 32 → (a k id : ℕ) → slice_get old.agents a ≡ Some (Taken k id) → (lookup : Option T)
-      → page_value old.pages k id ≡ lookup → (answer : Seen) (new : WorldState T)
-      → IsOutcome (takes old a k id lookup) answer new
-      → GoesOn Leaves first log (event.MoveOut a) answer new
-  moved-out full a k id at None none answer new row = disabled Leaves first log acts old agrees (event.MoveOut a)
-      (λ b. refl) answer new row
-  moved-out full a k id at (Some taken) some answer new row =
-      let (value, holds, lies) = known Leaves first log acts old agrees a (Taken k id) at in
-      let same : Some value ≡ Some taken = sym lies ∙ some in
-      let is : value ≡ taken = cc in
-      let (page, here) = get-some old.pages k holds.linked in
-      let left = placed full a k id value None page holds here in
-      from-outcome Leaves first log (event.MoveOut a) (takes old a k id (Some taken)) answer new
-      (record {
-        acts = acts;
-        agrees = hidden-step Leaves first log acts old (event.MoveOut a) (seen.MovedOut a) a (Taken k id)
-            (Holding k id taken)
-            (with_page_value old.pages k id None) agrees at tt (λ b other. refl) left
-            (record {
-              linked = let more = left.count in let below = holds.linked in omega arith;
-              in_page = holds.in_page;
-              holds = let P : T → Type 0 = Holds acts a (number k id) in subst P is holds.holds;
-            });
+  pub taken : length first ≡ 32 → (a k id : ℕ) (value : T) → slice_get old.agents a ≡ Some (Taken k id)
+      → page_value old.pages k id ≡ Some value
+      → GoesOn Leaves first log (event.MoveOut a) (seen.MovedOut a)
+      (moved old (with_page_value old.pages k id None) a (Holding k id value))
+  taken full a k id value at here_lies =
+      let (known_value, holds, lies) = known agrees a (Taken k id) at in
+      let is : known_value ≡ value = cc in
+      let (page, here) = slice_get-some old.pages k holds.linked in
+      let left = placed full a k id known_value None page holds here in
+      hidden-step agrees _ at tt (λ b other. refl) left (record {
+        linked = let more = left.count in let below = holds.linked in omega arith;
+        in_page = holds.in_page;
+        holds = rw is at holds.holds;
       })
-      row
 
-  pub move_out-goes : length first ≡ 32 → (a : ℕ) (lookup : Option (Point T)) → slice_get old.agents a ≡ lookup
-      → (answer : Seen) (new : WorldState T) → IsOutcome (move_out old a lookup) answer new
-      → GoesOn Leaves first log (event.MoveOut a) answer new
-  move_out-goes full a (Some (Taken k id)) at answer new row =
-      moved-out full a k id at (page_value old.pages k id) refl answer new row
-  move_out-goes full a _ at answer new row = disabled Leaves first log acts old agrees (event.MoveOut a)
-      (λ b. refl) answer new row
-
-  pub write-goes : (a : ℕ) (value : T) (lookup : Option (Point T)) → slice_get old.agents a ≡ lookup
-      → (answer : Seen) (new : WorldState T) → IsOutcome (write old a value lookup) answer new
-      → GoesOn Leaves first log (event.Write a value) answer new
-  write-goes a value (Some (Holding k id before)) at answer new row =
-      let holds = known Leaves first log acts old agrees a (Holding k id before) at in
-      let act : Act T = Writes a value in
-      from-outcome Leaves first log (event.Write a value) (write old a value (Some (Holding k id before))) answer new
+  pub written : (a k id : ℕ) (before value : T) → slice_get old.agents a ≡ Some (Holding k id before)
+      → GoesOn Leaves first log (event.Write a value) (seen.Wrote a) (moved old old.pages a (Holding k id value))
+  written a k id before value at =
+      let holds = known agrees a (Holding k id before) at in
+      visible-step agrees (Writes a value) _ at refl (number k id, holds.holds.number) tt refl (λ b other. refl)
+      (pages-stay agrees refl)
       (record {
-        acts = act ∷ acts;
-        agrees = visible-step Leaves first log acts old (event.Write a value) (seen.Wrote a) a (Holding k id before)
-            (Holding k id value) old.pages act agrees at refl (number k id, holds.holds.number) tt refl
-            (λ b other. refl)
-            (pages-stay Leaves first log acts (act ∷ acts) old a agrees refl)
-            (record {
-              linked = holds.linked;
-              in_page = holds.in_page;
-              holds = holds-written acts a (number k id) before value holds.holds;
-            });
+        linked = holds.linked;
+        in_page = holds.in_page;
+        holds = holds-written acts a (number k id) before value holds.holds;
       })
-      row
-  write-goes a value _ at answer new row = disabled Leaves first log acts old agrees (event.Write a value)
-      (λ b. refl) answer new row
 
   -- what reset left of the value goes to its place
-  pub move_home-goes : length first ≡ 32 → (a : ℕ) (lookup : Option (Point T)) → slice_get old.agents a ≡ lookup
-      → (answer : Seen) (new : WorldState T) → MovesHome Leaves old a lookup answer new
-      → GoesOn Leaves first log (event.MoveHome a) answer new
-  move_home-goes full a (Some (Holding k id value)) at answer new (kept, leaves, row) =
-      let holds = known Leaves first log acts old agrees a (Holding k id value) at in
-      let (page, here) = get-some old.pages k holds.linked in
+  pub put : length first ≡ 32 → (a k id : ℕ) (value kept : T) → slice_get old.agents a ≡ Some (Holding k id value)
+      → Leaves value kept
+      → GoesOn Leaves first log (event.MoveHome a) (seen.MovedHome a)
+      (moved old (with_page_value old.pages k id (Some kept)) a (Home k id))
+  put full a k id value kept at leaves =
+      let holds = known agrees a (Holding k id value) at in
+      let (page, here) = slice_get-some old.pages k holds.linked in
       let left = placed full a k id value (Some kept) page holds here in
-      from-outcome Leaves first log (event.MoveHome a) (puts old a k id kept) answer new
-      (record {
-        acts = acts;
-        agrees = hidden-step Leaves first log acts old (event.MoveHome a) (seen.MovedHome a) a
-            (Holding k id value) (Home k id)
-            (with_page_value old.pages k id (Some kept)) agrees at tt (λ b other. refl) left (
-              value,
-              kept,
-              record {
-                linked = let more = left.count in let below = holds.linked in omega arith;
-                in_page = holds.in_page;
-                holds = holds.holds;
-              },
-              leaves,
-              value-put_same old.pages k id (Some kept) page here
-                  (let many = agrees.places k page here in let below = holds.in_page in omega arith),
-            );
-      })
-      row
-  move_home-goes full a None at answer new row = disabled Leaves first log acts old agrees (event.MoveHome a)
-      (λ b. refl) answer new row
-  move_home-goes full a _ at answer new row = disabled Leaves first log acts old agrees (event.MoveHome a)
-      (λ b. refl) answer new row
+      hidden-step agrees _ at tt (λ b other. refl) left (
+        value,
+        kept,
+        record {
+          linked = let more = left.count in let below = holds.linked in omega arith;
+          in_page = holds.in_page;
+          holds = holds.holds;
+        },
+        leaves,
+        value-put_same old.pages k id (Some kept) page here
+            (let many = agrees.places k page here in let below = holds.in_page in omega arith),
+      )
 
   -- a new agent begins
-  pub begin-goes : (answer : Seen) (new : WorldState T) → IsOutcome (begin old) answer new
-      → GoesOn Leaves first log event.Begin answer new
-  begin-goes answer new row =
+  pub begun : GoesOn Leaves first log event.Begin (begin old).0 (begin old).1
+  begun =
       let a = length old.agents in
       let act : Act T = Opens a in
       let seen_now = seen.Began a in
@@ -185,8 +142,7 @@ module _ {T : Type 0} (Leaves : T → T → Type 0) (first : List T) (log : Log 
         limit = old.limit;
       } in
       let unknown : (b : ℕ) → length old.agents ≤ b → acts_of b acts ≡ [] = λ b past.
-      let P : Option (Point T) → Type 0 = AgentKnowsIf Leaves first log acts old b in
-      subst P (slice_get_past old.agents b past) (agrees.agents b) in
+      rw (slice_get_past old.agents b past) at (agrees.agents b) in
       let some = pages-some acts in
       let pages = agrees.same.pages in
       let carries : (b : ℕ) → a ≢ b → Carries first log later acts (act ∷ acts) old world b = λ b other. record {
@@ -198,8 +154,7 @@ module _ {T : Type 0} (Leaves : T → T → Type 0) (first : List T) (log : Log 
         made = refl;
         values = λ k id value linked within holds. refl;
       } in
-      from-outcome Leaves first log event.Begin (begin old) answer new
-      (record {
+      record {
         acts = act ∷ acts;
         agrees = record {
           reads = inr (act, acts, refl, refl, agrees.reads);
@@ -210,35 +165,30 @@ module _ {T : Type 0} (Leaves : T → T → Type 0) (first : List T) (log : Log 
           places = agrees.places;
           allowed = agrees.allowed;
           agents = λ b.
-              let Known : Option (Point T) → Type 0 = AgentKnowsIf Leaves first later (act ∷ acts) world b in
               elim (cases_lt b a) [
                 | inl below ↦
-                    subst Known (sym (get-push_old old.agents (Reading 0 None) b below))
-                    (known-carried Leaves first log later acts (act ∷ acts) old world b
-                    (carries b (λ is. absurd (omega arith)))
-                    (slice_get old.agents b) (agrees.agents b))
+                    rw (slice_get-append_front old.agents (Reading 0 None ∷ []) b below)
+                    (known-carried (carries b (λ is. absurd (omega arith))) Leaves (slice_get old.agents b)
+                    (agrees.agents b))
                 | inr past ↦ elim (cases_eq a b) [
                   | inl same ↦
                       let none : acts_of b acts ≡ [] = unknown b past in
                       let here : slice_get (old.agents ++ Reading 0 None ∷ []) b ≡ Some (Reading 0 None) = ap
                       (λ c. slice_get (old.agents ++ Reading 0 None ∷ []) c) (sym same)
-                      ∙ get-push_new old.agents (Reading 0 None) in
-                      subst Known (sym here)
+                      ∙ slice_get-append_last old.agents (Reading 0 None) in
+                      rw here
                       (record {
-                        looking = let P : List (Act T) → Type 0 = Looks in
-                            subst P (sym (acts_of-own act acts b same ∙ ap (λ own. act ∷ own) none)) tt;
+                        looking = rw (acts_of-own act acts b same, none) tt;
                         linked = omega arith;
                         found_out = λ n below. absurd (omega arith);
                         asked_full = tt;
                       })
                   | inr other ↦
-                      subst Known
-                      (sym
+                      rw
                       (slice_get_past (old.agents ++ Reading 0 None ∷ []) b
-                      (omega (arith, length-append old.agents (Reading 0 None ∷ [])))))
+                      (omega (arith, length-append old.agents (Reading 0 None ∷ []))))
                       (acts_of-other act acts b other ∙ unknown b past)
                 ]
               ];
         };
-      })
-      row
+      }

@@ -1,11 +1,10 @@
 -- The steps on a page's word keep the invariant: a read, a clearing, and the bit that is set again.
-use Rattle.std.proofs.Common.{◌≡◌, inl, inr, ℕ, ◌-◌, ◌*◌, ◌^◌, ◌<◌, ◌==◌, nat_lt, Bool, true, false, if◌then◌else◌}
-use Rattle.std.proofs.Common.{Option, Some, None, List, ◌∷◌, length, slice_get, refl, ap, sym, ◌∙◌, subst, arith}
-use Rattle.std.proofs.lemmas.Bool.{eq-eqb, ne_eqb, eqb-true, ltb-true, false≢true, cases_eq, cases_lt}
+use Rattle.std.proofs.Common.{◌≡◌, inl, inr, ℕ, ◌-◌, ◌*◌, ◌^◌, ◌<◌, true, false}
+use Rattle.std.proofs.Common.{Option, Some, None, List, ◌∷◌, length, slice_get, refl, ap, sym, ◌∙◌, arith}
+use Rattle.std.proofs.lemmas.Bool.{eq-eqb, ne_eqb, cases_eq, cases_lt}
 use Rattle.lockfree_object_pool.specs.declared.page.history.Operation.TheVariants.{Pull, Return}
 use Rattle.object_pool_cores.specs.declared.interleave.event.Event.{Event}
 use Rattle.object_pool_cores.specs.declared.interleave.event.Event.TheVariants as event
-use Rattle.object_pool_cores.specs.declared.interleave.event.Seen.{Seen}
 use Rattle.object_pool_cores.specs.declared.interleave.event.Seen.TheVariants as seen
 use Rattle.object_pool_cores.specs.declared.interleave.point.Point.{Point}
 use Rattle.object_pool_cores.specs.declared.interleave.point.Point.TheVariants.{Reading, Clearing, AtLink}
@@ -13,35 +12,21 @@ use Rattle.object_pool_cores.specs.declared.interleave.point.Point.TheVariants.{
 use Rattle.object_pool_cores.specs.Pool.{IsSame, IsFree, IsOut, number}
 use Rattle.object_pool_cores.specs.Run.{Act, Operates, acts_of, pages_of, pool_of, Looks, FoundOut}
 use Rattle.object_pool_cores.specs.World.State.{WorldPageState, WorldState}
-use Rattle.object_pool_cores.specs.World.Machine.{Outcome, IsOutcome, not_enabled, has_bit, with_bit, without_bit}
+use Rattle.object_pool_cores.specs.World.Machine.{has_bit, with_bit, without_bit}
 use Rattle.object_pool_cores.specs.World.Machine.{lowest, without_lowest, word_in, word_of, page_value, with_word}
-use Rattle.object_pool_cores.specs.World.Machine.{tries, tries_hinted, clears, may_name, read_mask, read_hinted}
-use Rattle.object_pool_cores.specs.World.Machine.{clear_bit, or_mask}
+use Rattle.object_pool_cores.specs.World.Machine.{tries, tries_hinted}
 use Rattle.object_pool_cores.specs.World.AbstractPool.{place_by_bit, abstract_pool}
-use Rattle.object_pool_cores.specs.World.Trace.{Log, made_by}
-use Rattle.object_pool_cores.specs.World.Inside.Invariant.{LooksOn, IsPast, TriesBits, TriesHinted, AgentKnows}
-use Rattle.object_pool_cores.specs.World.Inside.Invariant.{AgentKnowsIf}
+use Rattle.object_pool_cores.specs.World.Trace.{Log}
+use Rattle.object_pool_cores.specs.World.Inside.Invariant.{LooksOn, IsPast, TriesBits, AgentKnows}
 use Rattle.object_pool_cores.specs.World.Inside.Invariant.{Agrees}
+use Rattle.object_pool_cores.specs.Laws.NumberedPlaces.{slice_get-some}
 use Rattle.object_pool_cores.proofs.Runs.{since-now, holds-pulled, may-pull, may-return, pool-there, pool-operated}
 use Rattle.object_pool_cores.proofs.World.Bits.{has_bit-none, has_bit-without_lowest, lowest-lt, with_bit-lt}
 use Rattle.object_pool_cores.proofs.World.Bits.{without_bit-lt, without_lowest-lt}
-use Rattle.object_pool_cores.proofs.World.AbstractPool.{get-some, length-changed, changed-all, reads-number, value-word}
+use Rattle.object_pool_cores.proofs.World.AbstractPool.{length-changed, changed-all, reads-number, value-word}
 use Rattle.object_pool_cores.proofs.World.AbstractPool.{same-cleared, same-set}
-use Rattle.object_pool_cores.proofs.World.Invariant.{GoesOn, StepsPages, moved, visible-step, stays}
-use Rattle.object_pool_cores.proofs.World.Invariant.{from-outcome, from-if, idle, allows-fewer}
-
-all-three : (one two three : Bool) → (if one then if two then three else false else false) ≡ true
-    → (one ≡ true) × (two ≡ true) × (three ≡ true)
-all-three true true three is = (refl, refl, is)
-all-three true false three is = absurd (false≢true is)
-all-three false two three is = absurd (false≢true is)
-
--- what a hint may name
-pub may_name-is : {T : Type 0} (world : WorldState T) (k hint : ℕ) → may_name world k hint ≡ true
-    → (k ≡ 0) × (0 < hint) × (hint < length world.pages)
-may_name-is world k hint may =
-    let (first_link, further, linked) = all-three (k == 0) (nat_lt 0 hint) (nat_lt hint (length world.pages)) may in
-    (eqb-true k 0 first_link, ltb-true 0 hint further, ltb-true hint (length world.pages) linked)
+use Rattle.object_pool_cores.proofs.World.Invariant.{GoesOn, StepsPages, visible-step, stays, allows-fewer}
+use Rattle.object_pool_cores.proofs.World.Moves.{moved, known}
 
 module _ {T : Type 0} (Leaves : T → T → Type 0) (first : List T) where
   -- an agent that has some bits to try, or none
@@ -49,30 +34,21 @@ module _ {T : Type 0} (Leaves : T → T → Type 0) (first : List T) where
       → LooksOn first acts (length world.pages) a k asked
       → mask < 2 ^ 32 → ((id : ℕ) → id < 32 → has_bit mask id ≡ false → FoundOut first acts a (number k id))
       → AgentKnows Leaves first later acts world a (tries k mask asked)
-  tries-known later acts world a k mask asked looks fits others =
-      let Known : Point T → Type 0 = AgentKnows Leaves first later acts world a in
-      elim (cases_eq mask 0) [
-        | inl none ↦
-            let is : tries {T = T} k mask asked ≡ AtLink k asked = rw (eq-eqb mask 0 none) refl in
-            let past : IsPast first acts (length world.pages) a k asked = record {
-              looking = looks.looking;
-              linked = looks.linked;
-              found_out = λ n below. elim (cases_lt n (32 * k)) [
-                | inl before ↦ looks.found_out n before
-                | inr here ↦
-                    let same : number k (n - 32 * k) ≡ n = omega arith in
-                    let P : ℕ → Type 0 = FoundOut first acts a in
-                    subst P same
-                    (others (n - 32 * k) (omega arith)
-                    (ap (λ m. has_bit m (n - 32 * k)) none ∙ has_bit-none (n - 32 * k)))
-              ];
-              asked_full = looks.asked_full;
-            } in
-            subst Known (sym is) past
-        | inr some ↦
-            let is : tries {T = T} k mask asked ≡ Clearing k mask asked = rw (ne_eqb mask 0 some) refl in
-            subst Known (sym is) (looks, record { some = omega arith; in_word = fits; others = others })
-      ]
+  tries-known later acts world a k mask asked looks fits others = elim (cases_eq mask 0) [
+    | inl none ↦ rw (eq-eqb mask 0 none) (record {
+      looking = looks.looking;
+      linked = looks.linked;
+      found_out = λ n below. elim (cases_lt n (32 * k)) [
+        | inl before ↦ looks.found_out n before
+        | inr here ↦
+            let same : number k (n - 32 * k) ≡ n = omega arith in
+            rw same at (others (n - 32 * k) (omega arith)
+            (ap (λ m. has_bit m (n - 32 * k)) none ∙ has_bit-none (n - 32 * k)))
+      ];
+      asked_full = looks.asked_full;
+    })
+    | inr some ↦ rw (ne_eqb mask 0 some) (looks, record { some = omega arith; in_word = fits; others = others })
+  ]
 
   -- so it is of an agent on a page that a hint named
   tries_hinted-known : (later : Log T) (acts : List (Act T)) (world : WorldState T) (a hint mask : ℕ)
@@ -80,40 +56,29 @@ module _ {T : Type 0} (Leaves : T → T → Type 0) (first : List T) where
       → 0 < hint → hint < length world.pages → mask < 2 ^ 32
       → ((id : ℕ) → id < 32 → has_bit mask id ≡ false → FoundOut first acts a (number hint id))
       → AgentKnows Leaves first later acts world a (tries_hinted hint mask)
-  tries_hinted-known later acts world a hint mask past further linked fits others =
-      let Known : Point T → Type 0 = AgentKnows Leaves first later acts world a in
-      elim (cases_eq mask 0) [
-        | inl none ↦
-            let is : tries_hinted {T = T} hint mask ≡ AtLink 0 (Some hint) = rw (eq-eqb mask 0 none) refl in
-            let asked : IsPast first acts (length world.pages) a 0 (Some hint) = record {
-              looking = past.looking;
-              linked = past.linked;
-              found_out = past.found_out;
-              asked_full = record {
-                linked = linked;
-                found_out = λ id within. others id within (ap (λ m. has_bit m id) none ∙ has_bit-none id);
-              };
-            } in
-            subst Known (sym is) asked
-        | inr some ↦
-            let is : tries_hinted {T = T} hint mask ≡ ClearingHinted hint mask = rw (ne_eqb mask 0 some) refl in
-            let tried : TriesHinted first acts (length world.pages) a hint mask = record {
-              past = past;
-              further = further;
-              linked = linked;
-              bits = record { some = omega arith; in_word = fits; others = others };
-            } in
-            subst Known (sym is) tried
-      ]
+  tries_hinted-known later acts world a hint mask past further linked fits others = elim (cases_eq mask 0) [
+    | inl none ↦ rw (eq-eqb mask 0 none) (record {
+      looking = past.looking;
+      linked = past.linked;
+      found_out = past.found_out;
+      asked_full = record {
+        linked = linked;
+        found_out = λ id within. others id within (ap (λ m. has_bit m id) none ∙ has_bit-none id);
+      };
+    })
+    | inr some ↦ rw (ne_eqb mask 0 some) (record {
+      past = past;
+      further = further;
+      linked = linked;
+      bits = record { some = omega arith; in_word = fits; others = others };
+    })
+  ]
 
-module _ {T : Type 0} (Leaves : T → T → Type 0) (first : List T) (log : Log T) (acts : List (Act T))
-    (old : WorldState T)
-    (agrees : Agrees Leaves first log acts old) where
-  -- what the invariant knows of an agent at its point
-  pub known : (a : ℕ) (point : Point T) → slice_get old.agents a ≡ Some point
+module _ {T : Type 0} {Leaves : T → T → Type 0} {first : List T} {log : Log T} {acts : List (Act T)}
+    {old : WorldState T} (agrees : Agrees Leaves first log acts old) where
+  abbrev knows : (a : ℕ) (point : Point T) → slice_get old.agents a ≡ Some point
       → AgentKnows Leaves first log acts old a point
-  known a point at = let Known : Option (Point T) → Type 0 = AgentKnowsIf Leaves first log acts old a in
-      subst Known at (agrees.agents a)
+  knows = known agrees
 
   -- what lies at a number, by its bit and its place
   pub lies-at : (k id : ℕ) (page : WorldPageState T) → id < 32 → slice_get old.pages k ≡ Some page
@@ -143,67 +108,37 @@ module _ {T : Type 0} (Leaves : T → T → Type 0) (first : List T) (log : Log 
       ] in
       by (page_value old.pages k id) refl
 
-  -- an event that isn't enabled
-  pub disabled : (e : Event T) → ((b : ℕ) → made_by e seen.NotEnabled b ≡ None) → (answer : Seen) (new : WorldState T)
-      → IsOutcome (not_enabled old) answer new → GoesOn Leaves first log e answer new
-  disabled e made answer new row =
-      from-outcome Leaves first log e (not_enabled old) answer new
-      (idle Leaves first log acts old e seen.NotEnabled agrees tt made) row
-
-  pub read_mask-goes : (a : ℕ) (lookup : Option (Point T)) → slice_get old.agents a ≡ lookup
-      → (answer : Seen) (new : WorldState T)
-      → IsOutcome (read_mask old a lookup) answer new → GoesOn Leaves first log (event.ReadMask a) answer new
-  read_mask-goes a (Some (Reading k asked)) at answer new row =
-      let looks = known a (Reading k asked) at in
-      let (page, here) = get-some old.pages k looks.linked in
+  -- an agent reads the word of its page
+  pub reads : (a k : ℕ) (asked : Option ℕ) → slice_get old.agents a ≡ Some (Reading k asked)
+      → GoesOn Leaves first log (event.ReadMask a) (seen.Word a (word_of old.pages k))
+      (moved old old.pages a (tries k (word_of old.pages k) asked))
+  reads a k asked at =
+      let looks = knows a (Reading k asked) at in
+      let (page, here) = slice_get-some old.pages k looks.linked in
       let word_is : word_of old.pages k ≡ page.word = ap word_in here in
       let fits = agrees.words k page here in
-      from-outcome Leaves first log (event.ReadMask a) (read_mask old a (Some (Reading k asked))) answer new
-      (stays Leaves first log acts old (event.ReadMask a) (seen.Word a (word_of old.pages k)) a (Reading k asked)
-      (tries k (word_of old.pages k) asked) agrees at tt (λ b other. refl)
+      stays agrees _ at tt (λ b other. refl)
       (tries-known Leaves first ((event.ReadMask a, seen.Word a (word_of old.pages k)) ∷ log) acts
-      (moved Leaves first old old.pages a (tries k (word_of old.pages k) asked)) a k (word_of old.pages k) asked looks
+      (moved old old.pages a (tries k (word_of old.pages k) asked)) a k (word_of old.pages k) asked looks
       (omega arith)
       (λ id within clear. since-now first acts a (λ pool. IsOut pool (number k id)) looks.looking
-      (out-at k id page within here (ap (λ w. has_bit w id) (sym word_is) ∙ clear)))))
-      row
-  read_mask-goes a _ at answer new row = disabled (event.ReadMask a) (λ b. refl) answer new row
+      (out-at k id page within here (ap (λ w. has_bit w id) (sym word_is) ∙ clear))))
 
   -- an agent at the first link reads the word of a page that a hint names
-  hinted : (a hint : ℕ) → slice_get old.agents a ≡ Some (AtLink 0 None) → 0 < hint → hint < length old.pages
+  pub reads-by-hint : (a hint : ℕ) → slice_get old.agents a ≡ Some (AtLink 0 None) → 0 < hint → hint < length old.pages
       → GoesOn Leaves first log (event.ReadHinted a hint) (seen.Word a (word_of old.pages hint))
-      (moved Leaves first old old.pages a (tries_hinted hint (word_of old.pages hint)))
-  hinted a hint at further linked =
-      let past = known a (AtLink 0 None) at in
-      let (page, here) = get-some old.pages hint linked in
+      (moved old old.pages a (tries_hinted hint (word_of old.pages hint)))
+  reads-by-hint a hint at further linked =
+      let past = knows a (AtLink 0 None) at in
+      let (page, here) = slice_get-some old.pages hint linked in
       let word_is : word_of old.pages hint ≡ page.word = ap word_in here in
       let fits = agrees.words hint page here in
-      stays Leaves first log acts old (event.ReadHinted a hint) (seen.Word a (word_of old.pages hint)) a (AtLink 0 None)
-      (tries_hinted hint (word_of old.pages hint)) agrees at tt (λ b other. refl)
+      stays agrees _ at tt (λ b other. refl)
       (tries_hinted-known Leaves first ((event.ReadHinted a hint, seen.Word a (word_of old.pages hint)) ∷ log) acts
-      (moved Leaves first old old.pages a (tries_hinted hint (word_of old.pages hint))) a hint (word_of old.pages hint)
+      (moved old old.pages a (tries_hinted hint (word_of old.pages hint))) a hint (word_of old.pages hint)
       past further linked (omega arith)
       (λ id within clear. since-now first acts a (λ pool. IsOut pool (number hint id)) past.looking
       (out-at hint id page within here (ap (λ w. has_bit w id) (sym word_is) ∙ clear))))
-
-  pub read_hinted-goes : (a hint : ℕ) (lookup : Option (Point T)) → slice_get old.agents a ≡ lookup
-      → (answer : Seen) (new : WorldState T)
-      → IsOutcome (read_hinted old a hint lookup) answer new
-      → GoesOn Leaves first log (event.ReadHinted a hint) answer new
-  read_hinted-goes a hint (Some (AtLink k None)) at answer new row =
-      let e : Event T = event.ReadHinted a hint in
-      let one : Outcome T = (
-        seen.Word a (word_of old.pages hint),
-        moved Leaves first old old.pages a (tries_hinted hint (word_of old.pages hint)),
-      ) in
-      from-if Leaves first log e (may_name old k hint) one (not_enabled old) answer new
-      (λ may gave.
-      let (is, further, linked) = may_name-is old k hint may in
-      from-outcome Leaves first log e one answer new
-      (hinted a hint (at ∙ ap (λ j. Some (AtLink j None)) is) further linked) gave)
-      (λ not gave. disabled e (λ b. refl) answer new gave)
-      row
-  read_hinted-goes a hint _ at answer new row = disabled (event.ReadHinted a hint) (λ b. refl) answer new row
 
   -- the pages after another word was put on one of them
   worded : (more : List (Act T)) (a k word : ℕ) (page : WorldPageState T) → slice_get old.pages k ≡ Some page
@@ -225,16 +160,16 @@ module _ {T : Type 0} (Leaves : T → T → Type 0) (first : List T) (log : Log 
       }
 
   -- the bit is set in the word: the agent pulls its number
-  won : (a k mask : ℕ) (from : Point T) → slice_get old.agents a ≡ Some from
+  pub won : (a k mask : ℕ) (from : Point T) → slice_get old.agents a ≡ Some from
       → Looks (acts_of a acts)
       → k < length old.pages → TriesBits first acts a k mask → has_bit (word_of old.pages k) (lowest mask) ≡ true
       → GoesOn Leaves first log (event.ClearBit a) (seen.Pulled a (number k (lowest mask)))
-      (moved Leaves first old (with_word old.pages k (without_bit (word_of old.pages k) (lowest mask))) a
+      (moved old (with_word old.pages k (without_bit (word_of old.pages k) (lowest mask))) a
       (Taken k (lowest mask)))
   won a k mask from at looking linked bits set =
       let id = lowest mask in
       let within : id < 32 = lowest-lt mask bits.some bits.in_word in
-      let (page, here) = get-some old.pages k linked in
+      let (page, here) = slice_get-some old.pages k linked in
       let word_is : word_of old.pages k ≡ page.word = ap word_in here in
       let fits = agrees.words k page here in
       let word = without_bit (word_of old.pages k) id in
@@ -248,21 +183,17 @@ module _ {T : Type 0} (Leaves : T → T → Type 0) (first : List T) (log : Log 
       (record { pages = pages; agents = old.agents; limit = old.limit }) k id page within here
       (pool-operated first acts (Pull a (number k id) value) (omega arith)) agrees.same
       (ap (λ w. with_word old.pages k (without_bit w id)) word_is)) in
-      record {
-        acts = act ∷ acts;
-        agrees = visible-step Leaves first log acts old (event.ClearBit a) (seen.Pulled a (number k id)) a from
-            (Taken k id) pages act agrees at (value, refl)
-            (may-pull Leaves old.limit first acts a (number k id) value looking free) tt refl
-            (λ b other. refl) left (
-              value,
-              record {
-                linked = let more = left.count in omega arith;
-                in_page = within;
-                holds = holds-pulled acts a (number k id) value;
-              },
-              value-word old.pages k word page here k id ∙ lies,
-            );
-      }
+      visible-step agrees act _ at (value, refl)
+      (may-pull Leaves old.limit first acts a (number k id) value looking free) tt refl
+      (λ b other. refl) left (
+        value,
+        record {
+          linked = let more = left.count in omega arith;
+          in_page = within;
+          holds = holds-pulled acts a (number k id) value;
+        },
+        value-word old.pages k word page here k id ∙ lies,
+      )
 
   -- the numbers that it has found out then
   lost-others : (a k mask : ℕ) → Looks (acts_of a acts) → k < length old.pages → TriesBits first acts a k mask
@@ -270,7 +201,7 @@ module _ {T : Type 0} (Leaves : T → T → Type 0) (first : List T) (log : Log 
       → has_bit (without_lowest mask) id ≡ false
       → FoundOut first acts a (number k id)
   lost-others a k mask looking linked bits clear id within gone =
-      let (page, here) = get-some old.pages k linked in
+      let (page, here) = slice_get-some old.pages k linked in
       let word_is : word_of old.pages k ≡ page.word = ap word_in here in
       elim (cases_eq id (lowest mask)) [
         | inl tried ↦
@@ -280,71 +211,44 @@ module _ {T : Type 0} (Leaves : T → T → Type 0) (first : List T) (log : Log 
         | inr other ↦ bits.others id within (sym (has_bit-without_lowest mask id bits.some bits.in_word other) ∙ gone)
       ]
 
-  -- a clearing, which is won, or lost
-  clears-goes : (a k mask : ℕ) (from next : Point T) → slice_get old.agents a ≡ Some from
-      → Looks (acts_of a acts)
-      → k < length old.pages → TriesBits first acts a k mask
-      → (has_bit (word_of old.pages k) (lowest mask) ≡ false
-      → AgentKnows Leaves first ((event.ClearBit a, seen.Found a (word_of old.pages k)) ∷ log) acts
-      (moved Leaves first old old.pages a next) a next)
-      → (answer : Seen) (new : WorldState T)
-      → IsOutcome
-      (if mask == 0 then not_enabled old else clears old a k (lowest mask) (word_of old.pages k) next) answer new
-      → GoesOn Leaves first log (event.ClearBit a) answer new
-  clears-goes a k mask from next at looking linked bits knows answer new row =
-      let e : Event T = event.ClearBit a in
-      let id = lowest mask in
-      let word = word_of old.pages k in
-      let yes : Outcome T = (
-        seen.Pulled a (number k id),
-        moved Leaves first old (with_word old.pages k (without_bit word id)) a
-            (Taken k id),
-      ) in
-      let not : Outcome T = (seen.Found a word, moved Leaves first old old.pages a next) in
-      from-if Leaves first log e (mask == 0) (not_enabled old) (clears old a k id word next) answer new
-      (λ none given. disabled e (λ b. refl) answer new given)
-      (λ some given. from-if Leaves first log e (has_bit word id) yes not answer new
-      (λ set gave. from-outcome Leaves first log e yes answer new
-      (won a k mask from at looking linked bits set) gave)
-      (λ clear gave. from-outcome Leaves first log e not answer new
-      (stays Leaves first log acts old e (seen.Found a word) a from next agrees at tt (λ b other. refl) (knows clear))
-      gave)
-      given)
-      row
-
-  pub clear_bit-goes : (a : ℕ) (lookup : Option (Point T)) → slice_get old.agents a ≡ lookup
-      → (answer : Seen) (new : WorldState T) → IsOutcome (clear_bit old a lookup) answer new
-      → GoesOn Leaves first log (event.ClearBit a) answer new
-  clear_bit-goes a (Some (Clearing k mask asked)) at answer new row =
-      let (looks, bits) = known a (Clearing k mask asked) at in
+  -- the bit is clear in the word: the agent goes on with the other bits that it saw
+  pub lost : (a k mask : ℕ) (asked : Option ℕ) → slice_get old.agents a ≡ Some (Clearing k mask asked)
+      → has_bit (word_of old.pages k) (lowest mask) ≡ false
+      → GoesOn Leaves first log (event.ClearBit a) (seen.Found a (word_of old.pages k))
+      (moved old old.pages a (tries k (without_lowest mask) asked))
+  lost a k mask asked at clear =
+      let (looks, bits) = knows a (Clearing k mask asked) at in
       let next : Point T = tries k (without_lowest mask) asked in
-      clears-goes a k mask (Clearing k mask asked) next at looks.looking looks.linked bits
-      (λ clear. tries-known Leaves first ((event.ClearBit a, seen.Found a (word_of old.pages k)) ∷ log) acts
-      (moved Leaves first old old.pages a next) a k (without_lowest mask) asked
-      looks
-      (without_lowest-lt mask bits.in_word) (lost-others a k mask looks.looking looks.linked bits clear))
-      answer new row
-  clear_bit-goes a (Some (ClearingHinted hint mask)) at answer new row =
-      let knows = known a (ClearingHinted hint mask) at in
-      let past = knows.past in
-      let bits = knows.bits in
+      let e : Event T = event.ClearBit a in
+      let answer = seen.Found a (word_of old.pages k) in
+      stays agrees _ at tt (λ b other. refl)
+      (tries-known Leaves first ((e, answer) ∷ log) acts (moved old old.pages a next) a k (without_lowest mask) asked
+      looks (without_lowest-lt mask bits.in_word) (lost-others a k mask looks.looking looks.linked bits clear))
+
+  -- so it is on a page that a hint named
+  pub lost-by-hint : (a hint mask : ℕ) → slice_get old.agents a ≡ Some (ClearingHinted hint mask)
+      → has_bit (word_of old.pages hint) (lowest mask) ≡ false
+      → GoesOn Leaves first log (event.ClearBit a) (seen.Found a (word_of old.pages hint))
+      (moved old old.pages a (tries_hinted hint (without_lowest mask)))
+  lost-by-hint a hint mask at clear =
+      let tried = knows a (ClearingHinted hint mask) at in
+      let past = tried.past in
+      let bits = tried.bits in
       let next : Point T = tries_hinted hint (without_lowest mask) in
-      clears-goes a hint mask (ClearingHinted hint mask) next at past.looking knows.linked bits
-      (λ clear. tries_hinted-known Leaves first ((event.ClearBit a, seen.Found a (word_of old.pages hint)) ∷ log) acts
-      (moved Leaves first old old.pages a next) a hint (without_lowest mask)
-      past
-      knows.further knows.linked
-      (without_lowest-lt mask bits.in_word) (lost-others a hint mask past.looking knows.linked bits clear))
-      answer new row
-  clear_bit-goes a _ at answer new row = disabled (event.ClearBit a) (λ b. refl) answer new row
+      let e : Event T = event.ClearBit a in
+      let answer = seen.Found a (word_of old.pages hint) in
+      stays agrees _ at tt (λ b other. refl)
+      (tries_hinted-known Leaves first ((e, answer) ∷ log) acts (moved old old.pages a next) a hint
+      (without_lowest mask) past tried.further tried.linked (without_lowest-lt mask bits.in_word)
+      (lost-others a hint mask past.looking tried.linked bits clear))
 
   -- the bit is set again: the agent returns its number
-  returned : (a k id : ℕ) → slice_get old.agents a ≡ Some (Home k id)
+  pub returned : (a k id : ℕ) → slice_get old.agents a ≡ Some (Home k id)
       → GoesOn Leaves first log (event.OrMask a) (seen.Returned a (number k id))
-      (moved Leaves first old (with_word old.pages k (with_bit (word_of old.pages k) id)) a Ended)
+      (moved old (with_word old.pages k (with_bit (word_of old.pages k) id)) a Ended)
   returned a k id at =
-      let (value, kept, holds, leaves, lies) = known a (Home k id) at in
-      let (page, here) = get-some old.pages k holds.linked in
+      let (value, kept, holds, leaves, lies) = knows a (Home k id) at in
+      let (page, here) = slice_get-some old.pages k holds.linked in
       let word_is : word_of old.pages k ≡ page.word = ap word_in here in
       let fits = agrees.words k page here in
       let word = with_bit (word_of old.pages k) id in
@@ -353,31 +257,12 @@ module _ {T : Type 0} (Leaves : T → T → Type 0) (first : List T) (log : Log 
       let count : pages_of acts ≡ length old.pages = agrees.same.pages in
       let within = holds.in_page in
       let there = holds.linked in
-      record {
-        acts = act ∷ acts;
-        agrees = visible-step Leaves first log acts old (event.OrMask a) (seen.Returned a (number k id)) a
-            (Home k id) Ended pages act agrees at (kept, refl)
-            (may-return Leaves old.limit first acts agrees.run a (number k id) value kept holds.holds leaves) tt
-            refl (λ b other. refl)
-            (worded (act ∷ acts) a k word page here (with_bit-lt (word_of old.pages k) id holds.in_page (omega arith))
-            (same-set (pool_of first acts) (pool_of first (act ∷ acts)) old
-            (record { pages = pages; agents = old.agents; limit = old.limit }) k id page kept holds.in_page here
-            lies (pool-operated first acts (Return a (number k id) kept) (omega arith)) agrees.same
-            (ap (λ w. with_word old.pages k (with_bit w id)) word_is)))
-            tt;
-      }
-
-  pub or_mask-goes : (a : ℕ) (lookup : Option (Point T)) → slice_get old.agents a ≡ lookup
-      → (answer : Seen) (new : WorldState T) → IsOutcome (or_mask old a lookup) answer new
-      → GoesOn Leaves first log (event.OrMask a) answer new
-  or_mask-goes a (Some (Home k id)) at answer new row =
-      let e : Event T = event.OrMask a in
-      let yes : Outcome T = (
-        seen.Returned a (number k id),
-        moved Leaves first old (with_word old.pages k (with_bit (word_of old.pages k) id)) a Ended,
-      ) in
-      from-if Leaves first log e (nat_lt id 32) yes (not_enabled old) answer new
-      (λ within gave. from-outcome Leaves first log e yes answer new (returned a k id at) gave)
-      (λ past gave. disabled e (λ b. refl) answer new gave)
-      row
-  or_mask-goes a _ at answer new row = disabled (event.OrMask a) (λ b. refl) answer new row
+      visible-step agrees act _ at (kept, refl)
+      (may-return Leaves old.limit first acts agrees.run a (number k id) value kept holds.holds leaves) tt
+      refl (λ b other. refl)
+      (worded (act ∷ acts) a k word page here (with_bit-lt (word_of old.pages k) id holds.in_page (omega arith))
+      (same-set (pool_of first acts) (pool_of first (act ∷ acts)) old
+      (record { pages = pages; agents = old.agents; limit = old.limit }) k id page kept holds.in_page here
+      lies (pool-operated first acts (Return a (number k id) kept) (omega arith)) agrees.same
+      (ap (λ w. with_word old.pages k (with_bit w id)) word_is)))
+      tt

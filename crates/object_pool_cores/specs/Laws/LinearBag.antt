@@ -1,6 +1,6 @@
 -- Each step of the linear core is a case of the common relation.
 use Rattle.std.proofs.Common.{◌≡◌, ℕ, ◌-◌, ◌*◌, ◌<◌, Option, Some, None, [], length, Result, Ok, Err, slice_set, sym}
-use Rattle.std.proofs.Common.{ap, subst, ◌∙◌, inl, inr}
+use Rattle.std.proofs.Common.{ap, ◌∙◌, inl, inr}
 use Rattle.std.specs.List.{slice_get}
 use Rattle.std.proofs.lemmas.Option.{get_or_from_slice_get, slice_get_within}
 use Rattle.lockfree_object_pool.specs.declared.pull_error.PullError.{PullError}
@@ -63,7 +63,7 @@ module _ {T : Type 0} where
       answered m w free =
           let there = free-grown (listed_pool old) grows.values m w grows.exhausted free in
           let k = m - 32 * (listed_pool old).pages in
-          subst (λ (x : T). answers (Some x)) (get_or_from_slice_get grows.values k w w there.1)
+          rw (get_or_from_slice_get grows.values k w w there.1) at
           (grows.answered k w (slice_get_within grows.values k w there.1))
 
   pulls_from_bag : (limit : Option ℕ) (answers : Option T → Type 0) (old new : Numbered T)

@@ -1,6 +1,6 @@
 -- Items that are held together of a linear core stay together.
 use Rattle.std.proofs.Common.{◌≡◌, ◌≢◌, ℕ, ◌*◌, Option, Some, None, List, [], ◌∷◌, ◌++◌, Ok, Err, slice_set, refl, sym}
-use Rattle.std.proofs.Common.{ap, subst, ◌∙◌, inl, inr}
+use Rattle.std.proofs.Common.{ap, ◌∙◌, inl, inr}
 use Rattle.std.specs.List.{slice_get}
 use Rattle.std.proofs.lemmas.Bool.{cases_lt}
 use Rattle.lockfree_object_pool.specs.declared.pull_error.PullError.{PullError}
@@ -95,7 +95,7 @@ module _ {T I R K : Type 0} where
           let out = together.out index other e in
           let numbers : Some out.0 ≡ Some n = sym out.1 ∙ same ∙ number in
           let one : out.0 ≡ n = cc in
-          leaves.was_in (subst (λ (m : ℕ). IsOut (core_pool old) m) one out.2)
+          leaves.was_in (rw one at out.2)
 
   -- no more items of the table, or the same numbers
   HeldTogether-fewer :

@@ -1,6 +1,6 @@
 -- The places of a list of numbered items, and the pool that the list stands for.
 use Rattle.std.proofs.Common.{◌≡◌, ◌≢◌, ℕ, ◌+◌, ◌-◌, ◌<◌, suc, zero, Option, Some, None, List, [], ◌∷◌, length, refl}
-use Rattle.std.proofs.Common.{sym, ap, subst, ◌∙◌, arith, add-suc, map, slice_set, ◌/◌, ◌++◌, length-append, length-set}
+use Rattle.std.proofs.Common.{sym, ap, ◌∙◌, arith, add-suc, map, slice_set, ◌/◌, ◌++◌, length-append, length-set}
 use Rattle.std.proofs.Common.{inl, inr, ◌*◌}
 use Rattle.std.specs.Prelude.{All}
 use Rattle.std.specs.List.{slice_get}
@@ -36,6 +36,12 @@ module _ {X : Type 0} where
   slice_get-set_other (y ∷ xs) (suc n) zero x other = refl
   slice_get-set_other (y ∷ xs) (suc n) (suc m) x other = slice_get-set_other xs n m x (λ e. other (ap suc e))
 
+  pub slice_get-some : (xs : List X) (n : ℕ) → n < length xs → (x : X) × (slice_get xs n ≡ Some x)
+  slice_get-some xs n within = elim (slice_get_cases xs n).1 [
+    | inl some ↦ (some.0, some.2)
+    | inr none ↦ absurd (omega (arith, none.0))
+  ]
+
   pub slice_get-append_front :
       (xs ys : List X) (n : ℕ) → n < length xs → slice_get (xs ++ ys) n ≡ slice_get xs n
   slice_get-append_front [] ys n within = absurd (omega arith)
@@ -45,6 +51,10 @@ module _ {X : Type 0} where
   pub slice_get-append_back : (xs ys : List X) (n : ℕ) → slice_get (xs ++ ys) (n + length xs) ≡ slice_get ys n
   slice_get-append_back [] ys n = ap (slice_get ys) (omega arith)
   slice_get-append_back (x ∷ xs) ys n = rw add-suc (slice_get-append_back xs ys n)
+
+  pub slice_get-append_last : (xs : List X) (last : X) → slice_get (xs ++ last ∷ []) (length xs) ≡ Some last
+  slice_get-append_last [] last = refl
+  slice_get-append_last (x ∷ xs) last = slice_get-append_last xs last
 
 -- a pool that isn't at its limit may have a page more
 AllowsPages-more : (limit : Option ℕ) (pages : ℕ) → AllowsPages limit pages → limit ≢ Some pages
@@ -85,7 +95,7 @@ module _ {T : Type 0} where
           let here = sym (slice_get-append_back items.places (map Some values) (n - length items.places))
           ∙ ap (slice_get (items.places ++ map Some values)) place ∙ e in
           let value = value_of-page values (n - length items.places) v here in
-          subst meets (get_or_from_slice_get values (n - length items.places) v v value)
+          rw (get_or_from_slice_get values (n - length items.places) v v value) at
           (clean (n - length items.places) v (slice_get_within values (n - length items.places) v value))
     ];
     starts = let more = length-grown items values count in let starts = sound.starts in omega arith;
@@ -130,8 +140,7 @@ module _ {T : Type 0} where
     pages = ap (λ count. count / 32) (length-set items.places n place);
     places = λ m. elim (cases_eq m n) [
       | inl same ↦
-          subst (λ (k : ℕ). place_of (slice_get (slice_set items.places n place) k) ≡ (with_place
-          (listed_pool items) n (place_of (Some place))).at k) (sym same)
+          rw same
           (ap place_of (slice_get-set_same items.places n place within)
           ∙ sym (with_place-same (listed_pool items) n (place_of (Some place))))
       | inr differ ↦ ap place_of (slice_get-set_other items.places n m place differ)

@@ -1,5 +1,5 @@
 -- What the moves of a pool make of its places.
-use Rattle.std.proofs.Common.{◌≡◌, ◌≢◌, ℕ, ◌-◌, ◌*◌, ◌<◌, ◌≤◌, Option, Some, None, List, refl, sym, ap, subst, ◌∙◌, inl}
+use Rattle.std.proofs.Common.{◌≡◌, ◌≢◌, ℕ, ◌-◌, ◌*◌, ◌<◌, ◌≤◌, Option, Some, None, List, refl, sym, ap, ◌∙◌, inl}
 use Rattle.std.proofs.Common.{inr, ◌⊎◌}
 use Rattle.std.specs.List.{slice_get}
 use Rattle.std.proofs.lemmas.Bool.{cases_lt, cases_eq, eq-eqb, ne_eqb, lt-ltb, le-ltb}
@@ -43,8 +43,7 @@ module _ {T : Type 0} where
   IsSame-with_place a b n place ab = record {
     pages = ab.pages;
     places = λ m. elim (cases_eq m n) [
-      | inl same ↦ subst (λ (k : ℕ). (with_place a n place).at k ≡ (with_place b n place).at k) (sym same)
-          (with_place-same a n place ∙ sym (with_place-same b n place))
+      | inl same ↦ rw same (with_place-same a n place ∙ sym (with_place-same b n place))
       | inr differ ↦
           with_place-other a n m place differ ∙ ab.places m ∙ sym (with_place-other b n m place differ)
     ];

@@ -1,8 +1,8 @@
 -- Each step of the stack core is a case of the common relation,
 -- and items that are held together each bring a room.
-use Rattle.std.proofs.Common.{◌≡◌, ℕ, Option, Some, None, List, [], ◌∷◌, ◌++◌, Result, Ok, Err, slice_set, refl, sym}
+use Rattle.std.proofs.Common.{◌≡◌, ℕ, Option, Some, None, List, [], ◌∷◌, ◌++◌, Result, Ok, Err, slice_set, refl}
 use Rattle.std.proofs.Common.{subst, inl, inr}
-use Rattle.std.specs.Prelude.{All, IsTrue}
+use Rattle.std.specs.Prelude.{IsTrue}
 use Rattle.std.specs.List.{slice_get}
 use Rattle.std.proofs.lemmas.List.Elements.{All-nil}
 use Rattle.lockfree_object_pool.specs.declared.pull_error.PullError.{PullError}
@@ -22,8 +22,7 @@ module _ {T : Type 0} where
   taken_from_bag answers old v new (inr fresh) = inr (record {
     none = fresh.0.0;
     answer = fresh.1;
-    further = subst (λ (kept : List T). All (λ w. answers (Some w)) kept) (sym fresh.0.1)
-        (All-nil (λ w. answers (Some w)));
+    further = rw fresh.0.1 (All-nil (λ w. answers (Some w)));
   })
 
   pulled_from_bag : (answers : Option T → Type 0) (old : List T) (answer : Result (Item T) PullError)
@@ -39,7 +38,7 @@ module _ {T : Type 0} where
         | inl before ↦ rooms index other before
         | inr last ↦
             let same : item ≡ other = let s = last.1 in cc in
-            subst (λ (one : Item T). IsTrue (has_room one)) same room
+            rw same at room
       ]
 
   pub HoldRooms-less :

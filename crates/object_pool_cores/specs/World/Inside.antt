@@ -5,5 +5,4 @@ pub mod Tables
 pub mod Shown
 pub mod Invariant
 pub mod SoloWalk
-pub mod HintedWalk
 pub mod Progress

@@ -1,5 +1,5 @@
 //! The engine's own loop over `write`.
-ghost use Rattle.std.specs.Prelude.{◌≡◌, OnOk, OnErr};
+ghost use Rattle.std.specs.Prelude.{OnOk, OnErr};
 ghost use Rattle.std.specs.Io.KnownBytes.{Appends};
 ghost use Rattle.object_pool_cores.specs.Served.{AppendsPart};
 

@@ -51,8 +51,8 @@ pub enum Seen {
     MovedHome(usize),
     /// The bit is set; the item's number.
     Returned(usize, u128),
-    /// The agent's point doesn't allow the event, and nothing changed.
+    /// The agent's point doesn't allow the event, and nothing changed; the event's values are dropped.
     NotEnabled,
-    /// The world's tables couldn't grow, and nothing changed.
+    /// The world's tables couldn't grow, and nothing changed; the event's values are dropped.
     NoMemory,
 }

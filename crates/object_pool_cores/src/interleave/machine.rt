@@ -1,11 +1,9 @@
 //! A world's pages and agents, and what each event does to them.
-ghost use Rattle.std.specs.Prelude.{slice_set, vec_len, vec_capacity, ◌++◌, ◌∷◌, [], ◌≡◌, ◌≢◌, ◌+◌, ◌<◌, ◌≤◌, ◌↔◌, ◌==◌};
+ghost use Rattle.std.specs.Prelude.{slice_set, vec_len, vec_capacity, ◌++◌, ◌∷◌, [], ◌≡◌, ◌≢◌, ◌+◌, ◌<◌, ◌≤◌, ◌==◌};
 ghost use Rattle.std.specs.Prelude.{◌⊎◌, Option, Some, None, option_map, option_copied, slice_get, length, IfOk, OnOk};
-ghost use Rattle.std.specs.Prelude.{IsTrue, bit_and};
-ghost use Rattle.object_pool_cores.specs.World.State.{WorldPageState};
 ghost use Rattle.object_pool_cores.specs.World.Inside.LinkCapacity.{LinksNoPage};
-ghost use Rattle.object_pool_cores.specs.World.Machine.{prepared_by, at_point, linked_page, lowest, without_lowest};
-ghost use Rattle.object_pool_cores.specs.World.Machine.{has_bit, is_limit, was_asked, word_of, page_value, with_word};
+ghost use Rattle.object_pool_cores.specs.World.Machine.{prepared_by, at_point, linked_page};
+ghost use Rattle.object_pool_cores.specs.World.Machine.{has_bit, word_of, page_value, with_word};
 ghost use Rattle.object_pool_cores.specs.World.Machine.{with_page_value, opening_world, tries, tries_hinted, comes_to};
 ghost use Rattle.object_pool_cores.specs.World.Machine.{may_name, read_mask, read_hinted, clears, clear_hinted};
 ghost use Rattle.object_pool_cores.specs.World.Machine.{clear_bit, held_by, read_next, make_page, exchange_next};

@@ -1,7 +1,7 @@
 //! A machine that events led to from its opening, and the steps of which are exact.
-ghost use Rattle.std.specs.Prelude.{◌≡◌, ◌≢◌, Option, option_map, option_copied, slice_get, length, IfOk};
+ghost use Rattle.std.specs.Prelude.{◌≡◌, ◌≢◌, ◌≤◌, ◌+◌, Option, option_map, option_copied, slice_get, length, IfOk, IsOk, vec_len, vec_capacity};
 ghost use Rattle.object_pool_cores.specs.Pool.{AllowsPages};
-ghost use Rattle.object_pool_cores.specs.World.Headline.{IsNew};
+ghost use Rattle.object_pool_cores.specs.World.Headline.{IsNew, RunsEvents};
 ghost use Rattle.object_pool_cores.specs.World.Machine.{held_by, opening_world, page_value, Steps};
 ghost use Rattle.object_pool_cores.specs.World.Reachable.{IsReachable};
 ghost use Rattle.object_pool_cores.specs.World.Enabled.{IsExact};
@@ -9,7 +9,7 @@ ghost use Rattle.object_pool_cores.specs.World.Capacity.{HasCapacityFor, HasCapa
 ghost use Rattle.object_pool_cores.specs.declared.interleave.event.Seen.TheVariants.{NoMemory};
 
 use crate::interleave::machine::Machine;
-use crate::interleave::{Event, Prepared, Seen};
+use crate::interleave::{Event, Prepared, RunError, Seen};
 use lockfree_object_pool::clean::AnyValue;
 use lockfree_object_pool::closures::Reset;
 use lockfree_object_pool::page::PageId;
@@ -90,5 +90,33 @@ impl<T: Drop> ReachableWorld<T> {
         ensures room_stays { KeepsCapacity self.old.capacity self.new.capacity }
     {
         self.machine.step(reset, event)
+    }
+
+    /// Does the events, one after another, and puts each answer at the end of `seen`.
+    ///
+    /// # Errors
+    ///
+    /// `Memory`, where `seen` can't grow. The events that were done stay done, with their answers, and the others are dropped.
+    pub fn run<R: Reset<T, AnyValue>>(
+        &mut self,
+        reset: &R,
+        mut events: Vec<Event<T>>,
+        seen: &mut Vec<Seen>,
+    ) -> Result<(), RunError>
+        ensures run { RunsEvents (R.leaves reset.now)
+            (record { world = self.old.state; events = events.items; seen = seen.old.items })
+            (record { world = self.new.state; seen = seen.new.items; result = result }) }
+        ensures room_is_there { vec_len seen.old + vec_len events ≤ vec_capacity seen.old
+            → IsOk result }
+        ensures room_stays { KeepsCapacity self.old.capacity self.new.capacity }
+    {
+        let _ = &self.machine; // a look at a field tells that the world can be reached
+        events.reverse();
+        while let Some(event) = events.pop() {
+            seen.reserve(1)?;
+            let answer = self.step(reset, event);
+            seen.push(answer)?;
+        }
+        Ok(())
     }
 }

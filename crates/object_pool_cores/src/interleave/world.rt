@@ -129,7 +129,7 @@ impl<T: Drop, R: Reset<T, AnyValue>> World<T, R> {
     ///
     /// `Memory`, where `seen` can't grow. The events that were done stay done, with their answers, and the
     /// others are dropped; a later run goes on from there.
-    pub fn run(&mut self, mut events: Vec<Event<T>>, seen: &mut Vec<Seen>) -> Result<(), RunError>
+    pub fn run(&mut self, events: Vec<Event<T>>, seen: &mut Vec<Seen>) -> Result<(), RunError>
         ensures run { RunsEvents (R.leaves (world_reset self.old))
             (record { world = world_state self.old; events = events.items; seen = seen.old.items })
             (record { world = world_state self.new; seen = seen.new.items; result = result }) }
@@ -138,12 +138,6 @@ impl<T: Drop, R: Reset<T, AnyValue>> World<T, R> {
             → IsOk result }
         ensures room_stays { KeepsCapacity (world_capacity self.old) (world_capacity self.new) }
     {
-        events.reverse();
-        while let Some(event) = events.pop() {
-            seen.reserve(1)?;
-            let answer = self.step(event);
-            seen.push(answer)?;
-        }
-        Ok(())
+        self.reachable.run(&self.reset, events, seen)
     }
 }

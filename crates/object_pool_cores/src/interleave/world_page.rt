@@ -1,15 +1,13 @@
 //! A page of a world: a word, and 32 places.
 ghost use Rattle.lockfree_object_pool.specs.declared.page.TheConstants.{PAGE_ITEMS};
-ghost use Rattle.std.specs.Prelude.{length, ◌≡◌, Option, Some, None, List, map, option_map, option_copied};
-ghost use Rattle.std.specs.Prelude.{option_and_then, slice_get, slice_set, ◌<◌, ◌==◌, ◌<◌};
+ghost use Rattle.std.specs.Prelude.{length, ◌≡◌, Option, Some, None, option_copied};
+ghost use Rattle.std.specs.Prelude.{option_and_then, slice_get, slice_set, ◌<◌};
 ghost use Rattle.object_pool_cores.specs.World.State.{WorldPageState};
-ghost use Rattle.object_pool_cores.specs.World.Machine.{linked_page, word_of, with_word, with_page_value, page_value};
-ghost use Rattle.std.specs.Int.{bit_at};
+ghost use Rattle.object_pool_cores.specs.World.Machine.{linked_page};
 
 use crate::interleave::Prepared;
 use lockfree_object_pool::page::PageId;
 use std::marker::Model;
-use std::mem;
 
 /// A page that is linked.
 #[derive(Drop)]

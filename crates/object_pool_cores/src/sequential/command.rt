@@ -10,7 +10,7 @@ pub enum Command<T> {
     Write(usize, T),
     /// The holder gives its item back.
     Return(usize),
-    /// The holder's item is leaked: it never goes back.
+    /// The holder's item never goes back: its value is dropped without a reset, and its number stays out.
     Forget(usize),
     /// An item is made of this value.
     Attach(T),

@@ -1,6 +1,6 @@
 //! A sequential page of 32 items.
 ghost use Rattle.std.specs.Prelude.{◌≡◌, ◌↔◌, ◌<◌, Option, Some, None, MatchOption, IsTrue, IfOk, IfErr, IfSome};
-ghost use Rattle.std.specs.Prelude.{OnSome, map, length, slice_set};
+ghost use Rattle.std.specs.Prelude.{slice_set};
 ghost use Rattle.object_pool_cores.specs.OnePage.{IsMadePage, HasNoFreeId, IsMask, IsOutId, TakesLeastId};
 ghost use Rattle.lockfree_object_pool.specs.Answers.{MayMake};
 ghost use Rattle.lockfree_object_pool.specs.Refusal.{RefusesMaking};

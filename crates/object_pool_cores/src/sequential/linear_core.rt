@@ -1,6 +1,6 @@
 //! A sequential linear pool: the least free number first, and a page more where none is free.
-ghost use Rattle.std.specs.Prelude.{◌≡◌, ◌≢◌, ◌≤◌, ◌↔◌, ◌/◌, ℕ, Option, Some, None, List, Result, Ok, Err, IfOk, OnErr};
-ghost use Rattle.std.specs.Prelude.{[], IsTrue, IsErrOf, IsErr};
+ghost use Rattle.std.specs.Prelude.{◌≡◌, ◌≢◌, ◌≤◌, Option, Some, None, Result, Ok, Err, IfOk, OnErr};
+ghost use Rattle.std.specs.Prelude.{[]};
 ghost use Rattle.object_pool_cores.specs.Inside.SequentialItem.{item_value};
 ghost use Rattle.object_pool_cores.specs.Attach.{RefusesAttach};
 ghost use Rattle.object_pool_cores.specs.PageProbes.{ProbesFew};

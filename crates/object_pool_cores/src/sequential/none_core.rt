@@ -1,5 +1,5 @@
 //! A pool that keeps nothing, to compare others with.
-ghost use Rattle.std.specs.Prelude.{◌≡◌, ◌↔◌, [], ⊤};
+ghost use Rattle.std.specs.Prelude.{◌≡◌, [], ⊤};
 ghost use Rattle.std.proofs.Common.{inr, refl};
 ghost use Rattle.object_pool_cores.specs.Attach.{RefusesAttach};
 ghost use Rattle.object_pool_cores.specs.NoPool.{init_of, Pulls};

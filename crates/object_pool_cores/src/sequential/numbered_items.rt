@@ -1,6 +1,6 @@
 //! The items of a sequential linear pool, by their numbers.
 ghost use Rattle.std.specs.Prelude.{◌≡◌, ◌≤◌, ◌↔◌, ◌*◌, ◌+◌, ◌-◌, ◌/◌, min, [], Option, Some, None, Err, OnOk, OnErr};
-ghost use Rattle.std.specs.Prelude.{IfSome, IfNone, MatchOption, ◌<◌, IsTrue, IfOk, IfErr, ℕ, nat_lt, length};
+ghost use Rattle.std.specs.Prelude.{IfSome, IfNone, ◌<◌, IsTrue, IfOk, IfErr, ℕ, nat_lt, length};
 ghost use Rattle.std.specs.Prelude.{slice_get, is_some, if◌then◌else◌};
 ghost use Rattle.object_pool_cores.specs.Inside.SequentialItem.{item_value, item_number};
 ghost use Rattle.object_pool_cores.specs.PageProbes.{ProbesEach};

@@ -1,10 +1,8 @@
 //! A player of commands on a sequential pool.
-ghost use Rattle.std.specs.Prelude.{◌≡◌, ◌≢◌, ◌↔◌, ◌<◌, ◌≤◌, ◌+◌, All, Option, Some, None, List, IfOk, OnErr, OnOk};
-ghost use Rattle.std.specs.Prelude.{IsOk, IsTrue, IsSome, IsErr, OnSome, IfNone, length, slice_set, vec_len};
-ghost use Rattle.std.specs.Prelude.{vec_capacity, [], ◌∷◌, ◌++◌};
+ghost use Rattle.std.specs.Prelude.{◌≡◌, ◌<◌, ◌≤◌, ◌+◌, All, Option, Some, None, [], IfOk, OnErr, IsOk, IsErr, length, vec_capacity};
 ghost use Rattle.std.specs.Option.{option_copied};
-ghost use Rattle.object_pool_cores.specs.Held.{held_at, value_of, IsReplaced};
-ghost use Rattle.object_pool_cores.specs.Replies.{Plays, Ran, MayTakeMemory, AfterWrite, AfterReturn, AfterForget};
+ghost use Rattle.object_pool_cores.specs.Held.{held_at, value_of};
+ghost use Rattle.object_pool_cores.specs.Replies.{Plays, Ran, MayTakeMemory};
 
 use crate::sequential::held_items::HeldItems;
 use crate::sequential::{Command, Reply, RunError, SequentialPool};
@@ -19,7 +17,7 @@ pub struct Player<T, P: SequentialPool<T>> {
 }
 
 impl<T, P: SequentialPool<T>> Model for Player<T, P> {
-    ghost use Rattle.std.specs.Prelude.{◌≡◌, Option, List};
+    ghost use Rattle.std.specs.Prelude.{◌≡◌, Option};
     ghost use Rattle.object_pool_cores.specs.Held.{Playing};
 
     ghost Value = { Playing P T };
@@ -52,7 +50,7 @@ impl<T: Drop, P: SequentialPool<T>> Player<T, P> {
     ///
     /// # Errors
     ///
-    /// `Memory`, where a pull or an attach finds no room in the player's table. Nothing changes then.
+    /// `Memory`, where a pull or an attach finds no room in the player's table. Nothing changes then; the value of an attach is dropped.
     pub fn play(&mut self, command: Command<T>) -> Result<Reply<T>, RunError>
         ensures ok { IfOk result
             (λ reply. Plays P.pulls P.gives P.attaches self.old command reply self.new) }

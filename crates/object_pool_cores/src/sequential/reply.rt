@@ -16,6 +16,6 @@ pub enum Reply<T> {
     Attached(usize),
     /// The pool refused an attach, for this cause, and the value comes back.
     AttachRefused(AttachError<T>),
-    /// The command names an index that nothing is held at. Nothing changed.
+    /// The command names an index that nothing is held at. Nothing changed; the value of a write is dropped.
     NoSuchHolder,
 }

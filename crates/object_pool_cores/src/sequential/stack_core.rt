@@ -1,5 +1,5 @@
 //! A sequential stack pool: the value that was returned last comes first.
-ghost use Rattle.std.specs.Prelude.{◌≡◌, ◌↔◌, [], IfOk, IsTrue, All};
+ghost use Rattle.std.specs.Prelude.{◌≡◌, [], IfOk, IsTrue};
 ghost use Rattle.object_pool_cores.specs.Inside.SequentialItem.{item_value, has_room};
 ghost use Rattle.object_pool_cores.specs.Stack.{kept_of, init_of, reset_of, Pulls, Gives, Attaches, HoldRooms};
 

@@ -4,7 +4,7 @@ ghost use Rattle.lockfree_object_pool.specs.LinearPool.{pool_first_page, pool_li
 ghost use Rattle.lockfree_object_pool.specs.declared.pull_error.PullError.TheVariants.{Memory};
 
 use super::*;
-use lockfree_object_pool::closures::{Copied, InitBy, Makes, ResetBy, Resets};
+use lockfree_object_pool::closures::{InitBy, Makes, ResetBy, Resets};
 
 /// Whatever other threads do, a pulled value meets the condition.
 pub fn pulled<K: Clean<u32>, I: Init<u32, K>, R: Reset<u32, K>>(

@@ -6,7 +6,6 @@ use lockfree_object_pool::page::Page;
 use std::alloc::Global;
 use std::mem;
 use std::sync::Arc;
-use test_values::refused::again;
 use test_values::tallied::Tallied;
 use test_values::tally::{Tally, new_tally};
 
@@ -48,44 +47,6 @@ fn init_that_refuses_stops_a_new_page(rt: HostRuntime) {
             (Some(PullError::Init), (calls, refused_call))
         );
     }
-}
-
-/// What became of a page: whether it was made, and whether each value was dropped once.
-#[derive(Clone, Copy)]
-struct Outcome {
-    made: bool,
-    lost_none: bool,
-}
-
-fn make_and_drop(alloc: Global, counts: &Arc<Tally>) -> Outcome {
-    match counted_page(alloc, counts, 32) {
-        Ok(page) => {
-            let all_at_home = counts.now() == (32, 0);
-            drop(page);
-            Outcome {
-                made: true,
-                lost_none: all_at_home && counts.now() == (32, 32),
-            }
-        }
-        Err(refusal) => {
-            let (made, dropped) = counts.now();
-            Outcome {
-                made: false,
-                lost_none: refusal == PullError::Memory && made == dropped,
-            }
-        }
-    }
-}
-
-/// Holds with each request for memory refused in turn too: then at most one of the two pages is refused, and the other is made.
-#[test]
-fn a_page_refused_for_memory_loses_no_item(rt: HostRuntime) {
-    let counts = again(&|| new_tally(rt.alloc())).expect(&rt, "memory is left");
-    let first = make_and_drop(rt.alloc(), &counts);
-    let counts = again(&|| new_tally(rt.alloc())).expect(&rt, "memory is left");
-    let second = make_and_drop(rt.alloc(), &counts);
-    assert!(rt; first.lost_none && second.lost_none);
-    assert!(rt; first.made || second.made);
 }
 
 #[test]

@@ -2,7 +2,7 @@
 use super::Mortal;
 use lockfree_object_pool::PullError;
 use lockfree_object_pool::clean::AnyValue;
-use lockfree_object_pool::page::{PageId, with_bit};
+use lockfree_object_pool::page::PageId;
 use object_pool_cores::sequential::CorePage;
 use std::alloc::Global;
 use std::cell::Cell;
@@ -89,27 +89,4 @@ fn a_page_that_init_refuses_isnt_made(rt: HostRuntime) {
         assert!(rt; matches!(&page, Err(PullError::Init)), "at call {last}");
         assert_eq!(rt; (calls.get(), ends.get()), (last.saturating_add(1), last));
     }
-}
-
-// Holds where each request for memory is refused in turn, and where none is.
-#[test]
-fn a_page_that_memory_refuses_is_made_by_the_next_call(rt: HostRuntime) -> Result<(), Fail> {
-    let calls = Cell::new(0u32);
-    let ends = Cell::new(0u32);
-    let init = || {
-        calls.set(calls.get().saturating_add(1));
-        Some(Mortal { ends: &ends })
-    };
-    let made = CorePage::<Mortal<'_>, AnyValue>::new(rt.alloc(), &init);
-    let page = match made {
-        Err(PullError::Memory) => {
-            assert_eq!(rt; calls.get(), ends.get());
-            CorePage::<Mortal<'_>, AnyValue>::new(rt.alloc(), &init)?
-        }
-        made => made?,
-    };
-    assert_eq!(rt; calls.get(), ends.get().saturating_add(32));
-    drop(page);
-    assert_eq!(rt; calls.get(), ends.get());
-    Ok(())
 }

@@ -5,7 +5,6 @@ use lockfree_object_pool::clean::AnyValue;
 use lockfree_object_pool::closures::{Copied, Keep};
 use object_pool_cores::sequential::*;
 use std::cell::Cell;
-use std::process::Abort;
 use std::test::Fail;
 
 #[test]

@@ -1,7 +1,6 @@
 //! Pools that are refused values or memory: nothing is lost, and what was refused can be asked for
 //! again.
 use super::*;
-use std::mem;
 use test_values::counted::NEVER;
 use test_values::refused::again;
 

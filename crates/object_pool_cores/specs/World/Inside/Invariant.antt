@@ -25,19 +25,19 @@ module _ {T : Type 0} (first : List T) where
   FoundAsked acts pages a None = ⊤
   FoundAsked acts pages a (Some hint) = FoundFull acts pages a hint
 
-  -- an agent looks on page k, and found each number of the pages before it out
-  pub record LooksOn (acts : List (Act T)) (pages a k : ℕ) (asked : Option ℕ) : Type 0 where
+  -- an agent is on page k, and found each number of so many pages out
+  pub record IsOn (acts : List (Act T)) (pages a k full : ℕ) (asked : Option ℕ) : Type 0 where
     pub looking : Looks (acts_of a acts)
     pub linked : k < pages
-    pub found_out : FoundPagesOut first acts a k
+    pub found_out : FoundPagesOut first acts a full
     pub asked_full : FoundAsked acts pages a asked
 
-  -- an agent found each number of page k and of the pages before it out
-  pub record IsPast (acts : List (Act T)) (pages a k : ℕ) (asked : Option ℕ) : Type 0 where
-    pub looking : Looks (acts_of a acts)
-    pub linked : k < pages
-    pub found_out : FoundPagesOut first acts a (k + 1)
-    pub asked_full : FoundAsked acts pages a asked
+  -- it looks on page k, past the pages before it; or it is past page k too
+  abbrev pub LooksOn : List (Act T) → ℕ → ℕ → ℕ → Option ℕ → Type 0
+  LooksOn acts pages a k asked = IsOn acts pages a k k asked
+
+  abbrev pub IsPast : List (Act T) → ℕ → ℕ → ℕ → Option ℕ → Type 0
+  IsPast acts pages a k asked = IsOn acts pages a k (k + 1) asked
 
   -- and page k was the last page at some place, after which one more is allowed
   pub record IsAtLastPage (acts : List (Act T)) (limit : Option ℕ) (pages a k : ℕ) : Type 0 where

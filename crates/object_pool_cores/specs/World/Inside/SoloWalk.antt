@@ -1,60 +1,72 @@
--- Where an agent is that runs solo without a hint, after each of its steps.
-use Rattle.std.specs.Prelude.{◌≡◌, ◌≢◌, ℕ, ◌+◌, ◌*◌, ◌<◌, ◌≤◌, Option, Some, None, List, [], ◌∷◌, ◌++◌, length}
-use Rattle.std.specs.Prelude.{slice_get, ⊤}
+-- Where an agent is that runs solo, after each of its steps.
+use Rattle.std.specs.Prelude.{◌≡◌, ◌≢◌, ◌⊎◌, ℕ, ◌+◌, ◌*◌, ◌<◌, ◌≤◌, Option, Some, None, List, [], ◌∷◌, length, ⊤}
 use Rattle.lockfree_object_pool.specs.declared.pull_error.PullError.TheVariants.{Limit}
 use Rattle.object_pool_cores.specs.declared.interleave.event.Seen.TheVariants as seen
 use Rattle.object_pool_cores.specs.declared.interleave.point.Point.{Point}
-use Rattle.object_pool_cores.specs.declared.interleave.point.Point.TheVariants.{Reading, Clearing, AtLink, Making}
-use Rattle.object_pool_cores.specs.declared.interleave.point.Point.TheVariants.{Linking, Taken}
+use Rattle.object_pool_cores.specs.declared.interleave.point.Point.TheVariants.{Reading, Clearing, AtLink}
+use Rattle.object_pool_cores.specs.declared.interleave.point.Point.TheVariants.{ClearingHinted, Making, Linking, Taken}
 use Rattle.object_pool_cores.specs.World.State.{WorldPageState, WorldState}
-use Rattle.object_pool_cores.specs.World.Machine.{linked_page, word_of}
+use Rattle.object_pool_cores.specs.World.Machine.{word_of}
 use Rattle.object_pool_cores.specs.World.Trace.{Log}
-use Rattle.object_pool_cores.specs.World.OwnSteps.{own_steps}
-use Rattle.object_pool_cores.specs.World.Solo.{IsOwnEvent, AsksNoHint, BringsPages, IsAnswered, IsFirstFree, AllFull}
-use Rattle.object_pool_cores.specs.World.Solo.{HasMovedOut}
+use Rattle.object_pool_cores.specs.World.Solo.{IsOwnEvent, AsksNoHint, IsAnswered, HasMovedOut}
+
+-- an agent came here by its step of this count, or later by the steps that a hint may cost; where it asks by none, it
+-- came by just that step
+pub record ComesBy (extra count n : ℕ) : Type 0 where
+  pub most : n ≤ count + extra
+  pub exact : extra ≡ 0 → n ≡ count
 
 module _ {T : Type 0} where
-  -- where an agent is that has page k as the first with a free number, after n steps from its step c on
-  pub data SoloWalk (pages : List (WorldPageState T)) (k c n a : ℕ) (log : Log T) (world : WorldState T)
-      (lookup : Option (Point T)) : Type 0 where
-    AtWord : (j : ℕ) → j ≤ k → n ≡ c + 2 * j → lookup ≡ Some (Reading j None) → world.pages ≡ pages
-        → SoloWalk pages k c n a log world lookup
-    AtChain : (j : ℕ) → j < k → n ≡ c + 2 * j + 1 → lookup ≡ Some (AtLink j None) → world.pages ≡ pages
-        → SoloWalk pages k c n a log world lookup
-    AtBits : n ≡ c + 2 * k + 1 → lookup ≡ Some (Clearing k (word_of pages k) None) → world.pages ≡ pages
-        → SoloWalk pages k c n a log world lookup
-    HasTaken : (id : ℕ) → n ≡ c + 2 * k + 2 → lookup ≡ Some (Taken k id) → SoloWalk pages k c n a log world lookup
-    HasMoved : c + 2 * k + 3 ≤ n → IsAnswered log (seen.MovedOut a) → (n ≡ c + 2 * k + 3 → HasMovedOut lookup)
-        → SoloWalk pages k c n a log world lookup
+  -- the page to which a hint led, if one did, has no free number; and no hint led where none may
+  pub record AskedInVain (extra : ℕ) (pages : List (WorldPageState T)) (asked : Option ℕ) : Type 0 where
+    pub full : (hint : ℕ) → asked ≡ Some hint → word_of pages hint ≡ 0
+    pub unasked : extra ≡ 0 → asked ≡ None
 
-  -- where an agent is that found all pages full, after the steps of the log
-  pub data SoloChain (pages : List (WorldPageState T)) (limit : Option ℕ) (a : ℕ) (log : Log T) (n : ℕ)
+  -- an agent's way: the pages before page k are full, and page k has a free number, or isn't there yet, so that
+  -- two steps more make and link it
+  pub record IsWay (pages : List (WorldPageState T)) (k c : ℕ) : Type 0 where
+    pub some : 0 < length pages
+    pub full : (j : ℕ) → j < k → word_of pages j ≡ 0
+    pub goal : ((k < length pages) × (c ≡ 0) × (0 < word_of pages k)) ⊎ ((length pages ≡ k) × (c ≡ 2))
+
+  -- an agent is past the links before page k, after n steps
+  pub data IsOnward (extra : ℕ) (pages : List (WorldPageState T)) (k c n : ℕ) (world : WorldState T)
+      (lookup : Option (Point T)) : Type 0 where
+    AtMaking : (m : ℕ) → length pages ≡ m + 1 → length pages ≡ k → ComesBy extra (2 * k) n
+        → lookup ≡ Some (Making m) → world.pages ≡ pages → IsOnward extra pages k c n world lookup
+    AtLinking : (m : ℕ) (values : List T) → length pages ≡ m + 1 → length pages ≡ k → ComesBy extra (2 * k + 1) n
+        → lookup ≡ Some (Linking m values) → world.pages ≡ pages → IsOnward extra pages k c n world lookup
+    AtWord : (all : List (WorldPageState T)) (asked : Option ℕ) → 0 < word_of all k → ComesBy extra (c + 2 * k) n
+        → lookup ≡ Some (Reading k asked) → world.pages ≡ all → IsOnward extra pages k c n world lookup
+    AtBits : (all : List (WorldPageState T)) (asked : Option ℕ) → ComesBy extra (c + 2 * k + 1) n
+        → lookup ≡ Some (Clearing k (word_of all k) asked) → world.pages ≡ all
+        → IsOnward extra pages k c n world lookup
+    AtHinted : (hint : ℕ) → ComesBy extra (c + 2 * k + 1) n
+        → lookup ≡ Some (ClearingHinted hint (word_of pages hint)) → world.pages ≡ pages
+        → IsOnward extra pages k c n world lookup
+    HasTaken : (j id : ℕ) → ComesBy extra (c + 2 * k + 2) n → lookup ≡ Some (Taken j id)
+        → IsOnward extra pages k c n world lookup
+
+  -- where an agent is on its way, after n steps
+  pub data SoloWalk (extra : ℕ) (pages : List (WorldPageState T)) (limit : Option ℕ) (k c n a : ℕ) (log : Log T)
       (world : WorldState T) (lookup : Option (Point T)) : Type 0 where
-    FullWord : (j : ℕ) → j < length pages → n ≡ 2 * j → lookup ≡ Some (Reading j None) → world.pages ≡ pages
-        → world.limit ≡ limit
-        → SoloChain pages limit a log n world lookup
-    FullLink : (j : ℕ) → j < length pages → n ≡ 2 * j + 1 → lookup ≡ Some (AtLink j None) → world.pages ≡ pages
-        → world.limit ≡ limit
-        → SoloChain pages limit a log n world lookup
-    FullMake : (k : ℕ) → length pages ≡ k + 1 → n ≡ 2 * length pages → lookup ≡ Some (Making k) → world.pages ≡ pages
-        → limit ≢ Some (length pages) → SoloChain pages limit a log n world lookup
-    FullMade : (k : ℕ) (values : List T) → length pages ≡ k + 1 → n ≡ 2 * length pages + 1
-        → lookup ≡ Some (Linking k values)
-        → world.pages ≡ pages → limit ≢ Some (length pages) → SoloChain pages limit a log n world lookup
-    FullLinked : (values : List T) → 2 * length pages + 2 ≤ n → limit ≢ Some (length pages)
-        → SoloWalk (pages ++ linked_page values ∷ []) (length pages) 2 n a log world lookup
-        → SoloChain pages limit a log n world lookup
-    FullRefused : limit ≡ Some (length pages) → 2 * length pages ≤ n → IsAnswered log (seen.Refused a Limit)
-        → SoloChain pages limit a log n world lookup
+    AtFull : (j : ℕ) (asked : Option ℕ) → j < k → ComesBy extra (2 * j) n → (j ≡ 0 → n ≡ 0)
+        → AskedInVain extra pages asked
+        → lookup ≡ Some (Reading j asked) → world.pages ≡ pages → world.limit ≡ limit
+        → SoloWalk extra pages limit k c n a log world lookup
+    AtChain : (j : ℕ) (asked : Option ℕ) → j < k → ComesBy extra (2 * j + 1) n → (j ≡ 0 → asked ≡ None → n ≤ 1)
+        → AskedInVain extra pages asked
+        → lookup ≡ Some (AtLink j asked) → world.pages ≡ pages → world.limit ≡ limit
+        → SoloWalk extra pages limit k c n a log world lookup
+    Onward : (length pages ≡ k → limit ≢ Some (length pages)) → IsOnward extra pages k c n world lookup
+        → SoloWalk extra pages limit k c n a log world lookup
+    HasMoved : (length pages ≡ k → limit ≢ Some (length pages)) → (extra ≡ 0 → c + 2 * k + 3 ≤ n)
+        → IsAnswered log (seen.MovedOut a) → (extra ≡ 0 → n ≡ c + 2 * k + 3 → HasMovedOut lookup)
+        → SoloWalk extra pages limit k c n a log world lookup
+    IsRefused : (length pages ≡ k) → (limit ≡ Some (length pages)) → IsAnswered log (seen.Refused a Limit)
+        → SoloWalk extra pages limit k c n a log world lookup
 
   -- each of the events is this agent's, and asks no page by a hint
   abbrev pub IsUnhinted : ℕ → Log T → Type 0
   IsUnhinted a [] = ⊤
   IsUnhinted a ((e, answer) ∷ log) = (IsOwnEvent a e answer × AsksNoHint e answer) × IsUnhinted a log
-
-  -- where an agent is after the events of a log that are all its own
-  pub record Stands (old : WorldState T) (log : Log T) (new : WorldState T) (a : ℕ) : Type 0 where
-    pub walks : (k : ℕ) → IsFirstFree old.pages k
-        → SoloWalk old.pages k 0 (own_steps log a) a log new (slice_get new.agents a)
-    pub chains : AllFull old.pages → (old.limit ≢ Some (length old.pages) → BringsPages log)
-        → SoloChain old.pages old.limit a log (own_steps log a) new (slice_get new.agents a)

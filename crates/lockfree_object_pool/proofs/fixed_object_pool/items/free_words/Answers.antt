@@ -1,4 +1,4 @@
-use Rattle.std.proofs.Common.{◌≡◌, ℕ, ◌+◌, ◌-◌, ◌*◌, ◌/◌, ◌^◌, replicate, set, sym, subst, arith}
+use Rattle.std.proofs.Common.{◌≡◌, ℕ, ◌+◌, ◌-◌, ◌*◌, ◌/◌, ◌^◌, replicate, set, subst, arith}
 use Rattle.lockfree_object_pool.specs.Word.{all_bits, IsAllFree}
 use Rattle.lockfree_object_pool.proofs.WordBits.{all_free}
 use Rattle.lockfree_object_pool.proofs.fixed_object_pool.items.free_words.Goals as goal
@@ -12,8 +12,5 @@ returns-clause-all_free c =
     let words : c.in_ok-words.words.items ≡ replicate (full + 1) all_bits =
     c.in_ok-words.ensures.items_if_clones_equal (λ y e. e) in
     let last : c.low_bits.result ≡ 2 ^ low - 1 = c.low_bits.ensures in
-    let free = subst (λ count.
-    IsAllFree count (set (replicate (full + 1) all_bits) full (2 ^ low - 1))) count
-    (all_free full low (omega arith) (omega arith)) in
-    subst (λ word. IsAllFree c.args.count (set c.in_ok-words.words.items full word)) (sym last)
-    (subst (λ words. IsAllFree c.args.count (set words full (2 ^ low - 1))) (sym words) free)
+    rw (last, words) (subst (λ count. IsAllFree count (set (replicate (full + 1) all_bits) full (2 ^ low - 1))) count
+    (all_free full low (omega arith) (omega arith)))

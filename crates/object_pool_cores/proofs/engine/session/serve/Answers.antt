@@ -4,8 +4,11 @@ use Rattle.std.proofs.KnownBytes.{Consumes-nil, Consumes-trans, Consumes-kept}
 use Rattle.std.proofs.lemmas.List.Elements.{All-nil}
 use Rattle.std.proofs.lemmas.Result.{err_from_is_err_and}
 use Rattle.object_pool_cores.proofs.ReplyRuns.{OnOk-map}
-use Rattle.object_pool_cores.proofs.TranscriptRuns.{Serves-none, Serves-join, ServesPart-join, ServesFront-join}
-use Rattle.object_pool_cores.proofs.TranscriptRuns.{ServesFront-kept, ServesAll-last, ServesAllInPart-last}
+use Rattle.std.proofs.KnownBytes.{Appends-trans}
+use Rattle.std.specs.Io.KnownBytes.{Appends}
+use Rattle.object_pool_cores.specs.Served.{AppendsPart}
+use Rattle.object_pool_cores.proofs.TranscriptRuns.{Serves-none, Serves-join, ServesFront-join, ServesFront-kept}
+use Rattle.object_pool_cores.proofs.TranscriptRuns.{ServesAll-last, AppendsPart-behind}
 use Rattle.object_pool_cores.proofs.engine.session.serve.Goals as goal
 
 pub reads-init : goal.reads-init
@@ -25,7 +28,7 @@ returns-then-count-eq0-clause-ok g c =
       so_far.0,
       consumed,
       c.in-Ok.ensures.bytes.1 c.if-count-eq0.true (search rules),
-      ServesAll-last _ _ _ _ _ so_far.0 so_far.1 _ _ _ so_far.4 (served so_far.1 so_far.3.0),
+      ServesAll-last _ _ _ _ _ Appends Appends-trans so_far.0 so_far.1 _ _ _ so_far.4 (served so_far.1 so_far.3.0),
     )) c.serve_last.ensures.ok
 
 pub returns-then-count-eq0-clause-write : goal.returns-then-count-eq0-clause-write
@@ -37,7 +40,7 @@ returns-then-count-eq0-clause-write g c = λ e.
       consumed,
       inr (
         c.in-Ok.ensures.bytes.1 c.if-count-eq0.true (search rules),
-        ServesAllInPart-last _ _ _ _ _ so_far.0
+        ServesAll-last _ _ _ _ _ AppendsPart AppendsPart-behind so_far.0
             so_far.1 _ _ _ so_far.4 (c.serve_last.ensures.write e so_far.1 so_far.3.0),
       ),
     )
@@ -71,7 +74,7 @@ returns-in_err-serve_chunk-clause-write g c = λ e.
     let failed = c.in_err-serve_chunk.ensures.write (ap Err (sym error.2) ∙ sym error.1 ∙ e) so_far.1 so_far.3 in (
       _,
       Consumes-trans _ _ _ _ _ so_far.2 c.in-Ok.ensures.bytes.0,
-      inl (ServesPart-join _ _ _ _ _ so_far.0 _ so_far.1 _ _ _ so_far.4 failed),
+      inl (ServesFront-join _ _ _ _ _ AppendsPart AppendsPart-behind so_far.0 _ so_far.1 _ _ _ so_far.4 failed),
     )
 
 pub returns-in_err-serve_chunk-clause-memory : goal.returns-in_err-serve_chunk-clause-memory
@@ -81,5 +84,5 @@ returns-in_err-serve_chunk-clause-memory g c = λ e.
     let stopped = c.in_err-serve_chunk.ensures.memory (ap Err (sym error.2) ∙ sym error.1 ∙ e) so_far.1 so_far.3 in (
       _,
       Consumes-trans _ _ _ _ _ so_far.2 c.in-Ok.ensures.bytes.0,
-      ServesFront-join _ _ _ _ _ so_far.0 _ so_far.1 _ _ _ so_far.4 stopped,
+      ServesFront-join _ _ _ _ _ Appends Appends-trans so_far.0 _ so_far.1 _ _ _ so_far.4 stopped,
     )

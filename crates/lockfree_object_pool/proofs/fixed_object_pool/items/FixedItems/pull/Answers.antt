@@ -1,14 +1,20 @@
 use Rattle.std.proofs.Common.{◌∙◌}
-use Rattle.lockfree_object_pool.proofs.FixedAnswers.{item_pulled, all_busy}
+use Rattle.lockfree_object_pool.proofs.FixedAnswers.{found_all_out}
+use Rattle.lockfree_object_pool.proofs.PageAnswers.{pulled}
 use Rattle.lockfree_object_pool.proofs.fixed_object_pool.items.FixedItems.pull.Goals as goal
 
 pub returns-in-Some-clause-pulled : goal.returns-in-Some-clause-pulled
 returns-in-Some-clause-pulled g c =
     let looked = c.look-word.ensures.found in
-    item_pulled g.K.Clean.meets _ _ _ _ _ _ _ looked.same_opening looked.did_nothing c.in-Some.ensures.outcome
-    (c.take.ensures.pool ∙ c.look-word.ensures.items)
+    let taken = c.in-Some.ensures.outcome in
+    record {
+      is_item = record { of_page = c.take.ensures.pool ∙ c.look-word.ensures.items; in_page = taken.in_pool };
+      same_opening = taken.goes_on.same_opening ∙ looked.same_opening;
+      pulled = pulled _ _ _ _ _ taken.goes_on looked.did_nothing;
+    }
 
 pub returns-in-None-clause-busy : goal.returns-in-None-clause-busy
-returns-in-None-clause-busy g c =
-    let looked = c.look-word.ensures.found in
-    all_busy _ _ _ _ looked.same_opening c.in-None.ensures.outcome (c.take.ensures.pool ∙ c.look-word.ensures.items)
+returns-in-None-clause-busy g c = record {
+  of_page = c.take.ensures.pool ∙ c.look-word.ensures.items;
+  found = found_all_out _ _ _ _ c.look-word.ensures.found.same_opening c.in-None.ensures.outcome;
+}

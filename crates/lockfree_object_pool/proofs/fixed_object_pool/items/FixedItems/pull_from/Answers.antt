@@ -1,5 +1,6 @@
 use Rattle.std.proofs.Common.{◌∙◌}
-use Rattle.lockfree_object_pool.proofs.FixedAnswers.{item_pulled_with, all_busy_after}
+use Rattle.lockfree_object_pool.proofs.FixedAnswers.{item_pulled_with, found_all_out}
+use Rattle.lockfree_object_pool.proofs.PageAnswers.{after_known}
 use Rattle.lockfree_object_pool.proofs.fixed_object_pool.items.FixedItems.pull_from.Goals as goal
 
 pub returns-clause-pulled : goal.returns-clause-pulled
@@ -9,5 +10,12 @@ returns-clause-pulled g c =
 
 pub returns-in_default-clause-busy : goal.returns-in_default-clause-busy
 returns-in_default-clause-busy g c =
-    all_busy_after _ _ _ _ c.look_again-word.ensures.found.starts c.in_default.ensures.outcome
-    (c.take.ensures.pool ∙ c.look_again-word.ensures.items ∙ c.requires)
+    let starts = c.look_again-word.ensures.found.starts in
+    let missed = c.in_default.ensures.outcome in
+    record {
+      all_out = record {
+        of_page = c.take.ensures.pool ∙ c.look_again-word.ensures.items ∙ c.requires;
+        found = found_all_out _ _ _ _ starts.same_opening missed;
+      };
+      after_note = after_known _ _ _ starts missed.goes_on;
+    }

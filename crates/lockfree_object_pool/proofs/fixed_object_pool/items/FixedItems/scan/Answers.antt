@@ -16,27 +16,21 @@ loop-page-preserved g c =
     let looked = misses_loaded _ _ _ _ _ _ _ before.missed c.look_on-word.ensures.found in
     let next : 32 * c.loop-page.page + 32 ≡ 32 * (c.loop-page.page + 1) = omega arith in
     let all = misses_more _ _ _ _ _ _ looked own in
-    let more = c.look_on-word.ensures.found.loads in
-    let tried = c.look_on-word.ensures.found.tries in
-    let own_looks = c.take_lowest.ensures.steps.0 in
-    let own_tries = c.take_lowest.ensures.steps.1 in
+    let found = c.look_on-word.ensures.found in
+    let own_steps = c.take_lowest.ensures.steps in
     let steps = before.steps in
-    let loads = steps.loads in
-    let tries = steps.tries in
     let test = c.loop-page-test.true in
     record {
       steps = record { loads = omega arith; tries = omega arith };
       same_pool = c.take_lowest.ensures.items ∙ c.look_on-word.ensures.items ∙ before.same_pool;
-      carries_none = own.carries_same ∙ c.look_on-word.ensures.found.carries_same ∙ before.carries_none;
-      holds_none = own.holds_same ∙ c.look_on-word.ensures.found.holds_same ∙ before.holds_none;
+      carries_none = own.carries_same ∙ found.carries_same ∙ before.carries_none;
+      holds_none = own.holds_same ∙ found.holds_same ∙ before.holds_none;
       missed = subst (λ to. MissesAll (32 * c.args.from) to c.args.seat.now.me c.take_lowest.new.seat.me) next all;
     }
 
 pub returns-clause-steps : goal.returns-clause-steps
 returns-clause-steps g c =
     let steps = c.loop-page.invariant.steps in
-    let loads = steps.loads in
-    let tries = steps.tries in
     let ordered = c.requires.ordered in
     let end = c.loop-page.auto.page-end in
     record { loads = omega arith; tries = omega arith }

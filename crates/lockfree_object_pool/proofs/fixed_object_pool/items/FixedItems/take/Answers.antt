@@ -15,8 +15,5 @@ returns-in-Some-scan-2-clause-outcome g c =
 pub returns-clause-outcome : goal.returns-clause-outcome
 returns-clause-outcome g c =
     let items = c.args.self.now in
-    let counted = items.counted in
-    let paged = items.paged in
-    let covered = items.shared.covered in
-    missed_round c.args.start items.pages _ _ _ _ _
-    (omega arith) c.in_default.ensures.outcome c.in_default-scan.ensures.outcome c.in_default-scan-2.ensures.outcome
+    missed_round c.args.start items.pages _ _ _ _ _ (omega (arith, items.counted, items.paged, items.shared.covered))
+    c.in_default.ensures.outcome c.in_default-scan.ensures.outcome c.in_default-scan-2.ensures.outcome

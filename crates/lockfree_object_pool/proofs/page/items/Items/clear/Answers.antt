@@ -5,31 +5,20 @@ use Rattle.lockfree_object_pool.proofs.page.items.Items.clear.Goals as goal
 
 pub fetch_and-word-requires : goal.fetch_and-word-requires
 fetch_and-word-requires g c =
-    let items = c.args.self.now in
-    let covered = items.covered in
-    let inside = c.requires.in_items in (
+    let items = c.args.self.now in (
       c.requires.items,
       c.requires.in_items,
       clears _ _ items.table.shared.table_id.slots c.args.page _ _ c.args.bit _ c.requires.in_word
-          (omega arith) c.without_bit.ensures.bits c.requires.holds_none c.requires.here,
+          (omega (arith, items.covered, c.requires.in_items)) c.without_bit.ensures.bits c.requires.holds_none
+          c.requires.here,
     )
 
 pub overflow_mul-page : goal.overflow_mul-page
-overflow_mul-page g c =
-    let items = c.args.self.now in
-    let covered = items.covered in
-    let small = items.small in
-    let inside = c.requires.in_items in
-    omega arith
+overflow_mul-page g c = omega (arith, c.args.self.now.covered, c.args.self.now.small, c.requires.in_items)
 
 pub overflow_add-page : goal.overflow_add-page
 overflow_add-page g c =
-    let items = c.args.self.now in
-    let covered = items.covered in
-    let small = items.small in
-    let inside = c.requires.in_items in
-    let within = c.requires.in_word in
-    omega arith
+    omega (arith, c.args.self.now.covered, c.args.self.now.small, c.requires.in_items, c.requires.in_word)
 
 pub exchange-requires : goal.exchange-requires
 exchange-requires g c =

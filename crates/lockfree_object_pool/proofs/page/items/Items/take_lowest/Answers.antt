@@ -16,7 +16,7 @@ returns-in-Some-clear-clause-outcome g c =
       holds = took.2.holds;
       carries = took.2.carries ∙ ap (λ l.
           (item_of c.args.page c.in-Some.bit, None) ∷ l) (before.carries_none ∙ sym c.requires.carries_none);
-      goes_on = goes_on_further _ c.args.seat.now.me.0 c.loop-rest.seat.me.0 c.clear.new.seat.me.0 before.follows
+      goes_on = goes_on_further _ _ _ _ before.follows
           took.2.goes_on;
     }
 
@@ -28,14 +28,12 @@ loop-rest-preserved g c =
       same_items = c.clear.ensures.items ∙ before.same_items;
       carries_none = missed.carries_same ∙ before.carries_none;
       holds_none = missed.holds_same ∙ before.holds_none;
-      out_or_untried = out_or_untried c.args.page c.loop-rest.untried c.in-Some.bit c.in-Some.rest c.loop-rest.seat.me
-          c.clear.new.seat.me c.in-Some.ensures.rest missed before.out_or_untried;
-      follows = goes_on_further _ c.args.seat.now.me.0 c.loop-rest.seat.me.0 c.clear.new.seat.me.0 before.follows
+      out_or_untried = out_or_untried _ _ _ _ _ _ c.in-Some.ensures.rest missed before.out_or_untried;
+      follows = goes_on_further _ _ _ _ before.follows
           missed.goes_on;
       loads_same = missed.counts.loads_same ∙ before.loads_same;
       all_tries = let least = c.in-Some.ensures.least in
-          let tried = before.tries_below c.in-Some.bit least.in_page least.set in let more = missed.counts.one_more in
-          let within = least.in_page in omega arith;
+          omega (arith, before.tries_below c.in-Some.bit least.in_page least.set, missed.counts.one_more);
       tries_below = more_tried _ _ _ _ _ _ c.in-Some.ensures.least c.in-Some.ensures.rest missed.counts.one_more
           before.tries_below;
     }
@@ -54,8 +52,7 @@ pub returns-in-Some-clear-clause-steps : goal.returns-in-Some-clear-clause-steps
 returns-in-Some-clear-clause-steps g c =
     let least = c.in-Some.ensures.least in
     let before = c.loop-rest.invariant in
-    let took = c.in-Some-clear.ensures.outcome in
-    let tried = before.tries_below c.in-Some.bit least.in_page least.set in
-    let more = took.2.counts.one_more in
-    let within = least.in_page in
-    (took.2.counts.loads_same ∙ before.loads_same, omega arith)
+    let counts = c.in-Some-clear.ensures.outcome.2.counts in (
+      counts.loads_same ∙ before.loads_same,
+      omega (arith, before.tries_below c.in-Some.bit least.in_page least.set),
+    )

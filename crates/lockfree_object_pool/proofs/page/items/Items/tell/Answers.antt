@@ -3,8 +3,10 @@ use Rattle.lockfree_object_pool.proofs.PageSteps.{tells}
 use Rattle.lockfree_object_pool.proofs.page.items.Items.tell.Goals as goal
 
 pub join_seat-requires : goal.join_seat-requires
-join_seat-requires g c =
-    let items = c.args.self.now in
-    let covered = items.covered in
-    let some_item = items.some_item in
-    (c.requires.note, c.requires.other, c.args.other.carries_none, omega arith, tells _ _ _ _ _ _ c.args.note.now.here)
+join_seat-requires g c = (
+  c.requires.note,
+  c.requires.other,
+  c.args.other.carries_none,
+  omega (arith, c.args.self.now.covered, c.args.self.now.some_item),
+  tells _ _ _ _ _ _ c.args.note.now.here,
+)

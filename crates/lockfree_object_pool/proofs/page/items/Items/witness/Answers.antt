@@ -4,7 +4,4 @@ use Rattle.lockfree_object_pool.proofs.page.items.Items.witness.Goals as goal
 
 pub split_seat-requires : goal.split_seat-requires
 split_seat-requires g c =
-    let items = c.args.self.now in
-    let covered = items.covered in
-    let some_item = items.some_item in
-    (c.requires, omega arith, witnesses _ _ _ _)
+    (c.requires, omega (arith, c.args.self.now.covered, c.args.self.now.some_item), witnesses _ _ _ _)

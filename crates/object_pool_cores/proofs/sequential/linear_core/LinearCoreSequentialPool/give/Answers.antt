@@ -1,6 +1,4 @@
-use Rattle.std.proofs.Common.{◌≡◌, ℕ, Some, refl, sym, ◌∙◌, subst}
-use Rattle.object_pool_cores.specs.Pool.{IsOut}
-use Rattle.object_pool_cores.specs.Inside.Numbered.{listed_pool}
+use Rattle.std.proofs.Common.{◌≡◌, refl, sym, ◌∙◌}
 use Rattle.object_pool_cores.proofs.sequential.linear_core.LinearCoreSequentialPool.give.Goals as goal
 
 pub unreachable-requires : goal.unreachable-requires
@@ -8,9 +6,8 @@ unreachable-requires g c = c.in_default.not-Some c.requires.0 (c.number.ensures 
 
 pub put-requires-clause-out : goal.put-requires-clause-out
 put-requires-clause-out g c =
-    let same : Some c.requires.0 ≡ Some c.in-Some.number = sym c.requires.1 ∙ sym c.in-Some.ensures in
-    let number : c.requires.0 ≡ c.in-Some.number = cc in
-    subst (λ (n : ℕ). IsOut (listed_pool c.args.self.now.items) n) number c.requires.2
+    let number : c.requires.0 ≡ c.in-Some.number = cc (c.requires.1) in
+    rw number at c.requires.2
 
 pub returns-clause-step : goal.returns-clause-step
 returns-clause-step g c =
@@ -28,9 +25,8 @@ returns-clause-step g c =
         number = sym c.in-Some.ensures;
         left = rw (← c.into_value-value.ensures) c.reset.ensures.leaves;
         was_out =
-            let same : Some c.requires.0 ≡ Some c.in-Some.number = sym c.requires.1 ∙ sym c.in-Some.ensures in
-            let number : c.requires.0 ≡ c.in-Some.number = cc in
-            subst (λ (n : ℕ). IsOut (listed_pool c.args.self.now.items) n) number c.requires.2;
+            let number : c.requires.0 ≡ c.in-Some.number = cc (c.requires.1) in
+            rw number at c.requires.2;
         returned = c.put.ensures.returned;
       };
     }

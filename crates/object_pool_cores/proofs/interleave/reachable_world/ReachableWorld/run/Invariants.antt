@@ -1,17 +1,14 @@
 use Rattle.std.proofs.Common.{◌≡◌, ◌+◌, ◌≤◌, reverse, length}
 use Rattle.std.specs.Prelude.{vec_len, vec_capacity}
 use Rattle.object_pool_cores.specs.World.Capacity.{KeepsCapacity}
-use Rattle.object_pool_cores.specs.World.Inside.Shown.{world_capacity, world_reset, world_state}
 use Rattle.object_pool_cores.proofs.World.RunsEvents.{Replayed}
-use Rattle.object_pool_cores.proofs.interleave.world.World.run.Given as goal
+use Rattle.object_pool_cores.proofs.interleave.reachable_world.ReachableWorld.run.Given as goal
 
 abbrev pub invariant-loop-event : goal.invariant-loop-event
 invariant-loop-event g l = record {
-  replayed : Replayed (g.R.Reset.leaves (world_reset l.fn.self))
-      (world_state l.fn.self) l.fn.events.items l.fn.seen.items (reverse l.events.items) l.seen.items
-      (world_state l.self);
-  reset : world_reset l.self ≡ world_reset l.fn.self;
-  kept : KeepsCapacity (world_capacity l.fn.self) (world_capacity l.self);
+  replayed : Replayed (g.R.Reset.leaves l.fn.reset) l.fn.self.state l.fn.events.items l.fn.seen.items
+      (reverse l.events.items) l.seen.items l.self.state;
+  kept : KeepsCapacity l.fn.self.capacity l.self.capacity;
   -- an answer came for each event that is done, and the room for answers is no less
   count : vec_len l.seen + vec_len l.events ≡ vec_len l.fn.seen + vec_len l.fn.events;
   room : vec_capacity l.fn.seen ≤ vec_capacity l.seen;

@@ -1,17 +1,14 @@
-use Rattle.std.proofs.Common.{◌≡◌, ◌∙◌, ◌∷◌, [], ◌++◌, refl, reverse, rules, length, subst, arith}
+use Rattle.std.proofs.Common.{◌≡◌, ◌∷◌, [], ◌++◌, refl, reverse, rules, length, arith}
 use Rattle.std.proofs.lemmas.List.{reverse-reverse}
-use Rattle.object_pool_cores.specs.World.Machine.{Steps}
-use Rattle.object_pool_cores.specs.World.Inside.Shown.{world_state}
 use Rattle.object_pool_cores.proofs.World.RunsEvents.{replayed-none, replayed-next, runs_events-from, on-err}
 use Rattle.object_pool_cores.proofs.World.RunsEvents.{no-elements}
-use Rattle.object_pool_cores.proofs.interleave.world.World.run.Goals as goal
+use Rattle.object_pool_cores.proofs.interleave.reachable_world.ReachableWorld.run.Goals as goal
 
 pub loop-event-init : goal.loop-event-init
 loop-event-init g c =
     let turned : reverse c.reverse.new.self.items ≡ c.args.events.items = search (rules, reverse-reverse) in
     record {
-      replayed = rw turned (replayed-none _ _ _ _);
-      reset = refl;
+      replayed = rw (turned, ← c.self.view_is) (replayed-none _ _ _ _ c.self.invariant);
       kept = record { agents = omega arith; pages = omega arith };
       count = omega (arith, c.reverse.ensures.len);
       room = omega arith;
@@ -25,16 +22,12 @@ returns-in_err-reserve-clause-run g c =
 pub loop-event-preserved : goal.loop-event-preserved
 loop-event-preserved g c =
     let kept = c.loop-event.invariant in
-    let P : g.row.R.Denot → Type 0 = λ reset. Steps (g.R.Reset.leaves reset)
-    (world_state c.loop-event.self) c.in-Some.event c.step-answer.result (world_state c.step-answer.new.self) in
     let answered : c.push.new.self.items ≡ c.loop-event.seen.items ++ c.step-answer.result ∷ [] =
     let same : c.reserve.new.self.items ≡ c.loop-event.seen.items = c.in_ok-reserve.ensures.items in
     rw (c.in_ok-push.ensures.items, same) refl in
     record {
       replayed = replayed-next _ _ _ _ _ _ _ _ _ c.in-Some.event c.step-answer.result _ c.in-Some.ensures.items answered
-          kept.replayed c.step-answer.ensures.reachable (subst P kept.reset c.step-answer.ensures.step)
-          c.step-answer.ensures.exact;
-      reset = c.step-answer.ensures.reset ∙ kept.reset;
+          kept.replayed c.step-answer.ensures.step c.step-answer.ensures.exact;
       kept = record {
         agents = omega (arith, kept.kept.agents, c.step-answer.ensures.room_stays.agents);
         pages = omega (arith, kept.kept.pages, c.step-answer.ensures.room_stays.pages);
