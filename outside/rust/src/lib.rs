@@ -1,7 +1,7 @@
 //! An object pool of a fixed number of items, which go back by themselves and are reset before they are pulled again.
 //!
 //! Who holds which item is decided by a library that is proved (`crates/fixed_pool_c` of this repository). This crate puts the
-//! items beside it, and its own code isn't proved: see "Outside Rattle" in `docs/PROMISES.md`.
+//! items beside it, and its own code isn't proved: see "From outside Rattle" in `docs/PROMISES.md`.
 //!
 //! ```
 //! use kundratu_pool::Pool;
