@@ -47,9 +47,6 @@ number-page n k id within is = omega arith
 pub number-id : (n k id : ℕ) → id < 32 → n ≡ number k id → n % 32 ≡ id
 number-id n k id within is = omega arith
 
-pub number-parts : (n : ℕ) → n ≡ number (n / 32) (n % 32)
-number-parts n = omega arith
-
 module _ {T : Type 0} where
   -- what a number reads as, by its page and id
   reads-place : (world : WorldState T) (k id : ℕ) (page : WorldPageState T) → id < 32
