@@ -10,6 +10,8 @@
 #![tactic(auto)]
 
 #[cfg(test)]
+mod assert_equal;
+#[cfg(test)]
 mod calling;
 pub mod letters;
 pub mod palindromes;

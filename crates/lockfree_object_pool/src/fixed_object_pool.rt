@@ -42,10 +42,16 @@ pub type FixedPulled<'s, 'p, T, I, R, K = AnyValue> = Result<
 /// *item = 5;
 /// drop(item); // the value is 0 again, and in the pool
 /// ```
-#[derive(Drop)]
 pub struct FixedObjectPool<T, I: Init<T, K>, R: Reset<T, K>, K: Clean<T> = AnyValue> {
     reset: R,
     pub(crate) items: FixedItems<T, MadeOrReset<I, R, K>>,
+}
+
+/// Not derived: the proof of a caller that drops it has one call here, and a derived drop has that of each field.
+impl<T: Drop, I: Init<T, K>, R: Reset<T, K>, K: Clean<T>> Drop for FixedObjectPool<T, I, R, K> {
+    fn drop(self) {
+        let FixedObjectPool { reset: _, items: _ } = self;
+    }
 }
 
 impl<T: Drop, I: Init<T, K>, R: Reset<T, K>, K: Clean<T>> FixedObjectPool<T, I, R, K> {

@@ -30,12 +30,23 @@ mod page_limit;
 /// *item = 5;
 /// drop(item); // the value is 0 again, and in the pool
 /// ```
-#[derive(Drop)]
 pub struct LinearObjectPool<T, I: Init<T, K>, R: Reset<T, K>, K: Clean<T> = AnyValue> {
     init: I,
     reset: R,
     pub(crate) chain: Chain<T, MadeOrReset<I, R, K>, AnswerOf<I, K>>,
     limit: Option<PageLimit>,
+}
+
+/// Not derived: the proof of a caller that drops it has one call here, and a derived drop has that of each field.
+impl<T: Drop, I: Init<T, K>, R: Reset<T, K>, K: Clean<T>> Drop for LinearObjectPool<T, I, R, K> {
+    fn drop(self) {
+        let LinearObjectPool {
+            init: _,
+            reset: _,
+            chain: _,
+            limit: _,
+        } = self;
+    }
 }
 
 impl<T: Drop, I: Init<T, K>, R: Reset<T, K>, K: Clean<T>> LinearObjectPool<T, I, R, K> {

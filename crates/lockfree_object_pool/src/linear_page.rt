@@ -39,10 +39,19 @@ pub(crate) use walk::WalkEnd;
 /// A chain of pages: the first one, and the links behind it.
 ///
 /// Each value that one of its pages opens with meets `O`, each free item meets `K`.
-#[derive(Drop)]
 pub struct Chain<T, K: Clean<T>, O: Clean<T> = AnyValue> {
     first: OpenedPage<T, K, O>,
     directory: Directory<T, K, O>,
+}
+
+/// Not derived: the proof of a caller that drops it has one call here, and a derived drop has that of each field.
+impl<T: Drop, K: Clean<T>, O: Clean<T>> Drop for Chain<T, K, O> {
+    fn drop(self) {
+        let Chain {
+            first: _,
+            directory: _,
+        } = self;
+    }
 }
 
 impl<T: Drop, K: Clean<T>, O: Clean<T>> Chain<T, K, O> {

@@ -93,10 +93,16 @@ fn is_none_free(word: u32) -> bool
 }
 
 /// 32 items that threads share.
-#[derive(Drop)]
 pub struct Page<T, K: Clean<T>> {
     items: Items<T, K>,
     ghost sized: { (items_identity items).slots ≡ PAGE_ITEMS },
+}
+
+/// Not derived: the proof of a caller that drops it has one call here, and a derived drop has that of each field.
+impl<T: Drop, K: Clean<T>> Drop for Page<T, K> {
+    fn drop(self) {
+        let Page { items: _ } = self;
+    }
 }
 
 impl<T, K: Clean<T>> Page<T, K> {

@@ -30,9 +30,15 @@ const FREE: u64 = 0;
 const TAKEN: u64 = 1;
 
 /// A value that one guard at a time has. In a clause it is the table in which the value lies.
-#[derive(Drop)]
 pub struct SpinLock<T> {
     table: Table<Option<T>, Visitor, (), OneHolder, Global>,
+}
+
+/// Not derived: the proof of a caller that drops it has one call here, and a derived drop has that of each field.
+impl<T: Drop> Drop for SpinLock<T> {
+    fn drop(self) {
+        let SpinLock { table: _ } = self;
+    }
 }
 
 impl<T> Model for SpinLock<T> {

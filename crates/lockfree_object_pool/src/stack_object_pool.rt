@@ -20,7 +20,6 @@ use std::sync::{Arc, Mutex, Wait};
 ///
 /// Its two kinds are [`MutexObjectPool`](crate::MutexObjectPool) and
 /// [`SpinLockObjectPool`](crate::SpinLockObjectPool).
-#[derive(Drop)]
 pub struct StackObjectPool<
     T,
     I: Init<T, K>,
@@ -33,6 +32,20 @@ pub struct StackObjectPool<
     reset: R,
     kept: F,
     marker: PhantomData<(Mutex<T>, Mutex<K>)>,
+}
+
+/// Not derived: the proof of a caller that drops it has one call here, and a derived drop has that of each field.
+impl<T, I: Init<T, K>, R: Reset<T, K>, K: Clean<T>, F: FreeList<T, MadeOrReset<I, R, K>>> Drop
+    for StackObjectPool<T, I, R, K, F> {
+    fn drop(self) {
+        let StackObjectPool {
+            alloc: _,
+            init: _,
+            reset: _,
+            kept: _,
+            marker: _,
+        } = self;
+    }
 }
 
 impl<

@@ -3,12 +3,12 @@ ghost use Rattle.std.specs.Prelude.{◌≡◌, ◌≤◌, ◌++◌, ℕ, [], Opt
 ghost use Rattle.std.specs.Global.{Vec};
 ghost use Rattle.object_pool_cores.specs.Buffers.{bytes_of};
 
+use crate::assert_equal::assert_equal;
 use lockfree_object_pool::PullError;
 use lockfree_object_pool::closures::{Init, InitBy, Makes, ResetBy, Resets};
 use object_pool_cores::buffers::*;
 use std::alloc::Global;
 use std::sync::Arc;
-use std::test::Fail;
 use std::thread;
 
 mod sizes;
@@ -74,30 +74,28 @@ fn pulled_by<I: InitBy<Vec<u8>>, R: ResetBy<Vec<u8>>>(
 }
 
 #[test]
-fn a_buffer_holds_what_was_appended_and_comes_again_empty(rt: HostRuntime) -> Result<(), Fail> {
-    let pool = one_page(rt.alloc())?;
-    let (written, again) = written_and_pulled(rt.alloc(), &pool)?;
-    assert_eq!(rt; written.as_slice(), b"abc".as_slice());
-    assert_eq!(rt; again, 0);
-    let mut buffer = pool.pull()?;
-    assert_eq!(rt; (buffer.page_number(), buffer.page_id()), (0, 0));
-    joined(&mut buffer, b"to", b"gether")?;
-    assert_eq!(rt; buffer.as_slice(), b"together".as_slice());
-    Ok(())
+fn a_buffer_holds_what_was_appended_and_comes_again_empty(rt: HostRuntime) {
+    let pool = one_page(rt.alloc()).expect(&rt, "a pool is made");
+    let (written, again) = written_and_pulled(rt.alloc(), &pool).expect(&rt, "nothing is refused");
+    assert_equal(&rt, written.as_slice(), b"abc".as_slice());
+    assert_equal(&rt, again, 0);
+    let mut buffer = pool.pull().expect(&rt, "an item is free");
+    assert_equal(&rt, (buffer.page_number(), buffer.page_id()), (0, 0));
+    joined(&mut buffer, b"to", b"gether").expect(&rt, "nothing is refused");
+    assert_equal(&rt, buffer.as_slice(), b"together".as_slice());
 }
 
 #[test]
-fn closures_make_and_clear_buffers(rt: HostRuntime) -> Result<(), Fail> {
+fn closures_make_and_clear_buffers(rt: HostRuntime) {
     let alloc = rt.alloc();
     let made = pulled_by(
         alloc,
         || fresh(alloc, 16),
         |bytes: &mut Vec<u8>| clear(bytes),
     );
-    assert_eq!(rt; made, Ok(0));
+    assert_equal(&rt, made, Ok(0));
     let refused = pulled_by(alloc, || None, |bytes: &mut Vec<u8>| clear(bytes));
-    assert_eq!(rt; refused, Err(PullError::Init));
-    Ok(())
+    assert_equal(&rt, refused, Err(PullError::Init));
 }
 
 /// Pulls, looks, appends and drops, a hundred times. Whether
@@ -129,39 +127,44 @@ fn pulled_at_last(pool: &ReadyPool) -> Option<Buffer<'_, WithCapacity, Clear>> {
 }
 
 #[test]
-fn five_threads_find_each_buffer_empty(rt: HostRuntime) -> Result<(), Fail> {
-    let pool = Arc::new(rt.alloc(), one_page(rt.alloc())?)?;
-    let mut threads = Vec::with_capacity(rt.alloc(), 5)?;
+fn five_threads_find_each_buffer_empty(rt: HostRuntime) {
+    let pool = Arc::new(
+        rt.alloc(),
+        one_page(rt.alloc()).expect(&rt, "a pool is made"),
+    )
+    .expect(&rt, "memory is left");
+    let mut threads = Vec::with_capacity(rt.alloc(), 5).expect(&rt, "memory is left");
     for _ in 0..5 {
-        let pool = Arc::try_clone(&pool)?;
-        threads.push(thread::spawn(&rt, move || fill_often(&pool))?)?;
+        let pool = Arc::try_clone(&pool).expect(&rt, "memory is left");
+        threads
+            .push(thread::spawn(&rt, move || fill_often(&pool)).expect(&rt, "a thread is made"))
+            .expect(&rt, "memory is left");
     }
     for thread in threads {
         assert!(rt; thread.join(&rt));
     }
-    Ok(())
 }
 
 #[test]
-fn a_pool_and_its_buffer_are_shown(rt: HostRuntime) -> Result<(), Fail> {
-    let pool = one_page(rt.alloc())?;
-    let mut buffer = pool.pull()?;
-    buffer.append(&[7, 9])?;
-    let text = format!(in rt.alloc(); "{pool:?} {buffer:?}")?;
+fn a_pool_and_its_buffer_are_shown(rt: HostRuntime) {
+    let pool = one_page(rt.alloc()).expect(&rt, "a pool is made");
+    let mut buffer = pool.pull().expect(&rt, "an item is free");
+    buffer.append(&[7, 9]).expect(&rt, "memory is left");
+    let text = format!(in rt.alloc(); "{pool:?} {buffer:?}").expect(&rt, "memory is left");
     let expected = "BufferPool { pool: LinearObjectPool { limit: Some(1), .. } } [7, 9]";
-    assert_eq!(rt; text.as_str(), expected);
-    Ok(())
+    assert_equal(&rt, text.as_str(), expected);
 }
 
 #[test]
-fn an_empty_buffer_and_a_full_one_are_shown(rt: HostRuntime) -> Result<(), Fail> {
-    let pool = one_page(rt.alloc())?;
-    let mut buffer = pool.pull()?;
-    let empty = format!(in rt.alloc(); "{buffer:?}")?;
-    buffer.append(&[0, 1, 2, 3, 4, 5, 6, 7, 8, 9, 10, 11, 12, 13, 14, 255])?;
-    let full = format!(in rt.alloc(); "{buffer:?}")?;
-    assert_eq!(rt; empty.as_str(), "[]");
+fn an_empty_buffer_and_a_full_one_are_shown(rt: HostRuntime) {
+    let pool = one_page(rt.alloc()).expect(&rt, "a pool is made");
+    let mut buffer = pool.pull().expect(&rt, "an item is free");
+    let empty = format!(in rt.alloc(); "{buffer:?}").expect(&rt, "memory is left");
+    buffer
+        .append(&[0, 1, 2, 3, 4, 5, 6, 7, 8, 9, 10, 11, 12, 13, 14, 255])
+        .expect(&rt, "memory is left");
+    let full = format!(in rt.alloc(); "{buffer:?}").expect(&rt, "memory is left");
+    assert_equal(&rt, empty.as_str(), "[]");
     let expected = "[0, 1, 2, 3, 4, 5, 6, 7, 8, 9, 10, 11, 12, 13, 14, 255]";
-    assert_eq!(rt; full.as_str(), expected);
-    Ok(())
+    assert_equal(&rt, full.as_str(), expected);
 }

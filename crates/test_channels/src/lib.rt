@@ -2,6 +2,8 @@
 #![tactic(auto)]
 
 #[cfg(test)]
+mod assert_equal;
+#[cfg(test)]
 mod channels;
 #[cfg(test)]
 mod linear_object_pool;

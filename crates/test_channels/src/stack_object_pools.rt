@@ -1,4 +1,5 @@
 //! Items of a mutex pool and of a spin lock pool that go from thread to thread over a channel.
+use crate::assert_equal::assert_equal;
 use crate::channels::{drop_elsewhere, five_numbers, write_and_send};
 use crossbeam_channel::{Sender, unbounded};
 use lockfree_object_pool::clean::AnyValue;
@@ -12,7 +13,6 @@ use std::process::Abort;
 use std::sync::atomic::AtomicUsize;
 use std::sync::atomic::Ordering::SeqCst;
 use std::sync::{Arc, Wait};
-use std::test::Fail;
 use std::thread::Threads;
 use std::{mem, thread};
 use test_values::zeros::{CountedZeros, new_calls};
@@ -46,35 +46,39 @@ fn spin_lock_zeros(
 fn come_home<
     F: FreeList<u32, ZeroValues> + Send + Sync + 'static,
     W: Abort + Threads + Wait + Copy + Send + Sync + 'static,
->(rt: &W, alloc: Global, pool: &Arc<Zeros<F>>, calls: &AtomicUsize) -> Result<(), Fail> {
-    let (sender, receiver) = unbounded(alloc)?;
-    let dropper = drop_elsewhere(rt, receiver).ok_or("a thread is made")?;
+>(rt: &W, alloc: Global, pool: &Arc<Zeros<F>>, calls: &AtomicUsize) {
+    let (sender, receiver) = unbounded(alloc).expect(rt, "a channel is made");
+    let dropper = drop_elsewhere(rt, receiver).expect(rt, "a thread is made");
     for _ in 0..5 {
-        let mut item = pool.pull_owned(rt)?;
+        let mut item = pool.pull_owned(rt).expect(rt, "an item is free");
         *item = 7;
-        sender.send(rt, item)?;
+        sender.send(rt, item).expect(rt, "the channel is open");
     }
     assert!(rt; dropper.join(rt));
     for _ in 0..5 {
-        let item = pool.pull(rt)?;
-        assert_eq!(rt; *item, 0);
+        let item = pool.pull(rt).expect(rt, "an item is free");
+        assert_equal(rt, *item, 0);
         mem::forget(item);
     }
-    assert_eq!(rt; calls.load(SeqCst), 5);
-    Ok(())
+    assert_equal(rt, calls.load(SeqCst), 5);
 }
 
 #[test]
-fn owned_items_are_sent_and_come_home(rt: HostRuntime) -> Result<(), Fail> {
-    let calls = new_calls(rt.alloc())?;
-    come_home(&rt, rt.alloc(), &mutex_zeros(rt.alloc(), &calls)?, &calls)?;
-    let calls = new_calls(rt.alloc())?;
+fn owned_items_are_sent_and_come_home(rt: HostRuntime) {
+    let calls = new_calls(rt.alloc()).expect(&rt, "memory is left");
     come_home(
         &rt,
         rt.alloc(),
-        &spin_lock_zeros(rt.alloc(), &calls)?,
+        &mutex_zeros(rt.alloc(), &calls).expect(&rt, "a pool is made"),
         &calls,
-    )
+    );
+    let calls = new_calls(rt.alloc()).expect(&rt, "memory is left");
+    come_home(
+        &rt,
+        rt.alloc(),
+        &spin_lock_zeros(rt.alloc(), &calls).expect(&rt, "a pool is made"),
+        &calls,
+    );
 }
 
 /// Writes a number to an item of the pool, and sends the number that it reads.
@@ -94,36 +98,53 @@ fn pull_and_send<F: FreeList<u32, ZeroValues>, W: Wait + Copy>(
 fn five_send<
     F: FreeList<u32, ZeroValues> + Send + Sync + 'static,
     W: Abort + Threads + Wait + Copy + Send + Sync + 'static,
->(rt: &W, alloc: Global, pool: &Arc<Zeros<F>>) -> Result<(), Fail> {
-    let (sender, receiver) = unbounded(alloc)?;
-    let mut threads = Vec::with_capacity(alloc, 5)?;
+>(rt: &W, alloc: Global, pool: &Arc<Zeros<F>>) {
+    let (sender, receiver) = unbounded(alloc).expect(rt, "a channel is made");
+    let mut threads = Vec::with_capacity(alloc, 5).expect(rt, "memory is left");
     for number in 0..5u32 {
-        let (pool, sender, there) = (Arc::try_clone(pool)?, sender.clone()?, *rt);
+        let (pool, sender, there) = (
+            Arc::try_clone(pool).expect(rt, "memory is left"),
+            sender.clone().expect(rt, "memory is left"),
+            *rt,
+        );
         let writer = move || pull_and_send(&there, &pool, number, &sender);
-        threads.push(thread::spawn(rt, writer)?)?;
+        threads
+            .push(thread::spawn(rt, writer).expect(rt, "a thread is made"))
+            .expect(rt, "memory is left");
     }
     for thread in threads {
         assert!(rt; thread.join(rt));
     }
-    let numbers = five_numbers(rt, alloc, &receiver).ok_or("each thread sends")?;
-    assert_eq!(rt; numbers.as_slice(), [0, 1, 2, 3, 4].as_slice());
-    Ok(())
+    let numbers = five_numbers(rt, alloc, &receiver).expect(rt, "each thread sends");
+    assert_equal(rt, numbers.as_slice(), [0, 1, 2, 3, 4].as_slice());
 }
 
 #[test]
-fn five_threads_send_what_they_wrote(rt: HostRuntime) -> Result<(), Fail> {
-    let calls = new_calls(rt.alloc())?;
-    five_send(&rt, rt.alloc(), &mutex_zeros(rt.alloc(), &calls)?)?;
-    five_send(&rt, rt.alloc(), &spin_lock_zeros(rt.alloc(), &calls)?)
+fn five_threads_send_what_they_wrote(rt: HostRuntime) {
+    let calls = new_calls(rt.alloc()).expect(&rt, "memory is left");
+    five_send(
+        &rt,
+        rt.alloc(),
+        &mutex_zeros(rt.alloc(), &calls).expect(&rt, "a pool is made"),
+    );
+    five_send(
+        &rt,
+        rt.alloc(),
+        &spin_lock_zeros(rt.alloc(), &calls).expect(&rt, "a pool is made"),
+    );
 }
 
 /// An owned item of the mutex pool goes to another thread, by the pool's own name. One of the spin lock pool does so above, in
 /// code that is generic in the free list.
 #[test]
-fn an_owned_item_is_dropped_elsewhere(rt: HostRuntime) -> Result<(), Fail> {
-    let calls = new_calls(rt.alloc())?;
-    let item = mutex_zeros(rt.alloc(), &calls)?.pull_owned(&rt)?;
-    thread::spawn(&rt, move || drop(item))?.join(&rt);
-    assert_eq!(rt; calls.load(SeqCst), 1);
-    Ok(())
+fn an_owned_item_is_dropped_elsewhere(rt: HostRuntime) {
+    let calls = new_calls(rt.alloc()).expect(&rt, "memory is left");
+    let item = mutex_zeros(rt.alloc(), &calls)
+        .expect(&rt, "a pool is made")
+        .pull_owned(&rt)
+        .expect(&rt, "an item is free");
+    thread::spawn(&rt, move || drop(item))
+        .expect(&rt, "a thread is made")
+        .join(&rt);
+    assert_equal(&rt, calls.load(SeqCst), 1);
 }

@@ -1,13 +1,13 @@
 //! One proved caller of each kind.
 ghost use Rattle.std.specs.Prelude.{◌≡◌, ◌≤◌, ℕ, [], Option, IfSome, MatchOption};
 
+use crate::assert_equal::assert_equal;
 use lockfree_object_pool::clean::{AnyValue, Clean, Empty};
 use lockfree_object_pool::closures::{
     Clear, Copied, Init, InitBy, Keep, Kept, Makes, Reset, ResetBy, Resets, WithCapacity,
 };
 use std::alloc::Global;
 use std::cell::Cell;
-use std::test::Fail;
 
 mod first_uses;
 mod sends;
@@ -130,21 +130,20 @@ fn cleared_bytes(alloc: Global) -> Option<(usize, Vec<u8>)>
 }
 
 #[test]
-fn a_cleared_vector_keeps_its_room(rt: HostRuntime) -> Result<(), Fail> {
-    let (made, bytes) = cleared_bytes(rt.alloc()).ok_or("no memory")?;
-    assert_eq!(rt; (made, bytes.len(), bytes.capacity()), (0, 0, 16));
-    assert_eq!(rt; kept_part(Percent { value: 70 }), 70);
-    Ok(())
+fn a_cleared_vector_keeps_its_room(rt: HostRuntime) {
+    let (made, bytes) = cleared_bytes(rt.alloc()).expect(&rt, "no memory");
+    assert_equal(&rt, (made, bytes.len(), bytes.capacity()), (0, 0, 16));
+    assert_equal(&rt, kept_part(Percent { value: 70 }), 70);
 }
 
 #[test]
 fn named_structs(rt: HostRuntime) {
-    assert_eq!(rt; by_named_structs(), 0);
+    assert_equal(&rt, by_named_structs(), 0);
 }
 
 #[test]
 fn ready_ones(rt: HostRuntime) {
-    assert_eq!(rt; by_ready_ones(), (5, 3));
+    assert_equal(&rt, by_ready_ones(), (5, 3));
     assert_eq!(rt;
         Init::<u32, AnyValue>::make(&Copied::<u32, AnyValue>::new(3)),
         Some(3)
@@ -153,7 +152,7 @@ fn ready_ones(rt: HostRuntime) {
 
 #[test]
 fn bare_closures(rt: HostRuntime) {
-    assert_eq!(rt; nine(), 9);
+    assert_equal(&rt, nine(), 9);
     let made = Cell::new(0u32);
     let reset = Cell::new(0u32);
     let zero = made.get();
@@ -167,8 +166,8 @@ fn bare_closures(rt: HostRuntime) {
             *value = 0;
         },
     );
-    assert_eq!(rt; both, Some((zero, zero)));
-    assert_eq!(rt; (made.get(), reset.get()), (1, 1));
+    assert_equal(&rt, both, Some((zero, zero)));
+    assert_equal(&rt, (made.get(), reset.get()), (1, 1));
 }
 
 fn is_shared<X: Sync>(_value: &X) {}

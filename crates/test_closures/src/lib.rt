@@ -2,6 +2,8 @@
 #![tactic(auto)]
 
 #[cfg(test)]
+mod assert_equal;
+#[cfg(test)]
 mod closures;
 #[cfg(test)]
 mod recycling;

@@ -1,13 +1,13 @@
 //! A pool of a type that says itself how its values are made and reset.
 ghost use Rattle.std.specs.Prelude.{◌≡◌, ⊤, [], IfSome};
 
+use crate::assert_equal::assert_equal;
 use lockfree_object_pool::recycling::{
     FixedPool, MutexPool, OwnedReusable, Pool, Recyclable, Recycler, Reusable, SpinLockPool,
 };
 use lockfree_object_pool::{LinearObjectPool, PullError};
 use std::alloc::Global;
 use std::sync::Arc;
-use std::test::Fail;
 
 mod resets;
 
@@ -54,58 +54,68 @@ impl Worker {
 }
 
 #[test]
-fn each_use_finds_the_scratch_clean(rt: HostRuntime) -> Result<(), Fail> {
+fn each_use_finds_the_scratch_clean(rt: HostRuntime) {
     let worker = Worker {
-        pool: Pool::with_recycler(rt.alloc())?,
+        pool: Pool::with_recycler(rt.alloc()).expect(&rt, "a pool is made"),
     };
     for _ in 0..3 {
-        assert_eq!(rt; worker.use_once(), Some((0, 0)));
+        assert_equal(&rt, worker.use_once(), Some((0, 0)));
     }
-    Ok(())
 }
 
 #[test]
-fn a_bounded_pool_of_recyclable_values(rt: HostRuntime) -> Result<(), Fail> {
+fn a_bounded_pool_of_recyclable_values(rt: HostRuntime) {
     let recycler = Recycler::new(rt.alloc());
-    let pool: Pool<Scratch> = LinearObjectPool::with_limit(rt.alloc(), recycler, recycler, 1)?;
-    assert_eq!(rt; pool.limit(), Some(1));
-    let scratch: Reusable<'_, Scratch> = pool.pull()?;
-    assert_eq!(rt; scratch.sum, 0);
-    Ok(())
+    let pool: Pool<Scratch> = LinearObjectPool::with_limit(
+        rt.alloc(),
+        recycler,
+        recycler,
+        1,
+    ).expect(&rt, "a pool is made");
+    assert_equal(&rt, pool.limit(), Some(1));
+    let scratch: Reusable<'_, Scratch> = pool.pull().expect(&rt, "an item is free");
+    assert_equal(&rt, scratch.sum, 0);
 }
 
 #[test]
-fn an_owned_value_and_its_pool_are_shown(rt: HostRuntime) -> Result<(), Fail> {
+fn an_owned_value_and_its_pool_are_shown(rt: HostRuntime) {
     let worker = Worker {
-        pool: Pool::with_recycler(rt.alloc())?,
+        pool: Pool::with_recycler(rt.alloc()).expect(&rt, "a pool is made"),
     };
-    let shown = format!(in rt.alloc(); "{worker:?}")?;
-    assert_eq!(rt;
+    let shown = format!(in rt.alloc(); "{worker:?}").expect(&rt, "memory is left");
+    assert_equal(
+        &rt,
         shown.as_str(),
-        "Worker { pool: LinearObjectPool { limit: None, .. } }"
+        "Worker { pool: LinearObjectPool { limit: None, .. } }",
     );
-    let pool = Arc::new(rt.alloc(), worker.pool)?;
-    let mut scratch: OwnedReusable<Scratch> = pool.pull_owned()?;
-    scratch.words.push(7)?;
+    let pool = Arc::new(rt.alloc(), worker.pool).expect(&rt, "memory is left");
+    let mut scratch: OwnedReusable<Scratch> = pool.pull_owned().expect(&rt, "an item is free");
+    scratch.words.push(7).expect(&rt, "memory is left");
     scratch.sum = 7;
-    let shown = format!(in rt.alloc(); "{scratch:?}")?;
-    assert_eq!(rt; shown.as_str(), "Scratch { words: [7], sum: 7 }");
-    Ok(())
+    let shown = format!(in rt.alloc(); "{scratch:?}").expect(&rt, "memory is left");
+    assert_equal(&rt, shown.as_str(), "Scratch { words: [7], sum: 7 }");
 }
 
 #[test]
-fn vectors_and_texts_come_empty_with_their_room(rt: HostRuntime) -> Result<(), Fail> {
-    let vectors = Pool::<Vec<u8>>::with_recycler(rt.alloc())?;
-    vectors.pull()?.extend_from_slice(b"hello")?;
-    let vector = vectors.pull()?;
-    assert_eq!(rt; (vector.page_id(), vector.len()), (0, 0));
+fn vectors_and_texts_come_empty_with_their_room(rt: HostRuntime) {
+    let vectors = Pool::<Vec<u8>>::with_recycler(rt.alloc()).expect(&rt, "a pool is made");
+    vectors
+        .pull()
+        .expect(&rt, "an item is free")
+        .extend_from_slice(b"hello")
+        .expect(&rt, "memory is left");
+    let vector = vectors.pull().expect(&rt, "an item is free");
+    assert_equal(&rt, (vector.page_id(), vector.len()), (0, 0));
     assert!(rt; vector.capacity() >= 5);
-    let texts = Pool::<String>::with_recycler(rt.alloc())?;
-    texts.pull()?.push_str("hello")?;
-    let text = texts.pull()?;
-    assert_eq!(rt; (text.page_id(), text.len()), (0, 0));
+    let texts = Pool::<String>::with_recycler(rt.alloc()).expect(&rt, "a pool is made");
+    texts
+        .pull()
+        .expect(&rt, "an item is free")
+        .push_str("hello")
+        .expect(&rt, "memory is left");
+    let text = texts.pull().expect(&rt, "an item is free");
+    assert_equal(&rt, (text.page_id(), text.len()), (0, 0));
     assert!(rt; text.capacity() >= 5);
-    Ok(())
 }
 
 /// What a value of a fixed pool holds as it is pulled, which is then written.
@@ -120,12 +130,11 @@ fn use_fixed_once(pool: &FixedPool<Scratch>) -> Option<(usize, u64)>
 }
 
 #[test]
-fn each_use_of_a_fixed_pool_finds_the_scratch_clean(rt: HostRuntime) -> Result<(), Fail> {
-    let pool = FixedPool::with_recycler(rt.alloc(), 1)?;
+fn each_use_of_a_fixed_pool_finds_the_scratch_clean(rt: HostRuntime) {
+    let pool = FixedPool::with_recycler(rt.alloc(), 1).expect(&rt, "a pool is made");
     for _ in 0..3 {
-        assert_eq!(rt; use_fixed_once(&pool), Some((0, 0)));
+        assert_equal(&rt, use_fixed_once(&pool), Some((0, 0)));
     }
-    Ok(())
 }
 
 /// A value that is never made.
@@ -145,7 +154,7 @@ impl Recyclable for Never {
 #[test]
 fn a_recyclable_type_that_refuses_has_no_pool(rt: HostRuntime) {
     let refused = Pool::<Never>::with_recycler(rt.alloc()).err();
-    assert_eq!(rt; refused, Some(PullError::Init));
+    assert_equal(&rt, refused, Some(PullError::Init));
 }
 
 #[test]
@@ -153,41 +162,56 @@ fn each_kind_of_pool_tells_that_a_recyclable_type_refused(rt: HostRuntime) {
     let init = Some(PullError::Init);
     let bounded = Pool::<Never>::with_recycler_within(rt.alloc(), 2).err();
     let fixed = FixedPool::<Never>::with_recycler(rt.alloc(), 3).err();
-    assert_eq!(rt; (bounded, fixed), (init, init));
+    assert_equal(&rt, (bounded, fixed), (init, init));
     let mutex = MutexPool::<Never>::with_recycler(rt.alloc());
-    assert_eq!(rt; mutex.pull(&rt).err(), init);
+    assert_equal(&rt, mutex.pull(&rt).err(), init);
     let spin_lock = SpinLockPool::<Never>::with_recycler(rt.alloc()).expect(&rt, "a pool is made");
-    assert_eq!(rt; spin_lock.pull(&rt).err(), init);
+    assert_equal(&rt, spin_lock.pull(&rt).err(), init);
 }
 
 /// So they take no memory before they are used.
 #[test]
-fn vectors_and_texts_are_made_without_room(rt: HostRuntime) -> Result<(), Fail> {
-    let vectors = Pool::<Vec<u8>>::with_recycler(rt.alloc())?;
-    let texts = Pool::<String>::with_recycler(rt.alloc())?;
-    let room = (vectors.pull()?.capacity(), texts.pull()?.capacity());
-    assert_eq!(rt; room, (0, 0));
-    Ok(())
-}
-
-#[test]
-fn vectors_and_texts_keep_much_room(rt: HostRuntime) -> Result<(), Fail> {
-    let vectors = Pool::<Vec<u8>>::with_recycler(rt.alloc())?;
-    vectors.pull()?.reserve(100_000)?;
-    let texts = Pool::<String>::with_recycler(rt.alloc())?;
-    texts.pull()?.reserve(100_000)?;
-    let (vector, text) = (vectors.pull()?, texts.pull()?);
-    assert!(rt; vector.capacity() >= 100_000 && text.capacity() >= 100_000);
-    Ok(())
-}
-
-#[test]
-fn a_fixed_pool_and_its_item_are_shown(rt: HostRuntime) -> Result<(), Fail> {
-    let pool = FixedPool::<Scratch>::with_recycler(rt.alloc(), 33)?;
-    let shown = format!(in rt.alloc(); "{pool:?} {:?}", pool.pull()?)?;
-    assert_eq!(rt;
-        shown.as_str(),
-        "FixedObjectPool { items: 33, .. } Scratch { words: [], sum: 0 }"
+fn vectors_and_texts_are_made_without_room(rt: HostRuntime) {
+    let vectors = Pool::<Vec<u8>>::with_recycler(rt.alloc()).expect(&rt, "a pool is made");
+    let texts = Pool::<String>::with_recycler(rt.alloc()).expect(&rt, "a pool is made");
+    let room = (
+        vectors.pull().expect(&rt, "an item is free").capacity(),
+        texts.pull().expect(&rt, "an item is free").capacity(),
     );
-    Ok(())
+    assert_equal(&rt, room, (0, 0));
+}
+
+#[test]
+fn vectors_and_texts_keep_much_room(rt: HostRuntime) {
+    let vectors = Pool::<Vec<u8>>::with_recycler(rt.alloc()).expect(&rt, "a pool is made");
+    vectors
+        .pull()
+        .expect(&rt, "an item is free")
+        .reserve(100_000)
+        .expect(&rt, "memory is left");
+    let texts = Pool::<String>::with_recycler(rt.alloc()).expect(&rt, "a pool is made");
+    texts
+        .pull()
+        .expect(&rt, "an item is free")
+        .reserve(100_000)
+        .expect(&rt, "memory is left");
+    let (vector, text) = (
+        vectors.pull().expect(&rt, "an item is free"),
+        texts.pull().expect(&rt, "an item is free"),
+    );
+    assert!(rt; vector.capacity() >= 100_000 && text.capacity() >= 100_000);
+}
+
+#[test]
+fn a_fixed_pool_and_its_item_are_shown(rt: HostRuntime) {
+    let pool = FixedPool::<Scratch>::with_recycler(rt.alloc(), 33).expect(&rt, "a pool is made");
+    let shown = format!(in rt.alloc();
+        "{pool:?} {:?}",
+        pool.pull().expect(&rt, "an item is free")
+    ).expect(&rt, "memory is left");
+    assert_equal(
+        &rt,
+        shown.as_str(),
+        "FixedObjectPool { items: 33, .. } Scratch { words: [], sum: 0 }",
+    );
 }

@@ -1,9 +1,10 @@
 //! Whole inputs with their outputs, and devices that fail.
+use crate::assert_equal::assert_equal;
 use object_pool_cores::engine::*;
 use std::alloc::Global;
 use std::io::{Read, Write};
+use std::process::Abort;
 use std::sync::Wait;
-use std::test::Fail;
 
 mod devices;
 mod failures;
@@ -30,17 +31,17 @@ fn play<H: Wait, R: Read, W: Write>(
 }
 
 /// What the engine answers to an input.
-fn output_of<H: Wait>(
+fn output_of<H: Abort + Wait>(
     rt: &H,
     alloc: Global,
     kind: Kind,
     reset: Reset,
     input: &str,
-) -> Result<Vec<u8>, Fail> {
+) -> Vec<u8> {
     let mut output = Vec::new(alloc);
     let mut bytes = input.as_bytes();
-    play(rt, alloc, kind, reset, &mut bytes, &mut output)?;
-    Ok(output)
+    play(rt, alloc, kind, reset, &mut bytes, &mut output).expect(rt, "memory is left");
+    output
 }
 
 /// Whether bytes are this reply, so many times.
@@ -50,7 +51,7 @@ fn is_repeated(bytes: &[u8], reply: &[u8], times: usize) -> bool {
 }
 
 #[test]
-fn answers_each_line(rt: HostRuntime) -> Result<(), Fail> {
+fn answers_each_line(rt: HostRuntime) {
     let rows = [
         (
             Reset::Keep,
@@ -86,61 +87,62 @@ fn answers_each_line(rt: HostRuntime) -> Result<(), Fail> {
         ),
     ];
     for (reset, input, expected) in rows {
-        let output = output_of(&rt, rt.alloc(), Kind::Linear, reset, input)?;
+        let output = output_of(&rt, rt.alloc(), Kind::Linear, reset, input);
         assert_eq!(rt; output.as_slice(), expected.as_bytes(), "{input:?}");
     }
-    Ok(())
 }
 
 #[test]
-fn a_reset_to_zero_and_bad_lines(rt: HostRuntime) -> Result<(), Fail> {
+fn a_reset_to_zero_and_bad_lines(rt: HostRuntime) {
     let input =
         "return 3\npull\nPULL\nwrite 0 4294967296\nwrite 0 4294967295\nreturn 0\nreturn 0\npull\n\n";
     let expected =
         "no such holder\npulled 0 number 0 value 0\nbad line\nbad line\nwritten 0\nreturned 0\nno such holder\npulled 1 number 0 value 0\nbad line\n";
-    let output = output_of(&rt, rt.alloc(), Kind::Linear, Reset::Zero, input)?;
-    assert_eq!(rt; output.as_slice(), expected.as_bytes());
-    Ok(())
+    let output = output_of(&rt, rt.alloc(), Kind::Linear, Reset::Zero, input);
+    assert_equal(&rt, output.as_slice(), expected.as_bytes());
 }
 
 #[test]
-fn a_line_of_more_than_64_bytes_is_bad(rt: HostRuntime) -> Result<(), Fail> {
+fn a_line_of_more_than_64_bytes_is_bad(rt: HostRuntime) {
     let letters = "aaaaaaaaaaaaaaaaaaaaaaaaaaaaaaaaaaaaaaaaaaaaaaaaaaaaaaaaaaaaaaaa";
-    assert_eq!(rt; letters.len(), 64);
-    let input = format!(in rt.alloc(); "{letters}pull\npull\n")?;
-    let output = output_of(&rt, rt.alloc(), Kind::Linear, Reset::Keep, input.as_str())?;
-    assert_eq!(rt;
+    assert_equal(&rt, letters.len(), 64);
+    let input = format!(in rt.alloc(); "{letters}pull\npull\n").expect(&rt, "memory is left");
+    let output = output_of(&rt, rt.alloc(), Kind::Linear, Reset::Keep, input.as_str());
+    assert_equal(
+        &rt,
         output.as_slice(),
-        b"bad line\npulled 0 number 0 value 0\n".as_slice()
+        b"bad line\npulled 0 number 0 value 0\n".as_slice(),
     );
-    Ok(())
 }
 
 #[test]
-fn a_bounded_pool_refuses_at_its_limit(rt: HostRuntime) -> Result<(), Fail> {
+fn a_bounded_pool_refuses_at_its_limit(rt: HostRuntime) {
     let mut input = String::new(rt.alloc());
     let mut expected = String::new(rt.alloc());
     for i in 0..33u8 {
-        input.push_str("pull\n")?;
+        input.push_str("pull\n").expect(&rt, "memory is left");
         if i < 32 {
-            write!(expected, "pulled {i} number {i} value 0\n")?;
+            write!(expected, "pulled {i} number {i} value 0\n").expect(&rt, "memory is left");
         }
     }
-    input.push_str("return 7\npull\n")?;
-    expected.push_str("refused limit\nreturned 7\npulled 32 number 7 value 0\n")?;
+    input
+        .push_str("return 7\npull\n")
+        .expect(&rt, "memory is left");
+    expected
+        .push_str("refused limit\nreturned 7\npulled 32 number 7 value 0\n")
+        .expect(&rt, "memory is left");
     let output = output_of(
         &rt,
         rt.alloc(),
         Kind::Bounded(1),
         Reset::Keep,
         input.as_str(),
-    )?;
-    assert_eq!(rt; output.as_slice(), expected.as_bytes());
-    Ok(())
+    );
+    assert_equal(&rt, output.as_slice(), expected.as_bytes());
 }
 
 #[test]
-fn plays_a_stack_and_fresh_items(rt: HostRuntime) -> Result<(), Fail> {
+fn plays_a_stack_and_fresh_items(rt: HostRuntime) {
     let rows = [
         (
             Kind::Stack,
@@ -154,19 +156,17 @@ fn plays_a_stack_and_fresh_items(rt: HostRuntime) -> Result<(), Fail> {
         ),
     ];
     for (kind, input, expected) in rows {
-        let output = output_of(&rt, rt.alloc(), kind, Reset::Keep, input)?;
+        let output = output_of(&rt, rt.alloc(), kind, Reset::Keep, input);
         assert_eq!(rt; output.as_slice(), expected.as_bytes(), "{input:?}");
     }
-    Ok(())
 }
 
 #[test]
-fn no_line_has_no_reply(rt: HostRuntime) -> Result<(), Fail> {
+fn no_line_has_no_reply(rt: HostRuntime) {
     for kind in [Kind::Linear, Kind::Bounded(1), Kind::Stack, Kind::None] {
-        let output = output_of(&rt, rt.alloc(), kind, Reset::Zero, "")?;
+        let output = output_of(&rt, rt.alloc(), kind, Reset::Zero, "");
         assert_eq!(rt; output.len(), 0, "{kind:?}");
     }
-    Ok(())
 }
 
 #[test]
@@ -181,9 +181,9 @@ fn replies_to_one_read_are_one_write(rt: HostRuntime) {
         &mut input,
         &mut output,
     );
-    assert_eq!(rt; result, Ok(()));
+    assert_equal(&rt, result, Ok(()));
     // One write for the read, and one for the line that has no line feed.
-    assert_eq!(rt; (output.bytes(), output.calls()), (REPLIES, 2));
+    assert_equal(&rt, (output.bytes(), output.calls()), (REPLIES, 2));
 }
 
 #[test]

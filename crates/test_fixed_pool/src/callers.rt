@@ -9,15 +9,14 @@ ghost use Rattle.lockfree_object_pool.specs.declared.page.history.Operation.TheV
 ghost use Rattle.lockfree_object_pool.specs.declared.pull_error.PullError.TheVariants.{Limit};
 ghost use Rattle.test_fixed_pool.specs.Returned.{EndsWithReturn, EndsWithReturnOf, WasReturnedBefore, WasUsedSince};
 
+use crate::assert_equal::assert_equal;
 use crate::numbers::{NumberItem, NumberPool, held, new_pool};
 use lockfree_object_pool::PullError;
 use lockfree_object_pool::fixed_object_pool::{BusySeen, PoolNote};
 use lockfree_object_pool::page::PullPass;
 use std::sync::Arc;
-use std::test::Fail;
 use std::thread;
 use std::thread::Threads;
-use test_values::zeros::new_calls;
 
 /// A pull by a note stands after all that the note knew.
 pub fn pulled_after<'p>(pool: &'p NumberPool, note: PoolNote<usize>) -> Option<NumberItem<'p>>
@@ -154,79 +153,74 @@ pub fn pulled_after_both<'p>(
 }
 
 #[test]
-fn a_pull_stands_after_returns_of_two_threads(rt: HostRuntime) -> Result<(), Fail> {
-    let pool = new_pool(rt.alloc(), &new_calls(rt.alloc())?, 70)?;
+fn a_pull_stands_after_returns_of_two_threads(rt: HostRuntime) {
+    let pool = new_pool(rt.alloc(), 70).expect(&rt, "a pool is made");
     let Some(item) = handed_on(&rt, &pool) else {
         panic!(rt; "an item is free")
     };
-    assert_eq!(rt; (item.number(), *item), (0, 5));
+    assert_equal(&rt, (item.number(), *item), (0, 5));
     drop(item);
-    held(rt.alloc(), &pool, 70)?;
-    Ok(())
+    held(rt.alloc(), &pool, 70).expect(&rt, "nothing is refused");
 }
 
 #[test]
-fn a_value_that_was_returned_is_pulled_again(rt: HostRuntime) -> Result<(), Fail> {
-    let pool = new_pool(rt.alloc(), &new_calls(rt.alloc())?, 1)?;
+fn a_value_that_was_returned_is_pulled_again(rt: HostRuntime) {
+    let pool = new_pool(rt.alloc(), 1).expect(&rt, "a pool is made");
     let Some(note) = returned_alone(&pool, 8) else {
         panic!(rt; "an item is free")
     };
     let Some((item, is_same)) = pulled_again(&pool, note, 8) else {
         panic!(rt; "an item is free")
     };
-    assert_eq!(rt; (*item, is_same), (8, true));
-    Ok(())
+    assert_equal(&rt, (*item, is_same), (8, true));
 }
 
 #[test]
-fn another_value_comes_where_the_item_was_used_in_between(rt: HostRuntime) -> Result<(), Fail> {
-    let pool = new_pool(rt.alloc(), &new_calls(rt.alloc())?, 1)?;
+fn another_value_comes_where_the_item_was_used_in_between(rt: HostRuntime) {
+    let pool = new_pool(rt.alloc(), 1).expect(&rt, "a pool is made");
     let Some(note) = returned_alone(&pool, 8) else {
         panic!(rt; "an item is free")
     };
-    *pool.pull()? = 9;
+    *pool.pull().expect(&rt, "an item is free") = 9;
     let Some((item, is_same)) = pulled_again(&pool, note, 8) else {
         panic!(rt; "an item is free")
     };
-    assert_eq!(rt; (*item, is_same), (9, false));
-    Ok(())
+    assert_equal(&rt, (*item, is_same), (9, false));
 }
 
 #[test]
-fn a_refusal_shows_that_each_item_was_out(rt: HostRuntime) -> Result<(), Fail> {
-    let pool = new_pool(rt.alloc(), &new_calls(rt.alloc())?, 33)?;
-    let mut all = held(rt.alloc(), &pool, 33)?;
+fn a_refusal_shows_that_each_item_was_out(rt: HostRuntime) {
+    let pool = new_pool(rt.alloc(), 33).expect(&rt, "a pool is made");
+    let mut all = held(rt.alloc(), &pool, 33).expect(&rt, "nothing is refused");
     let pass = PullPass::new();
     assert!(rt; refused_while_out(&pool, &pass, 32).is_some());
     drop(all.pop());
     assert!(rt; refused_while_out(&pool, &pass, 32).is_none());
-    Ok(())
 }
 
 #[test]
-fn work_meets_no_refusal_but_the_limit(rt: HostRuntime) -> Result<(), Fail> {
-    let pool = new_pool(rt.alloc(), &new_calls(rt.alloc())?, 33)?;
-    assert_eq!(rt; work(&pool, 1_000), Ok(0));
-    let all = held(rt.alloc(), &pool, 33)?;
-    assert_eq!(rt; work(&pool, 1_000), Err(PullError::Limit));
+fn work_meets_no_refusal_but_the_limit(rt: HostRuntime) {
+    let pool = new_pool(rt.alloc(), 33).expect(&rt, "a pool is made");
+    assert_equal(&rt, work(&pool, 1_000), Ok(0));
+    let all = held(rt.alloc(), &pool, 33).expect(&rt, "nothing is refused");
+    assert_equal(&rt, work(&pool, 1_000), Err(PullError::Limit));
     drop(all);
-    assert_eq!(rt; work(&pool, 0), Ok(0));
-    Ok(())
+    assert_equal(&rt, work(&pool, 0), Ok(0));
 }
 
 #[test]
-fn a_holder_tells_what_it_knows(rt: HostRuntime) -> Result<(), Fail> {
+fn a_holder_tells_what_it_knows(rt: HostRuntime) {
     let pool = Arc::new(
         rt.alloc(),
-        new_pool(rt.alloc(), &new_calls(rt.alloc())?, 33)?,
-    )?;
-    let mut owned = pool.pull_owned()?;
-    let mut item = pool.pull()?;
-    assert_eq!(rt; (owned.number(), item.number()), (0, 1));
+        new_pool(rt.alloc(), 33).expect(&rt, "a pool is made"),
+    )
+    .expect(&rt, "memory is left");
+    let mut owned = pool.pull_owned().expect(&rt, "an item is free");
+    let mut item = pool.pull().expect(&rt, "an item is free");
+    assert_equal(&rt, (owned.number(), item.number()), (0, 1));
     let (one, other) = (owned.witness(), item.witness());
     drop((one, other));
     *owned = 11;
     drop(owned.give_back());
-    assert_eq!(rt; *pool.pull()?, 11);
-    Ok(())
+    assert_equal(&rt, *pool.pull().expect(&rt, "an item is free"), 11);
 }

@@ -6,14 +6,13 @@ ghost use Rattle.lockfree_object_pool.specs.Note.{note_page, note_history};
 ghost use Rattle.lockfree_object_pool.specs.OneProof.{same_page};
 ghost use Rattle.lockfree_object_pool.specs.Ledger.{IsPrefixOf};
 
+use crate::assert_equal::assert_equal;
 use crate::callers::{pulled_after, returned_near};
 use crate::numbers::{NumberPool, new_pool};
 use crossbeam_channel::{Receiver, Sender, unbounded};
 use lockfree_object_pool::fixed_object_pool::PoolNote;
 use std::sync::{Arc, Wait};
-use std::test::Fail;
 use std::thread;
-use test_values::zeros::new_calls;
 
 /// A thread that still waits after so many turns gives up, and its test fails.
 const MOST_TURNS: u32 = 10_000_000;
@@ -64,25 +63,30 @@ fn answer_once<W: Wait>(rt: &W, from: &Receiver<Message>, to: &Sender<Message>) 
 }
 
 #[test]
-fn a_pull_stands_after_what_messages_told(rt: HostRuntime) -> Result<(), Fail> {
+fn a_pull_stands_after_what_messages_told(rt: HostRuntime) {
     let pool = Arc::new(
         rt.alloc(),
-        new_pool(rt.alloc(), &new_calls(rt.alloc())?, 70)?,
-    )?;
-    let (to_other, from_main) = unbounded(rt.alloc())?;
-    let (to_main, from_other) = unbounded(rt.alloc())?;
-    let other = thread::spawn(&rt, move || answer_once(&rt, &from_main, &to_main))?;
+        new_pool(rt.alloc(), 70).expect(&rt, "a pool is made"),
+    )
+    .expect(&rt, "memory is left");
+    let (to_other, from_main) = unbounded(rt.alloc()).expect(&rt, "a channel is made");
+    let (to_main, from_other) = unbounded(rt.alloc()).expect(&rt, "a channel is made");
+    let other = thread::spawn(&rt, move || answer_once(&rt, &from_main, &to_main)).expect(
+        &rt,
+        "a thread is made",
+    );
     let Some(note) = returned_near(&pool, 2, 5) else {
         panic!(rt; "an item is free")
     };
-    let pool = Arc::try_clone(&pool)?;
-    to_other.send(&rt, Message { pool, note })?;
-    let answer = receive(&rt, &from_other).ok_or("an answer comes")?;
+    let pool = Arc::try_clone(&pool).expect(&rt, "memory is left");
+    to_other
+        .send(&rt, Message { pool, note })
+        .expect(&rt, "the channel is open");
+    let answer = receive(&rt, &from_other).expect(&rt, "an answer comes");
     assert!(rt; other.join(&rt));
     let Message { pool, note } = answer;
     let Some(item) = pulled_after(&pool, note) else {
         panic!(rt; "an item is free")
     };
-    assert_eq!(rt; (item.number(), *item), (0, 0));
-    Ok(())
+    assert_equal(&rt, (item.number(), *item), (0, 0));
 }

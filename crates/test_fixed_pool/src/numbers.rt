@@ -9,6 +9,7 @@ use std::alloc::Global;
 use std::sync::Arc;
 use std::sync::atomic::AtomicUsize;
 use std::sync::atomic::Ordering::SeqCst;
+use test_values::zeros::new_calls;
 
 /// Makes numbers, of which each is the count of the calls before it.
 #[derive(Drop)]
@@ -32,7 +33,15 @@ pub type NumberItem<'p> = FixedReusable<'p, usize, Numbers, Keep, AnyValue>;
 pub type NumberOwnedItem = FixedOwnedReusable<usize, Numbers, Keep, AnyValue>;
 
 /// A pool of so many numbers, of which item `i` is `i`.
-pub fn new_pool(
+pub fn new_pool(alloc: Global, items: usize) -> Result<NumberPool, PullError>
+    requires { 1 ≤ items }
+    ensures { IfOk result (λ pool. pool_items pool ≡ items) }
+{
+    counted_pool(alloc, &new_calls(alloc)?, items)
+}
+
+/// Such a pool, whose calls of `init` are counted.
+pub fn counted_pool(
     alloc: Global,
     calls: &Arc<AtomicUsize>,
     items: usize,

@@ -4,11 +4,10 @@ ghost use Rattle.std.specs.Arc.{arc_value};
 ghost use Rattle.lockfree_object_pool.specs.FixedPool.{pool_identity};
 ghost use Rattle.lockfree_object_pool.specs.Note.{note_page};
 
+use crate::assert_equal::assert_equal;
 use crate::numbers::{NumberOwnedItem, NumberPool, held, new_pool};
 use lockfree_object_pool::fixed_object_pool::PoolNote;
 use std::sync::Arc;
-use std::test::Fail;
-use test_values::zeros::new_calls;
 
 /// A pull by an owner that knows what it knows at this moment.
 fn pulled_by(
@@ -35,32 +34,32 @@ fn pulled_twice(owner: Arc<NumberPool>, page: usize) -> Option<(usize, usize)> {
 }
 
 #[test]
-fn an_owner_goes_into_its_item_and_comes_back(rt: HostRuntime) -> Result<(), Fail> {
+fn an_owner_goes_into_its_item_and_comes_back(rt: HostRuntime) {
     let pool = Arc::new(
         rt.alloc(),
-        new_pool(rt.alloc(), &new_calls(rt.alloc())?, 33)?,
-    )?;
-    let owner = Arc::try_clone(&pool)?;
-    assert_eq!(rt; pulled_twice(owner, 1), Some((32, 32)));
-    assert_eq!(rt; Arc::strong_count(&pool), 1);
+        new_pool(rt.alloc(), 33).expect(&rt, "a pool is made"),
+    )
+    .expect(&rt, "memory is left");
+    let owner = Arc::try_clone(&pool).expect(&rt, "memory is left");
+    assert_equal(&rt, pulled_twice(owner, 1), Some((32, 32)));
+    assert_equal(&rt, Arc::strong_count(&pool), 1);
     let item = pulled_by(pool, 0).ok().expect(&rt, "an item is free");
-    assert_eq!(rt; (item.number(), item.owner().items()), (0, 33));
-    Ok(())
+    assert_equal(&rt, (item.number(), item.owner().items()), (0, 33));
 }
 
 #[test]
-fn a_refused_owner_comes_back_with_its_note(rt: HostRuntime) -> Result<(), Fail> {
+fn a_refused_owner_comes_back_with_its_note(rt: HostRuntime) {
     let pool = Arc::new(
         rt.alloc(),
-        new_pool(rt.alloc(), &new_calls(rt.alloc())?, 33)?,
-    )?;
-    let owner = Arc::try_clone(&pool)?;
-    let mut all = held(rt.alloc(), &pool, 33)?;
+        new_pool(rt.alloc(), 33).expect(&rt, "a pool is made"),
+    )
+    .expect(&rt, "memory is left");
+    let owner = Arc::try_clone(&pool).expect(&rt, "memory is left");
+    let mut all = held(rt.alloc(), &pool, 33).expect(&rt, "nothing is refused");
     let Err((owner, note)) = pulled_by(owner, 1) else {
-        return Err(Fail::new("an item was free"));
+        panic!(rt; "an item was free");
     };
     drop(all.pop());
     let item = owner.pull_by_owner(0, note).ok();
-    assert_eq!(rt; item.expect(&rt, "an item came back").number(), 32);
-    Ok(())
+    assert_equal(&rt, item.expect(&rt, "an item came back").number(), 32);
 }

@@ -1,9 +1,9 @@
 //! Callers that need a pool and its reusables to be sent and shared, each under the least that its parts have to allow: the
 //! pool keeps no `init`, so nothing is asked of it.
+use crate::assert_equal::assert_equal;
 use lockfree_object_pool::clean::{AnyValue, Clean};
 use lockfree_object_pool::closures::{Copied, Init, Reset};
 use lockfree_object_pool::{FixedObjectPool, FixedOwnedReusable, FixedReusable};
-use std::test::Fail;
 use std::thread;
 use std::thread::Threads;
 
@@ -50,12 +50,14 @@ fn read_twice<R: Threads + Sync>(
 }
 
 #[test]
-fn two_threads_read_one_item(rt: HostRuntime) -> Result<(), Fail> {
-    let pool = FixedObjectPool::new(rt.alloc(), Copied::new(0), Copied::new(0), 1)?;
-    let mut item = pool.pull()?;
+fn two_threads_read_one_item(rt: HostRuntime) {
+    let pool = FixedObjectPool::new(rt.alloc(), Copied::new(0), Copied::new(0), 1).expect(
+        &rt,
+        "a pool is made",
+    );
+    let mut item = pool.pull().expect(&rt, "an item is free");
     *item = 3;
-    assert_eq!(rt; read_twice(&rt, &item), (3, 3));
+    assert_equal(&rt, read_twice(&rt, &item), (3, 3));
     drop(item);
-    assert_eq!(rt; *pool.pull()?, 0);
-    Ok(())
+    assert_equal(&rt, *pool.pull().expect(&rt, "an item is free"), 0);
 }

@@ -1,12 +1,12 @@
 //! Pools of many sizes: each item is pulled once, then none, and then what came back.
 ghost use Rattle.std.specs.Prelude.{◌≤◌};
 
-use crate::numbers::{NumberItem, held, new_pool};
+use crate::assert_equal::assert_equal;
+use crate::numbers::{NumberItem, counted_pool, held};
 use lockfree_object_pool::PullError;
 use std::alloc::Global;
 use std::mem::size_of;
 use std::sync::atomic::Ordering::SeqCst;
-use std::test::Fail;
 use test_values::zeros::new_calls;
 
 /// Whether item `i` of the list has the number `i`, and the value of call `i`.
@@ -25,7 +25,7 @@ fn hands_out_each_once(alloc: Global, items: usize) -> Result<bool, PullError>
     requires { 1 ≤ items }
 {
     let calls = new_calls(alloc)?;
-    let pool = new_pool(alloc, &calls, items)?;
+    let pool = counted_pool(alloc, &calls, items)?;
     let mut all = held(alloc, &pool, items)?;
     let complete = pool.items() == items && calls.load(SeqCst) == items;
     if !complete || !are_in_order(&all) || pool.pull().err() != Some(PullError::Limit) {
@@ -43,19 +43,18 @@ fn hands_out_each_once(alloc: Global, items: usize) -> Result<bool, PullError>
 }
 
 #[test]
-fn pools_of_many_sizes_hand_out_each_item_once(rt: HostRuntime) -> Result<(), Fail> {
-    assert!(rt; hands_out_each_once(rt.alloc(), 1)?);
-    assert!(rt; hands_out_each_once(rt.alloc(), 31)?);
-    assert!(rt; hands_out_each_once(rt.alloc(), 32)?);
-    assert!(rt; hands_out_each_once(rt.alloc(), 33)?);
-    assert!(rt; hands_out_each_once(rt.alloc(), 64)?);
-    assert!(rt; hands_out_each_once(rt.alloc(), 65)?);
-    assert!(rt; hands_out_each_once(rt.alloc(), 70_000)?);
-    Ok(())
+fn pools_of_many_sizes_hand_out_each_item_once(rt: HostRuntime) {
+    assert!(rt; hands_out_each_once(rt.alloc(), 1).expect(&rt, "nothing is refused"));
+    assert!(rt; hands_out_each_once(rt.alloc(), 31).expect(&rt, "nothing is refused"));
+    assert!(rt; hands_out_each_once(rt.alloc(), 32).expect(&rt, "nothing is refused"));
+    assert!(rt; hands_out_each_once(rt.alloc(), 33).expect(&rt, "nothing is refused"));
+    assert!(rt; hands_out_each_once(rt.alloc(), 64).expect(&rt, "nothing is refused"));
+    assert!(rt; hands_out_each_once(rt.alloc(), 65).expect(&rt, "nothing is refused"));
+    assert!(rt; hands_out_each_once(rt.alloc(), 70_000).expect(&rt, "nothing is refused"));
 }
 
 /// What a pulled value knows of the history costs nothing: it has a borrow, a number and the value.
 #[test]
 fn a_history_takes_no_bytes(rt: HostRuntime) {
-    assert_eq!(rt; size_of::<NumberItem<'static>>(), 24);
+    assert_equal(&rt, size_of::<NumberItem<'static>>(), 24);
 }

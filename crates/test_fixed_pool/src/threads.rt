@@ -1,16 +1,15 @@
 //! Threads that share one pool. Each runs to its end, and a wait for others has a limit.
 ghost use Rattle.std.specs.Prelude.{◌≤◌};
 
+use crate::assert_equal::assert_equal;
 use crate::numbers::{NumberPool, held, new_pool};
 use lockfree_object_pool::PullError;
 use std::alloc::Global;
 use std::sync::Arc;
 use std::sync::atomic::AtomicUsize;
 use std::sync::atomic::Ordering::SeqCst;
-use std::test::Fail;
 use std::thread;
 use std::thread::{JoinHandle, Threads};
-use test_values::zeros::new_calls;
 
 /// A thread that still waits after so many turns gives up, and its test fails.
 const MOST_TURNS: u32 = 10_000_000;
@@ -39,7 +38,7 @@ impl Shared {
 fn new_shared(alloc: Global, items: usize) -> Result<Arc<Shared>, PullError>
     requires { 1 ≤ items }
 {
-    let pool = new_pool(alloc, &new_calls(alloc)?, items)?;
+    let pool = new_pool(alloc, items)?;
     let holding = AtomicUsize::new(0);
     Ok(Arc::new(alloc, Shared { pool, holding })?)
 }
@@ -55,20 +54,23 @@ fn hold_one(shared: &Shared) -> Option<usize> {
 }
 
 #[test]
-fn five_threads_hold_the_first_five_items(rt: HostRuntime) -> Result<(), Fail> {
-    let shared = new_shared(rt.alloc(), 33)?;
-    let mut threads = Vec::with_capacity(rt.alloc(), 5)?;
+fn five_threads_hold_the_first_five_items(rt: HostRuntime) {
+    let shared = new_shared(rt.alloc(), 33).expect(&rt, "a pool is made");
+    let mut threads = Vec::with_capacity(rt.alloc(), 5).expect(&rt, "memory is left");
     for _ in 0..5 {
-        let shared = Arc::try_clone(&shared)?;
-        threads.push(thread::spawn(&rt, move || hold_one(&shared))?)?;
+        let shared = Arc::try_clone(&shared).expect(&rt, "memory is left");
+        threads
+            .push(thread::spawn(&rt, move || hold_one(&shared)).expect(&rt, "a thread is made"))
+            .expect(&rt, "memory is left");
     }
-    let mut numbers = Vec::with_capacity(rt.alloc(), 5)?;
+    let mut numbers = Vec::with_capacity(rt.alloc(), 5).expect(&rt, "memory is left");
     for thread in threads {
-        numbers.push(thread.join(&rt).ok_or("each thread holds an item")?)?;
+        numbers
+            .push(thread.join(&rt).expect(&rt, "each thread holds an item"))
+            .expect(&rt, "memory is left");
     }
-    numbers.sort()?;
+    numbers.sort().expect(&rt, "memory is left");
     assert!(rt; numbers.as_slice() == [0, 1, 2, 3, 4].as_slice());
-    Ok(())
 }
 
 /// Pulls a thousand times. Whether each pull was refused.
@@ -82,20 +84,24 @@ fn refused_often(pool: &NumberPool) -> bool {
 }
 
 #[test]
-fn four_threads_are_refused_while_all_is_held(rt: HostRuntime) -> Result<(), Fail> {
-    let shared = new_shared(rt.alloc(), 33)?;
-    let all = held(rt.alloc(), &shared.pool, 33)?;
-    let mut threads = Vec::with_capacity(rt.alloc(), 4)?;
+fn four_threads_are_refused_while_all_is_held(rt: HostRuntime) {
+    let shared = new_shared(rt.alloc(), 33).expect(&rt, "a pool is made");
+    let all = held(rt.alloc(), &shared.pool, 33).expect(&rt, "nothing is refused");
+    let mut threads = Vec::with_capacity(rt.alloc(), 4).expect(&rt, "memory is left");
     for _ in 0..4 {
-        let shared = Arc::try_clone(&shared)?;
-        threads.push(thread::spawn(&rt, move || refused_often(&shared.pool))?)?;
+        let shared = Arc::try_clone(&shared).expect(&rt, "memory is left");
+        threads
+            .push(thread::spawn(&rt, move || refused_often(&shared.pool)).expect(
+                &rt,
+                "a thread is made",
+            ))
+            .expect(&rt, "memory is left");
     }
     for thread in threads {
         assert!(rt; thread.join(&rt));
     }
     drop(all);
-    held(rt.alloc(), &shared.pool, 33)?;
-    Ok(())
+    held(rt.alloc(), &shared.pool, 33).expect(&rt, "nothing is refused");
 }
 
 /// Pulls and returns often, and writes its own number to each item that it holds. Whether nobody else wrote to it then.
@@ -142,13 +148,11 @@ fn writers_meet<R: Threads + Sync>(rt: &R, alloc: Global, items: usize) -> Optio
 }
 
 #[test]
-fn eight_threads_share_two_items(rt: HostRuntime) -> Result<(), Fail> {
-    assert_eq!(rt; writers_meet(&rt, rt.alloc(), 2), Some(true));
-    Ok(())
+fn eight_threads_share_two_items(rt: HostRuntime) {
+    assert_equal(&rt, writers_meet(&rt, rt.alloc(), 2), Some(true));
 }
 
 #[test]
-fn eight_threads_share_seventy_items(rt: HostRuntime) -> Result<(), Fail> {
-    assert_eq!(rt; writers_meet(&rt, rt.alloc(), 70), Some(true));
-    Ok(())
+fn eight_threads_share_seventy_items(rt: HostRuntime) {
+    assert_equal(&rt, writers_meet(&rt, rt.alloc(), 70), Some(true));
 }

@@ -8,6 +8,7 @@ mod turns;
 
 use anyhow::{Context, Result};
 use measure::measure;
+use std::alloc::Global;
 use std::env;
 use std::rt::{Clock, Env, Files};
 use std::sync::Wait;
@@ -55,7 +56,19 @@ fn main(rt: HostRuntime) -> Result<()> {
     show_time(&rt, task)
 }
 
-/// Does a little of each work on each pool, then lets a fixed pool refuse, and prints what each gave.
+/// Words that ask for no task.
+const OTHER_WORDS: [&str; 8] = [
+    "",
+    "linear",
+    "linear hold",
+    "none hold 7",
+    "linear drop 0 7",
+    "mutex pull 7",
+    "mutex pull 0 -1",
+    "linear refuse 7",
+];
+
+/// Does a little of each work on each pool, then lets a fixed pool refuse, and prints what each gave; then what no task is.
 fn show_each<R: Clock + Threads + Wait + AllocGlobal + Print + Copy + Sync>(rt: &R) -> Result<()> {
     for kind in KINDS {
         for work in WORKS {
@@ -74,16 +87,29 @@ fn show_each<R: Clock + Threads + Wait + AllocGlobal + Print + Copy + Sync>(rt: 
             work: Work::Refuse,
             turns: FEW_TURNS,
         },
-    )
+    )?;
+    for line in OTHER_WORDS {
+        let asked = asked_for(rt.alloc(), line)?;
+        println!(rt; "{line:?}: {asked:?}")?;
+    }
+    Ok(())
 }
 
-/// Does a task, and prints what it gave.
+/// The task that a line's words ask for.
+fn asked_for(alloc: Global, line: &str) -> Result<Option<Task>> {
+    let words: Vec<&str> = line.split_whitespace().collect(alloc)?;
+    Ok(task_of(&words))
+}
+
+/// Does the task that a task's own words ask for, and prints what it gave.
 fn show_sum<R: Clock + Threads + Wait + AllocGlobal + Print + Copy + Sync>(
     rt: &R,
     task: Task,
 ) -> Result<()> {
-    let sum = measure(rt, task)?.sum;
-    println!(rt; "{task}: {sum}")?;
+    let line = format!(in rt.alloc(); "{task}")?;
+    let asked = asked_for(rt.alloc(), line.as_str())?.context("its words ask for no task")?;
+    let sum = measure(rt, asked)?.sum;
+    println!(rt; "{asked}: {sum}")?;
     Ok(())
 }
 

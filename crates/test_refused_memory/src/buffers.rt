@@ -1,4 +1,5 @@
 //! Buffer pools: an append that is refused leaves the buffer as it was, and can be asked for again.
+use crate::assert_equal::assert_equal;
 use crate::refusals::Refusals;
 use lockfree_object_pool::PullError;
 use object_pool_cores::buffers::{Buffer, BufferPool, Clear, WithCapacity, clear, fresh};
@@ -25,9 +26,10 @@ fn append(
     let before = buffer.as_slice().len();
     if let Err(cause) = buffer.append(bytes) {
         refusals.note();
-        assert_eq!(rt;
+        assert_equal(
+            rt,
             (cause, buffer.as_slice().len()),
-            (PullError::Memory, before)
+            (PullError::Memory, before),
         );
         let second = buffer.append(bytes);
         second.expect(rt, "one request alone is refused");
@@ -42,15 +44,17 @@ fn an_append_that_was_refused_is_asked_again(rt: HostRuntime) -> Result<(), Fail
     append(&rt, &refusals, &mut buffer, b"");
     append(&rt, &refusals, &mut buffer, b"first");
     append(&rt, &refusals, &mut buffer, &[b'x'; 5000]);
-    assert_eq!(rt;
+    assert_equal(
+        &rt,
         (buffer.as_slice().get(..5), buffer.as_slice().len()),
-        (Some(b"first".as_slice()), 5005)
+        (Some(b"first".as_slice()), 5005),
     );
     drop(buffer);
     let again = pool.pull().expect(&rt, "an item is free");
-    assert_eq!(rt;
+    assert_equal(
+        &rt,
         (again.page_number(), again.page_id(), again.as_slice().len()),
-        (0, 0, 0)
+        (0, 0, 0),
     );
     refusals.tell(&rt)
 }
@@ -64,7 +68,7 @@ fn a_fresh_buffer_that_was_refused_is_asked_again(rt: HostRuntime) -> Result<(),
     clear(&mut bytes);
     let filled = bytes.extend_from_slice(&[b'y'; 4096]);
     filled.expect(&rt, "there is room");
-    assert_eq!(rt; bytes.len(), 4096);
+    assert_equal(&rt, bytes.len(), 4096);
     refusals.tell(&rt)
 }
 
@@ -80,6 +84,6 @@ fn an_append_where_there_is_room_takes_no_memory(rt: HostRuntime) -> Result<(), 
     for _ in 0..64 {
         again.append(b"y").expect(&rt, "there is room");
     }
-    assert_eq!(rt; (again.page_id(), again.as_slice().len()), (0, 64));
+    assert_equal(&rt, (again.page_id(), again.as_slice().len()), (0, 64));
     refusals.tell(&rt)
 }

@@ -1,6 +1,7 @@
 //! The engine over devices that never fail: its replies are those of ample memory, but for one refusal.
 ghost use Rattle.object_pool_cores.specs.Engine.{IsPlayable};
 
+use crate::assert_equal::assert_equal;
 use crate::refusals::Refusals;
 use arrayvec::ArrayString;
 use object_pool_cores::engine;
@@ -83,7 +84,7 @@ fn plays(rt: &(impl Wait + Abort), refusals: &Refusals, alloc: Global, kind: Kin
         }
         Err(error) => {
             refusals.note();
-            assert_eq!(rt; error, EngineError::Memory);
+            assert_equal(rt, error, EngineError::Memory);
             assert!(rt; whole.as_str().as_bytes().starts_with(text));
             assert!(rt; text.last().is_none_or(|byte| *byte == b'\n'));
         }

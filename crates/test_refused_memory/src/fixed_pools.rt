@@ -1,4 +1,5 @@
 //! Fixed pools: a refused opening drops what it made, and nothing behind it takes memory.
+use crate::assert_equal::assert_equal;
 use crate::refusals::Refusals;
 use lockfree_object_pool::FixedObjectPool;
 use lockfree_object_pool::clean::AnyValue;
@@ -25,7 +26,7 @@ fn opened(rt: &impl Abort, alloc: Global, refusals: &Refusals, tally: &Arc<Tally
             Ok(Arc::new(alloc, pool)?)
         },
     );
-    assert_eq!(rt; tally.living(), ITEMS);
+    assert_equal(rt, tally.living(), ITEMS);
     pool
 }
 
@@ -35,7 +36,7 @@ fn a_fixed_pool_that_was_refused_is_made_again(rt: HostRuntime) -> Result<(), Fa
     let tally = refusals.tally(&rt);
     let pool = opened(&rt, rt.alloc(), &refusals, &tally);
     drop(pool);
-    assert_eq!(rt; tally.living(), 0);
+    assert_equal(&rt, tally.living(), 0);
     refusals.tell(&rt)
 }
 
@@ -50,6 +51,6 @@ fn pulls_and_returns_in_turn_take_no_memory(rt: HostRuntime) -> Result<(), Fail>
         drop(pool.pull_near(page).expect(&rt, "an item is free"));
         drop(pool.pull_owned().expect(&rt, "an item is free"));
     }
-    assert_eq!(rt; tally.living(), ITEMS);
+    assert_equal(&rt, tally.living(), ITEMS);
     refusals.tell(&rt)
 }

@@ -1,4 +1,5 @@
 //! Linear pools: what is refused loses no item, and can be asked for again.
+use crate::assert_equal::assert_equal;
 use crate::refusals::Refusals;
 use lockfree_object_pool::clean::AnyValue;
 use lockfree_object_pool::closures::Keep;
@@ -50,7 +51,7 @@ fn bounded(
 
 /// Takes the 32 items of a pool out for good. What was made for a pool that was refused is dropped.
 fn use_up(rt: &impl Abort, pool: &Tracked, tally: &Tally) {
-    assert_eq!(rt; tally.living(), 32);
+    assert_equal(rt, tally.living(), 32);
     for _ in 0..32 {
         mem::forget(pool.pull().expect(rt, "32 items are free"));
     }
@@ -64,15 +65,15 @@ fn a_pull_that_was_refused_is_asked_again(rt: HostRuntime) -> Result<(), Fail> {
     use_up(&rt, &pool, &tally);
     if let Some(refusal) = pool.pull().err() {
         refusals.note();
-        assert_eq!(rt; (refusal, tally.living()), (PullError::Memory, 32));
+        assert_equal(&rt, (refusal, tally.living()), (PullError::Memory, 32));
     }
     let item = pool.pull().expect(&rt, "one request alone is refused");
-    assert_eq!(rt; (item.page_number(), item.page_id()), (1, 0));
-    assert_eq!(rt; tally.living(), 64);
+    assert_equal(&rt, (item.page_number(), item.page_id()), (1, 0));
+    assert_equal(&rt, tally.living(), 64);
     let number = item.number;
     drop(item);
     let again = pool.pull().expect(&rt, "an item is free").number;
-    assert_eq!(rt; again, number);
+    assert_equal(&rt, again, number);
     refusals.tell(&rt)
 }
 
@@ -84,19 +85,19 @@ fn an_owned_pull_that_was_refused_is_asked_again(rt: HostRuntime) -> Result<(), 
     use_up(&rt, &pool, &tally);
     if let Some(refusal) = pool.pull_owned().err() {
         refusals.note();
-        assert_eq!(rt; (refusal, tally.living()), (PullError::Memory, 32));
+        assert_equal(&rt, (refusal, tally.living()), (PullError::Memory, 32));
     }
     let item = pool
         .pull_owned()
         .expect(&rt, "one request alone is refused");
-    assert_eq!(rt; (item.page_number(), item.page_id()), (1, 0));
-    assert_eq!(rt; tally.living(), 64);
+    assert_equal(&rt, (item.page_number(), item.page_id()), (1, 0));
+    assert_equal(&rt, tally.living(), 64);
     let number = item.number;
     drop(item);
     let again = pool.pull_owned().expect(&rt, "an item is free").number;
-    assert_eq!(rt; again, number);
+    assert_equal(&rt, again, number);
     drop(pool);
-    assert_eq!(rt; tally.living(), 32);
+    assert_equal(&rt, tally.living(), 32);
     refusals.tell(&rt)
 }
 
@@ -109,14 +110,15 @@ fn a_bounded_pull_tells_want_of_memory_from_its_limit(rt: HostRuntime) -> Result
     use_up(&rt, &pool, &tally);
     if let Some(refusal) = pool.pull().err() {
         refusals.note();
-        assert_eq!(rt; (refusal, tally.living()), (PullError::Memory, 32));
+        assert_equal(&rt, (refusal, tally.living()), (PullError::Memory, 32));
     }
     for _ in 0..32 {
         mem::forget(pool.pull().expect(&rt, "an item is free"));
     }
-    assert_eq!(rt;
+    assert_equal(
+        &rt,
         (pool.pull().err(), tally.living()),
-        (Some(PullError::Limit), 64)
+        (Some(PullError::Limit), 64),
     );
     refusals.tell(&rt)
 }

@@ -1,6 +1,7 @@
 //! What makes values that take memory of their own: where that is refused, it is asked once, and the pull is refused.
 ghost use Rattle.std.specs.Prelude.{◌≡◌, []};
 
+use crate::assert_equal::assert_equal;
 use crate::refusals::Refusals;
 use lockfree_object_pool::clean::Empty;
 use lockfree_object_pool::closures::{Clear, WithCapacity};
@@ -55,7 +56,7 @@ fn a_recyclable_value_that_memory_was_refused_for_is_told(rt: HostRuntime) -> Re
     let pool = MutexPool::<Sheet>::with_recycler(rt.alloc());
     let first = pulled(&rt, &refusals, &|| pool.pull(&rt));
     let second = pulled(&rt, &refusals, &|| pool.pull(&rt));
-    assert_eq!(rt; (first.letters.len(), second.letters.len()), (0, 0));
+    assert_equal(&rt, (first.letters.len(), second.letters.len()), (0, 0));
     refusals.tell(&rt)
 }
 
@@ -70,6 +71,6 @@ fn a_vector_that_memory_was_refused_for_is_told(rt: HostRuntime) -> Result<(), F
     );
     let first = pulled(&rt, &refusals, &|| pool.pull(&rt));
     let second = pulled(&rt, &refusals, &|| pool.pull(&rt));
-    assert_eq!(rt; (first.len(), second.len()), (0, 0));
+    assert_equal(&rt, (first.len(), second.len()), (0, 0));
     refusals.tell(&rt)
 }

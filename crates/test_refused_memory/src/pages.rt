@@ -1,4 +1,5 @@
 //! Pages and chains: what is refused drops what was made for it and links nothing.
+use crate::assert_equal::assert_equal;
 use crate::refusals::Refusals;
 use lockfree_object_pool::PullError;
 use lockfree_object_pool::clean::AnyValue;
@@ -21,9 +22,9 @@ fn a_page_that_was_refused_is_asked_again(rt: HostRuntime) -> Result<(), Fail> {
         &rt,
         &|| Page::new(rt.alloc(), &|| Tallied::new(&tally)),
     );
-    assert_eq!(rt; (page.get_mask(), tally.living()), (u32::MAX, 32));
+    assert_equal(&rt, (page.get_mask(), tally.living()), (u32::MAX, 32));
     drop(page);
-    assert_eq!(rt; tally.living(), 0);
+    assert_equal(&rt, tally.living(), 0);
     refusals.tell(&rt)
 }
 
@@ -56,7 +57,7 @@ fn used_up(
     tally: &Arc<Tally>,
 ) -> Chain<Tallied, AnyValue> {
     let chain = refusals.again(rt, &|| Chain::new(rt.alloc(), &|| Tallied::new(tally)));
-    assert_eq!(rt; tally.living(), 32);
+    assert_equal(rt, tally.living(), 32);
     forget_all(&chain.first()).expect(rt, "32 items are free");
     chain
 }
@@ -70,7 +71,7 @@ fn a_link_that_was_refused_is_asked_again(rt: HostRuntime) -> Result<(), Fail> {
     let next = match behind_full(&first, &tally) {
         Err(PullError::Memory) => {
             refusals.note();
-            assert_eq!(rt; (first.next().is_none(), tally.living()), (true, 32));
+            assert_equal(&rt, (first.next().is_none(), tally.living()), (true, 32));
             behind_full(&first, &tally)
         }
         answer => answer,
@@ -78,7 +79,7 @@ fn a_link_that_was_refused_is_asked_again(rt: HostRuntime) -> Result<(), Fail> {
     let next = next
         .expect(&rt, "one request alone is refused")
         .expect(&rt, "the first page is full");
-    assert_eq!(rt; (next.number(), tally.living()), (1, 64));
+    assert_equal(&rt, (next.number(), tally.living()), (1, 64));
     assert!(rt; first.next().is_some());
     refusals.tell(&rt)
 }
@@ -91,9 +92,9 @@ fn a_walk_that_was_refused_is_asked_again(rt: HostRuntime) -> Result<(), Fail> {
     let first = chain.first();
     let make = || Tallied::new(&tally);
     let (slot, pages) = refusals.again(&rt, &|| first.alloc(&make));
-    assert_eq!(rt; (slot.id(), pages, tally.living()), (0, 1, 64));
+    assert_equal(&rt, (slot.id(), pages, tally.living()), (0, 1, 64));
     let (owned, pages) = refusals.again(&rt, &|| first.alloc_owned(&make));
-    assert_eq!(rt; (owned.id(), pages, tally.living()), (1, 1, 64));
+    assert_equal(&rt, (owned.id(), pages, tally.living()), (1, 1, 64));
     refusals.tell(&rt)
 }
 
@@ -105,8 +106,8 @@ fn a_bounded_walk_that_was_refused_is_asked_again(rt: HostRuntime) -> Result<(),
     let first = chain.first();
     let make = || Tallied::new(&tally);
     let (owned, pages) = refusals.again(&rt, &|| first.alloc_owned_within(2, &make));
-    assert_eq!(rt; (owned.id(), pages, tally.living()), (0, 1, 64));
+    assert_equal(&rt, (owned.id(), pages, tally.living()), (0, 1, 64));
     let (slot, pages) = refusals.again(&rt, &|| first.alloc_within(2, &make));
-    assert_eq!(rt; (slot.id(), pages, tally.living()), (1, 1, 64));
+    assert_equal(&rt, (slot.id(), pages, tally.living()), (1, 1, 64));
     refusals.tell(&rt)
 }

@@ -1,4 +1,5 @@
 //! Players: a command that was refused is answered again as with ample memory, and a run goes on from the commands done.
+use crate::assert_equal::assert_equal;
 use crate::refusals::Refusals;
 use lockfree_object_pool::PullError;
 use lockfree_object_pool::clean::AnyValue;
@@ -106,7 +107,7 @@ fn plays_each_again<P: SequentialPool<u32> + Drop>(
         let reply = reply_again(refusals, &mut player, index);
         assert_eq!(rt; reply, Ok(reply_at(pool, index)), "command {index}");
     }
-    assert_eq!(rt; (player.held(0), player.held(1)), (None, None));
+    assert_equal(rt, (player.held(0), player.held(1)), (None, None));
 }
 
 #[test]
@@ -140,10 +141,10 @@ fn pulled(rt: &impl Abort, pool: Pool, replies: &[Reply<u32>]) -> usize {
     for reply in replies {
         match reply {
             Reply::Pulled(holder, number) => {
-                assert_eq!(rt; (*holder, *number), (pulled, number_in(pool, pulled)));
+                assert_equal(rt, (*holder, *number), (pulled, number_in(pool, pulled)));
                 pulled = pulled.saturating_add(1);
             }
-            other => assert_eq!(rt; *other, Reply::Refused(PullError::Memory)),
+            other => assert_equal(rt, other, &Reply::Refused(PullError::Memory)),
         }
     }
     pulled
@@ -165,7 +166,7 @@ fn runs_on<P: SequentialPool<u32> + Drop>(
         refusals.note();
         // It was refused for the table or the list of replies, so no pull was.
         let done = replies.len();
-        assert_eq!(rt; pulled(rt, pool, &replies), done);
+        assert_equal(rt, pulled(rt, pool, &replies), done);
         assert!(rt; done < PULLS && player.held(done).is_none());
         let rest = PULLS.saturating_sub(done);
         let rest = refusals.list_again(rt, alloc, rest, &|| Ok(Command::Pull));
@@ -178,8 +179,12 @@ fn runs_on<P: SequentialPool<u32> + Drop>(
         refusals.note();
         refused = 1;
     }
-    assert_eq!(rt; replies.len(), PULLS);
-    assert_eq!(rt; pulled(rt, pool, &replies), PULLS.saturating_sub(refused));
+    assert_equal(rt, replies.len(), PULLS);
+    assert_equal(
+        rt,
+        pulled(rt, pool, &replies),
+        PULLS.saturating_sub(refused),
+    );
 }
 
 #[test]
@@ -219,13 +224,13 @@ fn takes_turns<P: SequentialPool<u32> + Drop>(
     let mut player = Player::new(alloc, core);
     let number = number_in(pool, 0);
     let first = reply_again(refusals, &mut player, 0);
-    assert_eq!(rt; first, Ok(Reply::Pulled(0, number)));
+    assert_equal(rt, first, Ok(Reply::Pulled(0, number)));
     for holder in 0..TURNS {
         let returned = player.play(Command::Return(holder));
         assert_eq!(rt; returned, Ok(Reply::Returned), "holder {holder}");
         let next = holder.saturating_add(1);
         let pulled = player.play(Command::Pull);
-        assert_eq!(rt; pulled, Ok(Reply::Pulled(next, number)));
+        assert_equal(rt, pulled, Ok(Reply::Pulled(next, number)));
     }
 }
 
@@ -282,16 +287,20 @@ fn a_run_that_was_refused_drops_the_commands_not_done(rt: HostRuntime) -> Result
     let mut player = Player::new(rt.alloc(), core);
     holds_first(&rt, &refusals, &mut player);
     let commands = refusals.list_again(&rt, rt.alloc(), WRITES, &|| write(&tally));
-    assert_eq!(rt; tally.living(), WRITES.saturating_add(1));
+    assert_equal(&rt, tally.living(), WRITES.saturating_add(1));
     let mut replies = Vec::new(rt.alloc());
     let is_refused = player.run(commands, &mut replies).is_err();
     if is_refused {
         refusals.note();
     }
-    assert_eq!(rt; is_refused, replies.len() < WRITES);
+    assert_equal(&rt, is_refused, replies.len() < WRITES);
     // What was written last is held, and lives alone.
-    assert_eq!(rt; player.held(0).map(|held| held.number), Some(replies.len()));
-    assert_eq!(rt; tally.living(), 1);
+    assert_equal(
+        &rt,
+        player.held(0).map(|held| held.number),
+        Some(replies.len()),
+    );
+    assert_equal(&rt, tally.living(), 1);
     refusals.tell(&rt)
 }
 
@@ -314,6 +323,6 @@ fn an_attach_that_was_refused_is_a_reply_with_the_value(rt: HostRuntime) -> Resu
         }
         _ => None,
     };
-    assert_eq!(rt; number, Some(1));
+    assert_equal(&rt, number, Some(1));
     refusals.tell(&rt)
 }

@@ -1,4 +1,5 @@
 //! Pools of one owner: what is refused changes nothing, and can be asked for again.
+use crate::assert_equal::assert_equal;
 use crate::refusals::Refusals;
 use lockfree_object_pool::PullError;
 use lockfree_object_pool::clean::AnyValue;
@@ -25,7 +26,7 @@ fn a_page_that_was_refused_is_asked_again(rt: HostRuntime) -> Result<(), Fail> {
         &rt,
         &|| CorePage::new(rt.alloc(), &|| Tallied::new(&tally)),
     );
-    assert_eq!(rt; (page.get_mask(), tally.living()), (u32::MAX, 32));
+    assert_equal(&rt, (page.get_mask(), tally.living()), (u32::MAX, 32));
     refusals.tell(&rt)
 }
 
@@ -39,22 +40,23 @@ fn bounded(alloc: Global, tally: &Arc<Tally>) -> Result<Linear, PullError> {
 
 /// Takes all items of the first page out for good, and one item of the second page.
 fn grows(rt: &impl Abort, refusals: &Refusals, core: &mut Linear, tally: &Tally) {
-    assert_eq!(rt; tally.living(), 32);
+    assert_equal(rt, tally.living(), 32);
     for _ in 0..32 {
         drop(core.pull().expect(rt, "32 items are free"));
     }
     let item = match core.pull() {
         Err(PullError::Memory) => {
             refusals.note();
-            assert_eq!(rt; (core.pages(), tally.living()), (1, 0));
+            assert_equal(rt, (core.pages(), tally.living()), (1, 0));
             core.pull()
         }
         answer => answer,
     };
     let item = item.expect(rt, "one request alone is refused");
-    assert_eq!(rt;
+    assert_equal(
+        rt,
         (item.number(), core.pages(), tally.living()),
-        (Some(32), 2, 32)
+        (Some(32), 2, 32),
     );
 }
 
@@ -87,7 +89,7 @@ fn a_stack_pull_that_was_refused_is_asked_again(rt: HostRuntime) -> Result<(), F
     let item = match core.pull() {
         Err(PullError::Memory) => {
             refusals.note();
-            assert_eq!(rt; tally.made(), 0);
+            assert_equal(&rt, tally.made(), 0);
             core.pull()
         }
         answer => answer,
@@ -95,7 +97,7 @@ fn a_stack_pull_that_was_refused_is_asked_again(rt: HostRuntime) -> Result<(), F
     let item = item.expect(&rt, "one request alone is refused");
     give_back(&rt, &mut core, item);
     let again = core.pull().expect(&rt, "an item is kept").number;
-    assert_eq!(rt; (again, tally.made()), (0, 1));
+    assert_equal(&rt, (again, tally.made()), (0, 1));
     refusals.tell(&rt)
 }
 
@@ -108,7 +110,7 @@ fn an_attached_value_comes_back(rt: HostRuntime) -> Result<(), Fail> {
     let attached = match core.attach(value) {
         Err(AttachError::Memory(back)) => {
             refusals.note();
-            assert_eq!(rt; tally.living(), 1);
+            assert_equal(&rt, tally.living(), 1);
             core.attach(back)
         }
         answer => answer,
@@ -118,7 +120,7 @@ fn an_attached_value_comes_back(rt: HostRuntime) -> Result<(), Fail> {
     };
     give_back(&rt, &mut core, item);
     let again = core.pull().expect(&rt, "an item is kept").number;
-    assert_eq!(rt; (again, tally.made()), (0, 1));
+    assert_equal(&rt, (again, tally.made()), (0, 1));
     refusals.tell(&rt)
 }
 
@@ -129,9 +131,9 @@ fn fresh_items_take_no_memory(rt: HostRuntime) -> Result<(), Fail> {
     let mut core = NoneCore::new(TalliedValues::new(&tally)?);
     for number in 0..3usize {
         let item = core.pull().expect(&rt, "an item takes no memory");
-        assert_eq!(rt; item.number, number);
+        assert_equal(&rt, item.number, number);
         core.give(item);
     }
-    assert_eq!(rt; tally.living(), 0);
+    assert_equal(&rt, tally.living(), 0);
     refusals.tell(&rt)
 }

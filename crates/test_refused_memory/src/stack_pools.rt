@@ -1,4 +1,5 @@
 //! Mutex pools and spin lock pools: what is refused calls no `init`, and can be asked for again.
+use crate::assert_equal::assert_equal;
 use crate::refusals::Refusals;
 use lockfree_object_pool::clean::AnyValue;
 use lockfree_object_pool::closures::{Copied, Keep};
@@ -75,7 +76,7 @@ fn kept_by_spin_lock(alloc: Global) -> Result<Arc<KeptBySpinLock>, PullError> {
 /// The end of a pool, which drops what it keeps.
 fn ends<P: Drop>(rt: &impl Abort, pool: Arc<P>, tally: &Tally) {
     drop(pool);
-    assert_eq!(rt; tally.living(), 0);
+    assert_equal(rt, tally.living(), 0);
 }
 
 /// A pull and its drop, and a pull of what is kept.
@@ -88,16 +89,16 @@ fn pulls<F: FreeList<Tallied, TrackedValues>, W: Abort + Wait + Copy>(
     let item = match pool.pull(rt) {
         Err(PullError::Memory) => {
             refusals.note();
-            assert_eq!(rt; tally.made(), 0);
+            assert_equal(rt, tally.made(), 0);
             pool.pull(rt)
         }
         answer => answer,
     };
     let item = item.expect(rt, "one request alone is refused");
-    assert_eq!(rt; (item.number, tally.made()), (0, 1));
+    assert_equal(rt, (item.number, tally.made()), (0, 1));
     drop(item);
     let again = pool.pull(rt).expect(rt, "an item is kept");
-    assert_eq!(rt; (again.number, tally.made(), tally.living()), (0, 1, 1));
+    assert_equal(rt, (again.number, tally.made(), tally.living()), (0, 1, 1));
 }
 
 #[test]
@@ -126,9 +127,9 @@ fn fills<F: FreeList<Tallied, TrackedValues>, W: Abort + Wait + Copy>(
         let filled = pool.fill(rt, 3usize.saturating_sub(tally.made()));
         filled.expect(rt, "one request alone is refused");
     }
-    assert_eq!(rt; (pool.kept(rt), tally.made(), tally.living()), (3, 3, 3));
+    assert_equal(rt, (pool.kept(rt), tally.made(), tally.living()), (3, 3, 3));
     pool.clear(rt);
-    assert_eq!(rt; (pool.kept(rt), tally.living()), (0, 0));
+    assert_equal(rt, (pool.kept(rt), tally.living()), (0, 0));
 }
 
 #[test]
@@ -153,16 +154,16 @@ fn owned_pulls<F: FreeList<Tallied, TrackedValues>, W: Abort + Wait + Copy>(
     let item = match pool.pull_owned(rt) {
         Err(PullError::Memory) => {
             refusals.note();
-            assert_eq!(rt; tally.made(), 0);
+            assert_equal(rt, tally.made(), 0);
             pool.pull_owned(rt)
         }
         answer => answer,
     };
     let item = item.expect(rt, "one request alone is refused");
-    assert_eq!(rt; (item.number, tally.made()), (0, 1));
+    assert_equal(rt, (item.number, tally.made()), (0, 1));
     drop(item);
     let again = pool.pull_owned(rt).expect(rt, "an item is kept");
-    assert_eq!(rt; (again.number, tally.made(), tally.living()), (0, 1, 1));
+    assert_equal(rt, (again.number, tally.made(), tally.living()), (0, 1, 1));
 }
 
 #[test]
@@ -198,7 +199,7 @@ fn attaches_borrowed<F: FreeList<u32, KeptValues>, W: Abort + Wait + Copy>(
         answer => answer,
     };
     let item = item.expect(rt, "one request alone is refused");
-    assert_eq!(rt; *item, 8);
+    assert_equal(rt, *item, 8);
 }
 
 /// Attaches 9, owned. It comes back where it is refused.
@@ -215,7 +216,7 @@ fn attaches_owned<F: FreeList<u32, KeptValues>, W: Abort + Wait + Copy>(
         answer => answer,
     };
     let owned = owned.expect(rt, "one request alone is refused");
-    assert_eq!(rt; *owned, 9);
+    assert_equal(rt, *owned, 9);
 }
 
 /// Attaches 8 and 9. Each is kept after its drop.
@@ -228,7 +229,7 @@ fn attaches<F: FreeList<u32, KeptValues>, W: Abort + Wait + Copy>(
     let first = pool.pull(rt).expect(rt, "an item is kept");
     attaches_owned(rt, refusals, pool);
     let second = pool.pull_owned(rt).expect(rt, "an item is kept");
-    assert_eq!(rt; (*first, *second), (8, 9));
+    assert_equal(rt, (*first, *second), (8, 9));
 }
 
 #[test]
@@ -255,11 +256,11 @@ fn ends_behind_attach<F: FreeList<Tallied, TrackedValues>, W: Abort + Wait + Cop
         Ok(item) => drop(item),
         Err(back) => {
             refusals.note();
-            assert_eq!(rt; (back.number, tally.living()), (1, 2));
+            assert_equal(rt, (back.number, tally.living()), (1, 2));
         }
     }
     drop(pool);
-    assert_eq!(rt; (tally.made(), tally.living()), (2, 0));
+    assert_equal(rt, (tally.made(), tally.living()), (2, 0));
 }
 
 #[test]
@@ -285,7 +286,7 @@ fn a_lock_gives_its_value_back(rt: HostRuntime) -> Result<(), Fail> {
         answer => answer,
     };
     let lock = lock.expect(&rt, "one request alone is refused");
-    assert_eq!(rt; *lock.lock(&rt), 7);
+    assert_equal(&rt, *lock.lock(&rt), 7);
     let room = refusals.again(&rt, &|| Room::<u32>::new(rt.alloc()));
     drop(room);
     refusals.tell(&rt)

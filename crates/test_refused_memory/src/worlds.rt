@@ -1,5 +1,6 @@
 //! The world of agents: an event that was refused changes nothing but drops its values, and is answered again as with
 //! ample memory.
+use crate::assert_equal::assert_equal;
 use crate::refusals::Refusals;
 use lockfree_object_pool::PullError;
 use lockfree_object_pool::closures::Keep;
@@ -57,15 +58,15 @@ fn drops_its_values(
 ) {
     match world {
         Ok(world) => {
-            assert_eq!(rt; tally.living(), 32);
+            assert_equal(rt, tally.living(), 32);
             drop(world);
         }
         Err(cause) => {
             refusals.note();
-            assert_eq!(rt; cause, PullError::Memory);
+            assert_equal(rt, cause, PullError::Memory);
         }
     }
-    assert_eq!(rt; tally.living(), 0);
+    assert_equal(rt, tally.living(), 0);
 }
 
 #[test]
@@ -98,9 +99,10 @@ fn a_begin_that_was_refused_is_asked_again(rt: HostRuntime) -> Result<(), Fail> 
     for agent in 0..40 {
         let began = begin_again(&refusals, &mut world);
         let word = world.step(Event::ReadMask(agent));
-        assert_eq!(rt;
+        assert_equal(
+            &rt,
             (began, word),
-            (Seen::Began(agent), Seen::Word(agent, FULL))
+            (Seen::Began(agent), Seen::Word(agent, FULL)),
         );
     }
     refusals.tell(&rt)
@@ -122,24 +124,26 @@ fn a_page_that_was_refused_is_asked_again(rt: HostRuntime) -> Result<(), Fail> {
     let tally = refusals.tally(&rt);
     let mut world = tallied_bounded(&rt, &refusals, &tally);
     let next = find_no_item(&refusals, &mut world);
-    assert_eq!(rt; next, Seen::Next(32, false));
+    assert_equal(&rt, next, Seen::Next(32, false));
     let values = values_again(&rt, &refusals, &tally);
     let mut made = world.step(Event::MakePage(32, Ok(values)));
     if made == Seen::NoMemory {
         refusals.note();
-        assert_eq!(rt;
+        assert_equal(
+            &rt,
             (world.pages(), world.word(0), tally.living()),
-            (1, Some(0), 32)
+            (1, Some(0), 32),
         );
         let values = tallied_values(rt.alloc(), &tally);
         let values = values.expect(&rt, "one request alone is refused");
         made = world.step(Event::MakePage(32, Ok(values)));
     }
-    assert_eq!(rt; (made, tally.living()), (Seen::Made(32), 64));
+    assert_equal(&rt, (made, tally.living()), (Seen::Made(32), 64));
     let linked = world.step(Event::ExchangeNext(32));
-    assert_eq!(rt;
+    assert_equal(
+        &rt,
         (linked, world.pages(), world.word(1)),
-        (Seen::Linked(32), 2, Some(FULL))
+        (Seen::Linked(32), 2, Some(FULL)),
     );
     refusals.tell(&rt)
 }
@@ -154,7 +158,7 @@ fn agents_begun(rt: &impl Abort, refusals: &Refusals, seen: &[Seen]) -> usize {
         if *answer == Seen::NoMemory {
             refusals.note();
         } else {
-            assert_eq!(rt; *answer, Seen::Began(agents));
+            assert_equal(rt, *answer, Seen::Began(agents));
             agents = agents.saturating_add(1);
         }
     }
@@ -176,7 +180,7 @@ fn a_run_goes_on_from_the_events_done(rt: HostRuntime) -> Result<(), Fail> {
         let ran = world.run(rest, &mut seen);
         ran.expect(&rt, "one request alone is refused");
     }
-    assert_eq!(rt; seen.len(), AGENTS);
+    assert_equal(&rt, seen.len(), AGENTS);
     let refused = AGENTS.saturating_sub(agents_begun(&rt, &refusals, &seen));
     assert!(rt; refused <= 1);
     refusals.tell(&rt)
@@ -196,7 +200,7 @@ fn held_by_one(
     let value = Tallied::new(tally).expect(rt, "a value takes no memory");
     let number = value.number;
     let wrote = world.step(Event::Write(0, value));
-    assert_eq!(rt; wrote, Seen::Wrote(0));
+    assert_equal(rt, wrote, Seen::Wrote(0));
     (world, number)
 }
 
@@ -215,16 +219,16 @@ fn a_run_that_was_refused_drops_the_events_not_done(rt: HostRuntime) -> Result<(
     let tally = refusals.tally(&rt);
     let (mut world, number) = held_by_one(&rt, &refusals, &tally);
     let events = refusals.list_again(&rt, rt.alloc(), WRITES, &|| write(&tally));
-    assert_eq!(rt; tally.living(), WRITES.saturating_add(32));
+    assert_equal(&rt, tally.living(), WRITES.saturating_add(32));
     let mut seen = Vec::new(rt.alloc());
     let is_refused = world.run(events, &mut seen).is_err();
     if is_refused {
         refusals.note();
     }
-    assert_eq!(rt; is_refused, seen.len() < WRITES);
+    assert_equal(&rt, is_refused, seen.len() < WRITES);
     // What was written last is held, and lives with the page's other values alone.
     let last = number.saturating_add(seen.len());
-    assert_eq!(rt; world.held(0).map(|held| held.number), Some(last));
-    assert_eq!(rt; tally.living(), 32);
+    assert_equal(&rt, world.held(0).map(|held| held.number), Some(last));
+    assert_equal(&rt, tally.living(), 32);
     refusals.tell(&rt)
 }

@@ -2,4 +2,6 @@
 #![tactic(auto)]
 
 #[cfg(test)]
+mod assert_equal;
+#[cfg(test)]
 mod sequential;

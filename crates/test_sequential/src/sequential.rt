@@ -1,11 +1,12 @@
 //! Worked cases of the linear core and the player.
+use crate::assert_equal::assert_equal;
 use lockfree_object_pool::PullError;
 use lockfree_object_pool::clean::AnyValue;
 use lockfree_object_pool::closures::{Copied, Init, Keep};
 use object_pool_cores::sequential::*;
 use std::alloc::Global;
 use std::cell::Cell;
-use std::test::Fail;
+use std::process::Abort;
 
 mod core_page;
 mod held_and_kept;
@@ -73,23 +74,29 @@ fn are_mine<T: Drop, P: SequentialPool<T>>(pool: &P, items: &[Item<T>]) -> bool 
 
 /// Plays the commands on a linear pool that keeps values, of at most so many pages where there is a limit.
 fn played(
+    rt: &impl Abort,
     alloc: Global,
     limit: Option<usize>,
     commands: Vec<Command<u32>>,
-) -> Result<Vec<Reply<u32>>, Fail> {
+) -> Vec<Reply<u32>> {
     let init = Copied::<u32, AnyValue>::new(0);
     let core = match limit {
-        Some(pages) if pages > 0 => LinearCore::with_limit(alloc, init, Keep, pages)?,
-        _ => LinearCore::new(alloc, init, Keep)?,
+        Some(pages) if pages > 0 => LinearCore::with_limit(alloc, init, Keep, pages).expect(
+            rt,
+            "a pool is made",
+        ),
+        _ => LinearCore::new(alloc, init, Keep).expect(rt, "a pool is made"),
     };
     let mut player = Player::new(alloc, core);
     let mut replies = Vec::new(alloc);
-    player.run(commands, &mut replies)?;
-    Ok(replies)
+    player
+        .run(commands, &mut replies)
+        .expect(rt, "memory is left");
+    replies
 }
 
 #[test]
-fn values_that_reset_keeps_come_again_with_their_numbers(rt: HostRuntime) -> Result<(), Fail> {
+fn values_that_reset_keeps_come_again_with_their_numbers(rt: HostRuntime) {
     let commands = vec![in rt.alloc();
         Command::Pull,
         Command::Pull,
@@ -99,8 +106,9 @@ fn values_that_reset_keeps_come_again_with_their_numbers(rt: HostRuntime) -> Res
         Command::Return(1),
         Command::Pull,
         Command::Pull,
-    ]?;
-    let replies = played(rt.alloc(), None, commands)?;
+    ]
+    .expect(&rt, "memory is left");
+    let replies = played(&rt, rt.alloc(), None, commands);
     let expected = [
         Reply::Pulled(0, Some(0)),
         Reply::Pulled(1, Some(1)),
@@ -111,12 +119,11 @@ fn values_that_reset_keeps_come_again_with_their_numbers(rt: HostRuntime) -> Res
         Reply::Pulled(2, Some(0)),
         Reply::Pulled(3, Some(1)),
     ];
-    assert_eq!(rt; replies.as_slice(), expected.as_slice());
-    Ok(())
+    assert_equal(&rt, replies.as_slice(), expected.as_slice());
 }
 
 #[test]
-fn the_least_number_comes_first(rt: HostRuntime) -> Result<(), Fail> {
+fn the_least_number_comes_first(rt: HostRuntime) {
     let commands = vec![in rt.alloc();
         Command::Pull,
         Command::Pull,
@@ -125,15 +132,15 @@ fn the_least_number_comes_first(rt: HostRuntime) -> Result<(), Fail> {
         Command::Return(0),
         Command::Pull,
         Command::Pull,
-    ]?;
-    let replies = played(rt.alloc(), None, commands)?;
+    ]
+    .expect(&rt, "memory is left");
+    let replies = played(&rt, rt.alloc(), None, commands);
     let last = [Reply::Pulled(3, Some(0)), Reply::Pulled(4, Some(2))];
-    assert_eq!(rt; replies.as_slice().get(5..), Some(last.as_slice()));
-    Ok(())
+    assert_equal(&rt, replies.as_slice().get(5..), Some(last.as_slice()));
 }
 
 #[test]
-fn a_forgotten_number_stays_out(rt: HostRuntime) -> Result<(), Fail> {
+fn a_forgotten_number_stays_out(rt: HostRuntime) {
     let commands = vec![in rt.alloc();
         Command::Pull,
         Command::Forget(0),
@@ -142,8 +149,9 @@ fn a_forgotten_number_stays_out(rt: HostRuntime) -> Result<(), Fail> {
         Command::Pull,
         Command::Return(0),
         Command::Attach(9),
-    ]?;
-    let replies = played(rt.alloc(), None, commands)?;
+    ]
+    .expect(&rt, "memory is left");
+    let replies = played(&rt, rt.alloc(), None, commands);
     let expected = [
         Reply::Pulled(0, Some(0)),
         Reply::Forgotten,
@@ -153,49 +161,56 @@ fn a_forgotten_number_stays_out(rt: HostRuntime) -> Result<(), Fail> {
         Reply::NoSuchHolder,
         Reply::AttachRefused(AttachError::NotOffered(9)),
     ];
-    assert_eq!(rt; replies.as_slice(), expected.as_slice());
-    Ok(())
+    assert_equal(&rt, replies.as_slice(), expected.as_slice());
 }
 
 #[test]
-fn a_limit_of_one_page_holds(rt: HostRuntime) -> Result<(), Fail> {
+fn a_limit_of_one_page_holds(rt: HostRuntime) {
     let mut commands = Vec::new(rt.alloc());
     for _ in 0..33 {
-        commands.push(Command::Pull)?;
+        commands.push(Command::Pull).expect(&rt, "memory is left");
     }
-    commands.push(Command::Return(7))?;
-    commands.push(Command::Pull)?;
-    let replies = played(rt.alloc(), Some(1), commands)?;
+    commands
+        .push(Command::Return(7))
+        .expect(&rt, "memory is left");
+    commands.push(Command::Pull).expect(&rt, "memory is left");
+    let replies = played(&rt, rt.alloc(), Some(1), commands);
     let last = [
         Reply::Pulled(31, Some(31)),
         Reply::Refused(PullError::Limit),
         Reply::Returned,
         Reply::Pulled(32, Some(7)),
     ];
-    assert_eq!(rt; replies.as_slice().get(31..), Some(last.as_slice()));
-    Ok(())
+    assert_equal(&rt, replies.as_slice().get(31..), Some(last.as_slice()));
 }
 
 #[test]
-fn a_page_is_made_where_none_is_free(rt: HostRuntime) -> Result<(), Fail> {
+fn a_page_is_made_where_none_is_free(rt: HostRuntime) {
     let calls = Cell::new(0u32);
     let init = Zeros {
         calls: &calls,
         refused: 0,
     };
-    let mut core: LinearCore<u32, _, _, AnyValue> = LinearCore::new(rt.alloc(), init, Keep)?;
-    assert_eq!(rt; (calls.get(), core.pages(), core.limit()), (32, 1, None));
+    let mut core: LinearCore<u32, _, _, AnyValue> = LinearCore::new(rt.alloc(), init, Keep).expect(
+        &rt,
+        "a pool is made",
+    );
+    assert_equal(
+        &rt,
+        (calls.get(), core.pages(), core.limit()),
+        (32, 1, None),
+    );
     let mut held = Vec::new(rt.alloc());
     for _ in 0..33 {
-        held.push(core.pull()?)?;
+        held.push(core.pull().expect(&rt, "an item is free"))
+            .expect(&rt, "memory is left");
     }
-    assert_eq!(rt; held.last().and_then(|item| item.number()), Some(32));
-    assert_eq!(rt; (calls.get(), core.pages()), (64, 2));
-    Ok(())
+    assert_equal(&rt, held.last().and_then(|item| item.number()), Some(32));
+    assert_equal(&rt, (calls.get(), core.pages()), (64, 2));
 }
 
 #[test]
-fn a_refusal_by_init_drops_what_was_made_and_changes_nothing(rt: HostRuntime) -> Result<(), Fail> {
+fn a_refusal_by_init_drops_what_was_made_and_changes_nothing(rt: HostRuntime) {
     let calls = Cell::new(0u32);
     let ends = Cell::new(0u32);
     let init = Mortals {
@@ -203,25 +218,30 @@ fn a_refusal_by_init_drops_what_was_made_and_changes_nothing(rt: HostRuntime) ->
         ends: &ends,
         refused: 40,
     };
-    let mut core: LinearCore<Mortal<'_>, _, _, AnyValue> = LinearCore::new(rt.alloc(), init, Keep)?;
+    let mut core: LinearCore<Mortal<'_>, _, _, AnyValue> = LinearCore::new(
+        rt.alloc(),
+        init,
+        Keep,
+    ).expect(&rt, "a pool is made");
     let mut held = Vec::new(rt.alloc());
     for _ in 0..32 {
-        held.push(core.pull()?)?;
+        held.push(core.pull().expect(&rt, "an item is free"))
+            .expect(&rt, "memory is left");
     }
     let refused = core.pull();
     assert!(rt; matches!(&refused, Err(PullError::Init)));
-    assert_eq!(rt; (calls.get(), ends.get(), core.pages()), (40, 7, 1));
+    assert_equal(&rt, (calls.get(), ends.get(), core.pages()), (40, 7, 1));
     assert!(rt; are_mine(&core, &held));
-    let next = core.pull()?;
-    assert_eq!(rt;
+    let next = core.pull().expect(&rt, "an item is free");
+    assert_equal(
+        &rt,
         (next.number(), calls.get(), core.pages()),
-        (Some(32), 72, 2)
+        (Some(32), 72, 2),
     );
     drop(next);
     drop(held);
     drop(core);
-    assert_eq!(rt; ends.get(), 71);
-    Ok(())
+    assert_equal(&rt, ends.get(), 71);
 }
 
 #[test]
@@ -240,28 +260,27 @@ fn each_call_of_init_may_refuse_the_first_page(rt: HostRuntime) {
             Keep,
         );
         assert!(rt; matches!(&core, Err(PullError::Init)), "at call {refused}");
-        assert_eq!(rt; calls.get(), refused);
-        assert_eq!(rt; ends.get().saturating_add(1), refused);
+        assert_equal(&rt, calls.get(), refused);
+        assert_equal(&rt, ends.get().saturating_add(1), refused);
     }
 }
 
 #[test]
-fn an_item_is_its_own_pools_until_it_returns(rt: HostRuntime) -> Result<(), Fail> {
+fn an_item_is_its_own_pools_until_it_returns(rt: HostRuntime) {
     let zero = Copied::<u32, AnyValue>::new(0);
     let mut core: LinearCore<u32, _, _, AnyValue> = LinearCore::with_limit(
         rt.alloc(),
         zero,
         Keep,
         3,
-    )?;
-    assert_eq!(rt; core.limit(), Some(3));
-    let item = core.pull()?;
+    ).expect(&rt, "a pool is made");
+    assert_equal(&rt, core.limit(), Some(3));
+    let item = core.pull().expect(&rt, "an item is free");
     assert!(rt; core.is_mine(&item));
-    assert_eq!(rt; *item, 0);
+    assert_equal(&rt, *item, 0);
     if core.is_mine(&item) {
         core.give(item);
     }
-    let again = core.pull()?;
-    assert_eq!(rt; again.number(), Some(0));
-    Ok(())
+    let again = core.pull().expect(&rt, "an item is free");
+    assert_equal(&rt, again.number(), Some(0));
 }

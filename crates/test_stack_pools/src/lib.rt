@@ -2,6 +2,8 @@
 #![tactic(auto)]
 
 #[cfg(test)]
+mod assert_equal;
+#[cfg(test)]
 mod none_object_pool;
 #[cfg(test)]
 mod pull_error;

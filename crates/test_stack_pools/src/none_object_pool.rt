@@ -2,6 +2,7 @@
 ghost use Rattle.std.specs.Prelude.{◌≡◌, None, IsOk, IfOk};
 ghost use Rattle.lockfree_object_pool.specs.NonePool.{none_init, none_with};
 
+use crate::assert_equal::assert_equal;
 use lockfree_object_pool::{NoneObjectPool, NoneReusable, PullError};
 use std::mem;
 use std::sync::Arc;
@@ -66,9 +67,10 @@ fn a_written_value_is_gone(rt: HostRuntime) {
     let written = *item;
     drop(item);
     let pulled = *pool.pull().expect(&rt, "an item is made");
-    assert_eq!(rt;
+    assert_equal(
+        &rt,
         (written, pulled, pulled_and_written(), never_refused(&pool)),
-        (5, 0, Ok((3, 9)), Ok(0))
+        (5, 0, Ok((3, 9)), Ok(0)),
     );
 }
 
@@ -88,7 +90,11 @@ fn each_item_is_dropped_once(rt: HostRuntime) {
     mem::forget(owned);
     let attached: NoneReusable<Counted<'_>> = NoneReusable::new(counts.make());
     drop(attached);
-    assert_eq!(rt; (held, dropped, counts.now()), ((0, 1, (2, 0)), 1, (3, 2)));
+    assert_equal(
+        &rt,
+        (held, dropped, counts.now()),
+        ((0, 1, (2, 0)), 1, (3, 2)),
+    );
 }
 
 /// So the pool ends while they are out.
@@ -100,7 +106,7 @@ fn items_keep_no_owner_of_their_pool(rt: HostRuntime) {
     );
     let item = pool.pull().expect(&rt, "an item is made");
     let owned = pool.pull_owned().expect(&rt, "an item is made");
-    assert_eq!(rt; (*item, *owned, Arc::strong_count(&pool)), (3, 3, 1));
+    assert_equal(&rt, (*item, *owned, Arc::strong_count(&pool)), (3, 3, 1));
 }
 
 #[test]
@@ -108,5 +114,5 @@ fn a_pool_and_its_item_are_shown(rt: HostRuntime) {
     let pool = NoneObjectPool::new(|| Some(3u32));
     let item = pool.pull().expect(&rt, "an item is made");
     let shown = format!(in rt.alloc(); "{pool:?} {item:?}").expect(&rt, "memory is left");
-    assert_eq!(rt; shown.as_str(), "NoneObjectPool { .. } 3");
+    assert_equal(&rt, shown.as_str(), "NoneObjectPool { .. } 3");
 }

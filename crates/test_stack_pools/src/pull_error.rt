@@ -1,4 +1,5 @@
 //! The words and the numbers of the refusals, and what becomes of a value that memory was refused for.
+use crate::assert_equal::assert_equal;
 use lockfree_object_pool::PullError;
 use std::alloc::AllocFailed;
 use std::collections::HashSet;
@@ -10,11 +11,12 @@ fn each_refusal_has_its_own_words(rt: HostRuntime) {
     let told = format!(in rt.alloc();
         "{memory}; {init}; {limit}; {memory:?}, {init:?}, {limit:?}"
     ).expect(&rt, "memory is left");
-    assert_eq!(rt;
+    assert_equal(
+        &rt,
         told.as_str(),
-        "out of memory; init gave no item; the pool is at its limit; Memory, Init, Limit"
+        "out of memory; init gave no item; the pool is at its limit; Memory, Init, Limit",
     );
-    assert_eq!(rt; (memory as u8, init as u8, limit as u8), (1, 2, 3));
+    assert_equal(&rt, (memory as u8, init as u8, limit as u8), (1, 2, 3));
 }
 
 #[test]
@@ -23,9 +25,10 @@ fn a_value_that_memory_was_refused_for_is_dropped(rt: HostRuntime) {
     let refused = AllocFailed {
         value: Some(counts.make()),
     };
-    assert_eq!(rt;
+    assert_equal(
+        &rt,
         (PullError::from(refused), counts.now()),
-        (PullError::Memory, (1, 1))
+        (PullError::Memory, (1, 1)),
     );
 }
 

@@ -1,4 +1,5 @@
 //! The spin lock in use: what its guards show, who has it, and what it drops.
+use crate::assert_equal::assert_equal;
 use lockfree_object_pool::spin_lock::SpinLock;
 use std::sync::atomic::AtomicU64;
 use std::sync::atomic::Ordering::SeqCst;
@@ -48,10 +49,10 @@ fn two_threads_leave_two_thousand(rt: HostRuntime) {
         }
         thread::yield_now();
     }
-    assert_eq!(rt; sum.done.load(SeqCst), 2);
+    assert_equal(&rt, sum.done.load(SeqCst), 2);
     first.join(&rt);
     second.join(&rt);
-    assert_eq!(rt; *sum.lock.lock(&rt), 2_000);
+    assert_equal(&rt, *sum.lock.lock(&rt), 2_000);
 }
 
 #[test]
@@ -77,7 +78,7 @@ fn drops_each_value_once(rt: HostRuntime) {
     drop(guard);
     let returned = counts.drops();
     drop(lock);
-    assert_eq!(rt; (written, returned, counts.drops()), (1, 1, 2));
+    assert_equal(&rt, (written, returned, counts.drops()), (1, 1, 2));
 }
 
 #[test]
@@ -93,9 +94,9 @@ fn shows_what_was_written_last(rt: HostRuntime) {
     let mut guard = lock.lock(&rt);
     let made = *guard;
     *guard = 8;
-    assert_eq!(rt; (made, *guard, lock.try_lock().is_none()), (7, 8, true));
+    assert_equal(&rt, (made, *guard, lock.try_lock().is_none()), (7, 8, true));
     drop(guard);
-    assert_eq!(rt; lock.try_lock().map(|guard| *guard), Some(8));
+    assert_equal(&rt, lock.try_lock().map(|guard| *guard), Some(8));
 }
 
 #[test]

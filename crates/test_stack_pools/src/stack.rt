@@ -1,4 +1,5 @@
 //! A stack in use: which value it gives, how many it keeps, and what it drops.
+use crate::assert_equal::assert_equal;
 use lockfree_object_pool::clean::AnyValue;
 use lockfree_object_pool::stack::{Room, Stack};
 use test_values::counted::Counted;
@@ -11,7 +12,7 @@ fn takes_the_last_value_first(rt: HostRuntime) {
     stack.put(Room::new(rt.alloc()).expect(&rt, "memory is left"), 5);
     let one = stack.kept();
     let (five, room) = stack.take().expect(&rt, "5 is kept");
-    assert_eq!(rt; (empty, one, five, stack.kept()), ((true, 0), 1, 5, 0));
+    assert_equal(&rt, (empty, one, five, stack.kept()), ((true, 0), 1, 5, 0));
     stack.put(room, 6);
     let one = stack.kept();
     stack.put(Room::new(rt.alloc()).expect(&rt, "memory is left"), 7);
@@ -19,9 +20,10 @@ fn takes_the_last_value_first(rt: HostRuntime) {
     let seven = stack.take().expect(&rt, "7 is kept").0;
     let left = stack.kept();
     let six = stack.take().expect(&rt, "6 is kept").0;
-    assert_eq!(rt;
+    assert_equal(
+        &rt,
         ((one, two), (seven, left), (six, stack.kept())),
-        ((1, 2), (7, 1), (6, 0))
+        ((1, 2), (7, 1), (6, 0)),
     );
 }
 
@@ -53,7 +55,7 @@ fn drops_each_value_once(rt: HostRuntime) {
     drop(taken);
     let dropped = counts.drops();
     drop(stack);
-    assert_eq!(rt; (out, dropped, counts.drops()), (0, 1, 3));
+    assert_equal(&rt, (out, dropped, counts.drops()), (0, 1, 3));
 }
 
 #[test]
@@ -68,5 +70,5 @@ fn ends_with_a_million_values(rt: HostRuntime) {
     }
     let kept = stack.kept();
     drop(stack);
-    assert_eq!(rt; (kept, counts.drops()), (1_000_000, 1_000_000));
+    assert_equal(&rt, (kept, counts.drops()), (1_000_000, 1_000_000));
 }

@@ -1,4 +1,5 @@
 //! Worked rows, each a list of events with the answers that they have to give.
+use crate::assert_equal::assert_equal;
 use lockfree_object_pool::PullError;
 use lockfree_object_pool::clean::AnyValue;
 use lockfree_object_pool::closures::{Copied, Keep, Reset, ResetBy, Resets};
@@ -7,7 +8,6 @@ use std::alloc::{AllocError, Global};
 use std::cell::Cell;
 use std::process::Abort;
 use std::rc::Rc;
-use std::test::Fail;
 use test_values::counted::Counted;
 use test_values::tally::Tally;
 
@@ -35,12 +35,12 @@ fn play<const N: usize, T: Drop, R: Reset<T, AnyValue>>(
     alloc: Global,
     world: &mut World<T, R>,
     steps: [(Event<T>, Seen); N],
-) -> Result<(), AllocError> {
-    for (event, answer) in Vec::from_array(alloc, steps)? {
+) {
+    let steps = Vec::from_array(alloc, steps).expect(rt, "memory is left");
+    for (event, answer) in steps {
         let seen = world.step(event);
-        assert_eq!(rt; seen, answer);
+        assert_equal(rt, seen, answer);
     }
-    Ok(())
 }
 
 /// So many agents begin, and hold an item each.
@@ -70,8 +70,8 @@ fn owners(alloc: Global, shared: &Rc<u32>) -> Result<Prepared<Rc<u32>>, PullErro
 }
 
 #[test]
-fn a_lost_clearing_tries_the_next_bit(rt: HostRuntime) -> Result<(), Fail> {
-    let mut world = unbounded(rt.alloc())?;
+fn a_lost_clearing_tries_the_next_bit(rt: HostRuntime) {
+    let mut world = unbounded(rt.alloc()).expect(&rt, "a world is made");
     play(
         &rt,
         rt.alloc(),
@@ -85,24 +85,26 @@ fn a_lost_clearing_tries_the_next_bit(rt: HostRuntime) -> Result<(), Fail> {
             (Event::ClearBit(1), Seen::Found(1, 4294967294)),
             (Event::ClearBit(1), Seen::Pulled(1, 1)),
         ],
-    )?;
-    assert_eq!(rt; world.word(0), Some(4294967292));
-    Ok(())
+    );
+    assert_equal(&rt, world.word(0), Some(4294967292));
 }
 
 #[test]
-fn a_lost_link_takes_from_the_linked_page(rt: HostRuntime) -> Result<(), Fail> {
+fn a_lost_link_takes_from_the_linked_page(rt: HostRuntime) {
     for limit in [None, Some(2)] {
         let tally = Tally::new();
-        let first = make_counted(rt.alloc(), &tally)?;
+        let first = make_counted(rt.alloc(), &tally).expect(&rt, "values are made");
         let mut world = match limit {
-            Some(pages) => World::with_limit(rt.alloc(), first, Keep, pages)?,
-            None => World::new(rt.alloc(), first, Keep)?,
+            Some(pages) => World::with_limit(rt.alloc(), first, Keep, pages).expect(
+                &rt,
+                "a world is made",
+            ),
+            None => World::new(rt.alloc(), first, Keep).expect(&rt, "a world is made"),
         };
         hold(&mut world, 32);
         let (a, b) = (
-            make_counted(rt.alloc(), &tally)?,
-            make_counted(rt.alloc(), &tally)?,
+            make_counted(rt.alloc(), &tally).expect(&rt, "values are made"),
+            make_counted(rt.alloc(), &tally).expect(&rt, "values are made"),
         );
         play(
             &rt,
@@ -124,16 +126,15 @@ fn a_lost_link_takes_from_the_linked_page(rt: HostRuntime) -> Result<(), Fail> {
                 (Event::ReadMask(33), Seen::Word(33, 4294967294)),
                 (Event::ClearBit(33), Seen::Pulled(33, 33)),
             ],
-        )?;
-        assert_eq!(rt; tally.now(), (96, 32));
-        assert_eq!(rt; (world.pages(), world.limit()), (2, limit));
+        );
+        assert_equal(&rt, tally.now(), (96, 32));
+        assert_equal(&rt, (world.pages(), world.limit()), (2, limit));
     }
-    Ok(())
 }
 
 #[test]
-fn a_bit_that_was_taken_is_passed_over(rt: HostRuntime) -> Result<(), Fail> {
-    let mut world = unbounded(rt.alloc())?;
+fn a_bit_that_was_taken_is_passed_over(rt: HostRuntime) {
+    let mut world = unbounded(rt.alloc()).expect(&rt, "a world is made");
     hold(&mut world, 32);
     give_back(&mut world, 0);
     give_back(&mut world, 2);
@@ -150,14 +151,13 @@ fn a_bit_that_was_taken_is_passed_over(rt: HostRuntime) -> Result<(), Fail> {
             (Event::ClearBit(32), Seen::Found(32, 4)),
             (Event::ClearBit(32), Seen::Pulled(32, 2)),
         ],
-    )?;
-    assert_eq!(rt; world.word(0), Some(0));
-    Ok(())
+    );
+    assert_equal(&rt, world.word(0), Some(0));
 }
 
 #[test]
-fn an_event_that_is_not_enabled_changes_nothing(rt: HostRuntime) -> Result<(), Fail> {
-    let mut world = unbounded(rt.alloc())?;
+fn an_event_that_is_not_enabled_changes_nothing(rt: HostRuntime) {
+    let mut world = unbounded(rt.alloc()).expect(&rt, "a world is made");
     play(
         &rt,
         rt.alloc(),
@@ -167,14 +167,13 @@ fn an_event_that_is_not_enabled_changes_nothing(rt: HostRuntime) -> Result<(), F
             (Event::MoveOut(0), Seen::NotEnabled),
             (Event::ReadMask(1), Seen::NotEnabled),
         ],
-    )?;
-    assert_eq!(rt; (world.pages(), world.word(0)), (1, Some(FULL)));
-    Ok(())
+    );
+    assert_equal(&rt, (world.pages(), world.word(0)), (1, Some(FULL)));
 }
 
 #[test]
-fn an_agent_alone_holds_after_three_events(rt: HostRuntime) -> Result<(), Fail> {
-    let mut world = unbounded(rt.alloc())?;
+fn an_agent_alone_holds_after_three_events(rt: HostRuntime) {
+    let mut world = unbounded(rt.alloc()).expect(&rt, "a world is made");
     play(
         &rt,
         rt.alloc(),
@@ -186,18 +185,17 @@ fn an_agent_alone_holds_after_three_events(rt: HostRuntime) -> Result<(), Fail> 
             (Event::MoveOut(0), Seen::MovedOut(0)),
             (Event::Write(0, 5), Seen::Wrote(0)),
         ],
-    )?;
-    assert_eq!(rt; (world.held(0), world.place(0, 0)), (Some(&5), None));
+    );
+    assert_equal(&rt, (world.held(0), world.place(0, 0)), (Some(&5), None));
     give_back(&mut world, 0);
-    assert_eq!(rt; (world.held(0), world.place(0, 0)), (None, Some(&5)));
-    Ok(())
+    assert_equal(&rt, (world.held(0), world.place(0, 0)), (None, Some(&5)));
 }
 
 #[test]
-fn an_agent_alone_links_a_page_after_a_full_one(rt: HostRuntime) -> Result<(), Fail> {
-    let mut world = unbounded(rt.alloc())?;
+fn an_agent_alone_links_a_page_after_a_full_one(rt: HostRuntime) {
+    let mut world = unbounded(rt.alloc()).expect(&rt, "a world is made");
     hold(&mut world, 32);
-    let made = zeros(rt.alloc())?;
+    let made = zeros(rt.alloc()).expect(&rt, "values are made");
     play(
         &rt,
         rt.alloc(),
@@ -212,13 +210,12 @@ fn an_agent_alone_links_a_page_after_a_full_one(rt: HostRuntime) -> Result<(), F
             (Event::ClearBit(32), Seen::Pulled(32, 32)),
             (Event::MoveOut(32), Seen::MovedOut(32)),
         ],
-    )?;
-    Ok(())
+    );
 }
 
 #[test]
-fn a_refusal_leaves_the_pages_alone(rt: HostRuntime) -> Result<(), Fail> {
-    let mut world = unbounded(rt.alloc())?;
+fn a_refusal_leaves_the_pages_alone(rt: HostRuntime) {
+    let mut world = unbounded(rt.alloc()).expect(&rt, "a world is made");
     hold(&mut world, 32);
     play(
         &rt,
@@ -236,17 +233,16 @@ fn a_refusal_leaves_the_pages_alone(rt: HostRuntime) -> Result<(), Fail> {
                 Seen::Refused(32, PullError::Init),
             ),
         ],
-    )?;
-    assert_eq!(rt; (world.pages(), world.word(0)), (1, Some(128)));
-    Ok(())
+    );
+    assert_equal(&rt, (world.pages(), world.word(0)), (1, Some(128)));
 }
 
 #[test]
-fn a_page_may_be_linked_although_a_number_came_back(rt: HostRuntime) -> Result<(), Fail> {
-    let mut world = unbounded(rt.alloc())?;
+fn a_page_may_be_linked_although_a_number_came_back(rt: HostRuntime) {
+    let mut world = unbounded(rt.alloc()).expect(&rt, "a world is made");
     hold(&mut world, 32);
     give_back(&mut world, 0);
-    let made = zeros(rt.alloc())?;
+    let made = zeros(rt.alloc()).expect(&rt, "values are made");
     play(
         &rt,
         rt.alloc(),
@@ -266,15 +262,20 @@ fn a_page_may_be_linked_although_a_number_came_back(rt: HostRuntime) -> Result<(
             (Event::ReadMask(32), Seen::Word(32, FULL)),
             (Event::ClearBit(32), Seen::Pulled(32, 32)),
         ],
-    )?;
-    assert_eq!(rt; (world.pages(), world.word(0)), (2, Some(32)));
-    Ok(())
+    );
+    assert_equal(&rt, (world.pages(), world.word(0)), (2, Some(32)));
 }
 
 #[test]
-fn a_full_world_at_its_limit_refuses(rt: HostRuntime) -> Result<(), Fail> {
+fn a_full_world_at_its_limit_refuses(rt: HostRuntime) {
     for returns_between in [false, true] {
-        let mut world = World::with_limit(rt.alloc(), zeros(rt.alloc())?, Keep, 1)?;
+        let mut world = World::with_limit(
+            rt.alloc(),
+            zeros(rt.alloc()).expect(&rt, "values are made"),
+            Keep,
+            1,
+        )
+        .expect(&rt, "a world is made");
         hold(&mut world, 32);
         play(
             &rt,
@@ -284,7 +285,7 @@ fn a_full_world_at_its_limit_refuses(rt: HostRuntime) -> Result<(), Fail> {
                 (Event::Begin, Seen::Began(32)),
                 (Event::ReadMask(32), Seen::Word(32, 0)),
             ],
-        )?;
+        );
         if returns_between {
             give_back(&mut world, 7);
         }
@@ -293,18 +294,23 @@ fn a_full_world_at_its_limit_refuses(rt: HostRuntime) -> Result<(), Fail> {
             rt.alloc(),
             &mut world,
             [(Event::ReadNext(32), Seen::Refused(32, PullError::Limit))],
-        )?;
+        );
         let word = if returns_between { 128 } else { 0 };
-        assert_eq!(rt; (world.pages(), world.word(0)), (1, Some(word)));
+        assert_equal(&rt, (world.pages(), world.word(0)), (1, Some(word)));
     }
-    Ok(())
 }
 
 #[test]
-fn an_agent_alone_is_refused_after_two_events_a_page(rt: HostRuntime) -> Result<(), Fail> {
-    let mut world = World::with_limit(rt.alloc(), zeros(rt.alloc())?, Keep, 2)?;
+fn an_agent_alone_is_refused_after_two_events_a_page(rt: HostRuntime) {
+    let mut world = World::with_limit(
+        rt.alloc(),
+        zeros(rt.alloc()).expect(&rt, "values are made"),
+        Keep,
+        2,
+    )
+    .expect(&rt, "a world is made");
     hold(&mut world, 32);
-    let made = zeros(rt.alloc())?;
+    let made = zeros(rt.alloc()).expect(&rt, "values are made");
     play(
         &rt,
         rt.alloc(),
@@ -316,7 +322,7 @@ fn an_agent_alone_is_refused_after_two_events_a_page(rt: HostRuntime) -> Result<
             (Event::MakePage(32, Ok(made)), Seen::Made(32)),
             (Event::ExchangeNext(32), Seen::Linked(32)),
         ],
-    )?;
+    );
     for agent in 33..64 {
         let _ = world.step(Event::Begin);
         let _ = world.step(Event::ReadMask(agent));
@@ -338,19 +344,17 @@ fn an_agent_alone_is_refused_after_two_events_a_page(rt: HostRuntime) -> Result<
             (Event::ReadMask(64), Seen::Word(64, 0)),
             (Event::ReadNext(64), Seen::Refused(64, PullError::Limit)),
         ],
-    )?;
-    Ok(())
+    );
 }
 
 #[test]
-fn a_page_is_made_whole_or_not_at_all(rt: HostRuntime) -> Result<(), Fail> {
+fn a_page_is_made_whole_or_not_at_all(rt: HostRuntime) {
     for refused in 0..32usize {
         let tally = Tally::new();
         let made = Prepared::make(rt.alloc(), &|| tally.make_but(refused));
         assert!(rt; matches!(made, Err(PullError::Init)));
-        assert_eq!(rt; tally.now(), (refused.saturating_add(1), refused));
+        assert_equal(&rt, tally.now(), (refused.saturating_add(1), refused));
     }
-    Ok(())
 }
 
 /// What lies at the first place after an agent wrote 9 there and returned it.
@@ -373,10 +377,15 @@ fn left_by_closure<F: ResetBy<u32>>(alloc: Global, reset: F) -> Result<Option<u3
 }
 
 #[test]
-fn a_return_stores_what_reset_left(rt: HostRuntime) -> Result<(), Fail> {
-    let kept = left_of_nine(rt.alloc(), Keep)?;
-    let copied = left_of_nine(rt.alloc(), Copied::<u32, AnyValue>::new(3))?;
-    let halved = left_by_closure(rt.alloc(), |value: &mut u32| *value /= 2)?;
-    assert_eq!(rt; (kept, copied, halved), (Some(9), Some(3), Some(4)));
-    Ok(())
+fn a_return_stores_what_reset_left(rt: HostRuntime) {
+    let kept = left_of_nine(rt.alloc(), Keep).expect(&rt, "nothing is refused");
+    let copied = left_of_nine(rt.alloc(), Copied::<u32, AnyValue>::new(3)).expect(
+        &rt,
+        "nothing is refused",
+    );
+    let halved = left_by_closure(rt.alloc(), |value: &mut u32| *value /= 2).expect(
+        &rt,
+        "nothing is refused",
+    );
+    assert_equal(&rt, (kept, copied, halved), (Some(9), Some(3), Some(4)));
 }

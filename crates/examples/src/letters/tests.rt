@@ -1,8 +1,8 @@
 //! A writer and a reader in two threads. The pool has one page, so sheets that the reader dropped are written on again.
 use super::*;
+use crate::assert_equal::assert_equal;
 use crossbeam_channel::{Receiver, Sender, unbounded};
 use std::sync::Wait;
-use std::test::Fail;
 use std::thread;
 
 /// A thread that still waits after so many turns gives up, and its test fails.
@@ -63,20 +63,24 @@ fn read_all<W: Wait>(rt: &W, from: &Receiver<Letter>) -> bool {
 }
 
 #[test]
-fn letters_reach_the_reader_and_their_sheets_come_home(rt: HostRuntime) -> Result<(), Fail> {
+fn letters_reach_the_reader_and_their_sheets_come_home(rt: HostRuntime) {
     let alloc = rt.alloc();
-    let pool = LinearObjectPool::with_limit(alloc, WithCapacity::new(alloc, 4), Clear, 1)?;
-    let pool = Arc::new(alloc, pool)?;
-    let (to, from) = unbounded(alloc)?;
-    let reader = thread::spawn(&rt, move || read_all(&rt, &from))?;
+    let pool = LinearObjectPool::with_limit(alloc, WithCapacity::new(alloc, 4), Clear, 1).expect(
+        &rt,
+        "a pool is made",
+    );
+    let pool = Arc::new(alloc, pool).expect(&rt, "memory is left");
+    let (to, from) = unbounded(alloc).expect(&rt, "a channel is made");
+    let reader = thread::spawn(&rt, move || read_all(&rt, &from)).expect(&rt, "a thread is made");
     assert!(rt; write_all(&rt, &pool, &to));
     assert!(rt; reader.join(&rt));
-    let mut sheets = Vec::with_capacity(alloc, 32)?;
+    let mut sheets = Vec::with_capacity(alloc, 32).expect(&rt, "memory is left");
     for _ in 0..32 {
-        sheets.push(pool.pull_owned()?)?;
+        sheets
+            .push(pool.pull_owned().expect(&rt, "an item is free"))
+            .expect(&rt, "memory is left");
     }
-    assert_eq!(rt; pool.pull_owned().err(), Some(PullError::Limit));
-    Ok(())
+    assert_equal(&rt, pool.pull_owned().err(), Some(PullError::Limit));
 }
 
 /// Whether a hundred letters with the text are whole, each of them dropped before the next is written.
@@ -91,13 +95,15 @@ fn write_often(pool: &Arc<SheetPool>, text: &[u8]) -> bool {
 }
 
 #[test]
-fn letters_of_any_length_are_whole_and_their_sheets_come_home(rt: HostRuntime) -> Result<(), Fail> {
+fn letters_of_any_length_are_whole_and_their_sheets_come_home(rt: HostRuntime) {
     let alloc = rt.alloc();
-    let pool = LinearObjectPool::with_limit(alloc, WithCapacity::new(alloc, 4), Clear, 1)?;
-    let pool = Arc::new(alloc, pool)?;
+    let pool = LinearObjectPool::with_limit(alloc, WithCapacity::new(alloc, 4), Clear, 1).expect(
+        &rt,
+        "a pool is made",
+    );
+    let pool = Arc::new(alloc, pool).expect(&rt, "memory is left");
     for len in [0, 1, 5_000, 8_193, 70_000] {
-        let text = vec![in alloc; 7u8; len]?;
+        let text = vec![in alloc; 7u8; len].expect(&rt, "memory is left");
         assert!(rt; write_often(&pool, &text), "letters of {len} bytes");
     }
-    Ok(())
 }

@@ -1,7 +1,7 @@
 //! Replies to many names, by threads that share one page of buffers.
 use super::*;
+use crate::assert_equal::assert_equal;
 use std::sync::Arc;
-use std::test::Fail;
 use std::thread;
 
 /// Whether a hundred greetings were as they should be.
@@ -16,37 +16,46 @@ fn greet_often(alloc: Global, replies: &Replies, name: &[u8], expected: &[u8]) -
 }
 
 #[test]
-fn threads_greet_each_by_its_name(rt: HostRuntime) -> Result<(), Fail> {
+fn threads_greet_each_by_its_name(rt: HostRuntime) {
     let alloc = rt.alloc();
-    let replies = Arc::new(alloc, new_replies(alloc, 16)?)?;
+    let replies = Arc::new(alloc, new_replies(alloc, 16).expect(&rt, "memory is left")).expect(
+        &rt,
+        "memory is left",
+    );
     let names: [(&'static [u8], &'static [u8]); 3] = [
         (b"Ada", b"hello, Ada\n"),
         (b"Grace Hopper", b"hello, Grace Hopper\n"),
         (b"", b"hello, \n"),
     ];
-    let mut threads = Vec::with_capacity(alloc, 3)?;
+    let mut threads = Vec::with_capacity(alloc, 3).expect(&rt, "memory is left");
     for (name, expected) in names {
-        let replies = Arc::try_clone(&replies)?;
-        threads.push(thread::spawn(&rt, move || greet_often(alloc, &replies, name, expected))?)?;
+        let replies = Arc::try_clone(&replies).expect(&rt, "memory is left");
+        threads
+            .push(thread::spawn(&rt, move || greet_often(alloc, &replies, name, expected)).expect(
+                &rt,
+                "a thread is made",
+            ))
+            .expect(&rt, "memory is left");
     }
     for thread in threads {
         assert!(rt; thread.join(&rt));
     }
-    Ok(())
 }
 
 #[test]
-fn a_page_of_replies_is_all_there_is(rt: HostRuntime) -> Result<(), Fail> {
-    let replies = new_replies(rt.alloc(), 16)?;
-    let mut buffers = Vec::with_capacity(rt.alloc(), 32)?;
+fn a_page_of_replies_is_all_there_is(rt: HostRuntime) {
+    let replies = new_replies(rt.alloc(), 16).expect(&rt, "memory is left");
+    let mut buffers = Vec::with_capacity(rt.alloc(), 32).expect(&rt, "memory is left");
     for _ in 0..32 {
-        buffers.push(replies.pull()?)?;
+        buffers
+            .push(replies.pull().expect(&rt, "an item is free"))
+            .expect(&rt, "memory is left");
     }
-    assert_eq!(rt;
+    assert_equal(
+        &rt,
         greeting(rt.alloc(), &replies, b"Ada"),
-        Err(PullError::Limit)
+        Err(PullError::Limit),
     );
-    Ok(())
 }
 
 /// Whether a name of so many bytes is greeted a hundred times, which is more often than a page has buffers.
@@ -59,32 +68,28 @@ fn greet_at_length(alloc: Global, replies: &Replies, len: usize) -> Result<bool,
 }
 
 #[test]
-fn names_of_any_length_are_greeted_and_their_buffers_come_home(
-    rt: HostRuntime,
-) -> Result<(), Fail> {
-    let replies = new_replies(rt.alloc(), 16)?;
+fn names_of_any_length_are_greeted_and_their_buffers_come_home(rt: HostRuntime) {
+    let replies = new_replies(rt.alloc(), 16).expect(&rt, "memory is left");
     for len in [0, 1, 5_000, 8_193, 70_000] {
         assert!(rt;
-            greet_at_length(rt.alloc(), &replies, len)?,
+            greet_at_length(rt.alloc(), &replies, len).expect(&rt, "nothing is refused"),
             "a name of {len} bytes"
         );
     }
-    Ok(())
 }
 
 #[test]
 fn more_room_than_there_is_memory_is_refused(rt: HostRuntime) {
     let refused = new_replies(rt.alloc(), usize::MAX).err();
-    assert_eq!(rt; refused, Some(PullError::Init));
+    assert_equal(&rt, refused, Some(PullError::Init));
 }
 
 #[test]
-fn a_name_may_begin_with_any_byte(rt: HostRuntime) -> Result<(), Fail> {
-    let replies = new_replies(rt.alloc(), 16)?;
+fn a_name_may_begin_with_any_byte(rt: HostRuntime) {
+    let replies = new_replies(rt.alloc(), 16).expect(&rt, "memory is left");
     for byte in 0..=u8::MAX {
-        let reply = greeting(rt.alloc(), &replies, &[byte, b'a'])?;
+        let reply = greeting(rt.alloc(), &replies, &[byte, b'a']).expect(&rt, "nothing is refused");
         let expected = [b'h', b'e', b'l', b'l', b'o', b',', b' ', byte, b'a', b'\n'];
-        assert_eq!(rt; reply.as_slice(), expected.as_slice());
+        assert_equal(&rt, reply.as_slice(), expected.as_slice());
     }
-    Ok(())
 }

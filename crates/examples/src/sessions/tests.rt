@@ -1,6 +1,6 @@
 //! Sessions that are opened, filled and closed, by one thread and by several that share a pool.
 use super::*;
-use std::test::Fail;
+use crate::assert_equal::assert_equal;
 use std::thread;
 
 fn new_pool(alloc: Global) -> Result<Arc<BasketPool>, PullError> {
@@ -32,43 +32,51 @@ fn serve(alloc: Global, pool: Arc<BasketPool>, product: u32) -> bool {
 }
 
 #[test]
-fn threads_open_sessions_with_empty_baskets(rt: HostRuntime) -> Result<(), Fail> {
+fn threads_open_sessions_with_empty_baskets(rt: HostRuntime) {
     let alloc = rt.alloc();
-    let pool = new_pool(alloc)?;
-    let mut threads = Vec::with_capacity(alloc, 5)?;
+    let pool = new_pool(alloc).expect(&rt, "a pool is made");
+    let mut threads = Vec::with_capacity(alloc, 5).expect(&rt, "memory is left");
     for product in 1..6u32 {
-        let pool = Arc::try_clone(&pool)?;
-        threads.push(thread::spawn(&rt, move || serve(alloc, pool, product))?)?;
+        let pool = Arc::try_clone(&pool).expect(&rt, "memory is left");
+        threads
+            .push(thread::spawn(&rt, move || serve(alloc, pool, product)).expect(
+                &rt,
+                "a thread is made",
+            ))
+            .expect(&rt, "memory is left");
     }
     for thread in threads {
         assert!(rt; thread.join(&rt));
     }
-    Ok(())
 }
 
 #[test]
-fn a_closed_session_leaves_its_place_to_another(rt: HostRuntime) -> Result<(), Fail> {
-    let mut sessions = Sessions::new(rt.alloc(), new_pool(rt.alloc())?);
+fn a_closed_session_leaves_its_place_to_another(rt: HostRuntime) {
+    let mut sessions = Sessions::new(
+        rt.alloc(),
+        new_pool(rt.alloc()).expect(&rt, "a pool is made"),
+    );
     for session in 0..32u64 {
-        sessions.open(session)?;
+        sessions.open(session).expect(&rt, "a pool is made");
     }
-    assert_eq!(rt; sessions.open(32), Err(PullError::Limit));
+    assert_equal(&rt, sessions.open(32), Err(PullError::Limit));
     sessions.close(7);
     assert!(rt; sessions.products(7).is_none());
-    sessions.open(32)?;
+    sessions.open(32).expect(&rt, "a pool is made");
     assert!(rt; holds(&sessions, 32, &[]));
-    Ok(())
 }
 
 #[test]
-fn a_session_that_is_opened_anew_gives_its_basket_back(rt: HostRuntime) -> Result<(), Fail> {
-    let mut sessions = Sessions::new(rt.alloc(), new_pool(rt.alloc())?);
+fn a_session_that_is_opened_anew_gives_its_basket_back(rt: HostRuntime) {
+    let mut sessions = Sessions::new(
+        rt.alloc(),
+        new_pool(rt.alloc()).expect(&rt, "a pool is made"),
+    );
     for _ in 0..100 {
-        sessions.open(7)?;
+        sessions.open(7).expect(&rt, "a pool is made");
         assert!(rt; holds(&sessions, 7, &[]));
-        sessions.add(7, 1)?;
+        sessions.add(7, 1).expect(&rt, "nothing is refused");
     }
-    Ok(())
 }
 
 /// Opens a session, or opens it anew, and gathers as many products as are asked for. How many there are then, and the
@@ -89,15 +97,17 @@ fn gather(
 }
 
 #[test]
-fn baskets_of_seventy_thousand_products_come_home(rt: HostRuntime) -> Result<(), Fail> {
-    let mut sessions = Sessions::new(rt.alloc(), new_pool(rt.alloc())?);
+fn baskets_of_seventy_thousand_products_come_home(rt: HostRuntime) {
+    let mut sessions = Sessions::new(
+        rt.alloc(),
+        new_pool(rt.alloc()).expect(&rt, "a pool is made"),
+    );
     for _ in 0..3 {
-        let gathered = gather(&mut sessions, 7, 70_000)?;
-        assert_eq!(rt; gathered, (70_000, Some(69_999)));
+        let gathered = gather(&mut sessions, 7, 70_000).expect(&rt, "nothing is refused");
+        assert_equal(&rt, gathered, (70_000, Some(69_999)));
     }
     sessions.close(7);
     assert!(rt; all_baskets_are_home(&mut sessions));
-    Ok(())
 }
 
 /// Opens ten pages of sessions, each of which gathers one product: what is asked for and its own number together.
@@ -126,35 +136,41 @@ fn close_each(sessions: &mut Sessions, product: u32) -> bool {
 }
 
 #[test]
-fn three_hundred_and_twenty_sessions_are_open_at_once(rt: HostRuntime) -> Result<(), Fail> {
+fn three_hundred_and_twenty_sessions_are_open_at_once(rt: HostRuntime) {
     let alloc = rt.alloc();
-    let pool = LinearObjectPool::with_limit(alloc, WithCapacity::new(alloc, 4), Clear, 10)?;
-    let mut sessions = Sessions::new(alloc, Arc::new(alloc, pool)?);
+    let pool = LinearObjectPool::with_limit(alloc, WithCapacity::new(alloc, 4), Clear, 10).expect(
+        &rt,
+        "a pool is made",
+    );
+    let mut sessions = Sessions::new(alloc, Arc::new(alloc, pool).expect(&rt, "memory is left"));
     for product in [1_000, 2_000] {
-        open_each(&mut sessions, product)?;
-        assert_eq!(rt; sessions.open(320), Err(PullError::Limit));
+        open_each(&mut sessions, product).expect(&rt, "nothing is refused");
+        assert_equal(&rt, sessions.open(320), Err(PullError::Limit));
         assert!(rt; close_each(&mut sessions, product));
     }
-    Ok(())
 }
 
 #[test]
-fn the_greatest_session_can_be_opened(rt: HostRuntime) -> Result<(), Fail> {
-    let mut sessions = Sessions::new(rt.alloc(), new_pool(rt.alloc())?);
-    sessions.open(u64::MAX)?;
-    sessions.add(u64::MAX, 7)?;
+fn the_greatest_session_can_be_opened(rt: HostRuntime) {
+    let mut sessions = Sessions::new(
+        rt.alloc(),
+        new_pool(rt.alloc()).expect(&rt, "a pool is made"),
+    );
+    sessions.open(u64::MAX).expect(&rt, "a pool is made");
+    sessions.add(u64::MAX, 7).expect(&rt, "nothing is refused");
     assert!(rt; holds(&sessions, u64::MAX, &[7]));
-    Ok(())
 }
 
 #[test]
-fn a_product_for_a_closed_session_is_let_go(rt: HostRuntime) -> Result<(), Fail> {
-    let mut sessions = Sessions::new(rt.alloc(), new_pool(rt.alloc())?);
-    sessions.open(1)?;
+fn a_product_for_a_closed_session_is_let_go(rt: HostRuntime) {
+    let mut sessions = Sessions::new(
+        rt.alloc(),
+        new_pool(rt.alloc()).expect(&rt, "a pool is made"),
+    );
+    sessions.open(1).expect(&rt, "a pool is made");
     sessions.close(1);
-    assert_eq!(rt; sessions.add(1, 7), Ok(()));
+    assert_equal(&rt, sessions.add(1, 7), Ok(()));
     assert!(rt; sessions.products(1).is_none());
-    Ok(())
 }
 
 /// Whether as many sessions can be opened as a page has baskets.
@@ -168,29 +184,33 @@ fn all_baskets_are_home(sessions: &mut Sessions) -> bool {
 }
 
 #[test]
-fn the_basket_of_a_session_opened_anew_comes_home(rt: HostRuntime) -> Result<(), Fail> {
-    let mut sessions = Sessions::new(rt.alloc(), new_pool(rt.alloc())?);
+fn the_basket_of_a_session_opened_anew_comes_home(rt: HostRuntime) {
+    let mut sessions = Sessions::new(
+        rt.alloc(),
+        new_pool(rt.alloc()).expect(&rt, "a pool is made"),
+    );
     for products in 0..100u32 {
-        sessions.open(1)?;
+        sessions.open(1).expect(&rt, "a pool is made");
         for product in 0..products {
-            sessions.add(1, product)?;
+            sessions.add(1, product).expect(&rt, "nothing is refused");
         }
     }
     sessions.close(1);
     assert!(rt; all_baskets_are_home(&mut sessions));
-    Ok(())
 }
 
 #[test]
-fn the_basket_of_a_closed_session_comes_home(rt: HostRuntime) -> Result<(), Fail> {
-    let mut sessions = Sessions::new(rt.alloc(), new_pool(rt.alloc())?);
+fn the_basket_of_a_closed_session_comes_home(rt: HostRuntime) {
+    let mut sessions = Sessions::new(
+        rt.alloc(),
+        new_pool(rt.alloc()).expect(&rt, "a pool is made"),
+    );
     for products in 0..100u32 {
-        sessions.open(1)?;
+        sessions.open(1).expect(&rt, "a pool is made");
         for product in 0..products {
-            sessions.add(1, product)?;
+            sessions.add(1, product).expect(&rt, "nothing is refused");
         }
         sessions.close(1);
     }
     assert!(rt; all_baskets_are_home(&mut sessions));
-    Ok(())
 }

@@ -20,10 +20,19 @@ use lockfree_object_pool::page::PageId;
 use std::alloc::Global;
 
 /// The linear core with any number of agents. What an agent returns is reset by `R`.
-#[derive(Drop)]
 pub struct World<T, R: Reset<T, AnyValue>> {
     reachable: ReachableWorld<T>,
     reset: R,
+}
+
+/// Not derived: the proof of a caller that drops it has one call here, and a derived drop has that of each field.
+impl<T: Drop, R: Reset<T, AnyValue>> Drop for World<T, R> {
+    fn drop(self) {
+        let World {
+            reachable: _,
+            reset: _,
+        } = self;
+    }
 }
 
 impl<T: Drop, R: Reset<T, AnyValue>> World<T, R> {

@@ -16,11 +16,21 @@ use lockfree_object_pool::closures::{Init, Reset};
 use std::alloc::Global;
 
 /// A pool of pages of 32 items each, which are known by their numbers. A pull gives the least free number.
-#[derive(Drop)]
 pub struct LinearCore<T, I: Init<T, K>, R: Reset<T, K>, K: Clean<T>> {
     init: I,
     reset: R,
     items: NumberedItems<T, K>,
+}
+
+/// Not derived: the proof of a caller that drops it has one call here, and a derived drop has that of each field.
+impl<T: Drop, I: Init<T, K>, R: Reset<T, K>, K: Clean<T>> Drop for LinearCore<T, I, R, K> {
+    fn drop(self) {
+        let LinearCore {
+            init: _,
+            reset: _,
+            items: _,
+        } = self;
+    }
 }
 
 impl<T: Drop, I: Init<T, K>, R: Reset<T, K>, K: Clean<T>> LinearCore<T, I, R, K> {

@@ -10,10 +10,16 @@ use std::alloc::Global;
 use std::marker::Model;
 
 /// A pool with the table of the items that are held of it.
-#[derive(Drop)]
 pub struct Player<T, P: SequentialPool<T>> {
     pool: P,
     held: HeldItems<T>,
+}
+
+/// Not derived: the proof of a caller that drops it has one call here, and a derived drop has that of each field.
+impl<T: Drop, P: SequentialPool<T> + Drop> Drop for Player<T, P> {
+    fn drop(self) {
+        let Player { pool: _, held: _ } = self;
+    }
 }
 
 impl<T, P: SequentialPool<T>> Model for Player<T, P> {

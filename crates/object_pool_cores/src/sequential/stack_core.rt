@@ -11,12 +11,23 @@ use lockfree_object_pool::stack::{Room, Stack};
 use std::alloc::Global;
 
 /// A pool that keeps what was returned. An item brings its own room, so a return takes no memory.
-#[derive(Drop)]
 pub struct StackCore<T: Drop, I: Init<T, K>, R: Reset<T, K>, K: Clean<T>> {
     alloc: Global,
     init: I,
     reset: R,
     kept: Stack<T, K>,
+}
+
+/// Not derived: the proof of a caller that drops it has one call here, and a derived drop has that of each field.
+impl<T: Drop, I: Init<T, K>, R: Reset<T, K>, K: Clean<T>> Drop for StackCore<T, I, R, K> {
+    fn drop(self) {
+        let StackCore {
+            alloc: _,
+            init: _,
+            reset: _,
+            kept: _,
+        } = self;
+    }
 }
 
 impl<T: Drop, I: Init<T, K>, R: Reset<T, K>, K: Clean<T>> StackCore<T, I, R, K> {

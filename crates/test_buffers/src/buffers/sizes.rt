@@ -1,39 +1,40 @@
 //! The greatest limit, and buffers of many bytes.
 use super::*;
+use crate::assert_equal::assert_equal;
 
 /// How many bytes a mebibyte is.
 const MEBIBYTE: usize = 1 << 20;
 
 #[test]
-fn the_greatest_limit_needs_no_memory_beforehand(rt: HostRuntime) -> Result<(), Fail> {
+fn the_greatest_limit_needs_no_memory_beforehand(rt: HostRuntime) {
     let alloc = rt.alloc();
-    let pool = BufferPool::new(alloc, WithCapacity::new(alloc, 16), Clear, usize::MAX)?;
-    let buffer = pool.pull()?;
-    assert_eq!(rt; (buffer.page_number(), buffer.page_id()), (0, 0));
-    Ok(())
+    let pool = BufferPool::new(alloc, WithCapacity::new(alloc, 16), Clear, usize::MAX).expect(
+        &rt,
+        "a pool is made",
+    );
+    let buffer = pool.pull().expect(&rt, "an item is free");
+    assert_equal(&rt, (buffer.page_number(), buffer.page_id()), (0, 0));
 }
 
 #[test]
-fn a_buffer_takes_long_texts_again_and_again(rt: HostRuntime) -> Result<(), Fail> {
-    let pool = one_page(rt.alloc())?;
-    let mut buffer = pool.pull()?;
+fn a_buffer_takes_long_texts_again_and_again(rt: HostRuntime) {
+    let pool = one_page(rt.alloc()).expect(&rt, "a pool is made");
+    let mut buffer = pool.pull().expect(&rt, "an item is free");
     let text = [7u8; 5000];
     for _ in 0..20 {
-        buffer.append(&text)?;
+        buffer.append(&text).expect(&rt, "memory is left");
     }
-    buffer.append(b"")?;
-    assert_eq!(rt; buffer.as_slice().len(), 100_000);
+    buffer.append(b"").expect(&rt, "memory is left");
+    assert_equal(&rt, buffer.as_slice().len(), 100_000);
     assert!(rt; buffer.as_slice().iter().all(|byte| *byte == 7));
-    Ok(())
 }
 
 #[test]
-fn a_fresh_buffer_has_the_room_that_is_asked_for(rt: HostRuntime) -> Result<(), Fail> {
+fn a_fresh_buffer_has_the_room_that_is_asked_for(rt: HostRuntime) {
     for capacity in [0, 1, 100_000, 2 * MEBIBYTE, 3 * MEBIBYTE] {
-        let bytes = fresh(rt.alloc(), capacity).ok_or("there is memory")?;
+        let bytes = fresh(rt.alloc(), capacity).expect(&rt, "there is memory");
         assert!(rt; bytes.is_empty() && bytes.capacity() >= capacity);
     }
-    Ok(())
 }
 
 /// Whether a buffer that has a mebibyte takes two texts more, and holds them all.
@@ -52,7 +53,7 @@ fn takes_more(alloc: Global, first: &[u8], second: &[u8]) -> Result<bool, PullEr
 #[test]
 fn a_buffer_of_a_mebibyte_takes_more(rt: HostRuntime) {
     let takes = takes_more(rt.alloc(), b"more", &[9; 5000]);
-    assert_eq!(rt; takes, Ok(true));
+    assert_equal(&rt, takes, Ok(true));
 }
 
 /// How many bytes a new buffer of a pool has, and whether they are those that were appended, once so many were appended at once.
@@ -70,16 +71,15 @@ fn appended_at_once(alloc: Global, count: usize) -> Result<(usize, bool), PullEr
 #[test]
 fn three_mebibytes_are_appended_at_once(rt: HostRuntime) {
     let count = 3 * MEBIBYTE;
-    assert_eq!(rt; appended_at_once(rt.alloc(), count), Ok((count, true)));
+    assert_equal(&rt, appended_at_once(rt.alloc(), count), Ok((count, true)));
 }
 
 #[test]
-fn a_buffer_of_hundreds_of_bytes_is_shown_whole(rt: HostRuntime) -> Result<(), Fail> {
-    let pool = one_page(rt.alloc())?;
-    let mut buffer = pool.pull()?;
-    buffer.append(&[7; 600])?;
-    let text = format!(in rt.alloc(); "{buffer:?}")?;
-    let bytes = format!(in rt.alloc(); "{:?}", [7u8; 600].as_slice())?;
-    assert_eq!(rt; (text.len(), text.as_str()), (1800, bytes.as_str()));
-    Ok(())
+fn a_buffer_of_hundreds_of_bytes_is_shown_whole(rt: HostRuntime) {
+    let pool = one_page(rt.alloc()).expect(&rt, "a pool is made");
+    let mut buffer = pool.pull().expect(&rt, "an item is free");
+    buffer.append(&[7; 600]).expect(&rt, "memory is left");
+    let text = format!(in rt.alloc(); "{buffer:?}").expect(&rt, "memory is left");
+    let bytes = format!(in rt.alloc(); "{:?}", [7u8; 600].as_slice()).expect(&rt, "memory is left");
+    assert_equal(&rt, (text.len(), text.as_str()), (1800, bytes.as_str()));
 }

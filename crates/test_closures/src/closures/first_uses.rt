@@ -2,6 +2,7 @@
 ghost use Rattle.std.specs.Prelude.{◌≡◌, [], IfOk};
 
 use super::*;
+use crate::assert_equal::assert_equal;
 use lockfree_object_pool::{
     LinearObjectPool, MutexObjectPool, MutexReusable, PullError, SpinLockObjectPool,
 };
@@ -43,25 +44,32 @@ struct Job<'p, W: Wait + Copy> {
 }
 
 #[test]
-fn a_buffer_pool_is_one_line(rt: HostRuntime) -> Result<(), Fail> {
-    assert_eq!(rt; pulled_buffer(rt.alloc())?.len(), 0);
-    Ok(())
+fn a_buffer_pool_is_one_line(rt: HostRuntime) {
+    assert_equal(
+        &rt,
+        pulled_buffer(rt.alloc())
+            .expect(&rt, "nothing is refused")
+            .len(),
+        0,
+    );
 }
 
 #[test]
-fn a_struct_that_keeps_pools_and_items_is_shown(rt: HostRuntime) -> Result<(), Fail> {
-    let server = new_server(rt.alloc())?;
-    let shown = format!(in rt.alloc(); "{server:?}")?;
+fn a_struct_that_keeps_pools_and_items_is_shown(rt: HostRuntime) {
+    let server = new_server(rt.alloc()).expect(&rt, "nothing is refused");
+    let shown = format!(in rt.alloc(); "{server:?}").expect(&rt, "memory is left");
     let expected = "Server { sessions: LinearObjectPool { limit: Some(2), .. }, \
                     jobs: MutexObjectPool { .. }, names: SpinLockObjectPool { .. } }";
-    assert_eq!(rt; shown.as_str(), expected);
+    assert_equal(&rt, shown.as_str(), expected);
     let job = Job {
-        item: server.jobs.pull(&rt)?,
+        item: server.jobs.pull(&rt).expect(&rt, "an item is free"),
     };
-    let shown = format!(in rt.alloc(); "{job:?}")?;
-    assert_eq!(rt; shown.as_str(), "Job { item: 7 }");
-    let (session, name) = (server.sessions.pull()?, server.names.pull(&rt)?);
-    let shown = format!(in rt.alloc(); "{session:?} {name:?}")?;
-    assert_eq!(rt; shown.as_str(), "7 7");
-    Ok(())
+    let shown = format!(in rt.alloc(); "{job:?}").expect(&rt, "memory is left");
+    assert_equal(&rt, shown.as_str(), "Job { item: 7 }");
+    let (session, name) = (
+        server.sessions.pull().expect(&rt, "an item is free"),
+        server.names.pull(&rt).expect(&rt, "an item is free"),
+    );
+    let shown = format!(in rt.alloc(); "{session:?} {name:?}").expect(&rt, "memory is left");
+    assert_equal(&rt, shown.as_str(), "7 7");
 }

@@ -1,5 +1,6 @@
 //! Pools by closures, of values that may be sent and not shared: threads send and share such a pool.
 use super::*;
+use crate::assert_equal::assert_equal;
 use lockfree_object_pool::{
     FixedObjectPool, LinearObjectPool, LinearReusable, MutexObjectPool, PullError,
     SpinLockObjectPool,
@@ -77,5 +78,5 @@ fn two_threads_share_a_pool_of_cells(rt: HostRuntime) {
         || Some(Cell::new(5)),
         |cell: &mut Cell<u32>| cell.set(5),
     );
-    assert_eq!(rt; found, Ok((Some(6), Some(6))));
+    assert_equal(&rt, found, Ok((Some(6), Some(6))));
 }

@@ -2,7 +2,7 @@
 ghost use Rattle.std.specs.Prelude.{⊤};
 
 use super::*;
-use std::test::Fail;
+use crate::assert_equal::assert_equal;
 
 /// A value that counts its resets.
 #[derive(Drop)]
@@ -23,10 +23,13 @@ impl Recyclable for Worn {
 }
 
 #[test]
-fn each_return_resets_the_value_once(rt: HostRuntime) -> Result<(), Fail> {
-    let pool: Pool<Worn> = Pool::with_recycler(rt.alloc())?;
+fn each_return_resets_the_value_once(rt: HostRuntime) {
+    let pool: Pool<Worn> = Pool::with_recycler(rt.alloc()).expect(&rt, "a pool is made");
     for resets in 0..3 {
-        assert_eq!(rt; pool.pull()?.resets, resets);
+        assert_equal(
+            &rt,
+            pool.pull().expect(&rt, "an item is free").resets,
+            resets,
+        );
     }
-    Ok(())
 }

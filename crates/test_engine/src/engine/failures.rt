@@ -1,6 +1,7 @@
 //! Devices that fail, and want of memory, on each kind of pool.
 use super::devices::{Device, FailsOnce, Lines, Parts, Source};
 use super::*;
+use crate::assert_equal::assert_equal;
 use arrayvec::ArrayString;
 use std::fmt::Write as _;
 use std::io::ErrorKind;
@@ -68,7 +69,7 @@ fn reads_that_fail(rt: &(impl Wait + Abort), alloc: Global, session: Session, mo
             &mut input,
             &mut output,
         );
-        assert_eq!(rt; result, Err(EngineError::Read));
+        assert_equal(rt, result, Err(EngineError::Read));
         let lines = read.iter().filter(|byte| **byte == b'\n').count();
         let whole = first_lines(session.replies, lines);
         assert_eq!(rt; output.bytes(), whole, "{good} bytes read, {most} a call");
@@ -97,7 +98,7 @@ fn writes_that_fail(rt: &(impl Wait + Abort), alloc: Global, session: Session, m
             &mut input,
             &mut output,
         );
-        assert_eq!(rt; result, Err(EngineError::Write));
+        assert_equal(rt, result, Err(EngineError::Write));
         let beginning = &session.replies[..room];
         assert_eq!(rt;
             output.bytes(),
@@ -128,8 +129,12 @@ fn a_device_fails_within_a_line(rt: HostRuntime) {
         &mut input,
         &mut output,
     );
-    assert_eq!(rt; result, Err(EngineError::Read));
-    assert_eq!(rt; output.bytes(), b"pulled 0 number 0 value 0\n".as_slice());
+    assert_equal(&rt, result, Err(EngineError::Read));
+    assert_equal(
+        &rt,
+        output.bytes(),
+        b"pulled 0 number 0 value 0\n".as_slice(),
+    );
     let mut input = b"pull\n".as_slice();
     let mut output = Device::new(10, 1024);
     let result = play(
@@ -140,8 +145,8 @@ fn a_device_fails_within_a_line(rt: HostRuntime) {
         &mut input,
         &mut output,
     );
-    assert_eq!(rt; result, Err(EngineError::Write));
-    assert_eq!(rt; output.bytes(), b"pulled 0 n".as_slice());
+    assert_equal(&rt, result, Err(EngineError::Write));
+    assert_equal(&rt, output.bytes(), b"pulled 0 n".as_slice());
 }
 
 #[test]
@@ -157,8 +162,8 @@ fn a_writer_may_take_one_byte_a_call_or_none(rt: HostRuntime) {
             &mut input,
             &mut output,
         );
-        assert_eq!(rt; result, Ok(()));
-        assert_eq!(rt; output.bytes(), session.replies);
+        assert_equal(&rt, result, Ok(()));
+        assert_equal(&rt, output.bytes(), session.replies);
         let mut input = session.input;
         let mut output = Device::new(1024, 0);
         let result = play(
@@ -169,8 +174,8 @@ fn a_writer_may_take_one_byte_a_call_or_none(rt: HostRuntime) {
             &mut input,
             &mut output,
         );
-        assert_eq!(rt; result, Err(EngineError::Write));
-        assert_eq!(rt; (output.bytes().len(), output.calls()), (0, 1));
+        assert_equal(&rt, result, Err(EngineError::Write));
+        assert_equal(&rt, (output.bytes().len(), output.calls()), (0, 1));
     }
 }
 
@@ -332,12 +337,12 @@ fn want_of_memory_is_answered_as_such(rt: HostRuntime) {
         let lines = text.iter().filter(|byte| **byte == b'\n').count();
         match result {
             Ok(()) if session.kind == Kind::Stack && text.starts_with(b"refused memory\n") => {
-                assert_eq!(rt; text, ATTACH_REFUSED);
+                assert_equal(&rt, text, ATTACH_REFUSED);
             }
-            Ok(()) => assert_eq!(rt; text, session.replies),
+            Ok(()) => assert_equal(&rt, text, session.replies),
             Err(error) => {
-                assert_eq!(rt; error, EngineError::Memory);
-                assert_eq!(rt; text, first_lines(session.replies, lines));
+                assert_equal(&rt, error, EngineError::Memory);
+                assert_equal(&rt, text, first_lines(session.replies, lines));
             }
         }
     }
@@ -375,9 +380,9 @@ fn the_lines_done_are_answered_where_memory_was_refused(rt: HostRuntime) {
     let replies = replies_behind_lines();
     let whole = replies.as_str().as_bytes();
     match result {
-        Ok(()) => assert_eq!(rt; text, whole),
+        Ok(()) => assert_equal(&rt, text, whole),
         Err(error) => {
-            assert_eq!(rt; error, EngineError::Memory);
+            assert_equal(&rt, error, EngineError::Memory);
             assert!(rt; whole.starts_with(text));
             // The pull alone has no reply, and the line before it has one.
             assert!(rt; text.ends_with(b"bad line\n"));

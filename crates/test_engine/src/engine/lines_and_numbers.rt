@@ -5,27 +5,21 @@ use super::*;
 const LENGTHS: [usize; 9] = [1, 63, 64, 65, 1023, 1024, 1025, 2048, 100_000];
 
 /// What is answered to a line of so many letters and a pull behind it, and to such a line that the input ends in.
-fn answers_to_letters<H: Wait>(
-    rt: &H,
-    alloc: Global,
-    length: usize,
-) -> Result<(Vec<u8>, Vec<u8>), Fail> {
+fn answers_to_letters<H: Abort + Wait>(rt: &H, alloc: Global, length: usize) -> (Vec<u8>, Vec<u8>) {
     let mut input = String::new(alloc);
     for _ in 0..length {
-        input.push_str("p")?;
+        input.push_str("p").expect(rt, "memory is left");
     }
-    let last = output_of(rt, alloc, Kind::None, Reset::Keep, input.as_str())?;
-    input.push_str("\npull\n")?;
-    let first = output_of(rt, alloc, Kind::None, Reset::Keep, input.as_str())?;
-    Ok((first, last))
+    let last = output_of(rt, alloc, Kind::None, Reset::Keep, input.as_str());
+    input.push_str("\npull\n").expect(rt, "memory is left");
+    let first = output_of(rt, alloc, Kind::None, Reset::Keep, input.as_str());
+    (first, last)
 }
 
 #[test]
-fn a_line_of_any_length_is_answered_with_a_line_feed_or_without(
-    rt: HostRuntime,
-) -> Result<(), Fail> {
+fn a_line_of_any_length_is_answered_with_a_line_feed_or_without(rt: HostRuntime) {
     for length in LENGTHS {
-        let (first, last) = answers_to_letters(&rt, rt.alloc(), length)?;
+        let (first, last) = answers_to_letters(&rt, rt.alloc(), length);
         assert_eq!(rt;
             (first.as_slice(), last.as_slice()),
             (
@@ -35,7 +29,6 @@ fn a_line_of_any_length_is_answered_with_a_line_feed_or_without(
             "{length} bytes"
         );
     }
-    Ok(())
 }
 
 #[test]
@@ -66,7 +59,7 @@ const GREATEST: &str =
     "attach 4294967295\nwrite 4294967295 1\nreturn 4294967295\nforget 4294967295\npull\nwrite 0 4294967295\nreturn 0\npull\n";
 
 #[test]
-fn the_greatest_numbers_are_answered_in_each_command(rt: HostRuntime) -> Result<(), Fail> {
+fn the_greatest_numbers_are_answered_in_each_command(rt: HostRuntime) {
     let rows = [
         (
             Kind::Linear,
@@ -78,14 +71,13 @@ fn the_greatest_numbers_are_answered_in_each_command(rt: HostRuntime) -> Result<
         ),
     ];
     for (kind, expected) in rows {
-        let output = output_of(&rt, rt.alloc(), kind, Reset::Keep, GREATEST)?;
+        let output = output_of(&rt, rt.alloc(), kind, Reset::Keep, GREATEST);
         assert_eq!(rt; output.as_slice(), expected.as_bytes(), "{kind:?}");
     }
-    Ok(())
 }
 
 #[test]
-fn each_kind_of_pool_is_reset_to_zero(rt: HostRuntime) -> Result<(), Fail> {
+fn each_kind_of_pool_is_reset_to_zero(rt: HostRuntime) {
     let input = "pull\nwrite 0 5\nreturn 0\npull\n";
     let numbered = "pulled 0 number 0 value 0\nwritten 0\nreturned 0\npulled 1 number 0 value 0\n";
     let plain = "pulled 0 value 0\nwritten 0\nreturned 0\npulled 1 value 0\n";
@@ -97,8 +89,7 @@ fn each_kind_of_pool_is_reset_to_zero(rt: HostRuntime) -> Result<(), Fail> {
         (Kind::Stack, plain),
         (Kind::None, plain),
     ] {
-        let output = output_of(&rt, rt.alloc(), kind, Reset::Zero, input)?;
+        let output = output_of(&rt, rt.alloc(), kind, Reset::Zero, input);
         assert_eq!(rt; output.as_slice(), expected.as_bytes(), "{kind:?}");
     }
-    Ok(())
 }

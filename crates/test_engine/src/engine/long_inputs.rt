@@ -1,48 +1,47 @@
 //! Inputs of more bytes than one read takes, of many reads, and the end of an input.
 use super::devices::Lines;
 use super::*;
+use crate::assert_equal::assert_equal;
 use std::io;
 
 /// How many pulls are played.
 const PULLS: usize = 1500;
 
 /// The replies to pulls alone on a linear pool.
-fn replies(alloc: Global) -> Result<String, Fail> {
+fn replies(rt: &impl Abort, alloc: Global) -> String {
     let mut text = String::new(alloc);
     for pulled in 0..PULLS {
-        write!(text, "pulled {pulled} number {pulled} value 0\n")?;
+        write!(text, "pulled {pulled} number {pulled} value 0\n").expect(rt, "memory is left");
     }
-    Ok(text)
+    text
 }
 
 #[test]
-fn an_input_that_fills_each_read_is_answered_line_by_line(rt: HostRuntime) -> Result<(), Fail> {
+fn an_input_that_fills_each_read_is_answered_line_by_line(rt: HostRuntime) {
     let mut input = String::new(rt.alloc());
     for _ in 0..PULLS {
-        input.push_str("pull\n")?;
+        input.push_str("pull\n").expect(&rt, "memory is left");
     }
-    let output = output_of(&rt, rt.alloc(), Kind::Linear, Reset::Keep, input.as_str())?;
-    let expected = replies(rt.alloc())?;
+    let output = output_of(&rt, rt.alloc(), Kind::Linear, Reset::Keep, input.as_str());
+    let expected = replies(&rt, rt.alloc());
     assert!(rt; output.as_slice() == expected.as_bytes());
-    Ok(())
 }
 
 #[test]
-fn a_great_limit_needs_no_memory_beforehand(rt: HostRuntime) -> Result<(), Fail> {
+fn a_great_limit_needs_no_memory_beforehand(rt: HostRuntime) {
     for pages in [4294967295, 4294967296, usize::MAX] {
         let kind = Kind::Bounded(pages);
-        let output = output_of(&rt, rt.alloc(), kind, Reset::Keep, "pull\n")?;
+        let output = output_of(&rt, rt.alloc(), kind, Reset::Keep, "pull\n");
         assert_eq!(rt;
             output.as_slice(),
             b"pulled 0 number 0 value 0\n".as_slice(),
             "{pages} pages"
         );
     }
-    Ok(())
 }
 
 #[test]
-fn each_of_many_reads_is_answered(rt: HostRuntime) -> Result<(), Fail> {
+fn each_of_many_reads_is_answered(rt: HostRuntime) {
     let mut input = Lines::new(b"pull\n", PULLS);
     let mut output = Vec::new(rt.alloc());
     let result = play(
@@ -53,10 +52,9 @@ fn each_of_many_reads_is_answered(rt: HostRuntime) -> Result<(), Fail> {
         &mut input,
         &mut output,
     );
-    assert_eq!(rt; result, Ok(()));
-    let expected = replies(rt.alloc())?;
+    assert_equal(&rt, result, Ok(()));
+    let expected = replies(&rt, rt.alloc());
     assert!(rt; output.as_slice() == expected.as_bytes());
-    Ok(())
 }
 
 /// How many reads are made: more than a number of 16 bits counts.
@@ -74,7 +72,7 @@ fn each_of_seventy_thousand_reads_is_answered(rt: HostRuntime) {
         &mut input,
         &mut output,
     );
-    assert_eq!(rt; result, Ok(()));
+    assert_equal(&rt, result, Ok(()));
     assert!(rt; is_repeated(&output, b"bad line\n", READS));
 }
 
@@ -119,22 +117,30 @@ fn the_end_of_an_input_is_read_once(rt: HostRuntime) {
             &mut input,
             &mut output,
         );
-        assert_eq!(rt; (result, output.bytes()), (Ok(()), replies));
-        assert_eq!(rt; input.reads_at_end, 1);
+        assert_equal(&rt, (result, output.bytes()), (Ok(()), replies));
+        assert_equal(&rt, input.reads_at_end, 1);
     }
 }
 
 #[test]
-fn each_error_tells_its_cause(rt: HostRuntime) -> Result<(), Fail> {
+fn each_error_tells_its_cause(rt: HostRuntime) {
     let rows = [
         (EngineError::Read, "read failed"),
         (EngineError::Write, "write failed"),
         (EngineError::Memory, "out of memory"),
     ];
     for (error, text) in rows {
-        assert_eq!(rt; format!(in rt.alloc(); "{error}")?.as_str(), text);
+        assert_equal(
+            &rt,
+            format!(in rt.alloc(); "{error}")
+                .expect(&rt, "memory is left")
+                .as_str(),
+            text,
+        );
     }
-    let text = format!(in rt.alloc(); "{}", object_pool_cores::sequential::RunError::Memory)?;
-    assert_eq!(rt; text.as_str(), "out of memory");
-    Ok(())
+    let text = format!(in rt.alloc(); "{}", object_pool_cores::sequential::RunError::Memory).expect(
+        &rt,
+        "memory is left",
+    );
+    assert_equal(&rt, text.as_str(), "out of memory");
 }

@@ -4,6 +4,7 @@ ghost use Rattle.lockfree_object_pool.specs.LinearPool.{pool_first_page, pool_li
 ghost use Rattle.lockfree_object_pool.specs.declared.pull_error.PullError.TheVariants.{Memory};
 
 use super::*;
+use crate::assert_equal::assert_equal;
 use lockfree_object_pool::closures::{InitBy, Makes, ResetBy, Resets};
 
 /// Whatever other threads do, a pulled value meets the condition.
@@ -137,22 +138,26 @@ fn owned_written(pool: &Arc<ClearedPool>) -> Option<u32> {
 #[test]
 fn a_value_is_written_and_read(rt: HostRuntime) {
     let pool = zeros(rt.alloc()).expect(&rt, "a pool is made");
-    assert_eq!(rt; written(&pool), Some((7, (0, 0, 9))));
-    assert_eq!(rt; owned_written(&pool), Some(7));
-    assert_eq!(rt; (pulled(&pool), pulled_owned(&pool)), (Some(0), Some(0)));
-    assert_eq!(rt; of_first(&pool).map(|item| *item), Some(0));
+    assert_equal(&rt, written(&pool), Some((7, (0, 0, 9))));
+    assert_equal(&rt, owned_written(&pool), Some(7));
+    assert_equal(
+        &rt,
+        (pulled(&pool), pulled_owned(&pool)),
+        (Some(0), Some(0)),
+    );
+    assert_equal(&rt, of_first(&pool).map(|item| *item), Some(0));
 }
 
 #[test]
 fn closures_make_and_reset(rt: HostRuntime) {
     let both = made_and_returned(rt.alloc(), || Some(0), |value: &mut u32| *value = 0);
-    assert_eq!(rt; both, Ok((0, 0)));
+    assert_equal(&rt, both, Ok((0, 0)));
 }
 
 #[test]
 fn a_limit_of_one_page(rt: HostRuntime) {
     let calls = new_calls(rt.alloc()).expect(&rt, "memory is left");
     let pool = cleared(rt.alloc(), &calls).expect(&rt, "a pool is made");
-    assert_eq!(rt; refusal(&pool), None);
-    assert_eq!(rt; page_of_one(rt.alloc(), calls), Ok(0));
+    assert_equal(&rt, refusal(&pool), None);
+    assert_equal(&rt, page_of_one(rt.alloc(), calls), Ok(0));
 }

@@ -1,5 +1,6 @@
 //! Bare closures as what makes a pool's values.
 use super::*;
+use crate::assert_equal::assert_equal;
 use lockfree_object_pool::closures::{InitBy, Makes};
 
 /// The refusals of two pulls from a pool whose only page is full, one of them owned.
@@ -24,7 +25,11 @@ fn a_closure_that_refuses_is_asked_once(rt: HostRuntime) {
         None
     };
     let refusals = refusals_past_a_page(rt.alloc(), refuse);
-    assert_eq!(rt; (refusals, calls.load(SeqCst)), (Err(PullError::Init), 1));
+    assert_equal(
+        &rt,
+        (refusals, calls.load(SeqCst)),
+        (Err(PullError::Init), 1),
+    );
 }
 
 #[test]
@@ -39,8 +44,9 @@ fn a_closure_that_refuses_a_growth_is_asked_once_a_pull(rt: HostRuntime) {
     };
     let refused = Some(PullError::Init);
     let refusals = refusals_past_a_page(rt.alloc(), fill_a_page);
-    assert_eq!(rt;
+    assert_equal(
+        &rt,
         (refusals, calls.load(SeqCst)),
-        (Ok((refused, refused)), 34)
+        (Ok((refused, refused)), 34),
     );
 }

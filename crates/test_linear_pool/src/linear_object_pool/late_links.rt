@@ -3,6 +3,7 @@
 ghost use Rattle.std.specs.Prelude.{⊤};
 
 use super::*;
+use crate::assert_equal::assert_equal;
 use std::{mem, thread};
 
 /// A wait that has not ended after so many turns is given up, and its test fails.
@@ -124,8 +125,9 @@ fn a_page_that_comes_too_late_is_dropped_and_leaves_a_hint(rt: HostRuntime) {
     let dropped = steps.drops.load(SeqCst);
     let further = takes(&pool, 3, 32);
     let refused = pool.pull().err();
-    assert_eq!(rt;
+    assert_equal(
+        &rt,
         (late, dropped, further, refused, steps.calls.load(SeqCst)),
-        (true, 32, true, Some(PullError::Limit), 160)
+        (true, 32, true, Some(PullError::Limit), 160),
     );
 }

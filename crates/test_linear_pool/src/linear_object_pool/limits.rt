@@ -2,6 +2,7 @@
 ghost use Rattle.std.specs.Prelude.{◌≤◌};
 
 use super::*;
+use crate::assert_equal::assert_equal;
 
 fn bounded(alloc: Global, calls: &Arc<AtomicUsize>, pages: usize) -> Cleared
     requires { 1 ≤ pages }
@@ -19,7 +20,7 @@ fn a_limit_is_told(rt: HostRuntime) {
     let limited = bounded(rt.alloc(), &calls, 3)
         .expect(&rt, "a pool is made")
         .limit();
-    assert_eq!(rt; (unlimited, limited), (None, Some(3)));
+    assert_equal(&rt, (unlimited, limited), (None, Some(3)));
 }
 
 /// The text of a pool with this limit.
@@ -34,10 +35,15 @@ fn shown(alloc: Global, calls: &Arc<AtomicUsize>, pages: usize) -> Option<String
 fn each_limit_is_shown(rt: HostRuntime) {
     let calls = new_calls(rt.alloc()).expect(&rt, "calls are counted");
     let text = shown(rt.alloc(), &calls, 1).expect(&rt, "a pool is shown");
-    assert_eq!(rt; text.as_str(), "LinearObjectPool { limit: Some(1), .. }");
-    let text = shown(rt.alloc(), &calls, usize::MAX).expect(&rt, "a pool is shown");
-    assert_eq!(rt;
+    assert_equal(
+        &rt,
         text.as_str(),
-        "LinearObjectPool { limit: Some(18446744073709551615), .. }"
+        "LinearObjectPool { limit: Some(1), .. }",
+    );
+    let text = shown(rt.alloc(), &calls, usize::MAX).expect(&rt, "a pool is shown");
+    assert_equal(
+        &rt,
+        text.as_str(),
+        "LinearObjectPool { limit: Some(18446744073709551615), .. }",
     );
 }

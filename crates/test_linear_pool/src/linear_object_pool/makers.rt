@@ -1,6 +1,7 @@
 //! A pool by ready-made function objects, by a struct of one's own, and by closures.
 ghost use Rattle.std.specs.Prelude.{◌≡◌};
 
+use crate::assert_equal::assert_equal;
 use lockfree_object_pool::clean::AnyValue;
 use lockfree_object_pool::closures::{Copied, InitBy, Keep, Makes, Reset, ResetBy, Resets};
 use lockfree_object_pool::{LinearObjectPool, PullError};
@@ -66,8 +67,8 @@ fn first_item<I: InitBy<u32>, R: ResetBy<u32>>(
 
 #[test]
 fn a_pool_is_filled_by_each_kind_of_maker(rt: HostRuntime) {
-    assert_eq!(rt; kept(rt.alloc()), Ok(5));
-    assert_eq!(rt; cleared(rt.alloc()), Ok((7, 0)));
+    assert_equal(&rt, kept(rt.alloc()), Ok(5));
+    assert_equal(&rt, cleared(rt.alloc()), Ok((7, 0)));
     let item = first_item(rt.alloc(), || Some(3), |value: &mut u32| *value = 0);
-    assert_eq!(rt; item, Ok(3));
+    assert_equal(&rt, item, Ok(3));
 }

@@ -5,9 +5,9 @@ ghost use Rattle.lockfree_object_pool.specs.Ledger.{History, WasReturned};
 ghost use Rattle.lockfree_object_pool.specs.declared.page.history.Operation.TheVariants.{Pull};
 
 use super::*;
+use crate::assert_equal::assert_equal;
 use lockfree_object_pool::closures::Copied;
 use std::mem::size_of;
-use std::test::Fail;
 
 /// Makes sevens.
 #[derive(Drop)]
@@ -53,20 +53,19 @@ impl Reset<u32, AnyValue> for OneMore {
 }
 
 #[test]
-fn a_value_is_an_answer_or_what_a_return_left(rt: HostRuntime) -> Result<(), Fail> {
-    let pool = SevenPool::new(rt.alloc(), Sevens, OneMore)?;
+fn a_value_is_an_answer_or_what_a_return_left(rt: HostRuntime) {
+    let pool = SevenPool::new(rt.alloc(), Sevens, OneMore).expect(&rt, "a pool is made");
     for expected in [7, 8, 9] {
         let Some(item) = pulled(&pool) else {
             panic!(rt; "an item is free")
         };
-        assert_eq!(rt; *item, expected);
+        assert_equal(&rt, *item, expected);
     }
-    Ok(())
 }
 
 /// What is known of a history takes no room in a reusable.
 #[test]
-fn a_reusable_is_as_large_as_its_parts(rt: HostRuntime) -> Result<(), Fail> {
+fn a_reusable_is_as_large_as_its_parts(rt: HostRuntime) {
     assert_eq!(rt;
         size_of::<LinearReusable<'static, u64, Copied<u64, AnyValue>, Keep, AnyValue>>(),
         40
@@ -75,5 +74,4 @@ fn a_reusable_is_as_large_as_its_parts(rt: HostRuntime) -> Result<(), Fail> {
         size_of::<LinearOwnedReusable<u64, Copied<u64, AnyValue>, Keep, AnyValue>>(),
         32
     );
-    Ok(())
 }

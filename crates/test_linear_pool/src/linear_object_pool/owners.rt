@@ -1,6 +1,7 @@
 //! Owners of a pool and of its pages: each owned item lets its own go, so that the pool ends with the last of them and
 //! drops each value.
 use super::*;
+use crate::assert_equal::assert_equal;
 
 /// The refusal of an owned pull while a page of items is held. The pool's last owner but these lets it go.
 fn refusal_past_a_page(alloc: Global, pool: Arc<Tracked>) -> Result<Option<PullError>, PullError> {
@@ -16,9 +17,10 @@ fn refused_pulls_let_their_pool_end(rt: HostRuntime) {
     let counts = new_tally(rt.alloc()).expect(&rt, "memory is left");
     let pool = shared(rt.alloc(), &counts, 32).expect(&rt, "a pool is made");
     let refusal = refusal_past_a_page(rt.alloc(), pool);
-    assert_eq!(rt;
+    assert_equal(
+        &rt,
         (refusal, counts.now()),
-        (Ok(Some(PullError::Init)), (33, 32))
+        (Ok(Some(PullError::Init)), (33, 32)),
     );
 }
 
@@ -28,9 +30,9 @@ fn a_pool_ends_with_its_last_owned_item(rt: HostRuntime) {
     let pool = shared(rt.alloc(), &counts, NEVER).expect(&rt, "a pool is made");
     let item = pool.pull_owned().expect(&rt, "an item is free");
     drop(pool);
-    assert_eq!(rt; (item.number, counts.now()), (0, (32, 0)));
+    assert_equal(&rt, (item.number, counts.now()), (0, (32, 0)));
     drop(item);
-    assert_eq!(rt; counts.now(), (32, 32));
+    assert_equal(&rt, counts.now(), (32, 32));
 }
 
 /// A pool that may have one page, in an `Arc`.
@@ -44,8 +46,9 @@ fn pulls_refused_at_the_limit_let_their_pool_end(rt: HostRuntime) {
     let counts = new_tally(rt.alloc()).expect(&rt, "memory is left");
     let pool = shared_of_one(rt.alloc(), &counts).expect(&rt, "a pool is made");
     let refusal = refusal_past_a_page(rt.alloc(), pool);
-    assert_eq!(rt;
+    assert_equal(
+        &rt,
         (refusal, counts.now()),
-        (Ok(Some(PullError::Limit)), (32, 32))
+        (Ok(Some(PullError::Limit)), (32, 32)),
     );
 }

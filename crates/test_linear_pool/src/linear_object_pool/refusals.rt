@@ -1,5 +1,6 @@
 //! Pools that are refused values or memory: nothing is lost, and what was refused can be asked for again.
 use super::*;
+use crate::assert_equal::assert_equal;
 use test_values::refused::again;
 
 /// What is seen of an item: its place, the number of its value, and how many values live while it is out.
@@ -27,11 +28,12 @@ fn a_pool_goes_on_where_memory_was_refused(rt: HostRuntime) {
     let refusal = pool.pull().err();
     assert!(rt; matches!(refusal, None | Some(PullError::Memory)));
     let kept = if refusal.is_none() { 64 } else { 32 };
-    assert_eq!(rt; (before, counts.living()), (32, kept));
+    assert_equal(&rt, (before, counts.living()), (32, kept));
     let first = seen(&pool, &counts).expect(&rt, "an item is free");
-    assert_eq!(rt;
+    assert_equal(
+        &rt,
         (first.0, first.2, seen(&pool, &counts)),
-        ((1, 0), 64, Some(first))
+        ((1, 0), 64, Some(first)),
     );
 }
 
@@ -51,10 +53,11 @@ fn owned_pulls_go_on_where_memory_was_refused(rt: HostRuntime) {
     let refusal = pool.pull_owned().err();
     assert!(rt; matches!(refusal, None | Some(PullError::Memory)));
     let kept = if refusal.is_none() { 64 } else { 32 };
-    assert_eq!(rt; (before, counts.living()), (32, kept));
+    assert_equal(&rt, (before, counts.living()), (32, kept));
     let first = owned_seen(&pool, &counts).expect(&rt, "an item is free");
-    assert_eq!(rt;
+    assert_equal(
+        &rt,
         (first.0, first.2, owned_seen(&pool, &counts)),
-        ((1, 0), 64, Some(first))
+        ((1, 0), 64, Some(first)),
     );
 }

@@ -1,6 +1,6 @@
 //! Callers that need a pool and its reusables to be sent and shared, each under the least that its parts have to allow.
 use super::*;
-use std::test::Fail;
+use crate::assert_equal::assert_equal;
 use std::thread;
 use std::thread::Threads;
 
@@ -52,10 +52,9 @@ fn read_twice<R: Threads + Sync>(
 }
 
 #[test]
-fn two_threads_read_one_item(rt: HostRuntime) -> Result<(), Fail> {
-    let pool = zeros(rt.alloc())?;
-    let mut item = pool.pull()?;
+fn two_threads_read_one_item(rt: HostRuntime) {
+    let pool = zeros(rt.alloc()).expect(&rt, "a pool is made");
+    let mut item = pool.pull().expect(&rt, "an item is free");
     *item = 3;
-    assert_eq!(rt; read_twice(&rt, &item), (3, 3));
-    Ok(())
+    assert_equal(&rt, read_twice(&rt, &item), (3, 3));
 }

@@ -2,6 +2,7 @@
 ghost use Rattle.std.specs.Prelude.{◌≤◌};
 
 use super::*;
+use crate::assert_equal::assert_equal;
 use lockfree_object_pool::page::with_bit;
 use std::thread;
 
@@ -72,7 +73,7 @@ fn five_threads_hold_the_first_five_items(rt: HostRuntime) {
         assert!(rt; id < 32);
         ids = with_bit(ids, id);
     }
-    assert_eq!(rt; (ids, calls.load(SeqCst)), (31, 32));
+    assert_equal(&rt, (ids, calls.load(SeqCst)), (31, 32));
 }
 
 /// Pulls and drops, and writes to each item. Whether each had the value of a reset.
@@ -210,5 +211,5 @@ fn five_threads_share_one_page(rt: HostRuntime) {
         given = given.wrapping_add(counts.0);
         refused = refused.wrapping_add(counts.1);
     }
-    assert_eq!(rt; (given, refused, calls.load(SeqCst)), (32, 8, 32));
+    assert_equal(&rt, (given, refused, calls.load(SeqCst)), (32, 8, 32));
 }

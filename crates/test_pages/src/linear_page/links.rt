@@ -3,6 +3,7 @@ ghost use Rattle.std.specs.Prelude.{◌≡◌, IfSome};
 ghost use Rattle.lockfree_object_pool.specs.LinearPage.{shown_page};
 
 use super::*;
+use crate::assert_equal::assert_equal;
 use std::sync::atomic::AtomicUsize;
 use std::sync::atomic::Ordering::SeqCst;
 use std::thread;
@@ -69,10 +70,15 @@ fn a_link_is_set_once(rt: HostRuntime) {
     forget_all(&first).expect(&rt, "32 items are free");
     let linked = place_behind(&first, &|| Some(0));
     let again = place_behind(&first, &|| None);
-    assert_eq!(rt; (linked, again), (Some((1, Some(0))), Some((1, Some(1)))));
-    assert_eq!(rt;
+    assert_equal(
+        &rt,
+        (linked, again),
+        (Some((1, Some(0))), Some((1, Some(1)))),
+    );
+    assert_equal(
+        &rt,
         (ids_of_both_next(&first), ids_of_linked_and_found(&first)),
-        (Some((Some(2), Some(3))), Some((Some(4), Some(5))))
+        (Some((Some(2), Some(3))), Some((Some(4), Some(5)))),
     );
 }
 
@@ -119,9 +125,10 @@ fn sixteen_hundred_pages_are_linked_and_dropped(rt: HostRuntime) {
     let calls = AtomicUsize::new(0);
     let chain = Zeros::new(rt.alloc(), &|| Some(0)).expect(&rt, "a chain is made");
     let last = grow_by(rt.alloc(), &chain, 1_599, &calls).expect(&rt, "pages are linked");
-    assert_eq!(rt;
+    assert_equal(
+        &rt,
         (last.number(), calls.load(SeqCst), first_place(&chain)),
-        (1_599, 51_168, Some((0, 0)))
+        (1_599, 51_168, Some((0, 0))),
     );
     drop(chain);
 }

@@ -1,5 +1,6 @@
 //! A thread whose page comes too late: its page is dropped, and it goes on to the page that is linked.
 use super::*;
+use crate::assert_equal::assert_equal;
 use std::sync::atomic::AtomicUsize;
 use std::sync::atomic::Ordering::SeqCst;
 use std::thread;
@@ -90,8 +91,9 @@ fn a_page_that_comes_too_late_is_dropped(rt: HostRuntime) {
     let chain = Chain::new(rt.alloc(), &|| Some(race.counts.make())).expect(&rt, "a chain is made");
     let first = chain.first();
     forget_all(&first).expect(&rt, "32 items are free");
-    assert_eq!(rt;
+    assert_equal(
+        &rt,
         run(&rt, &first, &race),
-        Some(((96, 32), (Some(0), Some(1)), true))
+        Some(((96, 32), (Some(0), Some(1)), true)),
     );
 }

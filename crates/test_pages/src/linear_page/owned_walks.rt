@@ -1,5 +1,6 @@
 //! Owners of pages: the slots that walks found let them go.
 use super::*;
+use crate::assert_equal::assert_equal;
 use lockfree_object_pool::page::OwnedSlot;
 use test_values::tallied::Tallied;
 use test_values::tally::{Tally, new_tally};
@@ -29,5 +30,9 @@ fn the_last_slots_that_walks_found_let_their_pages_end(rt: HostRuntime) {
     }
     let freed = counts.now();
     drop(slots);
-    assert_eq!(rt; (found, freed, counts.now()), ((64, 0), (64, 32), (64, 64)));
+    assert_equal(
+        &rt,
+        (found, freed, counts.now()),
+        ((64, 0), (64, 32), (64, 64)),
+    );
 }

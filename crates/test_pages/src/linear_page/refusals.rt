@@ -1,5 +1,6 @@
 //! Chains that are refused values or memory: nothing is linked in part, and what was refused can be asked for again.
 use super::*;
+use crate::assert_equal::assert_equal;
 use std::mem;
 use test_values::refused::again;
 use test_values::tallied::Tallied;
@@ -13,12 +14,13 @@ fn a_refused_page_is_not_linked(rt: HostRuntime) {
     forget_all(&first).expect(&rt, "32 items are free");
     let refused = behind_full(&first, &|| Tallied::new_but(&counts, 40)).is_none();
     let now = counts.now();
-    assert_eq!(rt;
+    assert_equal(
+        &rt,
         (refused, now, first.next().is_none()),
-        (true, (41, 8), true)
+        (true, (41, 8), true),
     );
     let next = behind_full(&first, &|| Tallied::new(&counts)).expect(&rt, "a page is linked");
-    assert_eq!(rt; (next.number(), counts.now()), (1, (73, 8)));
+    assert_equal(&rt, (next.number(), counts.now()), (1, (73, 8)));
 }
 
 /// Holds with each request for memory refused in turn too: what was refused is asked for again.
@@ -31,7 +33,7 @@ fn a_chain_goes_on_where_memory_was_refused(rt: HostRuntime) {
     let linked = behind_full(&first, &|| Some(0)).is_some();
     let led_on = first.next().is_some();
     let place = place_behind(&first, &|| Some(0));
-    assert_eq!(rt; (led_on, place), (linked, Some((1, Some(0)))));
+    assert_equal(&rt, (led_on, place), (linked, Some((1, Some(0)))));
 }
 
 /// Why no page is linked behind a full one whose `init` refuses.
@@ -50,8 +52,9 @@ fn a_link_tells_that_init_refused(rt: HostRuntime) {
         mem::forget(chain.first().alloc(&|| Some(0)));
     }
     let refusal = refusal_behind(chain.first());
-    assert_eq!(rt;
+    assert_equal(
+        &rt,
         (refusal, chain.first().next().is_none()),
-        (Some(PullError::Init), true)
+        (Some(PullError::Init), true),
     );
 }

@@ -1,6 +1,7 @@
 //! How far links lead.
 use super::links::grow_by;
 use super::*;
+use crate::assert_equal::assert_equal;
 use std::sync::atomic::AtomicUsize;
 
 /// The page behind so many links.
@@ -19,8 +20,9 @@ fn links_lead_to_two_thousand_one_hundred_pages_and_no_further(rt: HostRuntime) 
     let page = grow_by(rt.alloc(), &chain, 2_100, &calls).expect(&rt, "pages are linked");
     let last = behind(&chain, 2_100).expect(&rt, "2100 links lead on");
     let ids = (first_id(&last), first_id(&page));
-    assert_eq!(rt;
+    assert_equal(
+        &rt,
         (last.number(), page.number(), ids, last.next().is_none()),
-        (2_100, 2_100, (Some(0), Some(1)), true)
+        (2_100, 2_100, (Some(0), Some(1)), true),
     );
 }

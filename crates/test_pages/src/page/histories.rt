@@ -8,13 +8,13 @@ ghost use Rattle.lockfree_object_pool.specs.Slot.{slot_item};
 ghost use Rattle.lockfree_object_pool.specs.declared.page.history.Operation.TheVariants.{Return};
 
 use super::{item, owned_item};
+use crate::assert_equal::assert_equal;
 use lockfree_object_pool::clean::{AnyValue, Clean};
 use lockfree_object_pool::page::{
     Allocated, OwnedSlot, Page, PageNote, PageSlot, PullPass, Witness,
 };
 use std::mem::size_of;
 use std::sync::Arc;
-use std::test::Fail;
 use std::thread;
 use std::thread::Threads;
 
@@ -115,22 +115,21 @@ fn owned_returned<K: Clean<u32>>(slot: OwnedSlot<u32, K>) -> PageNote<u32>
 }
 
 #[test]
-fn a_pull_stands_after_a_return_of_another_thread(rt: HostRuntime) -> Result<(), Fail> {
-    let page = NumberPage::new(rt.alloc(), &|| Some(3))?;
+fn a_pull_stands_after_a_return_of_another_thread(rt: HostRuntime) {
+    let page = NumberPage::new(rt.alloc(), &|| Some(3)).expect(&rt, "a pool is made");
     let Some((mut slot, other)) = handed_on(&rt, &page) else {
         panic!(rt; "an item is free")
     };
-    assert_eq!(rt; *slot, 5);
+    assert_equal(&rt, *slot, 5);
     let note = told_of_pull(&page, &mut slot);
     let both = compared(&page, note, other);
     let Some(second) = pulled_after(&page, both) else {
         panic!(rt; "an item is free")
     };
-    assert_eq!(rt; page.get_mask().count_ones(), 30);
+    assert_equal(&rt, page.get_mask().count_ones(), 30);
     Page::free(slot);
     Page::free(second);
-    assert_eq!(rt; page.get_mask(), u32::MAX);
-    Ok(())
+    assert_equal(&rt, page.get_mask(), u32::MAX);
 }
 
 #[test]
@@ -140,15 +139,14 @@ fn an_owned_return_is_told_too(rt: HostRuntime) {
     let mut owned = owned_item(&page).expect(&rt, "an item is free");
     *owned = 8;
     drop(owned_returned(owned));
-    assert_eq!(rt; item(&page).map(|again| *again), Some(8));
+    assert_equal(&rt, item(&page).map(|again| *again), Some(8));
 }
 
 /// What is known of a history costs nothing: a note, a witness and what a slot knows have no bytes.
 #[test]
-fn a_history_takes_no_bytes(rt: HostRuntime) -> Result<(), Fail> {
-    assert_eq!(rt; size_of::<PageNote<u32>>(), 0);
-    assert_eq!(rt; size_of::<Witness<u32>>(), 0);
+fn a_history_takes_no_bytes(rt: HostRuntime) {
+    assert_equal(&rt, size_of::<PageNote<u32>>(), 0);
+    assert_equal(&rt, size_of::<Witness<u32>>(), 0);
     assert_eq!(rt; size_of::<PageSlot<'static, u64, AnyValue>>(), 24);
     assert_eq!(rt; size_of::<OwnedSlot<u64, AnyValue>>(), 24);
-    Ok(())
 }

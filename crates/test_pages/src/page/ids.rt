@@ -1,5 +1,6 @@
 //! Pages in use: words, ids and values, on one thread and on two.
 use super::item;
+use crate::assert_equal::assert_equal;
 use lockfree_object_pool::PullError;
 use lockfree_object_pool::clean::AnyValue;
 use lockfree_object_pool::page::{Allocated, Page, PageSlot, PullPass, with_bit};
@@ -31,7 +32,7 @@ fn id_of(found: &Result<Option<ZeroSlot<'_>>, PullError>) -> u8 {
 fn a_new_page_is_free(rt: HostRuntime) {
     let page = zeros(rt.alloc()).expect(&rt, "a page is made");
     assert!(rt; !page.is_full());
-    assert_eq!(rt; page.get_mask(), 4294967295);
+    assert_equal(&rt, page.get_mask(), 4294967295);
 }
 
 /// The word of a page once an item came back.
@@ -49,25 +50,27 @@ fn the_word_follows_three_items(rt: HostRuntime) {
     let with_one = (one.id(), page.get_mask());
     let two = item(&page).expect(&rt, "item 2 is free");
     let with_two = (two.id(), page.get_mask());
-    assert_eq!(rt;
+    assert_equal(
+        &rt,
         (with_zero, with_one, with_two),
         (
             (0, 0b11111111111111111111111111111110),
             (1, 0b11111111111111111111111111111100),
-            (2, 0b11111111111111111111111111111000)
-        )
+            (2, 0b11111111111111111111111111111000),
+        ),
     );
-    assert_eq!(rt;
+    assert_equal(
+        &rt,
         (
             word_after(&page, one),
             word_after(&page, zero),
-            word_after(&page, two)
+            word_after(&page, two),
         ),
         (
             0b11111111111111111111111111111010,
             0b11111111111111111111111111111011,
-            4294967295
-        )
+            4294967295,
+        ),
     );
 }
 
@@ -92,11 +95,11 @@ fn items_come_in_order_until_the_page_is_full(rt: HostRuntime) {
     let slots = take_slots(rt.alloc(), &page, 32).expect(&rt, "memory is left");
     let mut next = 0u8;
     for slot in &slots {
-        assert_eq!(rt; slot.id(), next);
+        assert_equal(&rt, slot.id(), next);
         next = next.wrapping_add(1);
     }
     let none_is_left = matches!(page.alloc(), Ok(None));
-    assert_eq!(rt; (next, page.is_full(), none_is_left), (32, true, true));
+    assert_equal(&rt, (next, page.is_full(), none_is_left), (32, true, true));
 }
 
 /// Whether a page is full once an item came back, and once it is out again.
@@ -118,7 +121,7 @@ fn a_page_is_full_while_each_item_is_out(rt: HostRuntime) {
     }
     assert!(rt; page.is_full());
     for slot in slots {
-        assert_eq!(rt; full_after(&page, slot), (false, true));
+        assert_equal(&rt, full_after(&page, slot), (false, true));
     }
 }
 
@@ -182,14 +185,15 @@ fn two_threads_share_the_ids_of_a_page(rt: HostRuntime) {
     let halves = take_halves(&rt, rt.alloc(), &page);
     let (mut one, two) = halves.expect(&rt, "two threads hold 16 slots each");
     let ids = ids_of(&one) | ids_of(&two);
-    assert_eq!(rt;
+    assert_equal(
+        &rt,
         (one.len(), two.len(), ids, is_full_for_pull(&page)),
-        (16, 16, 4294967295, true)
+        (16, 16, 4294967295, true),
     );
     let slot = one.pop().expect(&rt, "16 slots are held");
     let id = slot.id();
     Page::free(slot);
-    assert_eq!(rt; id_for_pull(&page), id);
+    assert_equal(&rt, id_for_pull(&page), id);
 }
 
 #[test]
@@ -197,7 +201,7 @@ fn a_dropped_slot_leaves_its_id_out(rt: HostRuntime) {
     let page = zeros(rt.alloc()).expect(&rt, "a page is made");
     drop(page.alloc());
     let word = page.get_mask();
-    assert_eq!(rt; (word, id_of(&page.alloc())), (4294967294, 1));
+    assert_equal(&rt, (word, id_of(&page.alloc())), (4294967294, 1));
 }
 
 #[test]
@@ -205,9 +209,9 @@ fn each_item_that_is_taken_clears_its_bit_alone(rt: HostRuntime) {
     let page = zeros(rt.alloc()).expect(&rt, "a page is made");
     let mut word = u32::MAX;
     for _ in 0..32 {
-        assert_eq!(rt; page.get_mask(), word);
+        assert_equal(&rt, page.get_mask(), word);
         word = word.wrapping_shl(1);
         mem::forget(page.alloc());
     }
-    assert_eq!(rt; (page.get_mask(), page.is_full()), (0, true));
+    assert_equal(&rt, (page.get_mask(), page.is_full()), (0, true));
 }

@@ -1,4 +1,5 @@
 //! Many rounds of two threads that hold one item of a page each, and lose clearings to each other.
+use crate::assert_equal::assert_equal;
 use lockfree_object_pool::clean::AnyValue;
 use lockfree_object_pool::page::Page;
 use std::thread;
@@ -26,5 +27,5 @@ fn two_of_thirty_two_items_leave_one_for_each_round(rt: HostRuntime) {
         || rounds_with_an_item(&page),
         || rounds_with_an_item(&page),
     );
-    assert_eq!(rt; taken, (ROUNDS, ROUNDS));
+    assert_equal(&rt, taken, (ROUNDS, ROUNDS));
 }

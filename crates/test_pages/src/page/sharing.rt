@@ -1,5 +1,6 @@
 //! What may be sent to another thread, and what may be shared with one.
 use super::{item, owned_item};
+use crate::assert_equal::assert_equal;
 use lockfree_object_pool::PullError;
 use lockfree_object_pool::clean::{AnyValue, Clean};
 use lockfree_object_pool::page::{FullSeen, OwnedSlot, Page, PageSlot};
@@ -47,7 +48,7 @@ fn threes(alloc: Global) -> Result<Page<u32, AnyValue>, PullError> {
 fn a_slot_is_shared(rt: HostRuntime) {
     let page = threes(rt.alloc()).expect(&rt, "a page is made");
     let slot = item(&page).expect(&rt, "an item is free");
-    assert_eq!(rt; read_twice(&rt, &slot), (3, 3));
+    assert_equal(&rt, read_twice(&rt, &slot), (3, 3));
 }
 
 #[test]
@@ -61,5 +62,5 @@ fn an_owned_slot_is_sent(rt: HostRuntime) {
         value
     });
     let value = reader.expect(&rt, "a thread is made").join(&rt);
-    assert_eq!(rt; (value, page.get_mask()), (3, 4294967295));
+    assert_equal(&rt, (value, page.get_mask()), (3, 4294967295));
 }

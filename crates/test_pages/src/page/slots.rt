@@ -6,6 +6,7 @@ ghost use Rattle.lockfree_object_pool.specs.Page.{page_identity, page_opening};
 ghost use Rattle.lockfree_object_pool.specs.Slot.{slot_item, slot_with};
 
 use super::{item, owned_item};
+use crate::assert_equal::assert_equal;
 use lockfree_object_pool::clean::{AnyValue, Clean};
 use lockfree_object_pool::page::{Allocated, FullSeen, OwnedSlot, Page, PageSlot, PullPass};
 use std::sync::Arc;
@@ -92,7 +93,7 @@ fn a_written_value_comes_back(rt: HostRuntime) {
     write(&mut slot, 5);
     Page::free(slot);
     let slot = item(&page).expect(&rt, "an item is free");
-    assert_eq!(rt; (slot.id(), *slot, read_back(slot)), (0, 5, (0, 9)));
+    assert_equal(&rt, (slot.id(), *slot, read_back(slot)), (0, 5, (0, 9)));
 }
 
 #[test]
@@ -103,7 +104,7 @@ fn a_condition_is_kept(rt: HostRuntime) {
     let mut owned = owned_item(&page).expect(&rt, "an item is free");
     write_owned(&mut owned, 3);
     give_zero_owned(owned, 8);
-    assert_eq!(rt; (pulled(&page), page.get_mask()), (Some(0), 4294967294));
+    assert_equal(&rt, (pulled(&page), page.get_mask()), (Some(0), 4294967294));
     let is_free = full_of(&page, &PullPass::new()).is_none();
-    assert_eq!(rt; (is_free, own_first(page)), (true, Some(0)));
+    assert_equal(&rt, (is_free, own_first(page)), (true, Some(0)));
 }

@@ -1,5 +1,6 @@
 //! Values that count how often they are made and dropped.
 use super::owned_item;
+use crate::assert_equal::assert_equal;
 use lockfree_object_pool::PullError;
 use lockfree_object_pool::clean::AnyValue;
 use lockfree_object_pool::page::Page;
@@ -30,9 +31,9 @@ fn next_item(page: &Page<Tallied, AnyValue>) -> Option<(u8, usize)> {
 fn each_item_is_the_answer_of_its_call(rt: HostRuntime) {
     let counts = new_tally(rt.alloc()).expect(&rt, "memory is left");
     let page = counted_page(rt.alloc(), &counts, 32).expect(&rt, "a page is made");
-    assert_eq!(rt; counts.now(), (32, 0));
+    assert_equal(&rt, counts.now(), (32, 0));
     for id in 0..32u8 {
-        assert_eq!(rt; next_item(&page), Some((id, id as usize)));
+        assert_equal(&rt, next_item(&page), Some((id, id as usize)));
     }
 }
 
@@ -42,9 +43,10 @@ fn init_that_refuses_stops_a_new_page(rt: HostRuntime) {
         let counts = new_tally(rt.alloc()).expect(&rt, "memory is left");
         let refused = counted_page(rt.alloc(), &counts, refused_call).err();
         let calls = refused_call.saturating_add(1);
-        assert_eq!(rt;
+        assert_equal(
+            &rt,
             (refused, counts.now()),
-            (Some(PullError::Init), (calls, refused_call))
+            (Some(PullError::Init), (calls, refused_call)),
         );
     }
 }
@@ -61,9 +63,10 @@ fn a_slot_and_a_page_drop_each_value_once(rt: HostRuntime) {
     let freed = counts.now();
     mem::forget(page.alloc());
     drop(page);
-    assert_eq!(rt;
+    assert_equal(
+        &rt,
         (dropped, freed, counts.now()),
-        ((32, 1), (32, 1), (32, 31))
+        ((32, 1), (32, 1), (32, 31)),
     );
 }
 
@@ -77,12 +80,13 @@ fn an_owned_slot_keeps_its_page(rt: HostRuntime) {
     let ids = (first.id(), second.id());
     let held = page.get_mask();
     first.free();
-    assert_eq!(rt;
+    assert_equal(
+        &rt,
         (ids, held, page.get_mask()),
-        ((0, 1), 4294967292, 4294967293)
+        ((0, 1), 4294967292, 4294967293),
     );
     drop(page);
     let kept = (second.number, counts.now());
     drop(second);
-    assert_eq!(rt; (kept, counts.now()), ((1, (32, 0)), (32, 32)));
+    assert_equal(&rt, (kept, counts.now()), ((1, (32, 0)), (32, 32)));
 }

@@ -1,12 +1,12 @@
 //! Worked cases of a page of one owner.
 use super::Mortal;
+use crate::assert_equal::assert_equal;
 use lockfree_object_pool::PullError;
 use lockfree_object_pool::clean::AnyValue;
 use lockfree_object_pool::page::PageId;
 use object_pool_cores::sequential::CorePage;
 use std::alloc::Global;
 use std::cell::Cell;
-use std::test::Fail;
 
 /// A page of the values 100 to 131.
 fn numbered_page(alloc: Global) -> Result<CorePage<u32, AnyValue>, PullError> {
@@ -31,42 +31,40 @@ fn free_again(page: &mut CorePage<u32, AnyValue>, id: PageId) -> bool {
 }
 
 #[test]
-fn a_new_page_has_each_id_free(rt: HostRuntime) -> Result<(), Fail> {
-    let page = numbered_page(rt.alloc())?;
-    assert_eq!(rt; (page.is_full(), page.get_mask()), (false, 4294967295));
+fn a_new_page_has_each_id_free(rt: HostRuntime) {
+    let page = numbered_page(rt.alloc()).expect(&rt, "a pool is made");
+    assert_equal(&rt, (page.is_full(), page.get_mask()), (false, 4294967295));
     assert!(rt; !page.is_out(0) && !page.is_out(31) && !page.is_out(32));
-    Ok(())
 }
 
 #[test]
-fn the_word_follows_what_is_taken_and_freed(rt: HostRuntime) -> Result<(), Fail> {
-    let mut page = numbered_page(rt.alloc())?;
+fn the_word_follows_what_is_taken_and_freed(rt: HostRuntime) {
+    let mut page = numbered_page(rt.alloc()).expect(&rt, "a pool is made");
     for (id, word) in [(0u8, 4294967294), (1, 4294967292), (2, 4294967288)] {
-        assert_eq!(rt; page.alloc(), Some((id, 100 + u32::from(id))));
-        assert_eq!(rt; page.get_mask(), word);
+        assert_equal(&rt, page.alloc(), Some((id, 100 + u32::from(id))));
+        assert_equal(&rt, page.get_mask(), word);
     }
     for (id, word) in [(1, 4294967290), (0, 4294967291), (2, 4294967295)] {
         assert!(rt; free_again(&mut page, id), "{id}");
-        assert_eq!(rt; page.get_mask(), word);
+        assert_equal(&rt, page.get_mask(), word);
     }
-    Ok(())
 }
 
 #[test]
-fn each_id_is_taken_in_order_until_the_page_is_full(rt: HostRuntime) -> Result<(), Fail> {
-    let mut page = numbered_page(rt.alloc())?;
+fn each_id_is_taken_in_order_until_the_page_is_full(rt: HostRuntime) {
+    let mut page = numbered_page(rt.alloc()).expect(&rt, "a pool is made");
     for id in 0..32u8 {
         assert!(rt; !page.is_full());
-        assert_eq!(rt; page.alloc(), Some((id, 100 + u32::from(id))));
+        assert_equal(&rt, page.alloc(), Some((id, 100 + u32::from(id))));
     }
-    assert_eq!(rt; (page.is_full(), page.get_mask()), (true, 0));
-    assert_eq!(rt; page.alloc(), None);
+    assert_equal(&rt, (page.is_full(), page.get_mask()), (true, 0));
+    assert_equal(&rt, page.alloc(), None);
     assert!(rt; free_again(&mut page, 31) && free_again(&mut page, 7));
-    assert_eq!(rt;
+    assert_equal(
+        &rt,
         (page.alloc(), page.alloc()),
-        (Some((7, 107)), Some((31, 131)))
+        (Some((7, 107)), Some((31, 131))),
     );
-    Ok(())
 }
 
 #[test]
@@ -87,6 +85,10 @@ fn a_page_that_init_refuses_isnt_made(rt: HostRuntime) {
             },
         );
         assert!(rt; matches!(&page, Err(PullError::Init)), "at call {last}");
-        assert_eq!(rt; (calls.get(), ends.get()), (last.saturating_add(1), last));
+        assert_equal(
+            &rt,
+            (calls.get(), ends.get()),
+            (last.saturating_add(1), last),
+        );
     }
 }

@@ -1,12 +1,12 @@
 //! Stack cores that keep many items, and players that hold many and let many go.
 use super::Zeros;
+use crate::assert_equal::assert_equal;
 use lockfree_object_pool::PullError;
 use lockfree_object_pool::clean::AnyValue;
 use lockfree_object_pool::closures::{Copied, Keep};
 use object_pool_cores::sequential::*;
 use std::alloc::{AllocError, Global};
 use std::cell::Cell;
-use std::test::Fail;
 
 /// How many items are kept.
 const KEPT: usize = 100;
@@ -31,7 +31,7 @@ fn pull_and_give<P: SequentialPool<u32>>(
 
 /// Each pull that finds an item kept leaves `init` alone, and a value is attached beside those that are kept.
 #[test]
-fn a_hundred_kept_items_are_pulled_before_init_is_asked(rt: HostRuntime) -> Result<(), Fail> {
+fn a_hundred_kept_items_are_pulled_before_init_is_asked(rt: HostRuntime) {
     let calls = Cell::new(0u32);
     let init = Zeros {
         calls: &calls,
@@ -39,13 +39,12 @@ fn a_hundred_kept_items_are_pulled_before_init_is_asked(rt: HostRuntime) -> Resu
     };
     let mut core = StackCore::<u32, _, _, AnyValue>::new(rt.alloc(), init, Keep);
     for _ in 0..3 {
-        pull_and_give(rt.alloc(), &mut core, KEPT)?;
+        pull_and_give(rt.alloc(), &mut core, KEPT).expect(&rt, "nothing is refused");
         let attached = core.attach(9).ok().map(|item| *item);
-        assert_eq!(rt; (calls.get(), attached), (100, Some(9)));
+        assert_equal(&rt, (calls.get(), attached), (100, Some(9)));
     }
-    pull_and_give(rt.alloc(), &mut core, KEPT + 1)?;
-    assert_eq!(rt; calls.get(), 101);
-    Ok(())
+    pull_and_give(rt.alloc(), &mut core, KEPT + 1).expect(&rt, "nothing is refused");
+    assert_equal(&rt, calls.get(), 101);
 }
 
 /// 200 pulls, and the returns of the last hundred.
@@ -83,21 +82,31 @@ fn reply_at(index: usize) -> Reply<u32> {
 }
 
 #[test]
-fn a_player_that_holds_and_let_go_hundreds_attaches_and_pulls(rt: HostRuntime) -> Result<(), Fail> {
+fn a_player_that_holds_and_let_go_hundreds_attaches_and_pulls(rt: HostRuntime) {
     let zero = Copied::<u32, AnyValue>::new(0);
     let core = StackCore::<u32, _, _, AnyValue>::new(rt.alloc(), zero, Keep);
     let mut player = Player::new(rt.alloc(), core);
     let mut replies = Vec::new(rt.alloc());
-    player.run(pulls_and_returns(rt.alloc())?, &mut replies)?;
-    player.run(attaches_and_pulls(rt.alloc(), 200)?, &mut replies)?;
+    player
+        .run(
+            pulls_and_returns(rt.alloc()).expect(&rt, "nothing is refused"),
+            &mut replies,
+        )
+        .expect(&rt, "memory is left");
+    player
+        .run(
+            attaches_and_pulls(rt.alloc(), 200).expect(&rt, "nothing is refused"),
+            &mut replies,
+        )
+        .expect(&rt, "memory is left");
     let mut index = 0usize;
     for reply in replies.iter() {
-        assert_eq!(rt; *reply, reply_at(index));
+        assert_equal(&rt, reply, &reply_at(index));
         index = index.saturating_add(1);
     }
-    assert_eq!(rt;
+    assert_equal(
+        &rt,
         (index, player.held(99), player.held(199), player.held(399)),
-        (700, Some(&0), None, Some(&9))
+        (700, Some(&0), None, Some(&9)),
     );
-    Ok(())
 }

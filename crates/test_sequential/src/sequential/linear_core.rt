@@ -1,12 +1,12 @@
 //! What a linear core makes at its opening, how many pages it looks at, and what it holds past the first few pages.
 use super::Zeros;
+use crate::assert_equal::assert_equal;
 use lockfree_object_pool::PullError;
 use lockfree_object_pool::clean::AnyValue;
 use lockfree_object_pool::closures::{Copied, Keep};
 use object_pool_cores::sequential::{Item, LinearCore, SequentialPool};
 use std::alloc::Global;
 use std::cell::Cell;
-use std::test::Fail;
 
 /// A core of zeros with so many items of it held.
 #[derive(Drop)]
@@ -15,7 +15,7 @@ struct Held {
     items: Vec<Item<u32>>,
 }
 
-fn pulled(alloc: Global, count: usize) -> Result<Held, Fail> {
+fn pulled(alloc: Global, count: usize) -> Result<Held, PullError> {
     let mut core = LinearCore::new(alloc, Copied::new(0), Keep)?;
     let mut items = Vec::new(alloc);
     for _ in 0..count {
@@ -38,41 +38,43 @@ fn given(held: &mut Held, index: usize) -> bool {
 }
 
 #[test]
-fn a_pull_looks_on_from_the_last_page(rt: HostRuntime) -> Result<(), Fail> {
-    let mut held = pulled(rt.alloc(), 64)?;
+fn a_pull_looks_on_from_the_last_page(rt: HostRuntime) {
+    let mut held = pulled(rt.alloc(), 64).expect(&rt, "nothing is refused");
     let before = held.core.pages_looked();
-    assert_eq!(rt; before, 65);
-    let next = held.core.pull()?;
-    assert_eq!(rt; next.number(), Some(64));
+    assert_equal(&rt, before, 65);
+    let next = held.core.pull().expect(&rt, "an item is free");
+    assert_equal(&rt, next.number(), Some(64));
     assert!(rt; held.core.pages_looked() <= before.saturating_add(3));
-    Ok(())
 }
 
 #[test]
-fn a_pull_looks_first_at_a_lower_page_that_got_an_item_back(rt: HostRuntime) -> Result<(), Fail> {
-    let mut held = pulled(rt.alloc(), 64)?;
+fn a_pull_looks_first_at_a_lower_page_that_got_an_item_back(rt: HostRuntime) {
+    let mut held = pulled(rt.alloc(), 64).expect(&rt, "nothing is refused");
     assert!(rt; given(&mut held, 5));
-    let again = held.core.pull()?;
-    assert_eq!(rt; again.number(), Some(5));
-    assert_eq!(rt; held.core.pages_looked(), 66);
-    Ok(())
+    let again = held.core.pull().expect(&rt, "an item is free");
+    assert_equal(&rt, again.number(), Some(5));
+    assert_equal(&rt, held.core.pages_looked(), 66);
 }
 
 #[test]
-fn many_pulls_look_at_each_page_once_more_than_they_take(rt: HostRuntime) -> Result<(), Fail> {
-    let held = pulled(rt.alloc(), 6400)?;
-    assert_eq!(rt; (held.core.pages_looked(), held.core.pages()), (6599, 200));
-    assert_eq!(rt;
-        held.items.last().and_then(|item| item.number()),
-        Some(6399)
+fn many_pulls_look_at_each_page_once_more_than_they_take(rt: HostRuntime) {
+    let held = pulled(rt.alloc(), 6400).expect(&rt, "nothing is refused");
+    assert_equal(
+        &rt,
+        (held.core.pages_looked(), held.core.pages()),
+        (6599, 200),
     );
-    Ok(())
+    assert_equal(
+        &rt,
+        held.items.last().and_then(|item| item.number()),
+        Some(6399),
+    );
 }
 
 #[test]
-fn items_of_many_pages_come_back_with_their_values(rt: HostRuntime) -> Result<(), Fail> {
-    let mut held = pulled(rt.alloc(), 8225)?;
-    assert_eq!(rt; (held.core.pages(), held.items.len()), (258, 8225));
+fn items_of_many_pages_come_back_with_their_values(rt: HostRuntime) {
+    let mut held = pulled(rt.alloc(), 8225).expect(&rt, "nothing is refused");
+    assert_equal(&rt, (held.core.pages(), held.items.len()), (258, 8225));
     for (index, value) in [(8224usize, 1u32), (4100, 2), (33, 3)] {
         if let Some(item) = held.items.get_mut(index) {
             **item = value;
@@ -80,10 +82,9 @@ fn items_of_many_pages_come_back_with_their_values(rt: HostRuntime) -> Result<()
         assert!(rt; given(&mut held, index));
     }
     for (number, value) in [(33, 3u32), (4100, 2), (8224, 1)] {
-        let item = held.core.pull()?;
-        assert_eq!(rt; (item.number(), *item), (Some(number), value));
+        let item = held.core.pull().expect(&rt, "an item is free");
+        assert_equal(&rt, (item.number(), *item), (Some(number), value));
     }
-    Ok(())
 }
 
 /// The number that a pull gives, and how many pages it looks at. The item stays out.
@@ -95,8 +96,8 @@ fn number_and_looks(held: &mut Held) -> Result<(Option<u128>, u64), PullError> {
 }
 
 #[test]
-fn a_pull_counts_each_page_that_it_looks_at(rt: HostRuntime) -> Result<(), Fail> {
-    let mut held = pulled(rt.alloc(), 12 * 32)?;
+fn a_pull_counts_each_page_that_it_looks_at(rt: HostRuntime) {
+    let mut held = pulled(rt.alloc(), 12 * 32).expect(&rt, "nothing is refused");
     // An item of page 0, 1, 9 or 11 comes back. One pull takes it, and the next one passes all full pages from there on.
     for (number, looks, further) in [
         (0u32, 13u64, 384u128),
@@ -105,26 +106,28 @@ fn a_pull_counts_each_page_that_it_looks_at(rt: HostRuntime) -> Result<(), Fail>
         (352, 2, 387),
     ] {
         assert!(rt; given(&mut held, number as usize));
-        let near = number_and_looks(&mut held)?;
-        let far = number_and_looks(&mut held)?;
-        assert_eq!(rt;
+        let near = number_and_looks(&mut held).expect(&rt, "nothing is refused");
+        let far = number_and_looks(&mut held).expect(&rt, "nothing is refused");
+        assert_equal(
+            &rt,
             (near, far),
-            ((Some(u128::from(number)), 1), (Some(further), looks))
+            ((Some(u128::from(number)), 1), (Some(further), looks)),
         );
     }
-    Ok(())
 }
 
 #[test]
-fn a_core_with_a_limit_makes_one_page_at_its_opening(rt: HostRuntime) -> Result<(), Fail> {
+fn a_core_with_a_limit_makes_one_page_at_its_opening(rt: HostRuntime) {
     let calls = Cell::new(0u32);
     let init = Zeros {
         calls: &calls,
         refused: 0,
     };
-    let core = LinearCore::<u32, _, _, AnyValue>::with_limit(rt.alloc(), init, Keep, 3)?;
-    assert_eq!(rt; (calls.get(), core.pages()), (32, 1));
-    Ok(())
+    let core = LinearCore::<u32, _, _, AnyValue>::with_limit(rt.alloc(), init, Keep, 3).expect(
+        &rt,
+        "a pool is made",
+    );
+    assert_equal(&rt, (calls.get(), core.pages()), (32, 1));
 }
 
 /// How often `init` was called, and how many pages there are, once each item of ten pages was pulled and none came back, and
@@ -158,13 +161,14 @@ fn each_of_ten_pages_takes_32_calls_of_init(rt: HostRuntime) {
         ten_pages(rt.alloc(), Some(11)),
     );
     let limit = Some(PullError::Limit);
-    assert_eq!(rt;
+    assert_equal(
+        &rt,
         found,
         (
             Ok((320, 10, None)),
             Ok((320, 10, limit)),
-            Ok((320, 10, None))
-        )
+            Ok((320, 10, None)),
+        ),
     );
 }
 
@@ -197,5 +201,5 @@ fn init_that_refuses_a_page_is_asked_once_with_a_limit_and_without(rt: HostRunti
         refused_once(rt.alloc(), None),
         refused_once(rt.alloc(), Some(3)),
     );
-    assert_eq!(rt; found, (refused, refused));
+    assert_equal(&rt, found, (refused, refused));
 }

@@ -1,10 +1,10 @@
 //! Runs of no commands, and of more than a million.
+use crate::assert_equal::assert_equal;
 use lockfree_object_pool::PullError;
 use lockfree_object_pool::clean::AnyValue;
 use lockfree_object_pool::closures::{Copied, Keep};
 use object_pool_cores::sequential::{Command, LinearCore, Player, Reply};
 use std::alloc::{AllocError, Global};
-use std::test::Fail;
 
 /// How often an item is pulled and returned in one run.
 const TURNS: usize = 550_000;
@@ -27,28 +27,36 @@ fn turns(alloc: Global) -> Result<Vec<Command<u32>>, AllocError> {
 }
 
 #[test]
-fn a_run_of_no_commands_is_done_and_leaves_no_reply(rt: HostRuntime) -> Result<(), Fail> {
-    let mut player = new_player(rt.alloc())?;
+fn a_run_of_no_commands_is_done_and_leaves_no_reply(rt: HostRuntime) {
+    let mut player = new_player(rt.alloc()).expect(&rt, "nothing is refused");
     let mut replies = Vec::new(rt.alloc());
     let first = player.run(Vec::new(rt.alloc()), &mut replies);
-    let one = vec![in rt.alloc(); Command::Pull]?;
-    player.run(one, &mut replies)?;
+    let one = vec![in rt.alloc(); Command::Pull].expect(&rt, "memory is left");
+    player.run(one, &mut replies).expect(&rt, "memory is left");
     let second = player.run(Vec::new(rt.alloc()), &mut replies);
-    assert_eq!(rt;
+    assert_equal(
+        &rt,
         (first, second, player.held(0).copied()),
-        (Ok(()), Ok(()), Some(0))
+        (Ok(()), Ok(()), Some(0)),
     );
-    assert_eq!(rt; replies.as_slice(), [Reply::Pulled(0, Some(0))].as_slice());
-    Ok(())
+    assert_equal(
+        &rt,
+        replies.as_slice(),
+        [Reply::Pulled(0, Some(0))].as_slice(),
+    );
 }
 
 #[test]
-fn a_run_of_more_than_a_million_commands_is_done(rt: HostRuntime) -> Result<(), Fail> {
-    let mut player = new_player(rt.alloc())?;
+fn a_run_of_more_than_a_million_commands_is_done(rt: HostRuntime) {
+    let mut player = new_player(rt.alloc()).expect(&rt, "nothing is refused");
     let mut replies = Vec::new(rt.alloc());
-    player.run(turns(rt.alloc())?, &mut replies)?;
+    player
+        .run(
+            turns(rt.alloc()).expect(&rt, "nothing is refused"),
+            &mut replies,
+        )
+        .expect(&rt, "memory is left");
     let last = [Reply::Pulled(TURNS - 1, Some(0)), Reply::Returned];
-    assert_eq!(rt; replies.len(), 2 * TURNS);
+    assert_equal(&rt, replies.len(), 2 * TURNS);
     assert!(rt; replies.as_slice().ends_with(last.as_slice()));
-    Ok(())
 }

@@ -1,5 +1,6 @@
 //! The values that holders have, where replies tell the numbers alone.
 use super::{Mortal, Mortals, are_mine};
+use crate::assert_equal::assert_equal;
 use lockfree_object_pool::PullError;
 use lockfree_object_pool::clean::AnyValue;
 use lockfree_object_pool::closures::{Copied, Keep, Reset};
@@ -7,12 +8,14 @@ use object_pool_cores::sequential::*;
 use std::alloc::Global;
 use std::cell::Cell;
 use std::process::Abort;
-use std::test::Fail;
 
 #[test]
-fn a_value_that_reset_keeps_comes_again_with_its_own_number(rt: HostRuntime) -> Result<(), Fail> {
+fn a_value_that_reset_keeps_comes_again_with_its_own_number(rt: HostRuntime) {
     let zero = Copied::<u32, AnyValue>::new(0);
-    let core = LinearCore::<u32, _, _, AnyValue>::new(rt.alloc(), zero, Keep)?;
+    let core = LinearCore::<u32, _, _, AnyValue>::new(rt.alloc(), zero, Keep).expect(
+        &rt,
+        "a pool is made",
+    );
     let mut player = Player::new(rt.alloc(), core);
     let mut replies = Vec::new(rt.alloc());
     let commands = vec![in rt.alloc();
@@ -24,37 +27,43 @@ fn a_value_that_reset_keeps_comes_again_with_its_own_number(rt: HostRuntime) -> 
         Command::Return(1),
         Command::Pull,
         Command::Pull,
-    ]?;
-    player.run(commands, &mut replies)?;
+    ]
+    .expect(&rt, "memory is left");
+    player
+        .run(commands, &mut replies)
+        .expect(&rt, "memory is left");
     let last = [Reply::Pulled(2, Some(0)), Reply::Pulled(3, Some(1))];
-    assert_eq!(rt; replies.as_slice().get(6..), Some(last.as_slice()));
-    assert_eq!(rt; (player.held(2), player.held(3)), (Some(&1), Some(&2)));
-    assert_eq!(rt; (player.held(0), player.held(1)), (None, None));
-    Ok(())
+    assert_equal(&rt, replies.as_slice().get(6..), Some(last.as_slice()));
+    assert_equal(&rt, (player.held(2), player.held(3)), (Some(&1), Some(&2)));
+    assert_equal(&rt, (player.held(0), player.held(1)), (None, None));
 }
 
 /// The value that an attached 9 comes again with, in a pool whose new items are 7.
-fn nine_again<R: Reset<u32, AnyValue>>(alloc: Global, reset: R) -> Result<Option<u32>, Fail> {
+fn nine_again<R: Reset<u32, AnyValue>>(rt: &impl Abort, alloc: Global, reset: R) -> Option<u32> {
     let seven = Copied::<u32, AnyValue>::new(7);
     let core = StackCore::<u32, _, _, AnyValue>::new(alloc, seven, reset);
     let mut player = Player::new(alloc, core);
     let mut replies = Vec::new(alloc);
-    let commands = vec![in alloc; Command::Attach(9), Command::Return(0), Command::Pull]?;
-    player.run(commands, &mut replies)?;
-    Ok(player.held(1).copied())
+    let commands = vec![in alloc; Command::Attach(9), Command::Return(0), Command::Pull].expect(
+        rt,
+        "memory is left",
+    );
+    player
+        .run(commands, &mut replies)
+        .expect(rt, "memory is left");
+    player.held(1).copied()
 }
 
 #[test]
-fn an_attached_value_comes_again_as_reset_left_it(rt: HostRuntime) -> Result<(), Fail> {
-    assert_eq!(rt; nine_again(rt.alloc(), Keep)?, Some(9));
+fn an_attached_value_comes_again_as_reset_left_it(rt: HostRuntime) {
+    assert_equal(&rt, nine_again(&rt, rt.alloc(), Keep), Some(9));
     let zero = Copied::<u32, AnyValue>::new(0);
-    assert_eq!(rt; nine_again(rt.alloc(), zero)?, Some(0));
-    Ok(())
+    assert_equal(&rt, nine_again(&rt, rt.alloc(), zero), Some(0));
 }
 
 /// With a page held, the pull that is refused by this call of `init` for the next page drops what it
 /// made.
-fn second_page_refused(rt: &impl Abort, alloc: Global, refused: u32) -> Result<(), Fail> {
+fn second_page_refused(rt: &impl Abort, alloc: Global, refused: u32) {
     let calls = Cell::new(0u32);
     let ends = Cell::new(0u32);
     let init = Mortals {
@@ -62,28 +71,30 @@ fn second_page_refused(rt: &impl Abort, alloc: Global, refused: u32) -> Result<(
         ends: &ends,
         refused: refused.saturating_add(32),
     };
-    let mut core = LinearCore::<Mortal<'_>, _, _, AnyValue>::new(alloc, init, Keep)?;
+    let mut core = LinearCore::<Mortal<'_>, _, _, AnyValue>::new(alloc, init, Keep).expect(
+        rt,
+        "a pool is made",
+    );
     let mut held = Vec::new(alloc);
     for _ in 0..32 {
-        held.push(core.pull()?)?;
+        held.push(core.pull().expect(rt, "an item is free"))
+            .expect(rt, "memory is left");
     }
     assert!(rt;
         matches!(core.pull(), Err(PullError::Init)),
         "at call {refused}"
     );
-    assert_eq!(rt; ends.get().saturating_add(1), refused);
-    assert_eq!(rt; calls.get(), refused.saturating_add(32));
+    assert_equal(rt, ends.get().saturating_add(1), refused);
+    assert_equal(rt, calls.get(), refused.saturating_add(32));
     assert!(rt; are_mine(&core, &held));
-    let next = core.pull()?;
-    assert_eq!(rt; (next.number(), core.pages()), (Some(32), 2));
-    assert_eq!(rt; calls.get(), refused.saturating_add(64));
-    Ok(())
+    let next = core.pull().expect(rt, "an item is free");
+    assert_equal(rt, (next.number(), core.pages()), (Some(32), 2));
+    assert_equal(rt, calls.get(), refused.saturating_add(64));
 }
 
 #[test]
-fn each_call_of_init_may_refuse_the_second_page(rt: HostRuntime) -> Result<(), Fail> {
+fn each_call_of_init_may_refuse_the_second_page(rt: HostRuntime) {
     for refused in 1..33 {
-        second_page_refused(&rt, rt.alloc(), refused)?;
+        second_page_refused(&rt, rt.alloc(), refused);
     }
-    Ok(())
 }

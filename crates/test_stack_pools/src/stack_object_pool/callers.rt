@@ -4,6 +4,7 @@ ghost use Rattle.lockfree_object_pool.specs.StackPool.{stack_with};
 ghost use Rattle.lockfree_object_pool.specs.declared.pull_error.PullError.TheVariants.{Memory};
 
 use super::*;
+use crate::assert_equal::assert_equal;
 
 /// Whatever other threads do and attach, a pulled value meets the condition.
 fn pulled<
@@ -100,9 +101,10 @@ fn shows_what_its_callers_know<
     let pool = cleared::<F, W>(rt, alloc, &calls);
     let written = written_and_read(rt, &pool);
     let pulled = (pulled(rt, &pool), pulled_owned(rt, &pool));
-    assert_eq!(rt;
+    assert_equal(
+        rt,
         (written, pulled, attached(rt, &*pool), refusal(rt, &*pool)),
-        ((7, 8), (Some(0), Some(0)), Ok(9), None)
+        ((7, 8), (Some(0), Some(0)), Ok(9), None),
     );
 }
 

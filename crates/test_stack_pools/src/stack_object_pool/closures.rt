@@ -1,5 +1,6 @@
 //! Bare closures as what makes a pool's values.
 use super::*;
+use crate::assert_equal::assert_equal;
 use lockfree_object_pool::closures::{InitBy, Makes};
 
 /// A refusal of `init` is the answer of a pull at once.
@@ -16,9 +17,10 @@ fn refuses_at_the_first_call<
     );
     let borrowed = (pool.pull(rt).err(), calls.load(SeqCst));
     let owned = (pool.pull_owned(rt).err(), calls.load(SeqCst));
-    assert_eq!(rt;
+    assert_equal(
+        rt,
         (borrowed, owned),
-        ((Some(PullError::Init), 1), (Some(PullError::Init), 2))
+        ((Some(PullError::Init), 1), (Some(PullError::Init), 2)),
     );
 }
 

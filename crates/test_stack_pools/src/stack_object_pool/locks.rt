@@ -2,6 +2,7 @@
 //! its room is lost.
 use super::waits::wait_for;
 use super::*;
+use crate::assert_equal::assert_equal;
 use lockfree_object_pool::stack::Room;
 use std::thread;
 use std::thread::{JoinHandle, Threads};
@@ -100,7 +101,7 @@ fn take_meanwhile<
     let (value, room) = list.take(rt).expect(rt, "5 is kept");
     steps.end();
     holder.join(rt);
-    assert_eq!(rt; (held, value, list.count(rt)), (true, 5, 0));
+    assert_equal(rt, (held, value, list.count(rt)), (true, 5, 0));
     room
 }
 
@@ -126,7 +127,7 @@ fn waits_for_the_lock<
     list.put(rt, Room::new(alloc).expect(rt, "memory is left"), 5);
     let room = take_meanwhile(rt, alloc, &list);
     put_meanwhile(rt, alloc, &list, room);
-    assert_eq!(rt; list.take(rt).map(|taken| taken.0), Some(6));
+    assert_equal(rt, list.take(rt).map(|taken| taken.0), Some(6));
 }
 
 #[test]

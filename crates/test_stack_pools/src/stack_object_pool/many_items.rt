@@ -1,5 +1,6 @@
 //! Many items that are kept together: none is thrown away, and they come again in turn, the last first.
 use super::*;
+use crate::assert_equal::assert_equal;
 use test_values::counted::NEVER;
 
 /// So many owned items, held together.
@@ -25,9 +26,9 @@ fn keeps_many<F: Kind<Tallied, TalliedValues, Keep, AnyValue>, W: Abort + Wait +
     drop(hold(rt, alloc, &pool, 1_100));
     let again = hold(rt, alloc, &pool, 1_100);
     for (index, item) in again.iter().enumerate() {
-        assert_eq!(rt; Some(item.number), 1_099usize.checked_sub(index));
+        assert_equal(rt, Some(item.number), 1_099usize.checked_sub(index));
     }
-    assert_eq!(rt; tally.now(), (1_100, 0));
+    assert_equal(rt, tally.now(), (1_100, 0));
 }
 
 #[test]
@@ -44,7 +45,7 @@ fn keeps_seventy_thousand<F: Kind<Tallied, TalliedValues, Keep, AnyValue>, W: Ab
     let (tally, pool) = tallied::<F, W>(rt, alloc, NEVER);
     for _ in 0..2 {
         drop(hold(rt, alloc, &pool, 70_000));
-        assert_eq!(rt; standing(rt, &pool, &tally), (70_000, (70_000, 0)));
+        assert_equal(rt, standing(rt, &pool, &tally), (70_000, (70_000, 0)));
     }
 }
 

@@ -3,6 +3,7 @@ ghost use Rattle.std.specs.Prelude.{◌≡◌, IfOk, IfErr};
 ghost use Rattle.lockfree_object_pool.specs.StackPool.{stack_with};
 
 use super::*;
+use crate::assert_equal::assert_equal;
 use lockfree_object_pool::{
     MutexOwnedReusable, MutexReusable, SpinLockOwnedReusable, SpinLockReusable,
 };
@@ -78,17 +79,19 @@ fn the_exported_names_serve_as_types(rt: HostRuntime) {
     let attached = (by_mutex(&rt, &mutex), by_spin_lock(&rt, &spin_lock));
     let item = mutex.pull(&rt).expect(&rt, "an item is kept");
     let owned = spin_lock.pull(&rt).expect(&rt, "an item is kept");
-    assert_eq!(rt;
+    assert_equal(
+        &rt,
         (written, attached, (*item, *owned)),
-        ((7, 8), (Ok(9), Ok(9)), (0, 0))
+        ((7, 8), (Ok(9), Ok(9)), (0, 0)),
     );
     drop(item);
     drop(owned);
-    assert_eq!(rt;
+    assert_equal(
+        &rt,
         (
             owned_by_mutex(&rt, mutex),
-            owned_by_spin_lock(&rt, spin_lock)
+            owned_by_spin_lock(&rt, spin_lock),
         ),
-        (Ok(9), Ok(9))
+        (Ok(9), Ok(9)),
     );
 }

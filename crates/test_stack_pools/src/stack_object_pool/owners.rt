@@ -1,6 +1,7 @@
 //! Owners of a pool: each owned item lets its own go, so that the pool ends with the last of them
 //! and drops what it keeps.
 use super::*;
+use crate::assert_equal::assert_equal;
 use test_values::counted::NEVER;
 
 fn lets_its_owners_go<F: Kind<Tallied, TalliedValues, Keep, AnyValue>, W: Abort + Wait + Copy>(
@@ -15,9 +16,10 @@ fn lets_its_owners_go<F: Kind<Tallied, TalliedValues, Keep, AnyValue>, W: Abort 
     drop(second);
     let returned = tally.now();
     drop(pool);
-    assert_eq!(rt;
+    assert_equal(
+        rt,
         (refusal, returned, tally.now()),
-        (Some(PullError::Init), (3, 0), (3, 2))
+        (Some(PullError::Init), (3, 0), (3, 2)),
     );
 }
 
@@ -37,7 +39,7 @@ fn lets_its_attached_owners_go<
     drop(StackReusable::new(rt, owner, value));
     let returned = tally.now();
     drop(pool);
-    assert_eq!(rt; (returned, tally.now()), ((1, 0), (1, 1)));
+    assert_equal(rt, (returned, tally.now()), ((1, 0), (1, 1)));
 }
 
 #[test]
@@ -61,7 +63,7 @@ fn is_kept_alive_by_an_item<
     drop(pool);
     let held = (item.number, tally.now());
     drop(item);
-    assert_eq!(rt; (held, tally.now()), ((0, (1, 0)), (1, 1)));
+    assert_equal(rt, (held, tally.now()), ((0, (1, 0)), (1, 1)));
 }
 
 #[test]

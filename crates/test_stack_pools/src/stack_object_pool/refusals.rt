@@ -1,6 +1,7 @@
 //! Pools that are refused values or memory: nothing is lost, and what was refused can be asked for
 //! again.
 use super::*;
+use crate::assert_equal::assert_equal;
 use test_values::counted::NEVER;
 use test_values::refused::again;
 
@@ -12,7 +13,7 @@ fn pull_again<P: Pulls<Tallied>, W: Abort + Wait + Copy>(
 ) -> StackReusable<Tallied, P, W> {
     let before = tally.now();
     if let Err(refusal) = pool.pull_one(rt) {
-        assert_eq!(rt; (refusal, tally.now()), (PullError::Memory, before));
+        assert_equal(rt, (refusal, tally.now()), (PullError::Memory, before));
     }
     pool.pull_one(rt).expect(rt, "an item is made")
 }
@@ -36,11 +37,15 @@ fn goes_on_without_memory<F: Kind<Tallied, TalliedValues, Keep, AnyValue>, W: Ab
 ) {
     let tally = again(&|| new_tally(alloc)).expect(rt, "memory is left");
     let pool = again(&|| tracked::<F>(alloc, &tally, NEVER)).expect(rt, "a pool is made");
-    assert_eq!(rt; two_pulled(rt, &pool, &tally), [(0, (1, 0)), (1, (2, 0))]);
+    assert_equal(
+        rt,
+        two_pulled(rt, &pool, &tally),
+        [(0, (1, 0)), (1, (2, 0))],
+    );
     let last = pool.pull(rt).expect(rt, "an item is kept").number;
     let kept = tally.now();
     drop(pool);
-    assert_eq!(rt; (last, kept, tally.now()), (1, (2, 0), (2, 2)));
+    assert_equal(rt, (last, kept, tally.now()), (1, (2, 0), (2, 2)));
 }
 
 /// Holds with each request for memory refused in turn too: a pull that is refused hasn't called
@@ -81,7 +86,7 @@ fn gives_back_what_is_not_attached<
     let pool = again(&|| plain::<F>(alloc)).expect(rt, "a pool is made");
     let owner = Arc::try_clone(&pool).expect(rt, "an owner is made");
     let borrowed = shown_or_back(rt, &*pool, 8);
-    assert_eq!(rt; (borrowed, shown_or_back(rt, owner, 9)), (8, 9));
+    assert_equal(rt, (borrowed, shown_or_back(rt, owner, 9)), (8, 9));
 }
 
 /// Holds with each request for memory refused in turn too: a value that isn't attached comes back.

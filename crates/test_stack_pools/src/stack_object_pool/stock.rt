@@ -2,6 +2,7 @@
 ghost use Rattle.std.specs.Prelude.{⊤};
 
 use super::*;
+use crate::assert_equal::assert_equal;
 use test_values::counted::NEVER;
 
 /// The numbers of a borrowed item and an owned one that are held together, and how many values the pool keeps
@@ -27,9 +28,10 @@ fn fills<F: Kind<Tallied, TalliedValues, Keep, AnyValue>, W: Abort + Wait + Copy
     pool.fill(rt, 40).expect(rt, "40 values are made");
     pool.fill(rt, 0).expect(rt, "no value is made");
     let filled = standing(rt, &pool, &tally);
-    assert_eq!(rt;
+    assert_equal(
+        rt,
         (at_first, filled, two_pulled(rt, &pool), tally.now()),
-        ((0, (0, 0)), (40, (40, 0)), ((39, 38), (38, 39)), (40, 0))
+        ((0, (0, 0)), (40, (40, 0)), ((39, 38), (38, 39)), (40, 0)),
     );
 }
 
@@ -47,9 +49,10 @@ fn fills_in_part<F: Kind<Tallied, TalliedValues, Keep, AnyValue>, W: Abort + Wai
     let (tally, pool) = tallied::<F, W>(rt, alloc, 3);
     let refused = (pool.fill(rt, 5), standing(rt, &pool, &tally));
     let filled = (pool.fill(rt, 2), standing(rt, &pool, &tally));
-    assert_eq!(rt;
+    assert_equal(
+        rt,
         (refused, filled),
-        ((Err(PullError::Init), (3, (4, 0))), (Ok(()), (5, (6, 0))))
+        ((Err(PullError::Init), (3, (4, 0))), (Ok(()), (5, (6, 0)))),
     );
 }
 
@@ -79,7 +82,7 @@ fn fills_without_a_reset<F: Kind<u32, CountedZeros, AddsOne, AnyValue>, W: Abort
     let calls = new_calls(alloc).expect(rt, "memory is left");
     let pool = F::new_pool(alloc, CountedZeros { calls }, AddsOne).expect(rt, "a pool is made");
     pool.fill(rt, 2).expect(rt, "two values are made");
-    assert_eq!(rt; held_together(rt, &&pool), (0, 0));
+    assert_equal(rt, held_together(rt, &&pool), (0, 0));
 }
 
 #[test]
@@ -126,18 +129,20 @@ fn clears<F: Kind<Tallied, TalliedValues, Keep, AnyValue>, W: Abort + Wait + Cop
 ) {
     let (tally, pool) = tallied::<F, W>(rt, alloc, NEVER);
     pool.fill(rt, 70_000).expect(rt, "70,000 values are made");
-    assert_eq!(rt; standing(rt, &pool, &tally), (70_000, (70_000, 0)));
-    assert_eq!(rt;
+    assert_equal(rt, standing(rt, &pool, &tally), (70_000, (70_000, 0)));
+    assert_equal(
+        rt,
         cleared_beside_one(rt, &pool, &tally),
         [
             (69_999, (70_000, 0)),
             (0, (70_000, 69_999)),
-            (1, (70_000, 69_999))
-        ]
+            (1, (70_000, 69_999)),
+        ],
     );
-    assert_eq!(rt;
+    assert_equal(
+        rt,
         cleared_twice(rt, &pool, &tally),
-        ((69_999, 70_000), (0, (70_001, 70_000)))
+        ((69_999, 70_000), (0, (70_001, 70_000))),
     );
 }
 
@@ -174,9 +179,10 @@ fn detaches<F: Kind<Tallied, TalliedValues, Keep, AnyValue>, W: Abort + Wait + C
     let ended = tally.now();
     drop(first);
     drop(second);
-    assert_eq!(rt;
+    assert_equal(
+        rt,
         (numbers, detached, ended, tally.now()),
-        ((1, 0, 2), (0, (2, 0)), (3, 1), (3, 3))
+        ((1, 0, 2), (0, (2, 0)), (3, 1), (3, 3)),
     );
 }
 
@@ -196,7 +202,11 @@ fn detaches_as_written<F: Kind<u32, CountedZeros, Copied<u32, Zero>, Zero>, W: A
     let mut item = pool.pull(rt).expect(rt, "an item is made");
     let mut other = pool.pull_owned(rt).expect(rt, "an item is made");
     (*item, *other) = (5, 6);
-    assert_eq!(rt; (item.detach(), other.detach(), pool.kept(rt)), (5, 6, 0));
+    assert_equal(
+        rt,
+        (item.detach(), other.detach(), pool.kept(rt)),
+        (5, 6, 0),
+    );
 }
 
 #[test]

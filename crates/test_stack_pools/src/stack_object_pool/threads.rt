@@ -3,6 +3,7 @@ use super::waits::{
     Steps, ValuesThatWait, WaitsAtDrop, WaitsForDrop, shown, shown_meanwhile, wait_for,
 };
 use super::*;
+use crate::assert_equal::assert_equal;
 use std::thread;
 use std::thread::Threads;
 
@@ -19,7 +20,7 @@ fn makes_without_the_lock<
     let there = *rt;
     let first = thread::spawn(rt, move || shown(&there, &&*other)).expect(rt, "a thread is made");
     let meanwhile = shown_meanwhile(rt, &&*pool, &steps);
-    assert_eq!(rt; (meanwhile, first.join(rt)), (Some(7), Some(1)));
+    assert_equal(rt, (meanwhile, first.join(rt)), (Some(7), Some(1)));
 }
 
 #[test]
@@ -45,9 +46,10 @@ fn resets_without_the_lock<
     let there = *rt;
     let first = thread::spawn(rt, move || shown(&there, &&*other)).expect(rt, "a thread is made");
     let meanwhile = shown_meanwhile(rt, &&*pool, &steps);
-    assert_eq!(rt;
+    assert_equal(
+        rt,
         (meanwhile, first.join(rt), held_together(rt, &&*pool)),
-        (Some(3), Some(3), (1, 7))
+        (Some(3), Some(3), (1, 7)),
     );
 }
 
@@ -82,7 +84,7 @@ fn clears_without_the_lock<
     let dropping = (wait_for(&steps.calls), pool.kept(rt));
     steps.drops.fetch_add(1, SeqCst);
     clearing.join(rt);
-    assert_eq!(rt; (dropping, in_time.load(SeqCst)), ((true, 0), 1));
+    assert_equal(rt, (dropping, in_time.load(SeqCst)), ((true, 0), 1));
 }
 
 #[test]

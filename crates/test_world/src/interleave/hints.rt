@@ -1,5 +1,6 @@
 //! Agents that go by a hint: to a page with a free number, to a full one, and where they may not.
 use super::*;
+use crate::assert_equal::assert_equal;
 use std::alloc::Global;
 
 /// A world in which so many agents hold the item of their own number each.
@@ -29,8 +30,8 @@ fn take(alloc: Global, world: &mut World<u32, Keep>, agent: usize) -> Result<(),
 }
 
 #[test]
-fn a_hint_leads_past_full_pages_to_a_free_number(rt: HostRuntime) -> Result<(), Fail> {
-    let mut world = all_held(rt.alloc(), 128)?;
+fn a_hint_leads_past_full_pages_to_a_free_number(rt: HostRuntime) {
+    let mut world = all_held(rt.alloc(), 128).expect(&rt, "nothing is refused");
     give_back(&mut world, 101);
     play(
         &rt,
@@ -43,14 +44,13 @@ fn a_hint_leads_past_full_pages_to_a_free_number(rt: HostRuntime) -> Result<(), 
             (Event::ClearBit(128), Seen::Pulled(128, 101)),
             (Event::MoveOut(128), Seen::MovedOut(128)),
         ],
-    )?;
-    assert_eq!(rt; (world.word(3), world.held(128)), (Some(0), Some(&0)));
-    Ok(())
+    );
+    assert_equal(&rt, (world.word(3), world.held(128)), (Some(0), Some(&0)));
 }
 
 #[test]
-fn a_page_that_a_hint_found_full_is_not_asked_again(rt: HostRuntime) -> Result<(), Fail> {
-    let mut world = all_held(rt.alloc(), 128)?;
+fn a_page_that_a_hint_found_full_is_not_asked_again(rt: HostRuntime) {
+    let mut world = all_held(rt.alloc(), 128).expect(&rt, "nothing is refused");
     play(
         &rt,
         rt.alloc(),
@@ -67,13 +67,12 @@ fn a_page_that_a_hint_found_full_is_not_asked_again(rt: HostRuntime) -> Result<(
             (Event::ReadMask(128), Seen::Word(128, 0)),
             (Event::ReadNext(128), Seen::Next(128, false)),
         ],
-    )?;
-    Ok(())
+    );
 }
 
 #[test]
-fn a_number_that_comes_home_behind_a_hint_is_passed(rt: HostRuntime) -> Result<(), Fail> {
-    let mut world = all_held(rt.alloc(), 64)?;
+fn a_number_that_comes_home_behind_a_hint_is_passed(rt: HostRuntime) {
+    let mut world = all_held(rt.alloc(), 64).expect(&rt, "nothing is refused");
     play(
         &rt,
         rt.alloc(),
@@ -86,19 +85,21 @@ fn a_number_that_comes_home_behind_a_hint_is_passed(rt: HostRuntime) -> Result<(
             (Event::OrMask(40), Seen::Returned(40, 40)),
             (Event::ReadNext(64), Seen::Next(64, true)),
             (Event::ReadNext(64), Seen::Next(64, false)),
-            (Event::MakePage(64, Ok(zeros(rt.alloc())?)), Seen::Made(64)),
+            (
+                Event::MakePage(64, Ok(zeros(rt.alloc()).expect(&rt, "values are made"))),
+                Seen::Made(64),
+            ),
             (Event::ExchangeNext(64), Seen::Linked(64)),
             (Event::ReadMask(64), Seen::Word(64, FULL)),
             (Event::ClearBit(64), Seen::Pulled(64, 64)),
         ],
-    )?;
-    assert_eq!(rt; (world.pages(), world.word(1)), (3, Some(256)));
-    Ok(())
+    );
+    assert_equal(&rt, (world.pages(), world.word(1)), (3, Some(256)));
 }
 
 #[test]
-fn a_hint_may_name_any_linked_page_but_the_first(rt: HostRuntime) -> Result<(), Fail> {
-    let mut world = all_held(rt.alloc(), 64)?;
+fn a_hint_may_name_any_linked_page_but_the_first(rt: HostRuntime) {
+    let mut world = all_held(rt.alloc(), 64).expect(&rt, "nothing is refused");
     play(
         &rt,
         rt.alloc(),
@@ -113,13 +114,12 @@ fn a_hint_may_name_any_linked_page_but_the_first(rt: HostRuntime) -> Result<(), 
             (Event::ReadHinted(64, usize::MAX), Seen::NotEnabled),
             (Event::ReadHinted(64, 1), Seen::Word(64, 0)),
         ],
-    )?;
-    Ok(())
+    );
 }
 
 #[test]
-fn an_agent_goes_by_one_hint_from_the_first_link(rt: HostRuntime) -> Result<(), Fail> {
-    let mut world = all_held(rt.alloc(), 128)?;
+fn an_agent_goes_by_one_hint_from_the_first_link(rt: HostRuntime) {
+    let mut world = all_held(rt.alloc(), 128).expect(&rt, "nothing is refused");
     play(
         &rt,
         rt.alloc(),
@@ -138,13 +138,12 @@ fn an_agent_goes_by_one_hint_from_the_first_link(rt: HostRuntime) -> Result<(), 
             (Event::ReadNext(129), Seen::Next(129, true)),
             (Event::ReadHinted(129, 3), Seen::NotEnabled),
         ],
-    )?;
-    Ok(())
+    );
 }
 
 #[test]
-fn a_clearing_that_is_lost_behind_a_hint_tries_the_next_bit(rt: HostRuntime) -> Result<(), Fail> {
-    let mut world = all_held(rt.alloc(), 64)?;
+fn a_clearing_that_is_lost_behind_a_hint_tries_the_next_bit(rt: HostRuntime) {
+    let mut world = all_held(rt.alloc(), 64).expect(&rt, "nothing is refused");
     give_back(&mut world, 32);
     give_back(&mut world, 34);
     play(
@@ -163,16 +162,13 @@ fn a_clearing_that_is_lost_behind_a_hint_tries_the_next_bit(rt: HostRuntime) -> 
             (Event::ReadHinted(64, 1), Seen::NotEnabled),
             (Event::ClearBit(64), Seen::Pulled(64, 34)),
         ],
-    )?;
-    assert_eq!(rt; world.word(1), Some(0));
-    Ok(())
+    );
+    assert_equal(&rt, world.word(1), Some(0));
 }
 
 #[test]
-fn clearings_that_are_all_lost_behind_a_hint_lead_to_the_first_link(
-    rt: HostRuntime,
-) -> Result<(), Fail> {
-    let mut world = all_held(rt.alloc(), 64)?;
+fn clearings_that_are_all_lost_behind_a_hint_lead_to_the_first_link(rt: HostRuntime) {
+    let mut world = all_held(rt.alloc(), 64).expect(&rt, "nothing is refused");
     give_back(&mut world, 33);
     give_back(&mut world, 63);
     play(
@@ -199,15 +195,20 @@ fn clearings_that_are_all_lost_behind_a_hint_lead_to_the_first_link(
             (Event::ReadMask(64), Seen::NotEnabled),
             (Event::ReadNext(64), Seen::Next(64, false)),
         ],
-    )?;
-    Ok(())
+    );
 }
 
 #[test]
-fn a_limit_is_told_past_a_hint(rt: HostRuntime) -> Result<(), Fail> {
-    let mut world = World::with_limit(rt.alloc(), zeros(rt.alloc())?, Keep, 2)?;
+fn a_limit_is_told_past_a_hint(rt: HostRuntime) {
+    let mut world = World::with_limit(
+        rt.alloc(),
+        zeros(rt.alloc()).expect(&rt, "values are made"),
+        Keep,
+        2,
+    )
+    .expect(&rt, "a world is made");
     for agent in 0..64 {
-        take(rt.alloc(), &mut world, agent)?;
+        take(rt.alloc(), &mut world, agent).expect(&rt, "an item is free");
     }
     play(
         &rt,
@@ -220,42 +221,46 @@ fn a_limit_is_told_past_a_hint(rt: HostRuntime) -> Result<(), Fail> {
             (Event::ReadNext(64), Seen::Next(64, true)),
             (Event::ReadNext(64), Seen::Refused(64, PullError::Limit)),
         ],
-    )?;
-    Ok(())
+    );
 }
 
 #[test]
-fn each_of_forty_pages_is_asked_once_whichever_a_hint_names(rt: HostRuntime) -> Result<(), Fail> {
-    let mut world = all_held(rt.alloc(), 1280)?;
+fn each_of_forty_pages_is_asked_once_whichever_a_hint_names(rt: HostRuntime) {
+    let mut world = all_held(rt.alloc(), 1280).expect(&rt, "nothing is refused");
     for hint in 1..40 {
         let agent = 1279 + hint;
         let _ = world.step(Event::Begin);
         let _ = world.step(Event::ReadMask(agent));
-        assert_eq!(rt;
+        assert_equal(
+            &rt,
             world.step(Event::ReadHinted(agent, hint)),
-            Seen::Word(agent, 0)
+            Seen::Word(agent, 0),
         );
         for page in 1..40 {
-            assert_eq!(rt; world.step(Event::ReadNext(agent)), Seen::Next(agent, true));
+            assert_equal(
+                &rt,
+                world.step(Event::ReadNext(agent)),
+                Seen::Next(agent, true),
+            );
             let asked = world.step(Event::ReadMask(agent));
             let answer = if page == hint {
                 Seen::NotEnabled
             } else {
                 Seen::Word(agent, 0)
             };
-            assert_eq!(rt; asked, answer);
+            assert_equal(&rt, asked, answer);
         }
-        assert_eq!(rt;
+        assert_equal(
+            &rt,
             world.step(Event::ReadNext(agent)),
-            Seen::Next(agent, false)
+            Seen::Next(agent, false),
         );
     }
-    Ok(())
 }
 
 #[test]
-fn a_hint_in_vain_costs_an_agent_alone_one_step_at_most(rt: HostRuntime) -> Result<(), Fail> {
-    let mut world = all_held(rt.alloc(), 128)?;
+fn a_hint_in_vain_costs_an_agent_alone_one_step_at_most(rt: HostRuntime) {
+    let mut world = all_held(rt.alloc(), 128).expect(&rt, "nothing is refused");
     give_back(&mut world, 70);
     give_back(&mut world, 71);
     play(
@@ -281,6 +286,5 @@ fn a_hint_in_vain_costs_an_agent_alone_one_step_at_most(rt: HostRuntime) -> Resu
             (Event::ClearBit(129), Seen::Pulled(129, 71)),
             (Event::MoveOut(129), Seen::MovedOut(129)),
         ],
-    )?;
-    Ok(())
+    );
 }

@@ -1,5 +1,6 @@
 //! An agent that comes too late to link its page, after one page or many were linked there in the meantime.
 use super::*;
+use crate::assert_equal::assert_equal;
 
 /// The agent that comes late.
 const LATE: usize = 32;
@@ -96,7 +97,7 @@ fn late_page(alloc: Global) -> Result<(Seen, Seen, usize, usize), PullError> {
 #[test]
 fn a_page_may_be_made_behind_one_that_is_linked_and_is_dropped_then(rt: HostRuntime) {
     let found = late_page(rt.alloc());
-    assert_eq!(rt; found, Ok((Seen::Made(LATE), Seen::Lost(LATE), 32, 2)));
+    assert_equal(&rt, found, Ok((Seen::Made(LATE), Seen::Lost(LATE), 32, 2)));
 }
 
 /// How many values live when a world has ended in which an agent has made a page and hasn't linked it.
@@ -110,5 +111,5 @@ fn left_unlinked(alloc: Global) -> Result<(usize, usize), PullError> {
 
 #[test]
 fn a_page_that_was_never_linked_is_dropped_with_its_world(rt: HostRuntime) {
-    assert_eq!(rt; left_unlinked(rt.alloc()), Ok((64, 0)));
+    assert_equal(&rt, left_unlinked(rt.alloc()), Ok((64, 0)));
 }

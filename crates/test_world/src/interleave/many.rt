@@ -1,5 +1,6 @@
 //! Worlds that outgrow a byte and two bytes: their pages, their agents, the events of a run, and the greatest limit.
 use super::*;
+use crate::assert_equal::assert_equal;
 
 /// How many pages are linked.
 const PAGES: usize = 300;
@@ -27,38 +28,38 @@ fn pull_alone(
 }
 
 #[test]
-fn agents_alone_pull_each_number_of_three_hundred_pages(rt: HostRuntime) -> Result<(), Fail> {
-    let mut world = unbounded(rt.alloc())?;
+fn agents_alone_pull_each_number_of_three_hundred_pages(rt: HostRuntime) {
+    let mut world = unbounded(rt.alloc()).expect(&rt, "a world is made");
     for agent in 0..PAGES * 32 {
-        let seen = pull_alone(rt.alloc(), &mut world, agent)?;
-        assert_eq!(rt; seen, Seen::Pulled(agent, agent as u128));
+        let seen = pull_alone(rt.alloc(), &mut world, agent).expect(&rt, "memory is left");
+        assert_equal(&rt, seen, Seen::Pulled(agent, agent as u128));
     }
-    assert_eq!(rt; world.pages(), PAGES);
-    Ok(())
+    assert_equal(&rt, world.pages(), PAGES);
 }
 
 #[test]
-fn seventy_thousand_agents_begin_in_one_run(rt: HostRuntime) -> Result<(), Fail> {
-    let mut world = unbounded(rt.alloc())?;
+fn seventy_thousand_agents_begin_in_one_run(rt: HostRuntime) {
+    let mut world = unbounded(rt.alloc()).expect(&rt, "a world is made");
     let mut events = Vec::new(rt.alloc());
     for _ in 0..AGENTS {
-        events.push(Event::Begin)?;
+        events.push(Event::Begin).expect(&rt, "memory is left");
     }
     let mut seen = Vec::new(rt.alloc());
-    world.run(events, &mut seen)?;
-    assert_eq!(rt; seen.len(), AGENTS);
-    assert_eq!(rt; seen.last(), Some(&Seen::Began(AGENTS - 1)));
-    Ok(())
+    world.run(events, &mut seen).expect(&rt, "memory is left");
+    assert_equal(&rt, seen.len(), AGENTS);
+    assert_equal(&rt, seen.last(), Some(&Seen::Began(AGENTS - 1)));
 }
 
 #[test]
-fn the_greatest_limit_needs_no_memory_beforehand(rt: HostRuntime) -> Result<(), Fail> {
-    let first = zeros(rt.alloc())?;
-    let mut world = World::with_limit(rt.alloc(), first, Keep, usize::MAX)?;
-    assert_eq!(rt; (world.limit(), world.pages()), (Some(usize::MAX), 1));
+fn the_greatest_limit_needs_no_memory_beforehand(rt: HostRuntime) {
+    let first = zeros(rt.alloc()).expect(&rt, "values are made");
+    let mut world = World::with_limit(rt.alloc(), first, Keep, usize::MAX).expect(
+        &rt,
+        "a world is made",
+    );
+    assert_equal(&rt, (world.limit(), world.pages()), (Some(usize::MAX), 1));
     hold(&mut world, 1);
-    assert_eq!(rt; world.held(0), Some(&0));
-    Ok(())
+    assert_equal(&rt, world.held(0), Some(&0));
 }
 
 /// How many agents come to a world of one page.
@@ -80,17 +81,33 @@ fn crowd_events(alloc: Global, begins: bool) -> Result<Vec<Event<u32>>, AllocErr
 
 /// Two runs, whose answers stand in one list, in a world whose limit allows far fewer items than there are agents.
 #[test]
-fn a_world_of_one_page_takes_three_hundred_agents_in_two_runs(rt: HostRuntime) -> Result<(), Fail> {
-    let mut world = World::with_limit(rt.alloc(), zeros(rt.alloc())?, Keep, 1)?;
+fn a_world_of_one_page_takes_three_hundred_agents_in_two_runs(rt: HostRuntime) {
+    let mut world = World::with_limit(
+        rt.alloc(),
+        zeros(rt.alloc()).expect(&rt, "values are made"),
+        Keep,
+        1,
+    )
+    .expect(&rt, "a world is made");
     let mut seen = Vec::new(rt.alloc());
-    world.run(crowd_events(rt.alloc(), true)?, &mut seen)?;
-    world.run(crowd_events(rt.alloc(), false)?, &mut seen)?;
-    assert_eq!(rt; seen.len(), 2 * CROWD);
+    world
+        .run(
+            crowd_events(rt.alloc(), true).expect(&rt, "memory is left"),
+            &mut seen,
+        )
+        .expect(&rt, "memory is left");
+    world
+        .run(
+            crowd_events(rt.alloc(), false).expect(&rt, "memory is left"),
+            &mut seen,
+        )
+        .expect(&rt, "memory is left");
+    assert_equal(&rt, seen.len(), 2 * CROWD);
     for agent in 0..CROWD {
-        assert_eq!(rt;
+        assert_equal(
+            &rt,
             (seen.get(agent).copied(), seen.get(CROWD + agent).copied()),
-            (Some(Seen::Began(agent)), Some(Seen::Word(agent, FULL)))
+            (Some(Seen::Began(agent)), Some(Seen::Word(agent, FULL))),
         );
     }
-    Ok(())
 }

@@ -1,5 +1,6 @@
 //! Many agents and many pages, lists in which some events aren't enabled, and the list of none.
 use super::*;
+use crate::assert_equal::assert_equal;
 
 /// How many items a page has.
 const PAGE_ITEMS: usize = 32;
@@ -31,57 +32,74 @@ fn takes(alloc: Global, agent: usize) -> Result<Vec<Event<u32>>, PullError> {
 }
 
 #[test]
-fn agents_alone_link_forty_pages_and_hold_each_number(rt: HostRuntime) -> Result<(), Fail> {
+fn agents_alone_link_forty_pages_and_hold_each_number(rt: HostRuntime) {
     for limit in [None, Some(PAGES)] {
-        let first = zeros(rt.alloc())?;
+        let first = zeros(rt.alloc()).expect(&rt, "values are made");
         let mut world = match limit {
-            Some(pages) => World::with_limit(rt.alloc(), first, Keep, pages)?,
-            None => World::new(rt.alloc(), first, Keep)?,
+            Some(pages) => World::with_limit(rt.alloc(), first, Keep, pages).expect(
+                &rt,
+                "a world is made",
+            ),
+            None => World::new(rt.alloc(), first, Keep).expect(&rt, "a world is made"),
         };
         for agent in 0..PAGES * PAGE_ITEMS {
             let mut seen = Vec::new(rt.alloc());
-            world.run(takes(rt.alloc(), agent)?, &mut seen)?;
+            world
+                .run(
+                    takes(rt.alloc(), agent).expect(&rt, "memory is left"),
+                    &mut seen,
+                )
+                .expect(&rt, "memory is left");
             let number = agent as u128;
-            assert_eq!(rt; seen.first(), Some(&Seen::Began(agent)));
+            assert_equal(&rt, seen.first(), Some(&Seen::Began(agent)));
             let last = [Seen::Pulled(agent, number), Seen::MovedOut(agent)];
             assert!(rt; seen.as_slice().ends_with(last.as_slice()));
-            assert_eq!(rt; world.held(agent), Some(&0));
+            assert_equal(&rt, world.held(agent), Some(&0));
         }
-        assert_eq!(rt; (world.pages(), world.word(PAGES - 1)), (PAGES, Some(0)));
+        assert_equal(
+            &rt,
+            (world.pages(), world.word(PAGES - 1)),
+            (PAGES, Some(0)),
+        );
         let last = PAGES * PAGE_ITEMS;
         let mut seen = Vec::new(rt.alloc());
-        world.run(passes(rt.alloc(), last, PAGES)?, &mut seen)?;
+        world
+            .run(
+                passes(rt.alloc(), last, PAGES).expect(&rt, "memory is left"),
+                &mut seen,
+            )
+            .expect(&rt, "memory is left");
         let answer = match limit {
             Some(_) => Seen::Refused(last, PullError::Limit),
             None => Seen::Next(last, false),
         };
-        assert_eq!(rt; seen.last(), Some(&answer));
+        assert_equal(&rt, seen.last(), Some(&answer));
     }
-    Ok(())
 }
 
 #[test]
-fn three_hundred_agents_read_one_word_in_one_run(rt: HostRuntime) -> Result<(), Fail> {
-    let mut world = unbounded(rt.alloc())?;
+fn three_hundred_agents_read_one_word_in_one_run(rt: HostRuntime) {
+    let mut world = unbounded(rt.alloc()).expect(&rt, "a world is made");
     let mut seen = Vec::new(rt.alloc());
     let mut events = Vec::new(rt.alloc());
     for _ in 0..300 {
-        events.push(Event::Begin)?;
+        events.push(Event::Begin).expect(&rt, "memory is left");
     }
     for agent in 0..300 {
-        events.push(Event::ReadMask(agent))?;
+        events
+            .push(Event::ReadMask(agent))
+            .expect(&rt, "memory is left");
     }
-    world.run(events, &mut seen)?;
-    assert_eq!(rt; seen.len(), 600);
-    assert_eq!(rt; seen.get(299), Some(&Seen::Began(299)));
-    assert_eq!(rt; seen.last(), Some(&Seen::Word(299, FULL)));
-    Ok(())
+    world.run(events, &mut seen).expect(&rt, "memory is left");
+    assert_equal(&rt, seen.len(), 600);
+    assert_equal(&rt, seen.get(299), Some(&Seen::Began(299)));
+    assert_equal(&rt, seen.last(), Some(&Seen::Word(299, FULL)));
 }
 
 #[test]
-fn a_run_goes_on_past_events_that_are_not_enabled(rt: HostRuntime) -> Result<(), Fail> {
-    let mut world = unbounded(rt.alloc())?;
-    let mut seen = Vec::from_array(rt.alloc(), [Seen::Began(7)])?;
+fn a_run_goes_on_past_events_that_are_not_enabled(rt: HostRuntime) {
+    let mut world = unbounded(rt.alloc()).expect(&rt, "a world is made");
+    let mut seen = Vec::from_array(rt.alloc(), [Seen::Began(7)]).expect(&rt, "memory is left");
     let events = Vec::from_array(
         rt.alloc(),
         [
@@ -95,9 +113,10 @@ fn a_run_goes_on_past_events_that_are_not_enabled(rt: HostRuntime) -> Result<(),
             Event::Write(0, 5),
             Event::OrMask(0),
         ],
-    )?;
+    )
+    .expect(&rt, "memory is left");
     let result = world.run(events, &mut seen);
-    assert_eq!(rt; result, Ok(()));
+    assert_equal(&rt, result, Ok(()));
     let wanted = [
         Seen::Began(7),
         Seen::Began(0),
@@ -110,24 +129,23 @@ fn a_run_goes_on_past_events_that_are_not_enabled(rt: HostRuntime) -> Result<(),
         Seen::Wrote(0),
         Seen::NotEnabled,
     ];
-    assert_eq!(rt; seen.as_slice(), wanted.as_slice());
-    assert_eq!(rt; world.held(0), Some(&5));
-    Ok(())
+    assert_equal(&rt, seen.as_slice(), wanted.as_slice());
+    assert_equal(&rt, world.held(0), Some(&5));
 }
 
 #[test]
-fn a_run_of_no_events_changes_nothing(rt: HostRuntime) -> Result<(), Fail> {
-    let mut world = unbounded(rt.alloc())?;
+fn a_run_of_no_events_changes_nothing(rt: HostRuntime) {
+    let mut world = unbounded(rt.alloc()).expect(&rt, "a world is made");
     let mut seen = Vec::new(rt.alloc());
     let first = world.run(Vec::new(rt.alloc()), &mut seen);
     hold(&mut world, 1);
-    seen.push(Seen::Began(7))?;
+    seen.push(Seen::Began(7)).expect(&rt, "memory is left");
     let second = world.run(Vec::new(rt.alloc()), &mut seen);
-    assert_eq!(rt; (first, second), (Ok(()), Ok(())));
-    assert_eq!(rt; seen.as_slice(), [Seen::Began(7)].as_slice());
-    assert_eq!(rt;
+    assert_equal(&rt, (first, second), (Ok(()), Ok(())));
+    assert_equal(&rt, seen.as_slice(), [Seen::Began(7)].as_slice());
+    assert_equal(
+        &rt,
         (world.pages(), world.word(0), world.held(0).copied()),
-        (1, Some(4294967294), Some(0))
+        (1, Some(4294967294), Some(0)),
     );
-    Ok(())
 }

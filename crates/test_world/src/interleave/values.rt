@@ -1,21 +1,22 @@
 //! Which value lies where, and when a value is dropped.
 use super::*;
+use crate::assert_equal::assert_equal;
 
 #[test]
-fn each_place_has_the_answer_that_init_gave_at_its_turn(rt: HostRuntime) -> Result<(), Fail> {
+fn each_place_has_the_answer_that_init_gave_at_its_turn(rt: HostRuntime) {
     let calls = Cell::new(0u32);
     let init = || {
         let call = calls.get();
         calls.set(call.saturating_add(1));
         Some(call)
     };
-    let first = Prepared::make(rt.alloc(), &init)?;
-    let second = Prepared::make(rt.alloc(), &init)?;
-    assert_eq!(rt; calls.get(), 64);
-    let mut world = World::new(rt.alloc(), first, Keep)?;
+    let first = Prepared::make(rt.alloc(), &init).expect(&rt, "memory is left");
+    let second = Prepared::make(rt.alloc(), &init).expect(&rt, "memory is left");
+    assert_equal(&rt, calls.get(), 64);
+    let mut world = World::new(rt.alloc(), first, Keep).expect(&rt, "a world is made");
     hold(&mut world, 32);
     for agent in 0..32usize {
-        assert_eq!(rt; world.held(agent).copied(), Some(agent as u32));
+        assert_equal(&rt, world.held(agent).copied(), Some(agent as u32));
     }
     play(
         &rt,
@@ -28,41 +29,39 @@ fn each_place_has_the_answer_that_init_gave_at_its_turn(rt: HostRuntime) -> Resu
             (Event::MakePage(32, Ok(second)), Seen::Made(32)),
             (Event::ExchangeNext(32), Seen::Linked(32)),
         ],
-    )?;
+    );
     for id in 0..32u8 {
-        assert_eq!(rt; world.place(1, id).copied(), Some(32 + u32::from(id)));
+        assert_equal(&rt, world.place(1, id).copied(), Some(32 + u32::from(id)));
     }
-    Ok(())
 }
 
 #[test]
-fn a_write_drops_the_value_before_at_once(rt: HostRuntime) -> Result<(), Fail> {
+fn a_write_drops_the_value_before_at_once(rt: HostRuntime) {
     let tally = Tally::new();
-    let first = make_counted(rt.alloc(), &tally)?;
-    let mut world = World::new(rt.alloc(), first, Keep)?;
+    let first = make_counted(rt.alloc(), &tally).expect(&rt, "values are made");
+    let mut world = World::new(rt.alloc(), first, Keep).expect(&rt, "a world is made");
     hold(&mut world, 1);
-    assert_eq!(rt; tally.now(), (32, 0));
+    assert_equal(&rt, tally.now(), (32, 0));
     for writes in 1..4usize {
         let seen = world.step(Event::Write(0, tally.make()));
-        assert_eq!(rt; (seen, tally.drops()), (Seen::Wrote(0), writes));
+        assert_equal(&rt, (seen, tally.drops()), (Seen::Wrote(0), writes));
     }
     give_back(&mut world, 0);
-    assert_eq!(rt; tally.drops(), 3);
+    assert_equal(&rt, tally.drops(), 3);
     let seen = world.step(Event::Write(0, tally.make()));
-    assert_eq!(rt; (seen, tally.drops()), (Seen::NotEnabled, 4));
+    assert_equal(&rt, (seen, tally.drops()), (Seen::NotEnabled, 4));
     drop(world);
     // 32 values of the first page, and 4 that were written.
-    assert_eq!(rt; tally.now(), (36, 36));
-    Ok(())
+    assert_equal(&rt, tally.now(), (36, 36));
 }
 
 #[test]
-fn a_run_drops_the_values_of_events_that_are_not_enabled(rt: HostRuntime) -> Result<(), Fail> {
+fn a_run_drops_the_values_of_events_that_are_not_enabled(rt: HostRuntime) {
     let tally = Tally::new();
-    let first = make_counted(rt.alloc(), &tally)?;
-    let second = make_counted(rt.alloc(), &tally)?;
-    assert_eq!(rt; tally.now(), (64, 0));
-    let mut world = World::new(rt.alloc(), first, Keep)?;
+    let first = make_counted(rt.alloc(), &tally).expect(&rt, "values are made");
+    let second = make_counted(rt.alloc(), &tally).expect(&rt, "values are made");
+    assert_equal(&rt, tally.now(), (64, 0));
+    let mut world = World::new(rt.alloc(), first, Keep).expect(&rt, "a world is made");
     let mut seen = Vec::new(rt.alloc());
     let events = Vec::from_array(
         rt.alloc(),
@@ -71,14 +70,15 @@ fn a_run_drops_the_values_of_events_that_are_not_enabled(rt: HostRuntime) -> Res
             Event::Write(0, tally.make()),
             Event::MakePage(0, Ok(second)),
         ],
-    )?;
-    world.run(events, &mut seen)?;
-    assert_eq!(rt;
+    )
+    .expect(&rt, "memory is left");
+    world.run(events, &mut seen).expect(&rt, "memory is left");
+    assert_equal(
+        &rt,
         seen.as_slice(),
-        [Seen::Began(0), Seen::NotEnabled, Seen::NotEnabled].as_slice()
+        [Seen::Began(0), Seen::NotEnabled, Seen::NotEnabled].as_slice(),
     );
-    assert_eq!(rt; tally.now(), (65, 33));
-    Ok(())
+    assert_equal(&rt, tally.now(), (65, 33));
 }
 
 type SharedWorld = World<Rc<u32>, Keep>;
@@ -95,9 +95,14 @@ fn write_and_make(
 }
 
 #[test]
-fn what_cannot_be_written_or_linked_is_dropped_at_once(rt: HostRuntime) -> Result<(), Fail> {
-    let shared = Rc::new(rt.alloc(), 7u32)?;
-    let mut world: SharedWorld = World::new(rt.alloc(), owners(rt.alloc(), &shared)?, Keep)?;
+fn what_cannot_be_written_or_linked_is_dropped_at_once(rt: HostRuntime) {
+    let shared = Rc::new(rt.alloc(), 7u32).expect(&rt, "memory is left");
+    let mut world: SharedWorld = World::new(
+        rt.alloc(),
+        owners(rt.alloc(), &shared).expect(&rt, "nothing is refused"),
+        Keep,
+    )
+    .expect(&rt, "a world is made");
     // What a write is answered in front of each event of an agent's life, which begins with the first.
     let not = Seen::NotEnabled;
     for (answer, event) in [
@@ -108,13 +113,15 @@ fn what_cannot_be_written_or_linked_is_dropped_at_once(rt: HostRuntime) -> Resul
         (Seen::Wrote(0), Event::MoveHome(0)),
         (not, Event::OrMask(0)),
     ] {
-        let seen = write_and_make(rt.alloc(), &mut world, &shared)?;
-        assert_eq!(rt; seen, (answer, not, 33));
+        let seen = write_and_make(rt.alloc(), &mut world, &shared).expect(
+            &rt,
+            "nothing is refused",
+        );
+        assert_equal(&rt, seen, (answer, not, 33));
         let _ = world.step(event);
     }
     drop(world);
-    assert_eq!(rt; Rc::strong_count(&shared), 1);
-    Ok(())
+    assert_equal(&rt, Rc::strong_count(&shared), 1);
 }
 
 /// Adds 1 to what comes home, and counts how often.
@@ -131,25 +138,28 @@ impl Reset<u32, AnyValue> for Adds<'_> {
 }
 
 #[test]
-fn a_return_resets_once_and_nothing_else_does(rt: HostRuntime) -> Result<(), Fail> {
+fn a_return_resets_once_and_nothing_else_does(rt: HostRuntime) {
     let resets = Cell::new(0u32);
-    let first = zeros(rt.alloc())?;
-    let mut world = World::new(rt.alloc(), first, Adds { resets: &resets })?;
+    let first = zeros(rt.alloc()).expect(&rt, "values are made");
+    let mut world = World::new(rt.alloc(), first, Adds { resets: &resets }).expect(
+        &rt,
+        "a world is made",
+    );
     hold(&mut world, 3);
     for value in [5, 6, 7] {
         let _ = world.step(Event::Write(0, value));
     }
     // Agent 3 hasn't begun.
     let _ = world.step(Event::Write(3, 8));
-    assert_eq!(rt; resets.get(), 0);
+    assert_equal(&rt, resets.get(), 0);
     give_back(&mut world, 0);
     give_back(&mut world, 1);
     let _ = world.step(Event::Write(0, 9));
-    assert_eq!(rt;
+    assert_equal(
+        &rt,
         (resets.get(), world.place(0, 0), world.place(0, 1)),
-        (2, Some(&8), Some(&1))
+        (2, Some(&8), Some(&1)),
     );
     drop(world);
-    assert_eq!(rt; resets.get(), 2);
-    Ok(())
+    assert_equal(&rt, resets.get(), 2);
 }
