@@ -40,7 +40,7 @@ fn output_of<H: Abort + Wait>(
 ) -> Vec<u8> {
     let mut output = Vec::new(alloc);
     let mut bytes = input.as_bytes();
-    play(rt, alloc, kind, reset, &mut bytes, &mut output).expect(rt, "memory is left");
+    play(rt, alloc, kind, reset, &mut bytes, &mut output).expect(rt, "the input is played");
     output
 }
 

@@ -44,18 +44,6 @@ const WORKS: [Work; 7] = [
     Work::Hold,
 ];
 
-fn main(rt: HostRuntime) -> Result<()> {
-    let mut arguments = env::args(&rt)?;
-    let _name = arguments.next();
-    let arguments: Vec<String> = arguments.collect(rt.alloc())?;
-    let words: Vec<&str> = arguments.iter().map(String::as_str).collect(rt.alloc())?;
-    if words.is_empty() {
-        return show_each(&rt);
-    }
-    let task = task_of(&words).context("usage: test_original_times [POOL WORK TURNS]")?;
-    show_time(&rt, task)
-}
-
 /// Words that ask for no task.
 const OTHER_WORDS: [&str; 8] = [
     "",
@@ -68,7 +56,20 @@ const OTHER_WORDS: [&str; 8] = [
     "linear refuse 7",
 ];
 
-/// Does a little of each work on each pool, then lets a fixed pool refuse, and prints what each gave; then what no task is.
+fn main(rt: HostRuntime) -> Result<()> {
+    let mut arguments = env::args(&rt)?;
+    let _name = arguments.next();
+    let arguments: Vec<String> = arguments.collect(rt.alloc())?;
+    let words: Vec<&str> = arguments.iter().map(String::as_str).collect(rt.alloc())?;
+    if words.is_empty() {
+        return show_each(&rt);
+    }
+    let task = task_of(&words).context("usage: test_original_times [POOL WORK TURNS]")?;
+    show_time(&rt, task)
+}
+
+/// Does a little of each work on each pool, then lets a fixed pool refuse, and prints what each gave. Then prints what other words
+/// ask for.
 fn show_each<R: Clock + Threads + Wait + AllocGlobal + Print + Copy + Sync>(rt: &R) -> Result<()> {
     for kind in KINDS {
         for work in WORKS {

@@ -57,12 +57,12 @@ fn a_closed_session_leaves_its_place_to_another(rt: HostRuntime) {
         new_pool(rt.alloc()).expect(&rt, "a pool is made"),
     );
     for session in 0..32u64 {
-        sessions.open(session).expect(&rt, "a pool is made");
+        sessions.open(session).expect(&rt, "a basket is free");
     }
     assert_equal(&rt, sessions.open(32), Err(PullError::Limit));
     sessions.close(7);
     assert!(rt; sessions.products(7).is_none());
-    sessions.open(32).expect(&rt, "a pool is made");
+    sessions.open(32).expect(&rt, "a basket is free");
     assert!(rt; holds(&sessions, 32, &[]));
 }
 
@@ -73,7 +73,7 @@ fn a_session_that_is_opened_anew_gives_its_basket_back(rt: HostRuntime) {
         new_pool(rt.alloc()).expect(&rt, "a pool is made"),
     );
     for _ in 0..100 {
-        sessions.open(7).expect(&rt, "a pool is made");
+        sessions.open(7).expect(&rt, "a basket is free");
         assert!(rt; holds(&sessions, 7, &[]));
         sessions.add(7, 1).expect(&rt, "nothing is refused");
     }
@@ -156,7 +156,7 @@ fn the_greatest_session_can_be_opened(rt: HostRuntime) {
         rt.alloc(),
         new_pool(rt.alloc()).expect(&rt, "a pool is made"),
     );
-    sessions.open(u64::MAX).expect(&rt, "a pool is made");
+    sessions.open(u64::MAX).expect(&rt, "a basket is free");
     sessions.add(u64::MAX, 7).expect(&rt, "nothing is refused");
     assert!(rt; holds(&sessions, u64::MAX, &[7]));
 }
@@ -167,7 +167,7 @@ fn a_product_for_a_closed_session_is_let_go(rt: HostRuntime) {
         rt.alloc(),
         new_pool(rt.alloc()).expect(&rt, "a pool is made"),
     );
-    sessions.open(1).expect(&rt, "a pool is made");
+    sessions.open(1).expect(&rt, "a basket is free");
     sessions.close(1);
     assert_equal(&rt, sessions.add(1, 7), Ok(()));
     assert!(rt; sessions.products(1).is_none());
@@ -190,7 +190,7 @@ fn the_basket_of_a_session_opened_anew_comes_home(rt: HostRuntime) {
         new_pool(rt.alloc()).expect(&rt, "a pool is made"),
     );
     for products in 0..100u32 {
-        sessions.open(1).expect(&rt, "a pool is made");
+        sessions.open(1).expect(&rt, "a basket is free");
         for product in 0..products {
             sessions.add(1, product).expect(&rt, "nothing is refused");
         }
@@ -206,7 +206,7 @@ fn the_basket_of_a_closed_session_comes_home(rt: HostRuntime) {
         new_pool(rt.alloc()).expect(&rt, "a pool is made"),
     );
     for products in 0..100u32 {
-        sessions.open(1).expect(&rt, "a pool is made");
+        sessions.open(1).expect(&rt, "a basket is free");
         for product in 0..products {
             sessions.add(1, product).expect(&rt, "nothing is refused");
         }

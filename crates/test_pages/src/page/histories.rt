@@ -116,7 +116,7 @@ fn owned_returned<K: Clean<u32>>(slot: OwnedSlot<u32, K>) -> PageNote<u32>
 
 #[test]
 fn a_pull_stands_after_a_return_of_another_thread(rt: HostRuntime) {
-    let page = NumberPage::new(rt.alloc(), &|| Some(3)).expect(&rt, "a pool is made");
+    let page = NumberPage::new(rt.alloc(), &|| Some(3)).expect(&rt, "a page is made");
     let Some((mut slot, other)) = handed_on(&rt, &page) else {
         panic!(rt; "an item is free")
     };

@@ -32,14 +32,14 @@ fn free_again(page: &mut CorePage<u32, AnyValue>, id: PageId) -> bool {
 
 #[test]
 fn a_new_page_has_each_id_free(rt: HostRuntime) {
-    let page = numbered_page(rt.alloc()).expect(&rt, "a pool is made");
+    let page = numbered_page(rt.alloc()).expect(&rt, "a page is made");
     assert_equal(&rt, (page.is_full(), page.get_mask()), (false, 4294967295));
     assert!(rt; !page.is_out(0) && !page.is_out(31) && !page.is_out(32));
 }
 
 #[test]
 fn the_word_follows_what_is_taken_and_freed(rt: HostRuntime) {
-    let mut page = numbered_page(rt.alloc()).expect(&rt, "a pool is made");
+    let mut page = numbered_page(rt.alloc()).expect(&rt, "a page is made");
     for (id, word) in [(0u8, 4294967294), (1, 4294967292), (2, 4294967288)] {
         assert_equal(&rt, page.alloc(), Some((id, 100 + u32::from(id))));
         assert_equal(&rt, page.get_mask(), word);
@@ -52,7 +52,7 @@ fn the_word_follows_what_is_taken_and_freed(rt: HostRuntime) {
 
 #[test]
 fn each_id_is_taken_in_order_until_the_page_is_full(rt: HostRuntime) {
-    let mut page = numbered_page(rt.alloc()).expect(&rt, "a pool is made");
+    let mut page = numbered_page(rt.alloc()).expect(&rt, "a page is made");
     for id in 0..32u8 {
         assert!(rt; !page.is_full());
         assert_equal(&rt, page.alloc(), Some((id, 100 + u32::from(id))));
