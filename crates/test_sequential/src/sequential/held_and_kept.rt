@@ -1,5 +1,5 @@
 //! Stack cores that keep many items, and players that hold many and let many go.
-use super::Zeros;
+use super::{Mortals, Zeros};
 use crate::assert_equal::assert_equal;
 use lockfree_object_pool::PullError;
 use lockfree_object_pool::clean::AnyValue;
@@ -12,7 +12,7 @@ use std::cell::Cell;
 const KEPT: usize = 100;
 
 /// Pulls so many items, and then gives each back.
-fn pull_and_give<P: SequentialPool<u32>>(
+fn pull_and_give<T: Drop, P: SequentialPool<T>>(
     alloc: Global,
     core: &mut P,
     count: usize,
@@ -45,6 +45,22 @@ fn a_hundred_kept_items_are_pulled_before_init_is_asked(rt: HostRuntime) {
     }
     pull_and_give(rt.alloc(), &mut core, KEPT + 1).expect(&rt, "nothing is refused");
     assert_equal(&rt, calls.get(), 101);
+}
+
+#[test]
+fn a_stack_core_that_ends_drops_each_value_that_it_keeps(rt: HostRuntime) {
+    let calls = Cell::new(0u32);
+    let ends = Cell::new(0u32);
+    let init = Mortals {
+        calls: &calls,
+        ends: &ends,
+        refused: 0,
+    };
+    let mut core = StackCore::<_, _, _, AnyValue>::new(rt.alloc(), init, Keep);
+    pull_and_give(rt.alloc(), &mut core, KEPT).expect(&rt, "nothing is refused");
+    assert_equal(&rt, (calls.get(), ends.get()), (100, 0));
+    drop(core);
+    assert_equal(&rt, (calls.get(), ends.get()), (100, 100));
 }
 
 /// 200 pulls, and the returns of the last hundred.
