@@ -1,7 +1,0 @@
-//! Tests of the engine over lines.
-#![tactic(auto)]
-
-#[cfg(test)]
-mod assert_equal;
-#[cfg(test)]
-mod engine;

@@ -1,4 +1,0 @@
-use Rattle.test_fixed_pool.proofs.callers.refused_while_out.Goals as goal
-
-pub returns : goal.returns
-returns c = c.in-Err.ensures.busy.found.each_was_out c.args.number c.requires

@@ -1,7 +1,0 @@
-use denote.Param.Send.{sendable}
-use Rattle.lockfree_object_pool.proofs.FixedShared.{borrowed_reusable_sync}
-use Rattle.lockfree_object_pool.proofs.closures.ready.Copied.TheSendSync as copied
-use Rattle.test_fixed_pool.proofs.sends.read_twice.Goals as goal
-
-pub join-requires-send-F : goal.join-requires-send-F
-join-requires-send-F g c κs within = search (sendable, borrowed_reusable_sync, copied.the_sync) depth 30

@@ -1,0 +1,6 @@
+use Rattle.lockfree_object_pool.specs.Note.{note_history}
+use Rattle.test_lockfree_object_pool.proofs.Later.{pull_is_later}
+use Rattle.test_lockfree_object_pool.proofs.fixed_object_pool.callers.pulled_after.Goals as goal
+
+pub returns-in-Ok-clause-after : goal.returns-in-Ok-clause-after
+returns-in-Ok-clause-after c = pull_is_later _ _ c.in-Ok.ensures.pulled.pulled

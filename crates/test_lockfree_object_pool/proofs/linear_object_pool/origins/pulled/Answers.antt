@@ -1,0 +1,14 @@
+use Rattle.std.proofs.Common.{◌≡◌, ℕ, Some, inl, inr}
+use Rattle.lockfree_object_pool.proofs.FilledItems.{filled_at}
+use Rattle.test_lockfree_object_pool.proofs.linear_object_pool.origins.pulled.Goals as goal
+
+seven : (value : ℕ) → Some value ≡ Some 7 → value ≡ 7
+seven value same = cc
+
+pub returns-in-Ok : goal.returns-in-Ok
+returns-in-Ok g c =
+    let is = c.in-Ok.ensures.pulled.history in
+    elim is.pulled.origin [
+      | inl was ↦ inr (is.pulled.before, is.pulled.last, was)
+      | inr first ↦ inl (seven _ (filled_at _ _ _ _ _ is.opened first.opened).1)
+    ]

@@ -1,0 +1,226 @@
+//! Callers that rest on a pool's history: what stands before what, what a refusal shows, and which refusals may come.
+ghost use Rattle.std.specs.Prelude.{◌≡◌, ◌<◌, ◌⊎◌, ◌↔◌, ℕ, ◌∷◌, IfSome, IfErr, IsTrue};
+ghost use Rattle.lockfree_object_pool.specs.FullSeen.{full_since, full_history};
+ghost use Rattle.lockfree_object_pool.specs.FixedPool.{pool_identity, pool_items, pool_opening};
+ghost use Rattle.lockfree_object_pool.specs.FixedReusable.{reusable_item};
+ghost use Rattle.lockfree_object_pool.specs.Note.{note_page, note_history};
+ghost use Rattle.lockfree_object_pool.specs.Ledger.{History, IsPrefixOf, WasOutBetween};
+ghost use Rattle.lockfree_object_pool.specs.declared.page.history.Operation.TheVariants.{Return};
+ghost use Rattle.lockfree_object_pool.specs.declared.pull_error.PullError.TheVariants.{Limit};
+ghost use Rattle.test_lockfree_object_pool.specs.Returned.{EndsWithReturn, EndsWithReturnOf, WasReturnedBefore, WasUsedSince};
+
+use super::numbers::{NumberItem, NumberPool, held, new_pool};
+use crate::assert_equal::assert_equal;
+use lockfree_object_pool::PullError;
+use lockfree_object_pool::fixed_object_pool::{BusySeen, PoolNote};
+use lockfree_object_pool::page::PullPass;
+use std::sync::Arc;
+use std::thread;
+use std::thread::Threads;
+
+/// A pull by a note stands after all that the note knew.
+pub fn pulled_after<'p>(pool: &'p NumberPool, note: PoolNote<usize>) -> Option<NumberItem<'p>>
+    requires { note_page note ≡ pool_identity pool.now }
+    ensures pool { IfSome result (λ item. (reusable_item item).page ≡ pool_identity pool.now) }
+    ensures after { IfSome result (λ item.
+        IsPrefixOf (note_history note) (reusable_item item).history) }
+{
+    let pass = PullPass::new();
+    match pool.try_pull_from(&pass, note) {
+        Ok(item) => Some(item),
+        Err(_) => None,
+    }
+}
+
+/// Writes a number to an item near a page and returns it: the return of that number is the last operation that the note knows.
+pub fn returned_near(pool: &NumberPool, page: usize, number: usize) -> Option<PoolNote<usize>>
+    ensures pool { IfSome result (λ note. note_page note ≡ pool_identity pool.now) }
+    ensures last { IfSome result (λ note. EndsWithReturn number (note_history note)) }
+{
+    let mut item = pool.pull_near(page).ok()?;
+    *item = number;
+    Some(item.give_back())
+}
+
+/// Writes a number to the item of a pool of one and returns it: this return is the last operation that the note knows.
+fn returned_alone(pool: &NumberPool, number: usize) -> Option<PoolNote<usize>>
+    requires { pool_items pool.now ≡ 1 }
+    ensures pool { IfSome result (λ note. note_page note ≡ pool_identity pool.now) }
+    ensures last { IfSome result (λ note. EndsWithReturnOf 0 number (note_history note)) }
+{
+    let mut item = pool.pull().ok()?;
+    *item = number;
+    Some(item.give_back())
+}
+
+/// The item of a pool of one, pulled after a return of it, and whether it has the number that was returned then. It has that
+/// number, unless somebody had the item in between; what it has was returned in either case.
+fn pulled_again<'p>(
+    pool: &'p NumberPool,
+    note: PoolNote<usize>,
+    number: usize,
+) -> Option<(NumberItem<'p>, bool)>
+    requires of_pool { note_page note ≡ pool_identity pool.now }
+    requires one_item { pool_items pool.now ≡ 1 }
+    requires returned { EndsWithReturnOf 0 number (note_history note) }
+    ensures returned { IfSome result (λ pulled. WasReturnedBefore (reusable_item pulled.0)) }
+    ensures same { IfSome result (λ pulled.
+        IsTrue pulled.1 ↔ ((reusable_item pulled.0).value ≡ number)) }
+    ensures unless_used { IfSome result (λ pulled.
+        ((reusable_item pulled.0).value ≡ number)
+        ⊎ WasUsedSince (note_history note) (reusable_item pulled.0)) }
+{
+    let pass = PullPass::new();
+    match pool.try_pull_from(&pass, note) {
+        Ok(item) => {
+            let is_same = *item == number;
+            Some((item, is_same))
+        }
+        Err(_) => None,
+    }
+}
+
+/// What a refused pull shows of one item: it was out during the pull.
+fn refused_while_out<'p>(
+    pool: &NumberPool,
+    pass: &'p PullPass,
+    number: usize,
+) -> Option<BusySeen<'p, usize>>
+    requires { number < pool_items pool.now }
+    ensures { IfSome result (λ busy.
+        WasOutBetween (pool_opening pool.now) (full_since busy) (full_history busy) number) }
+{
+    match pool.try_pull(pass) {
+        Ok(_) => None,
+        Err(busy) => Some(busy),
+    }
+}
+
+/// Work that takes no memory: what it may meet is `Limit`.
+fn work(pool: &NumberPool, rounds: usize) -> Result<usize, PullError>
+    ensures { IfErr result (λ error. error ≡ Limit) }
+{
+    let mut last = 0;
+    for round in 0..rounds {
+        let mut item = pool.pull()?;
+        *item = round;
+        last = item.number();
+    }
+    Ok(last)
+}
+
+/// One thread returns 5 on page 0, another 6 on page 2, each with a note. A pull by the first note, then told the second,
+/// stands after both returns.
+fn handed_on<'p, R: Threads + Sync>(rt: &R, pool: &'p NumberPool) -> Option<NumberItem<'p>>
+    ensures first { IfSome result (λ item. (user id : ℕ) × (before : History ℕ)
+        × IsPrefixOf (Return user id 5 ∷ before) (reusable_item item).history) }
+    ensures second { IfSome result (λ item. (user id : ℕ) × (before : History ℕ)
+        × IsPrefixOf (Return user id 6 ∷ before) (reusable_item item).history) }
+{
+    let (first, second) = thread::join(
+        rt,
+        || -> Option<PoolNote<usize>>
+            ensures pool { IfSome result (λ note. note_page note ≡ pool_identity pool.entry.now) }
+            ensures last { IfSome result (λ note. EndsWithReturn 5 (note_history note)) }
+        { returned_near(pool, 0, 5) },
+        || -> Option<PoolNote<usize>>
+            ensures pool { IfSome result (λ note. note_page note ≡ pool_identity pool.entry.now) }
+            ensures last { IfSome result (λ note. EndsWithReturn 6 (note_history note)) }
+        { returned_near(pool, 2, 6) },
+    );
+    pulled_after_both(pool, first?, second?)
+}
+
+/// A pull after all that two notes knew.
+pub fn pulled_after_both<'p>(
+    pool: &'p NumberPool,
+    first: PoolNote<usize>,
+    second: PoolNote<usize>,
+) -> Option<NumberItem<'p>>
+    requires first { note_page first ≡ pool_identity pool.now }
+    requires second { note_page second ≡ pool_identity pool.now }
+    ensures after_first { IfSome result (λ item.
+        IsPrefixOf (note_history first) (reusable_item item).history) }
+    ensures after_second { IfSome result (λ item.
+        IsPrefixOf (note_history second) (reusable_item item).history) }
+{
+    let mut both = first;
+    pool.tell(&mut both, second.into_witness());
+    let Some(item) = pulled_after(pool, both) else {
+        return None;
+    };
+    Some(item)
+}
+
+#[test]
+fn a_pull_stands_after_returns_of_two_threads(rt: HostRuntime) {
+    let pool = new_pool(rt.alloc(), 70).expect(&rt, "a pool is made");
+    let Some(item) = handed_on(&rt, &pool) else {
+        panic!(rt; "an item is free")
+    };
+    assert_equal(&rt, (item.number(), *item), (0, 5));
+    drop(item);
+    held(rt.alloc(), &pool, 70).expect(&rt, "nothing is refused");
+}
+
+#[test]
+fn a_value_that_was_returned_is_pulled_again(rt: HostRuntime) {
+    let pool = new_pool(rt.alloc(), 1).expect(&rt, "a pool is made");
+    let Some(note) = returned_alone(&pool, 8) else {
+        panic!(rt; "an item is free")
+    };
+    let Some((item, is_same)) = pulled_again(&pool, note, 8) else {
+        panic!(rt; "an item is free")
+    };
+    assert_equal(&rt, (*item, is_same), (8, true));
+}
+
+#[test]
+fn another_value_comes_where_the_item_was_used_in_between(rt: HostRuntime) {
+    let pool = new_pool(rt.alloc(), 1).expect(&rt, "a pool is made");
+    let Some(note) = returned_alone(&pool, 8) else {
+        panic!(rt; "an item is free")
+    };
+    *pool.pull().expect(&rt, "an item is free") = 9;
+    let Some((item, is_same)) = pulled_again(&pool, note, 8) else {
+        panic!(rt; "an item is free")
+    };
+    assert_equal(&rt, (*item, is_same), (9, false));
+}
+
+#[test]
+fn a_refusal_shows_that_each_item_was_out(rt: HostRuntime) {
+    let pool = new_pool(rt.alloc(), 33).expect(&rt, "a pool is made");
+    let mut all = held(rt.alloc(), &pool, 33).expect(&rt, "nothing is refused");
+    let pass = PullPass::new();
+    assert!(rt; refused_while_out(&pool, &pass, 32).is_some());
+    drop(all.pop());
+    assert!(rt; refused_while_out(&pool, &pass, 32).is_none());
+}
+
+#[test]
+fn work_meets_no_refusal_but_the_limit(rt: HostRuntime) {
+    let pool = new_pool(rt.alloc(), 33).expect(&rt, "a pool is made");
+    assert_equal(&rt, work(&pool, 1_000), Ok(0));
+    let all = held(rt.alloc(), &pool, 33).expect(&rt, "nothing is refused");
+    assert_equal(&rt, work(&pool, 1_000), Err(PullError::Limit));
+    drop(all);
+    assert_equal(&rt, work(&pool, 0), Ok(0));
+}
+
+#[test]
+fn a_holder_tells_what_it_knows(rt: HostRuntime) {
+    let pool = Arc::new(
+        rt.alloc(),
+        new_pool(rt.alloc(), 33).expect(&rt, "a pool is made"),
+    )
+    .expect(&rt, "memory is left");
+    let mut owned = pool.pull_owned().expect(&rt, "an item is free");
+    let mut item = pool.pull().expect(&rt, "an item is free");
+    assert_equal(&rt, (owned.number(), item.number()), (0, 1));
+    let (one, other) = (owned.witness(), item.witness());
+    drop((one, other));
+    *owned = 11;
+    drop(owned.give_back());
+    assert_equal(&rt, *pool.pull().expect(&rt, "an item is free"), 11);
+}

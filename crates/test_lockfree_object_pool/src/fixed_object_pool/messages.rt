@@ -1,0 +1,92 @@
+//! Notes of a pool that go from thread to thread as messages. Each wait has a limit.
+ghost use Rattle.std.specs.Prelude.{◌≡◌, IfSome};
+ghost use Rattle.std.specs.Arc.{arc_value};
+ghost use Rattle.lockfree_object_pool.specs.FixedPool.{pool_identity};
+ghost use Rattle.lockfree_object_pool.specs.Note.{note_page, note_history};
+ghost use Rattle.lockfree_object_pool.specs.OneProof.{same_page};
+ghost use Rattle.lockfree_object_pool.specs.Ledger.{IsPrefixOf};
+
+use super::callers::{pulled_after, returned_near};
+use super::numbers::{NumberPool, new_pool};
+use crate::assert_equal::assert_equal;
+use crossbeam_channel::{Receiver, Sender, unbounded};
+use lockfree_object_pool::fixed_object_pool::PoolNote;
+use std::sync::{Arc, Wait};
+use std::thread;
+
+/// A thread that still waits after so many turns gives up, and its test fails.
+const MOST_TURNS: u32 = 10_000_000;
+
+/// What the sender knows of its pool's history, after a return of its own.
+#[derive(Drop)]
+struct Message {
+    pool: Arc<NumberPool>,
+    note: PoolNote<usize>,
+    ghost of_pool: { note_page note ≡ pool_identity (arc_value pool) } by { same_page _ _ },
+}
+
+/// The next message, where it comes within so many turns.
+fn receive<W: Wait>(rt: &W, from: &Receiver<Message>) -> Option<Message> {
+    for _ in 0..MOST_TURNS {
+        if let Ok(message) = from.try_recv(rt) {
+            return Some(message);
+        }
+        thread::yield_now();
+    }
+    None
+}
+
+/// Pulls after all that the sender of a message knew, returns the item, and tells so by a message of its own.
+fn answered(message: Message) -> Option<Message>
+    ensures pool { IfSome result (λ answer.
+        pool_identity (arc_value answer.pool) ≡ pool_identity (arc_value message.pool)) }
+    ensures after { IfSome result (λ answer.
+        IsPrefixOf (note_history message.note) (note_history answer.note)) }
+{
+    let Message { pool, note } = message;
+    let Some(item) = pulled_after(&pool, note) else {
+        return None;
+    };
+    let note = item.give_back();
+    Some(Message { pool, note })
+}
+
+/// Answers one message. Whether it came and its answer went.
+fn answer_once<W: Wait>(rt: &W, from: &Receiver<Message>, to: &Sender<Message>) -> bool {
+    let Some(message) = receive(rt, from) else {
+        return false;
+    };
+    match answered(message) {
+        Some(answer) => to.send(rt, answer).is_ok(),
+        None => false,
+    }
+}
+
+#[test]
+fn a_pull_stands_after_what_messages_told(rt: HostRuntime) {
+    let pool = Arc::new(
+        rt.alloc(),
+        new_pool(rt.alloc(), 70).expect(&rt, "a pool is made"),
+    )
+    .expect(&rt, "memory is left");
+    let (to_other, from_main) = unbounded(rt.alloc()).expect(&rt, "a channel is made");
+    let (to_main, from_other) = unbounded(rt.alloc()).expect(&rt, "a channel is made");
+    let other = thread::spawn(&rt, move || answer_once(&rt, &from_main, &to_main)).expect(
+        &rt,
+        "a thread is made",
+    );
+    let Some(note) = returned_near(&pool, 2, 5) else {
+        panic!(rt; "an item is free")
+    };
+    let pool = Arc::try_clone(&pool).expect(&rt, "memory is left");
+    to_other
+        .send(&rt, Message { pool, note })
+        .expect(&rt, "the channel is open");
+    let answer = receive(&rt, &from_other).expect(&rt, "an answer comes");
+    assert!(rt; other.join(&rt));
+    let Message { pool, note } = answer;
+    let Some(item) = pulled_after(&pool, note) else {
+        panic!(rt; "an item is free")
+    };
+    assert_equal(&rt, (item.number(), *item), (0, 0));
+}

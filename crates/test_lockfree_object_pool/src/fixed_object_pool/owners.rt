@@ -1,0 +1,65 @@
+//! Pulls by an owner of the pool that keeps a note: both go into the item, and come back from it.
+ghost use Rattle.std.specs.Prelude.{◌≡◌, IfErr};
+ghost use Rattle.std.specs.Arc.{arc_value};
+ghost use Rattle.lockfree_object_pool.specs.FixedPool.{pool_identity};
+ghost use Rattle.lockfree_object_pool.specs.Note.{note_page};
+
+use super::numbers::{NumberOwnedItem, NumberPool, held, new_pool};
+use crate::assert_equal::assert_equal;
+use lockfree_object_pool::fixed_object_pool::PoolNote;
+use std::sync::Arc;
+
+/// A pull by an owner that knows what it knows at this moment.
+fn pulled_by(
+    owner: Arc<NumberPool>,
+    page: usize,
+) -> Result<NumberOwnedItem, (Arc<NumberPool>, PoolNote<usize>)>
+    ensures { IfErr result (λ kept. note_page kept.1 ≡ pool_identity (arc_value kept.0)) }
+{
+    let note = owner.note();
+    owner.pull_by_owner(page, note)
+}
+
+/// The number of an item that an owner pulls near a page and returns, twice: the second pull is by the note of the first return.
+fn pulled_twice(owner: Arc<NumberPool>, page: usize) -> Option<(usize, usize)> {
+    let Ok(first) = pulled_by(owner, page) else {
+        return None;
+    };
+    let before = first.number();
+    let (owner, note) = first.give_back_with_owner();
+    let Ok(second) = owner.pull_by_owner(page, note) else {
+        return None;
+    };
+    Some((before, second.number()))
+}
+
+#[test]
+fn an_owner_goes_into_its_item_and_comes_back(rt: HostRuntime) {
+    let pool = Arc::new(
+        rt.alloc(),
+        new_pool(rt.alloc(), 33).expect(&rt, "a pool is made"),
+    )
+    .expect(&rt, "memory is left");
+    let owner = Arc::try_clone(&pool).expect(&rt, "memory is left");
+    assert_equal(&rt, pulled_twice(owner, 1), Some((32, 32)));
+    assert_equal(&rt, Arc::strong_count(&pool), 1);
+    let item = pulled_by(pool, 0).ok().expect(&rt, "an item is free");
+    assert_equal(&rt, (item.number(), item.owner().items()), (0, 33));
+}
+
+#[test]
+fn a_refused_owner_comes_back_with_its_note(rt: HostRuntime) {
+    let pool = Arc::new(
+        rt.alloc(),
+        new_pool(rt.alloc(), 33).expect(&rt, "a pool is made"),
+    )
+    .expect(&rt, "memory is left");
+    let owner = Arc::try_clone(&pool).expect(&rt, "memory is left");
+    let mut all = held(rt.alloc(), &pool, 33).expect(&rt, "nothing is refused");
+    let Err((owner, note)) = pulled_by(owner, 1) else {
+        panic!(rt; "an item was free");
+    };
+    drop(all.pop());
+    let item = owner.pull_by_owner(0, note).ok();
+    assert_equal(&rt, item.expect(&rt, "an item came back").number(), 32);
+}
