@@ -6,10 +6,10 @@ use Rattle.std.specs.Option.{option_map}
 use Rattle.std.specs.Ordering.{nat_cmp}
 use Rattle.std.specs.Arc.{arc_value}
 use Rattle.lockfree_object_pool.specs.LinearPool.{owned_item, pool_limit}
-use Rattle.lockfree_object_pool.specs.declared.clean.Empty.{Empty}
-use Rattle.lockfree_object_pool.specs.declared.closures.vectors.Clear.{Clear}
-use Rattle.lockfree_object_pool.specs.declared.closures.vectors.WithCapacity.{WithCapacity}
-use Rattle.lockfree_object_pool.specs.declared.linear_owned_reusable.LinearOwnedReusable.{LinearOwnedReusable}
+use Rattle.pool_parts.specs.declared.clean.Empty.{Empty}
+use Rattle.pool_parts.specs.declared.closures.vectors.Clear.{Clear}
+use Rattle.pool_parts.specs.declared.closures.vectors.WithCapacity.{WithCapacity}
+use Rattle.nonblocking_pools.specs.declared.linear_owned_reusable.LinearOwnedReusable.{LinearOwnedReusable}
 use Rattle.examples.specs.declared.sessions.Sessions.{Sessions}
 
 -- a basket, as the pool hands it out

@@ -1,6 +1,6 @@
 //! Replies that are put together in a buffer of a pool. The pool has one page, so 32 replies may be under way at once.
 ghost use Rattle.std.specs.Prelude.{◌≡◌, ◌≢◌, [], Some, Err, IfOk, IfErr};
-ghost use Rattle.lockfree_object_pool.specs.declared.pull_error.PullError.TheVariants.{Memory};
+ghost use Rattle.pool_parts.specs.declared.pull_error.PullError.TheVariants.{Memory};
 ghost use Rattle.object_pool_cores.specs.Buffers.{bytes_of, limit_of_pages, maker_of};
 ghost use Rattle.examples.specs.Replies.{greeting_of};
 

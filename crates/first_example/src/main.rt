@@ -3,8 +3,8 @@
 
 ghost use Rattle.std.specs.Prelude.{◌≡◌, IfOk};
 
-use lockfree_object_pool::PullError;
-use lockfree_object_pool::recycling::Pool;
+use nonblocking_pools::PullError;
+use nonblocking_pools::recycling::Pool;
 use std::alloc::Global;
 use std::io;
 

@@ -2,13 +2,13 @@
 -- pool and its hand.
 use Rattle.std.specs.Prelude.{◌≡◌, ℕ, ◌+◌, ◌/◌, ◌⊎◌, ⊤, Option, Some, None}
 use Rattle.std.specs.Arc.{arc_value}
-use Rattle.lockfree_object_pool.specs.FixedAnswer.{IsPulledWith, IsBusyNote, IsGivenBack, note_steps}
-use Rattle.lockfree_object_pool.specs.FixedPool.{pool_identity, pool_items, pool_opening, pool_pages}
-use Rattle.lockfree_object_pool.specs.FixedReusable.{reusable_pool, reusable_item, reusable_steps}
-use Rattle.lockfree_object_pool.specs.FixedRule.{IsWithin}
-use Rattle.lockfree_object_pool.specs.Items.{IsFilled}
-use Rattle.lockfree_object_pool.specs.Note.{IsNoteOf}
-use Rattle.lockfree_object_pool.specs.declared.page.note.PageNote.{PageNote}
+use Rattle.nonblocking_pools.specs.FixedAnswer.{IsPulledWith, IsBusyNote, IsGivenBack, note_steps}
+use Rattle.nonblocking_pools.specs.FixedPool.{pool_identity, pool_items, pool_opening, pool_pages}
+use Rattle.nonblocking_pools.specs.FixedReusable.{reusable_pool, reusable_item, reusable_steps}
+use Rattle.nonblocking_pools.specs.StepCount.{IsWithin}
+use Rattle.nonblocking_pools.specs.Items.{IsFilled}
+use Rattle.nonblocking_pools.specs.Note.{IsNoteOf}
+use Rattle.pool_parts.specs.declared.page.note.PageNote.{PageNote}
 use Rattle.fixed_pool_c.specs.Shows.{PlacePool, OutPlace, hand_pool}
 use Rattle.fixed_pool_c.specs.declared.answer.TheConstants.{DONE, ALL_OUT, HOLDS_ONE, HOLDS_NONE, NO_POOL, IN_USE}
 use Rattle.fixed_pool_c.specs.declared.answer.TheConstants.{NO_PLACES, NO_MEMORY}

@@ -1,14 +1,14 @@
 //! What an open handle has: its pool, and a place of it or none.
 ghost use Rattle.std.specs.Prelude.{◌≡◌};
 ghost use Rattle.std.specs.Arc.{arc_value};
-ghost use Rattle.lockfree_object_pool.specs.FixedPool.{pool_identity};
-ghost use Rattle.lockfree_object_pool.specs.Note.{note_page};
-ghost use Rattle.lockfree_object_pool.specs.OneProof.{same_page};
+ghost use Rattle.nonblocking_pools.specs.FixedPool.{pool_identity};
+ghost use Rattle.nonblocking_pools.specs.Note.{note_page};
+ghost use Rattle.nonblocking_pools.specs.OneProof.{same_page};
 
-use lockfree_object_pool::clean::AnyValue;
-use lockfree_object_pool::closures::{Copied, Keep};
-use lockfree_object_pool::fixed_object_pool::PoolNote;
-use lockfree_object_pool::{FixedObjectPool, FixedOwnedReusable};
+use nonblocking_pools::clean::AnyValue;
+use nonblocking_pools::closures::{Copied, Keep};
+use nonblocking_pools::fixed_object_pool::PoolNote;
+use nonblocking_pools::{FixedObjectPool, FixedOwnedReusable};
 use std::sync::Arc;
 use std::sync::atomic::AtomicUsize;
 

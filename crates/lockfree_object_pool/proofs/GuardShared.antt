@@ -1,21 +1,16 @@
 -- A guard may be shared where its value may be sent and shared.
 use denote.Ref.{NamedLft}
 use denote.RattleType.{RattleType}
-use denote.Param.Send.{IsSend, IsSync, part_keyless, shr_sync, view_sync}
+use denote.Param.Send.{IsSend, IsSync, shr_sync, view_sync}
 use denote.Param.SendFields.{as_row_send, as_row_sync, declared_sync, variants_send}
 use denote.Struct.Field.{row_field, shr_ref_field}
 use Rattle.std.specs.contracts.option.Option as Option
-use Rattle.atomic_table.specs.contracts.shared.Seat as seat
-use Rattle.atomic_table.proofs.shared.Seat.TheSendSync.{the_send}
+use Rattle.pool_parts.proofs.SeatShared.{seat_sync}
 use Rattle.lockfree_object_pool.specs.contracts.spin_lock.turn.Turn as turn
 use Rattle.lockfree_object_pool.specs.contracts.spin_lock.turn.Turn.TheInside as inside
 use Rattle.lockfree_object_pool.specs.contracts.spin_lock.SpinLockGuard as guard
 use Rattle.lockfree_object_pool.specs.contracts.spin_lock.SpinLock as lock
 use Rattle.lockfree_object_pool.proofs.spin_lock.SpinLock.TheSendSync.{the_sync as lock_sync}
-
--- what a seat owns names no thread
-pub seat_sync : (S V : RattleType) → IsSend S → IsSync (seat.the_row S V)
-seat_sync S V s = record { shared = λ view b o κ q. part_keyless (seat.the_row S V) (the_send S V s) q view b o }
 
 turn_sync : (κ : NamedLft) (T : RattleType) → IsSend T → IsSync (turn.the_row κ T)
 turn_sync κ T s =

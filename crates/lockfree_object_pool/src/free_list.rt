@@ -1,9 +1,9 @@
 //! Where a stack pool keeps its values: a list that threads share.
 ghost use Rattle.std.specs.Prelude.{IfSome};
 
-use crate::clean::Clean;
 use crate::spin_lock::SpinLock;
-use crate::stack::{Room, Stack};
+use pool_parts::clean::Clean;
+use pool_parts::stack::{Room, Stack};
 use std::mem;
 use std::sync::{Mutex, Wait};
 

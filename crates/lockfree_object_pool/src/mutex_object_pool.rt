@@ -1,11 +1,11 @@
 //! A pool over a stack of kept values under a mutex.
 ghost use Rattle.std.specs.Prelude.{◌≡◌};
 
-use crate::clean::{AnyValue, Clean};
-use crate::closures::{Init, Reset};
-use crate::made_or_reset::MadeOrReset;
-use crate::stack::Stack;
 use crate::stack_object_pool::StackObjectPool;
+use pool_parts::clean::{AnyValue, Clean};
+use pool_parts::closures::{Init, Reset};
+use pool_parts::made_or_reset::MadeOrReset;
+use pool_parts::stack::Stack;
 use std::alloc::Global;
 use std::fmt::{self, Debug, Formatter, Write};
 use std::sync::Mutex;

@@ -3,13 +3,13 @@
 //! It isn't lock free: a thread that stops while it has the lock keeps all others waiting.
 ghost use Rattle.std.specs.Prelude.{◌≡◌, IfOk, IfErr};
 
-use crate::PullError;
-use crate::clean::{AnyValue, Clean};
-use crate::closures::{Init, Reset};
-use crate::made_or_reset::MadeOrReset;
 use crate::spin_lock::SpinLock;
-use crate::stack::Stack;
 use crate::stack_object_pool::StackObjectPool;
+use pool_parts::PullError;
+use pool_parts::clean::{AnyValue, Clean};
+use pool_parts::closures::{Init, Reset};
+use pool_parts::made_or_reset::MadeOrReset;
+use pool_parts::stack::Stack;
 use std::alloc::Global;
 use std::fmt::{self, Debug, Formatter, Write};
 
@@ -30,7 +30,7 @@ pub type SpinLockObjectPool<T, I, R, K = AnyValue> = StackObjectPool<
 
 impl<T: Drop, I: Init<T, K>, R: Reset<T, K>, K: Clean<T>> SpinLockObjectPool<T, I, R, K> {
     ghost use Rattle.lockfree_object_pool.specs.StackPool.{stack_init, stack_reset};
-    ghost use Rattle.lockfree_object_pool.specs.Refusal.{RefusesMaking};
+    ghost use Rattle.pool_parts.specs.Refusal.{RefusesMaking};
 
     /// A pool that keeps nothing yet.
     ///

@@ -5,13 +5,13 @@
 ghost use Rattle.std.specs.Prelude.{◌≡◌, None, IfOk, IfErr};
 ghost use Rattle.std.specs.Arc.{arc_value};
 
-use crate::PullError;
-use crate::clean::Clean;
-use crate::closures::{Init, Reset};
 use crate::free_list::FreeList;
-use crate::made_or_reset::MadeOrReset;
-use crate::stack::Room;
 use crate::stack_reusable::StackReusable;
+use pool_parts::PullError;
+use pool_parts::clean::Clean;
+use pool_parts::closures::{Init, Reset};
+use pool_parts::made_or_reset::MadeOrReset;
+use pool_parts::stack::Room;
 use std::alloc::Global;
 use std::marker::PhantomData;
 use std::sync::{Arc, Mutex, Wait};
@@ -55,9 +55,9 @@ impl<
     K: Clean<T>,
     F: FreeList<T, MadeOrReset<I, R, K>>,
 > StackObjectPool<T, I, R, K, F> {
-    ghost use Rattle.lockfree_object_pool.specs.Answers.{IsMadeOrReset};
+    ghost use Rattle.pool_parts.specs.Answers.{IsMadeOrReset};
     ghost use Rattle.lockfree_object_pool.specs.StackPool.{stack_init, stack_reset, stack_pool, stack_value};
-    ghost use Rattle.lockfree_object_pool.specs.Refusal.{RefusesMaking};
+    ghost use Rattle.pool_parts.specs.Refusal.{RefusesMaking};
 
     pub(crate) fn over(alloc: Global, init: I, reset: R, kept: F) -> StackObjectPool<T, I, R, K, F>
         ensures init { stack_init result ≡ init }

@@ -1,21 +1,21 @@
 //! A value that was pulled from a stack pool or attached to it, under a borrow of the pool or with an owner of it.
 ghost use Rattle.std.specs.Prelude.{◌≡◌, IfOk, IfErr};
 
-use crate::PullError;
-use crate::clean::Clean;
-use crate::closures::{Init, Reset};
 use crate::free_list::FreeList;
-use crate::lender::Lender;
-use crate::made_or_reset::MadeOrReset;
-use crate::stack::Room;
 use crate::stack_object_pool::StackObjectPool;
+use pool_parts::PullError;
+use pool_parts::clean::Clean;
+use pool_parts::closures::{Init, Reset};
+use pool_parts::lender::Lender;
+use pool_parts::made_or_reset::MadeOrReset;
+use pool_parts::stack::Room;
 use std::fmt::{self, Debug, Formatter, Write};
 use std::ops::{Deref, DerefMut};
 use std::sync::{Arc, Wait};
 
 /// A stack pool as each of its reusables has it: by a borrow, or with an owner.
 pub trait SharedStackPool<T>: Drop {
-    ghost use Rattle.lockfree_object_pool.specs.Refusal.{RefusesMaking};
+    ghost use Rattle.pool_parts.specs.Refusal.{RefusesMaking};
 
     /// A room for the return of a value.
     ///

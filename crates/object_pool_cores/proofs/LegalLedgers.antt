@@ -4,12 +4,12 @@ use Rattle.std.proofs.Common.{◌≡◌, ◌≢◌, inl, inr, ℕ, ◌<◌, ◌�
 use Rattle.std.proofs.Common.{None, List, [], ◌∷◌, ◌++◌, length, get_or, refl, ap, sym, ◌∙◌}
 use Rattle.std.proofs.lemmas.Bool.{cases_eq, cases_lt}
 use Rattle.std.proofs.lemmas.List.{get_or_append_left, get_or_past}
-use Rattle.lockfree_object_pool.specs.declared.page.history.Operation.{Operation}
-use Rattle.lockfree_object_pool.specs.declared.page.history.Operation.TheVariants.{Pull, Return}
-use Rattle.lockfree_object_pool.specs.Ledger.{History, user_of, id_of, operations_of, held_id, left_by, value_at}
-use Rattle.lockfree_object_pool.specs.Ledger.{MayFollow, IsLegal, NoOperationOn}
-use Rattle.lockfree_object_pool.proofs.Ledger.{operations_of_own, operations_of_other, value_at-here}
-use Rattle.lockfree_object_pool.proofs.Ledger.{value_at-elsewhere}
+use Rattle.pool_parts.specs.declared.page.history.Operation.{Operation}
+use Rattle.pool_parts.specs.declared.page.history.Operation.TheVariants.{Pull, Return}
+use Rattle.nonblocking_pools.specs.Ledger.{History, user_of, id_of, operations_of, held_id, left_by, value_at}
+use Rattle.nonblocking_pools.specs.Ledger.{MayFollow, IsLegal, NoOperationOn}
+use Rattle.pool_parts.proofs.Ledger.{operations_of_own, operations_of_other, value_at-here}
+use Rattle.pool_parts.proofs.Ledger.{value_at-elsewhere}
 
 module _ {T : Type 0} where
   -- where no operation was on a number, what the pool opened with lies there, and nobody holds it

@@ -5,12 +5,12 @@ use Rattle.std.proofs.Common.{zero, suc, refl, ap, sym, ◌∙◌, arith, length
 use Rattle.std.proofs.lemmas.Bool.{eq-eqb, ne_eqb, cases_lt, cases_Bool, lt-ltb, le-ltb, ltb-true}
 use Rattle.std.proofs.lemmas.List.{length-map, map-append}
 use Rattle.std.proofs.lemmas.Option.{slice_get_past}
-use Rattle.lockfree_object_pool.specs.declared.page.history.Operation.{Operation}
-use Rattle.lockfree_object_pool.specs.declared.page.history.Operation.TheVariants.{Pull, Return}
-use Rattle.lockfree_object_pool.specs.Ledger.{user_of, id_of, operations_of, held_id, left_by, value_at, IsLegal}
-use Rattle.lockfree_object_pool.specs.Ledger.{NoOperationOn}
-use Rattle.lockfree_object_pool.proofs.Ledger.{operations_of_own, value_at-here, value_at-elsewhere}
-use Rattle.lockfree_object_pool.proofs.LedgerHolders.{held}
+use Rattle.pool_parts.specs.declared.page.history.Operation.{Operation}
+use Rattle.pool_parts.specs.declared.page.history.Operation.TheVariants.{Pull, Return}
+use Rattle.nonblocking_pools.specs.Ledger.{user_of, id_of, operations_of, held_id, left_by, value_at, IsLegal}
+use Rattle.nonblocking_pools.specs.Ledger.{NoOperationOn}
+use Rattle.pool_parts.proofs.Ledger.{operations_of_own, value_at-here, value_at-elsewhere}
+use Rattle.pool_parts.proofs.LedgerHolders.{held}
 use Rattle.object_pool_cores.specs.Pool.{Place, Pool, Absent, IsFree, IsOut, AllowsPages, place_of, free_with}
 use Rattle.object_pool_cores.specs.Run.{Act, Opens, Writes, Operates, Grows, agent_of, acts_of, ledger_of}
 use Rattle.object_pool_cores.specs.Run.{pages_of, made, opened, pool_of, Looks, last_value, Holds, Since, MayCome, Run}

@@ -1,6 +1,6 @@
 -- What the sequential pools have in common: a bag of kept values.
 use Rattle.std.specs.Prelude.{◌≡◌, Option, Some, List, [], ◌∷◌, ◌++◌, All, Result, Ok, Err, ◌⊎◌}
-use Rattle.lockfree_object_pool.specs.declared.pull_error.PullError.{PullError}
+use Rattle.pool_parts.specs.declared.pull_error.PullError.{PullError}
 use Rattle.object_pool_cores.specs.declared.sequential.item.Item.{Item}
 use Rattle.object_pool_cores.specs.Inside.SequentialItem.{item_value}
 

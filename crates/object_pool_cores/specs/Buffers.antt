@@ -1,9 +1,9 @@
 -- What a buffer pool and its buffers show.
 use Rattle.std.specs.Prelude.{ℕ, List, Option, vec_capacity}
 use Rattle.std.specs.Global.{Vec}
-use Rattle.lockfree_object_pool.specs.LinearPool.{pool_init, pool_limit, reusable_item, reusable_page, reusable_number}
-use Rattle.lockfree_object_pool.specs.LinearPool.{IsOnPage}
-use Rattle.lockfree_object_pool.specs.declared.linear_reusable.LinearReusable.{LinearReusable}
+use Rattle.nonblocking_pools.specs.LinearPool.{pool_init, pool_limit, reusable_item, reusable_page, reusable_number}
+use Rattle.nonblocking_pools.specs.LinearPool.{IsOnPage}
+use Rattle.nonblocking_pools.specs.declared.linear_reusable.LinearReusable.{LinearReusable}
 use Rattle.object_pool_cores.specs.declared.buffers.BufferPool.{BufferPool}
 use Rattle.object_pool_cores.specs.declared.buffers.buffer.Buffer.{Buffer}
 

@@ -1,8 +1,8 @@
 -- What an engine read and wrote: the replies of its commands on a new pool of numbers. Begin with `Ends`, at the end.
 use Rattle.std.specs.Prelude.{◌≡◌, ◌≤◌, ℕ, Option, Some, None, List, [], Result, Err, OnOk, replicate, ⊤}
 use Rattle.std.specs.Io.KnownBytes.{Consumes, IsAtEnd}
-use Rattle.lockfree_object_pool.specs.declared.pull_error.PullError.{PullError}
-use Rattle.lockfree_object_pool.specs.declared.page.TheConstants.{PAGE_ITEMS}
+use Rattle.pool_parts.specs.declared.pull_error.PullError.{PullError}
+use Rattle.pool_parts.specs.declared.page.TheConstants.{PAGE_ITEMS}
 use Rattle.object_pool_cores.specs.declared.engine.engine_error.EngineError.{EngineError}
 use Rattle.object_pool_cores.specs.declared.engine.engine_error.EngineError.TheVariants.{Read, Write, Memory}
 use Rattle.object_pool_cores.specs.declared.engine.kind.Kind.{Kind}

@@ -1,7 +1,7 @@
 -- Pulls without a pool: each item is fresh, and a return drops it.
 use Rattle.std.specs.Prelude.{◌≡◌, Option, Some, None, Result, Ok, Err}
-use Rattle.lockfree_object_pool.specs.declared.pull_error.PullError.{PullError}
-use Rattle.lockfree_object_pool.specs.declared.pull_error.PullError.TheVariants.{Init}
+use Rattle.pool_parts.specs.declared.pull_error.PullError.{PullError}
+use Rattle.pool_parts.specs.declared.pull_error.PullError.TheVariants.{Init}
 use Rattle.object_pool_cores.specs.declared.sequential.item.Item.{Item}
 use Rattle.object_pool_cores.specs.Inside.SequentialItem.{item_value, item_number}
 

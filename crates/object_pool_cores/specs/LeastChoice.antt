@@ -1,8 +1,8 @@
 -- A pull by least choice: the least free number; a page more
 -- only where no number is free, or a refusal in its place.
 use Rattle.std.specs.Prelude.{◌≡◌, ℕ, ◌+◌, ◌≤◌, Option, Some, None, List, All, Result, Ok, Err, ◌⊎◌}
-use Rattle.lockfree_object_pool.specs.declared.pull_error.PullError.{PullError}
-use Rattle.lockfree_object_pool.specs.declared.pull_error.PullError.TheVariants.{Memory, Init, Limit}
+use Rattle.pool_parts.specs.declared.pull_error.PullError.{PullError}
+use Rattle.pool_parts.specs.declared.pull_error.PullError.TheVariants.{Memory, Init, Limit}
 use Rattle.object_pool_cores.specs.declared.sequential.item.Item.{Item}
 use Rattle.object_pool_cores.specs.Inside.SequentialItem.{item_value, item_number}
 use Rattle.object_pool_cores.specs.Pool.{Pool, IsFree, IsOut, IsSame, AllowsPages}

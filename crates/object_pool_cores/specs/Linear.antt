@@ -1,6 +1,6 @@
 -- The steps of the linear core, by the pool that it stands for: a pull by least choice, and a return.
 use Rattle.std.specs.Prelude.{◌≡◌, ℕ, ◌+◌, ◌-◌, ◌/◌, ◌≤◌, min, Option, Some, IfSome, List, Result, slice_get}
-use Rattle.lockfree_object_pool.specs.declared.pull_error.PullError.{PullError}
+use Rattle.pool_parts.specs.declared.pull_error.PullError.{PullError}
 use Rattle.object_pool_cores.specs.declared.sequential.item.Item.{Item}
 use Rattle.object_pool_cores.specs.declared.sequential.linear_core.LinearCore.{LinearCore}
 use Rattle.object_pool_cores.specs.Inside.SequentialItem.{item_number}
@@ -9,7 +9,7 @@ use Rattle.object_pool_cores.specs.LeastChoice.{PullsItem, ReturnsItem}
 use Rattle.object_pool_cores.specs.OnePage.{ArePageAnswers}
 use Rattle.object_pool_cores.specs.PageProbes.{ProbesEach}
 use Rattle.object_pool_cores.specs.Inside.Numbered as numbered
-use Rattle.lockfree_object_pool.specs.declared.page.TheConstants.{PAGE_ITEMS}
+use Rattle.pool_parts.specs.declared.page.TheConstants.{PAGE_ITEMS}
 
 module _ {T I R K : Type 0} where
   -- the pool that a core stands for

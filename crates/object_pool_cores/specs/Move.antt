@@ -1,7 +1,7 @@
 -- The moves of a pool: what a pull, a return and a growth leave of it.
 use Rattle.std.specs.Prelude.{◌≡◌, ℕ, ◌+◌, ◌-◌, ◌*◌, nat_lt, if◌then◌else◌, Option, List, length, slice_get}
 use Rattle.object_pool_cores.specs.Pool.{Pool, Free, Out, AllowsPages, free_with, with_place}
-use Rattle.lockfree_object_pool.specs.declared.page.TheConstants.{PAGE_ITEMS}
+use Rattle.pool_parts.specs.declared.page.TheConstants.{PAGE_ITEMS}
 
 -- a growth brings 32 values, and keeps to the limit
 abbrev pub IsGrowth : {T : Type 0} → Option ℕ → ℕ → List T → Type 0

@@ -1,6 +1,6 @@
 -- The steps of the core that keeps nothing.
 use Rattle.std.specs.Prelude.{◌≡◌, Option, Result}
-use Rattle.lockfree_object_pool.specs.declared.pull_error.PullError.{PullError}
+use Rattle.pool_parts.specs.declared.pull_error.PullError.{PullError}
 use Rattle.object_pool_cores.specs.declared.sequential.item.Item.{Item}
 use Rattle.object_pool_cores.specs.declared.sequential.none_core.NoneCore.{NoneCore}
 use Rattle.object_pool_cores.specs.Fresh.{PullsFresh}

@@ -1,7 +1,7 @@
 -- A pool of items that are known by their numbers.
 use Rattle.std.specs.Prelude.{◌≡◌, ◌≢◌, ℕ, ◌<◌, ◌+◌, ◌*◌, ◌≤◌, ◌==◌, if◌then◌else◌, Option, Some, None, List, slice_get}
 use Rattle.std.specs.Prelude.{⊤}
-use Rattle.lockfree_object_pool.specs.declared.page.TheConstants.{PAGE_ITEMS}
+use Rattle.pool_parts.specs.declared.page.TheConstants.{PAGE_ITEMS}
 
 -- the number of an item, by its page and its place there
 abbrev pub number : ℕ → ℕ → ℕ

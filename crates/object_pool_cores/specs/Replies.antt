@@ -2,7 +2,7 @@
 -- a list of commands, with the table of what is held.
 use Rattle.std.specs.Prelude.{◌≡◌, ◌≢◌, ℕ, Option, Some, None, List, [], ◌∷◌, ◌++◌, length, slice_set, Result, Ok, Err}
 use Rattle.std.specs.Prelude.{OnOk, OnErr, ⊤}
-use Rattle.lockfree_object_pool.specs.declared.pull_error.PullError.{PullError}
+use Rattle.pool_parts.specs.declared.pull_error.PullError.{PullError}
 use Rattle.object_pool_cores.specs.declared.sequential.item.Item.{Item}
 use Rattle.object_pool_cores.specs.declared.sequential.attach_error.AttachError.{AttachError}
 use Rattle.object_pool_cores.specs.declared.sequential.command.Command.{Command}

@@ -2,12 +2,12 @@
 -- writes, growths and refusals beside it. As in a ledger, the last act stands first.
 use Rattle.std.specs.Prelude.{◌≡◌, ◌≢◌, ◌⊎◌, ℕ, ◌+◌, ◌*◌, ◌<◌, ◌≤◌, ◌==◌, nat_lt, if◌then◌else◌, Option, Some, None}
 use Rattle.std.specs.Prelude.{List, [], ◌∷◌, ◌++◌, map, ⊤}
-use Rattle.lockfree_object_pool.specs.declared.page.history.Operation.{Operation}
-use Rattle.lockfree_object_pool.specs.declared.page.history.Operation.TheVariants.{Pull, Return}
-use Rattle.lockfree_object_pool.specs.declared.page.TheConstants.{PAGE_ITEMS}
-use Rattle.lockfree_object_pool.specs.declared.pull_error.PullError.{PullError}
-use Rattle.lockfree_object_pool.specs.declared.pull_error.PullError.TheVariants.{Memory, Init, Limit}
-use Rattle.lockfree_object_pool.specs.Ledger.{History, user_of, operations_of, held_id, value_at, MayFollow}
+use Rattle.pool_parts.specs.declared.page.history.Operation.{Operation}
+use Rattle.pool_parts.specs.declared.page.history.Operation.TheVariants.{Pull, Return}
+use Rattle.pool_parts.specs.declared.page.TheConstants.{PAGE_ITEMS}
+use Rattle.pool_parts.specs.declared.pull_error.PullError.{PullError}
+use Rattle.pool_parts.specs.declared.pull_error.PullError.TheVariants.{Memory, Init, Limit}
+use Rattle.nonblocking_pools.specs.Ledger.{History, user_of, operations_of, held_id, value_at, MayFollow}
 use Rattle.object_pool_cores.specs.Pool.{Pool, IsOut, IsPool, place_of}
 use Rattle.object_pool_cores.specs.Move.{IsGrowth}
 

@@ -2,7 +2,7 @@
 -- the bytes that the writer holds, for a writer of which they are known.
 use Rattle.std.specs.Prelude.{◌≡◌, ℕ, Option, List, ◌++◌, [], Result, ◌⊎◌}
 use Rattle.std.specs.Io.KnownBytes.{Appends}
-use Rattle.lockfree_object_pool.specs.declared.pull_error.PullError.{PullError}
+use Rattle.pool_parts.specs.declared.pull_error.PullError.{PullError}
 use Rattle.object_pool_cores.specs.declared.sequential.item.Item.{Item}
 use Rattle.object_pool_cores.specs.declared.sequential.attach_error.AttachError.{AttachError}
 use Rattle.object_pool_cores.specs.Held.{Playing}

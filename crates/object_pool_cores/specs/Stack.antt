@@ -1,6 +1,6 @@
 -- The steps of the stack core: last in, first out.
 use Rattle.std.specs.Prelude.{◌≡◌, ℕ, Option, Some, List, Result, IsTrue, IfOk, slice_get}
-use Rattle.lockfree_object_pool.specs.declared.pull_error.PullError.{PullError}
+use Rattle.pool_parts.specs.declared.pull_error.PullError.{PullError}
 use Rattle.object_pool_cores.specs.declared.sequential.item.Item.{Item}
 use Rattle.object_pool_cores.specs.declared.sequential.attach_error.AttachError.{AttachError}
 use Rattle.object_pool_cores.specs.declared.sequential.stack_core.StackCore.{StackCore}

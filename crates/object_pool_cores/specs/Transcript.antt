@@ -1,6 +1,6 @@
 -- What lines of commands are answered: a text for each line, in order.
 use Rattle.std.specs.Prelude.{◌≡◌, ℕ, List, [], ◌∷◌, ◌++◌, Result, ◌⊎◌}
-use Rattle.lockfree_object_pool.specs.declared.pull_error.PullError.{PullError}
+use Rattle.pool_parts.specs.declared.pull_error.PullError.{PullError}
 use Rattle.object_pool_cores.specs.declared.sequential.item.Item.{Item}
 use Rattle.object_pool_cores.specs.declared.sequential.attach_error.AttachError.{AttachError}
 use Rattle.object_pool_cores.specs.declared.sequential.command.Command.{Command}

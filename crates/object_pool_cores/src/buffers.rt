@@ -3,9 +3,9 @@
 //! A pulled buffer is empty, whatever was done with it before, and it returns to its pool when it is dropped.
 ghost use Rattle.std.specs.Prelude.{◌≡◌, ◌≤◌, ◌<◌, [], None, Some, IfOk, IfErr, IsSome, IfSome, vec_capacity};
 
-use lockfree_object_pool::clean::Clean;
-use lockfree_object_pool::closures::{Init, Reset};
-use lockfree_object_pool::{LinearObjectPool, PullError};
+use nonblocking_pools::clean::Clean;
+use nonblocking_pools::closures::{Init, Reset};
+use nonblocking_pools::{LinearObjectPool, PullError};
 use std::alloc::Global;
 use std::fmt::{self, Debug, Formatter, Write};
 
@@ -13,8 +13,8 @@ mod buffer;
 
 pub use buffer::Buffer;
 /// The condition that each buffer meets while it lies in its pool: it has no bytes.
-pub use lockfree_object_pool::clean::Empty;
-pub use lockfree_object_pool::closures::{Clear, WithCapacity};
+pub use nonblocking_pools::clean::Empty;
+pub use nonblocking_pools::closures::{Clear, WithCapacity};
 
 /// An empty buffer with room for `capacity` bytes, or `None` where there is no memory for it.
 pub fn fresh(alloc: Global, capacity: usize) -> Option<Vec<u8>>
@@ -48,7 +48,7 @@ pub struct BufferPool<I: Init<T, K>, R: Reset<T, K>, T = Vec<u8>, K: Clean<T> = 
 }
 
 impl<I: Init<Vec<u8>, Empty>, R: Reset<Vec<u8>, Empty>> BufferPool<I, R> {
-    ghost use Rattle.lockfree_object_pool.specs.Refusal.{RefusesMaking, RefusesPull};
+    ghost use Rattle.nonblocking_pools.specs.Refusal.{RefusesMaking, RefusesPull};
     ghost use Rattle.object_pool_cores.specs.Buffers.{maker_of, limit_of_pages, bytes_of, page_of, IsOnItsPage};
 
     /// A pool of one page, which grows to `pages` pages at most. A page has 32 buffers.

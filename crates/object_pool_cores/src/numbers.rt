@@ -1,9 +1,9 @@
 //! The numbers of items, by their pages and their places there.
 ghost use Rattle.std.specs.Prelude.{◌≡◌, ◌≤◌, ◌<◌, ◌*◌, ◌+◌, MatchOption};
-ghost use Rattle.lockfree_object_pool.specs.declared.page.TheConstants.{PAGE_ITEMS};
+ghost use Rattle.pool_parts.specs.declared.page.TheConstants.{PAGE_ITEMS};
 ghost use Rattle.object_pool_cores.specs.Pool.{number};
 
-use lockfree_object_pool::page::{PAGE_ITEMS, PageId};
+use nonblocking_pools::page::{PAGE_ITEMS, PageId};
 
 /// How many numbers a page has.
 const PAGE_NUMBERS: u128 = PAGE_ITEMS as u128;

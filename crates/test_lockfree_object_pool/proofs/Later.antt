@@ -1,11 +1,11 @@
 -- What callers conclude from a pool's history.
 use Rattle.std.proofs.Common.{◌≡◌, ◌⊎◌, ℕ, [], ◌∷◌, ◌++◌, sym, refl, ap, ◌∙◌, subst, append_assoc, inl, inr}
-use Rattle.lockfree_object_pool.specs.declared.page.history.Operation.TheVariants.{Pull, Return}
-use Rattle.lockfree_object_pool.specs.declared.page.note.PageNote.{PageNote}
+use Rattle.pool_parts.specs.declared.page.history.Operation.TheVariants.{Pull, Return}
+use Rattle.pool_parts.specs.declared.page.note.PageNote.{PageNote}
 use Rattle.lockfree_object_pool.specs.Item.{Item}
 use Rattle.lockfree_object_pool.specs.Note.{note_history, IsPulledAfter}
 use Rattle.lockfree_object_pool.specs.Ledger.{History, id_of, NoOperationOn, IsPrefixOf}
-use Rattle.lockfree_object_pool.proofs.Ledger.{behind}
+use Rattle.pool_parts.proofs.Ledger.{behind}
 use Rattle.test_lockfree_object_pool.specs.Returned.{EndsWithReturnOf, HasOperationOn, WasReturnedBefore, WasUsedSince}
 
 -- a pull by a note stands after all that the note knew

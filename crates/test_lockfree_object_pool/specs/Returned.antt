@@ -2,7 +2,7 @@
 use Rattle.std.specs.Prelude.{◌≡◌, ◌⊎◌, ℕ, [], ◌∷◌, ◌++◌}
 use Rattle.lockfree_object_pool.specs.Item.{Item}
 use Rattle.lockfree_object_pool.specs.Ledger.{History, id_of, WasReturned}
-use Rattle.lockfree_object_pool.specs.declared.page.history.Operation.TheVariants.{Pull, Return}
+use Rattle.pool_parts.specs.declared.page.history.Operation.TheVariants.{Pull, Return}
 
 -- its last operation is a return of this value
 abbrev pub EndsWithReturn : ℕ → History ℕ → Type 0

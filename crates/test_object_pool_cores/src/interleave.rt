@@ -1,8 +1,8 @@
 //! Worked rows, each a list of events with the answers that they have to give.
 use crate::assert_equal::assert_equal;
-use lockfree_object_pool::PullError;
-use lockfree_object_pool::clean::AnyValue;
-use lockfree_object_pool::closures::{Copied, Keep, Reset, ResetBy, Resets};
+use pool_parts::PullError;
+use pool_parts::clean::AnyValue;
+use pool_parts::closures::{Copied, Keep, Reset, ResetBy, Resets};
 use object_pool_cores::interleave::*;
 use std::alloc::{AllocError, Global};
 use std::cell::Cell;

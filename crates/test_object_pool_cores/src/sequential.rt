@@ -1,8 +1,8 @@
 //! Worked cases of the linear core and the player.
 use crate::assert_equal::assert_equal;
-use lockfree_object_pool::PullError;
-use lockfree_object_pool::clean::AnyValue;
-use lockfree_object_pool::closures::{Copied, Init, Keep};
+use pool_parts::PullError;
+use pool_parts::clean::AnyValue;
+use pool_parts::closures::{Copied, Init, Keep};
 use object_pool_cores::sequential::*;
 use std::alloc::Global;
 use std::cell::Cell;

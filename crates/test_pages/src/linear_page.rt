@@ -1,8 +1,8 @@
 //! Chains in use. Here stands how the tests hold a page as a whole and come to the page behind it.
-use lockfree_object_pool::PullError;
-use lockfree_object_pool::clean::{AnyValue, Clean};
-use lockfree_object_pool::linear_page::{Chain, LinearPage};
-use lockfree_object_pool::page::{Allocated, Page, PageSlot, PullPass};
+use page_chain::PullError;
+use page_chain::clean::{AnyValue, Clean};
+use page_chain::linear_page::{Chain, LinearPage};
+use page_chain::page::{Allocated, Page, PageSlot, PullPass};
 use std::alloc::Global;
 use std::mem;
 use std::sync::Arc;

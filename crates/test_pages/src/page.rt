@@ -1,6 +1,6 @@
 //! One page in use. Here stands how its tests come to an item.
-use lockfree_object_pool::clean::Clean;
-use lockfree_object_pool::page::{OwnedSlot, Page, PageSlot};
+use page_chain::clean::Clean;
+use page_chain::page::{OwnedSlot, Page, PageSlot};
 use std::sync::Arc;
 
 mod histories;

@@ -7,8 +7,8 @@
 //! than there are pages.
 use crate::adds::Adds;
 use crate::step::Step;
-use lockfree_object_pool::PullError;
-use lockfree_object_pool::page::PageId;
+use pool_parts::PullError;
+use pool_parts::page::PageId;
 use object_pool_cores::interleave::{Seen, World};
 use std::alloc::{AllocError, Global};
 use thiserror::Error;

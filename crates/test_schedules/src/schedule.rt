@@ -5,7 +5,7 @@ use crate::figures::Figures;
 use crate::judge::{Judge, Unlawful};
 use crate::step::{Step, event_of, values_from};
 use crate::table::{Point, Table};
-use lockfree_object_pool::PullError;
+use pool_parts::PullError;
 use object_pool_cores::interleave::{Seen, World};
 use rand_core::Rng;
 use rand_pcg::Pcg32;

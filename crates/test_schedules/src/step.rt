@@ -1,5 +1,5 @@
 //! One step of an agent, without the values of a page.
-use lockfree_object_pool::PullError;
+use pool_parts::PullError;
 use object_pool_cores::interleave::{Event, Prepared};
 use std::alloc::Global;
 use std::cell::Cell;

@@ -1,7 +1,7 @@
 //! A plain reading of the table: what each step of an agent answers at its point, and what it changes.
 use crate::adds::Adds;
 use crate::step::Step;
-use lockfree_object_pool::PullError;
+use pool_parts::PullError;
 use object_pool_cores::interleave::Seen;
 use std::alloc::{AllocError, Global};
 

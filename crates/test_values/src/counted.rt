@@ -2,8 +2,8 @@
 ghost use Rattle.std.specs.Prelude.{⊤};
 
 use crate::tally::Tally;
-use lockfree_object_pool::clean::AnyValue;
-use lockfree_object_pool::closures::Init;
+use pool_parts::clean::AnyValue;
+use pool_parts::closures::Init;
 
 impl Tally {
     /// A value, by one more call.

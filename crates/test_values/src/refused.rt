@@ -1,5 +1,5 @@
 //! Asking again where memory was refused.
-use lockfree_object_pool::PullError;
+use pool_parts::PullError;
 
 /// The answer, where memory was refused that of a second try.
 pub fn again<X: Drop, F: Fn() -> Result<X, PullError>>(ask: &F) -> Result<X, PullError>

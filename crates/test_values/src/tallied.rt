@@ -4,9 +4,9 @@ ghost use Rattle.std.specs.Prelude.{⊤};
 
 use crate::counted::NEVER;
 use crate::tally::Tally;
-use lockfree_object_pool::PullError;
-use lockfree_object_pool::clean::AnyValue;
-use lockfree_object_pool::closures::Init;
+use pool_parts::PullError;
+use pool_parts::clean::AnyValue;
+use pool_parts::closures::Init;
 use std::sync::Arc;
 
 /// A value that knows which call made it, counted from 0, and counts its drop.

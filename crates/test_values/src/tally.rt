@@ -1,5 +1,5 @@
 //! What is done with the values of a test, counted on all its threads.
-use lockfree_object_pool::PullError;
+use pool_parts::PullError;
 use std::alloc::Global;
 use std::sync::Arc;
 use std::sync::atomic::AtomicUsize;

@@ -1,8 +1,8 @@
 //! What makes and resets zeros in the tests.
 ghost use Rattle.std.specs.Prelude.{◌≡◌, Some};
 
-use lockfree_object_pool::clean::{AnyValue, Clean};
-use lockfree_object_pool::closures::{Init, Reset};
+use pool_parts::clean::{AnyValue, Clean};
+use pool_parts::closures::{Init, Reset};
 use std::alloc::{AllocError, Global};
 use std::sync::Arc;
 use std::sync::atomic::AtomicUsize;

@@ -6,7 +6,7 @@ use Rattle.std.proofs.lemmas.Nat.{one_shl, or_lt, and_le_l}
 use Rattle.std.proofs.Math.Pow.{pow-lt}
 use Rattle.std.proofs.lemmas.Nat.Bits.{bit_at-zero, bit_at_ones, bit_at-trailing_zeros, bit_at_set_same}
 use Rattle.std.proofs.lemmas.Nat.Bits.{bit_at_set_other, bit_at_clear_same, bit_at_clear_other}
-use Rattle.lockfree_object_pool.proofs.WordBits.{clears_least}
+use Rattle.pool_parts.proofs.WordBits.{clears_least}
 use Rattle.object_pool_cores.specs.World.Machine.{has_bit, with_bit, without_bit, lowest, without_lowest}
 
 -- a bit is set or clear

@@ -1,7 +1,7 @@
 -- Of an agent that runs solo, and whose events come as its points allow them, each event is a step.
 use Rattle.std.proofs.Common.{◌≡◌, ◌≢◌, ◌⊎◌, inl, inr, ℕ, zero, suc, ◌+◌, ◌-◌, ◌<◌, Some, None, List, [], ◌∷◌, ◌++◌}
 use Rattle.std.proofs.Common.{length, slice_get, Ok, refl, ap, sym, ◌∙◌, arith}
-use Rattle.lockfree_object_pool.specs.declared.pull_error.PullError.TheVariants.{Limit}
+use Rattle.pool_parts.specs.declared.pull_error.PullError.TheVariants.{Limit}
 use Rattle.std.specs.Option.{option_and_then}
 use Rattle.std.proofs.lemmas.Bool.{cases_Bool}
 use Rattle.object_pool_cores.specs.declared.interleave.event.Event.{Event}

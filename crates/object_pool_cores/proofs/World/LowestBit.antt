@@ -4,7 +4,7 @@ use Rattle.std.specs.Int.{w32}
 use Rattle.std.proofs.lemmas.Bool.{cases_lt}
 use Rattle.std.proofs.Common.{inl, inr}
 use Rattle.std.proofs.lemmas.Nat.Bits.{bit_at-trailing_zeros}
-use Rattle.lockfree_object_pool.specs.Word.{IsLeastBit}
+use Rattle.nonblocking_pools.specs.Word.{IsLeastBit}
 use Rattle.object_pool_cores.specs.World.Machine.{lowest}
 
 -- there is one lowest bit

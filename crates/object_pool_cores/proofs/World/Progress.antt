@@ -4,7 +4,7 @@ use Rattle.std.proofs.Common.{None, List, refl, ap, sym, ◌∙◌, arith}
 use Rattle.std.specs.Int.{w32, bit_at}
 use Rattle.std.proofs.lemmas.Bool.{eq-eqb, ne_eqb, eqb-false, lt-ltb, ltb-true, cases_eq, cases_lt, cases_Bool}
 use Rattle.std.proofs.lemmas.Nat.Bits.{bit_at-trailing_zeros}
-use Rattle.lockfree_object_pool.proofs.WordBits.{clears_least}
+use Rattle.pool_parts.proofs.WordBits.{clears_least}
 use Rattle.object_pool_cores.specs.declared.interleave.point.Point.{Point}
 use Rattle.object_pool_cores.specs.declared.interleave.point.Point.TheVariants.{Reading, AtLink}
 use Rattle.object_pool_cores.specs.declared.interleave.point.Point.TheVariants.{Making, Linking}

@@ -4,7 +4,7 @@ use Rattle.std.proofs.Common.{◌≡◌, ◌≢◌, ◌⊎◌, inl, inr, ℕ, �
 use Rattle.std.proofs.Common.{List, [], ◌∷◌, ◌++◌, length, slice_get, refl, ap, sym, ◌∙◌, arith}
 use Rattle.std.proofs.lemmas.Bool.{eq-eqb, ne_eqb, false≢true, cases_Bool}
 use Rattle.std.proofs.lemmas.Option.{slice_get_within}
-use Rattle.lockfree_object_pool.specs.declared.pull_error.PullError.TheVariants.{Limit}
+use Rattle.pool_parts.specs.declared.pull_error.PullError.TheVariants.{Limit}
 use Rattle.object_pool_cores.specs.declared.interleave.event.Event.{Event}
 use Rattle.object_pool_cores.specs.declared.interleave.event.Seen.{Seen}
 use Rattle.object_pool_cores.specs.declared.interleave.event.Seen.TheVariants as seen

@@ -5,7 +5,7 @@ use Rattle.object_pool_cores.specs.Pool.{Pool, IsSame, AllowsPages, place_of}
 use Rattle.object_pool_cores.specs.Move as move
 use Rattle.object_pool_cores.specs.LeastChoice.{IsExhausted, TakesLeast}
 use Rattle.object_pool_cores.specs.PageProbes.{ProbesEach}
-use Rattle.lockfree_object_pool.specs.declared.page.TheConstants.{PAGE_ITEMS}
+use Rattle.pool_parts.specs.declared.page.TheConstants.{PAGE_ITEMS}
 
 -- at each number the value of a free item, or none where it is out; how many pages there
 -- may be; the page at which the next pull starts, and how many pages were probed

@@ -1,7 +1,7 @@
 -- A fresh pull is a case of the common relation, with a bag that is always empty.
 use Rattle.std.proofs.Common.{Option, Some, [], Result, Ok, Err, refl, inr}
 use Rattle.std.proofs.lemmas.List.Elements.{All-nil}
-use Rattle.lockfree_object_pool.specs.declared.pull_error.PullError.{PullError}
+use Rattle.pool_parts.specs.declared.pull_error.PullError.{PullError}
 use Rattle.object_pool_cores.specs.declared.sequential.item.Item.{Item}
 use Rattle.object_pool_cores.specs.declared.sequential.none_core.NoneCore.{NoneCore}
 use Rattle.object_pool_cores.specs.Bag.{PullsFromBag, pulled_value}

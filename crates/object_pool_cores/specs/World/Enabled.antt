@@ -1,6 +1,6 @@
 -- Which events are enabled, and that exactly the others are answered so.
 use Rattle.std.specs.Prelude.{◌≡◌, ◌↔◌, ℕ, ◌<◌, Option, Some, None, length, Ok, Err, ⊤}
-use Rattle.lockfree_object_pool.specs.declared.pull_error.PullError.TheVariants.{Memory, Init}
+use Rattle.pool_parts.specs.declared.pull_error.PullError.TheVariants.{Memory, Init}
 use Rattle.object_pool_cores.specs.declared.interleave.event.Event.{Event}
 use Rattle.object_pool_cores.specs.declared.interleave.event.Event.TheVariants as event
 use Rattle.object_pool_cores.specs.declared.interleave.event.Seen.{Seen}

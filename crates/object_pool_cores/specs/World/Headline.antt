@@ -16,8 +16,8 @@ use Rattle.object_pool_cores.specs.World.AbstractPool.{abstract_pool}
 use Rattle.object_pool_cores.specs.World.Trace.{Log, IsTraceOf}
 use Rattle.object_pool_cores.specs.World.Solo.{IsSolo, AsksNoHints, RunsSolo, RunsSoloByHint, StepsInOrder}
 use Rattle.object_pool_cores.specs.World.OwnSteps.{own_steps, IsAtPage, IsAtHintedPage, IsLooking}
-use Rattle.lockfree_object_pool.specs.declared.page.TheConstants.{PAGE_ITEMS}
-use Rattle.lockfree_object_pool.specs.Ledger.{IsLegal}
+use Rattle.pool_parts.specs.declared.page.TheConstants.{PAGE_ITEMS}
+use Rattle.nonblocking_pools.specs.Ledger.{IsLegal}
 
 -- what the events did, from a world of these first values in which no agent had begun, is a run of one pool
 pub record IsRun {T : Type 0} (Leaves : T → T → Type 0) (first : List T) (log : Log T)

@@ -3,8 +3,8 @@ use Rattle.std.specs.Prelude.{◌≡◌, ◌⊎◌, ℕ, ◌+◌, ◌-◌, ◌^�
 use Rattle.std.specs.Prelude.{if◌then◌else◌, Option, Some, None, option_map, option_and_then, List, [], ◌∷◌, ◌++◌, map}
 use Rattle.std.specs.Prelude.{length, slice_get, slice_set, Result, Ok, Err, ⊤}
 use Rattle.std.specs.Int.{w32, bit_at, bit_not, trailing_zeros}
-use Rattle.lockfree_object_pool.specs.declared.pull_error.PullError.{PullError}
-use Rattle.lockfree_object_pool.specs.declared.pull_error.PullError.TheVariants.{Memory, Init, Limit}
+use Rattle.pool_parts.specs.declared.pull_error.PullError.{PullError}
+use Rattle.pool_parts.specs.declared.pull_error.PullError.TheVariants.{Memory, Init, Limit}
 use Rattle.object_pool_cores.specs.declared.interleave.event.Event.{Event}
 use Rattle.object_pool_cores.specs.declared.interleave.event.Event.TheVariants as event
 use Rattle.object_pool_cores.specs.declared.interleave.event.Seen.{Seen}
@@ -15,8 +15,8 @@ use Rattle.object_pool_cores.specs.declared.interleave.point.Point.TheVariants.{
 use Rattle.object_pool_cores.specs.declared.interleave.point.Point.TheVariants.{Holding, Home, Ended}
 use Rattle.object_pool_cores.specs.Pool.{number}
 use Rattle.object_pool_cores.specs.World.State.{WorldPageState, WorldState}
-use Rattle.lockfree_object_pool.specs.Word.{all_bits}
-use Rattle.lockfree_object_pool.specs.declared.page.TheConstants.{PAGE_ITEMS}
+use Rattle.nonblocking_pools.specs.Word.{all_bits}
+use Rattle.pool_parts.specs.declared.page.TheConstants.{PAGE_ITEMS}
 
 -- the bit of an id is set in the word
 abbrev pub has_bit : ℕ → ℕ → Bool

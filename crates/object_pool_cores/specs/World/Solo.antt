@@ -1,7 +1,7 @@
 -- An agent that runs solo: no other agent steps meanwhile.
 use Rattle.std.specs.Prelude.{◌≡◌, ◌≢◌, ◌⊎◌, ℕ, zero, suc, ◌+◌, ◌*◌, ◌<◌, ◌≤◌, Option, Some, List, [], ◌∷◌, map, length}
 use Rattle.std.specs.Prelude.{slice_get, Ok, Err, ⊤}
-use Rattle.lockfree_object_pool.specs.declared.pull_error.PullError.TheVariants.{Limit}
+use Rattle.pool_parts.specs.declared.pull_error.PullError.TheVariants.{Limit}
 use Rattle.object_pool_cores.specs.declared.interleave.event.Event.{Event}
 use Rattle.object_pool_cores.specs.declared.interleave.event.Event.TheVariants as event
 use Rattle.object_pool_cores.specs.declared.interleave.event.Seen.{Seen}

@@ -2,10 +2,10 @@
 ghost use Rattle.std.specs.Prelude.{◌≡◌, ◌<◌, ◌≤◌, ◌+◌, ◌++◌, [], length, IsOk, OnOk, OnErr, IfErr};
 
 use crate::buffers::Empty;
-use lockfree_object_pool::clean::Clean;
-use lockfree_object_pool::closures::{Init, Reset};
-use lockfree_object_pool::page::PageId;
-use lockfree_object_pool::{LinearReusable, PullError};
+use nonblocking_pools::clean::Clean;
+use nonblocking_pools::closures::{Init, Reset};
+use nonblocking_pools::page::PageId;
+use nonblocking_pools::{LinearReusable, PullError};
 use std::fmt::{self, Debug, Formatter, Write};
 
 /// A pulled buffer. When it is dropped it is reset, and goes back to its pool.
@@ -17,8 +17,8 @@ pub struct Buffer<'p, I: Init<T, K>, R: Reset<T, K>, T: Drop = Vec<u8>, K: Clean
 }
 
 impl<'p, I: Init<Vec<u8>, Empty>, R: Reset<Vec<u8>, Empty>> Buffer<'p, I, R> {
-    ghost use Rattle.lockfree_object_pool.specs.declared.page.TheConstants.{PAGE_ITEMS};
-    ghost use Rattle.lockfree_object_pool.specs.declared.pull_error.PullError.TheVariants.{Memory};
+    ghost use Rattle.pool_parts.specs.declared.page.TheConstants.{PAGE_ITEMS};
+    ghost use Rattle.pool_parts.specs.declared.pull_error.PullError.TheVariants.{Memory};
     ghost use Rattle.object_pool_cores.specs.Buffers.{buffer_item, bytes_of, capacity_of, page_of, buffer_id};
 
     pub(super) fn new(item: LinearReusable<'p, Vec<u8>, I, R, Empty>) -> Buffer<'p, I, R>

@@ -1,6 +1,6 @@
 //! One step of an agent, and what it answers.
 use crate::interleave::Prepared;
-use lockfree_object_pool::PullError;
+use nonblocking_pools::PullError;
 
 /// One atomic step. All but `Begin` name their agent.
 #[derive(Drop)]

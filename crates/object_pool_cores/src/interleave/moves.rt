@@ -1,12 +1,12 @@
 //! The bits that an agent tries, and where it goes next.
 ghost use Rattle.std.specs.Prelude.{◌≡◌, ◌<◌, ◌==◌, ◌+◌, Option};
-ghost use Rattle.lockfree_object_pool.specs.declared.page.TheConstants.{PAGE_ITEMS};
+ghost use Rattle.pool_parts.specs.declared.page.TheConstants.{PAGE_ITEMS};
 ghost use Rattle.object_pool_cores.specs.World.Machine.{is_limit, lowest, without_lowest, tries, tries_hinted};
 ghost use Rattle.object_pool_cores.specs.World.Machine.{comes_to};
 ghost use Rattle.object_pool_cores.specs.World.Inside.LinkCapacity.{LinksNoPage};
 
 use crate::interleave::point::Point;
-use lockfree_object_pool::page::{PAGE_ITEMS, PageId, take_least};
+use nonblocking_pools::page::{PAGE_ITEMS, PageId, take_least};
 
 /// There is a limit, and it is the count after `page`.
 pub fn is_last_allowed(limit: Option<usize>, page: usize) -> bool

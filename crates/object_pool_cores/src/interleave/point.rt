@@ -1,6 +1,6 @@
 //! How far an agent is.
 use crate::interleave::Prepared;
-use lockfree_object_pool::page::PageId;
+use nonblocking_pools::page::PageId;
 
 /// The point of an agent, between two of its steps. The first number is a page's.
 ///

@@ -1,9 +1,9 @@
 //! The values of a page before it is linked.
 ghost use Rattle.std.specs.Prelude.{◌≡◌, ◌≢◌, Option, Some, None, map, length, All, IfOk, IfErr};
-ghost use Rattle.lockfree_object_pool.specs.declared.pull_error.PullError.TheVariants.{Init, Limit};
+ghost use Rattle.pool_parts.specs.declared.pull_error.PullError.TheVariants.{Init, Limit};
 
-use lockfree_object_pool::PullError;
-use lockfree_object_pool::page::PAGE_ITEMS;
+use nonblocking_pools::PullError;
+use nonblocking_pools::page::PAGE_ITEMS;
 use std::alloc::Global;
 use std::marker::Model;
 

@@ -10,9 +10,9 @@ ghost use Rattle.object_pool_cores.specs.declared.interleave.event.Seen.TheVaria
 
 use crate::interleave::machine::Machine;
 use crate::interleave::{Event, Prepared, RunError, Seen};
-use lockfree_object_pool::clean::AnyValue;
-use lockfree_object_pool::closures::Reset;
-use lockfree_object_pool::page::PageId;
+use nonblocking_pools::clean::AnyValue;
+use nonblocking_pools::closures::Reset;
+use nonblocking_pools::page::PageId;
 use std::alloc::{AllocError, Global};
 use std::marker::Model;
 

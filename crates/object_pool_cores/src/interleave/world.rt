@@ -1,7 +1,7 @@
 //! The world of agents.
 ghost use Rattle.std.specs.Prelude.{◌≡◌, ◌≢◌, ◌≤◌, ◌+◌, Some, None, option_map, option_copied, slice_get, IfOk, IfErr};
 ghost use Rattle.std.specs.Prelude.{IsOk, vec_len, vec_capacity};
-ghost use Rattle.lockfree_object_pool.specs.declared.pull_error.PullError.TheVariants.{Memory};
+ghost use Rattle.pool_parts.specs.declared.pull_error.PullError.TheVariants.{Memory};
 ghost use Rattle.object_pool_cores.specs.World.Headline.{IsNew, RunsEvents};
 ghost use Rattle.object_pool_cores.specs.World.Machine.{held_by, opening_world, page_value, Steps};
 ghost use Rattle.object_pool_cores.specs.World.Reachable.{IsReachable};
@@ -13,10 +13,10 @@ ghost use Rattle.object_pool_cores.specs.World.Inside.Shown.{world_capacity, wor
 
 use crate::interleave::reachable_world::ReachableWorld;
 use crate::interleave::{Event, Prepared, RunError, Seen};
-use lockfree_object_pool::PullError;
-use lockfree_object_pool::clean::AnyValue;
-use lockfree_object_pool::closures::Reset;
-use lockfree_object_pool::page::PageId;
+use nonblocking_pools::PullError;
+use nonblocking_pools::clean::AnyValue;
+use nonblocking_pools::closures::Reset;
+use nonblocking_pools::page::PageId;
 use std::alloc::Global;
 
 /// The linear core with any number of agents. What an agent returns is reset by `R`.

@@ -1,12 +1,12 @@
 //! A page of a world: a word, and 32 places.
-ghost use Rattle.lockfree_object_pool.specs.declared.page.TheConstants.{PAGE_ITEMS};
+ghost use Rattle.pool_parts.specs.declared.page.TheConstants.{PAGE_ITEMS};
 ghost use Rattle.std.specs.Prelude.{length, ◌≡◌, Option, Some, None, option_copied};
 ghost use Rattle.std.specs.Prelude.{option_and_then, slice_get, slice_set, ◌<◌};
 ghost use Rattle.object_pool_cores.specs.World.State.{WorldPageState};
 ghost use Rattle.object_pool_cores.specs.World.Machine.{linked_page};
 
 use crate::interleave::Prepared;
-use lockfree_object_pool::page::PageId;
+use nonblocking_pools::page::PageId;
 use std::marker::Model;
 
 /// A page that is linked.

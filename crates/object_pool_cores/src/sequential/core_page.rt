@@ -2,12 +2,12 @@
 ghost use Rattle.std.specs.Prelude.{◌≡◌, ◌↔◌, ◌<◌, Option, Some, None, MatchOption, IsTrue, IfOk, IfErr, IfSome};
 ghost use Rattle.std.specs.Prelude.{slice_set};
 ghost use Rattle.object_pool_cores.specs.OnePage.{IsMadePage, HasNoFreeId, IsMask, IsOutId, TakesLeastId};
-ghost use Rattle.lockfree_object_pool.specs.Answers.{MayMake};
-ghost use Rattle.lockfree_object_pool.specs.Refusal.{RefusesMaking};
+ghost use Rattle.nonblocking_pools.specs.Answers.{MayMake};
+ghost use Rattle.nonblocking_pools.specs.Refusal.{RefusesMaking};
 
-use lockfree_object_pool::PullError;
-use lockfree_object_pool::clean::Clean;
-use lockfree_object_pool::page::{PAGE_ITEMS, PageId, take_least, with_bit};
+use nonblocking_pools::PullError;
+use nonblocking_pools::clean::Clean;
+use nonblocking_pools::page::{PAGE_ITEMS, PageId, take_least, with_bit};
 use std::alloc::Global;
 use std::marker::{Model, PhantomData};
 use std::sync::Mutex;

@@ -5,9 +5,9 @@ ghost use Rattle.object_pool_cores.specs.Attach.{RefusesAttach};
 ghost use Rattle.object_pool_cores.specs.NoPool.{init_of, Pulls};
 
 use crate::sequential::{AttachError, Item, SequentialPool};
-use lockfree_object_pool::PullError;
-use lockfree_object_pool::clean::AnyValue;
-use lockfree_object_pool::closures::Init;
+use nonblocking_pools::PullError;
+use nonblocking_pools::clean::AnyValue;
+use nonblocking_pools::closures::Init;
 use std::marker::PhantomData;
 use std::sync::Mutex;
 

@@ -6,16 +6,16 @@ ghost use Rattle.object_pool_cores.specs.Inside.SequentialItem.{item_value, item
 ghost use Rattle.object_pool_cores.specs.PageProbes.{ProbesEach};
 ghost use Rattle.object_pool_cores.specs.OnePage.{IsMadePage, HasNoFreeId};
 ghost use Rattle.object_pool_cores.specs.Inside.Numbered.{AreWhole, HasNoneBelow, laid_out};
-ghost use Rattle.lockfree_object_pool.specs.Refusal.{RefusesMaking};
+ghost use Rattle.nonblocking_pools.specs.Refusal.{RefusesMaking};
 ghost use Rattle.object_pool_cores.specs.Pool.{IsOut, IsPool, IsSame};
 ghost use Rattle.object_pool_cores.specs.Move.{after_return};
 
 use crate::numbers::{number, page_and_id};
 use crate::sequential::{CorePage, Item};
-use lockfree_object_pool::PullError;
-use lockfree_object_pool::clean::Clean;
-use lockfree_object_pool::closures::Init;
-use lockfree_object_pool::page::PAGE_ITEMS;
+use nonblocking_pools::PullError;
+use nonblocking_pools::clean::Clean;
+use nonblocking_pools::closures::Init;
+use nonblocking_pools::page::PAGE_ITEMS;
 use std::alloc::Global;
 use std::marker::Model;
 

@@ -1,6 +1,6 @@
 //! What a player replies.
 use crate::sequential::AttachError;
-use lockfree_object_pool::PullError;
+use nonblocking_pools::PullError;
 
 /// The reply to one command.
 #[derive(Debug, PartialEq, Eq, Drop)]

@@ -1,7 +1,7 @@
 //! What a sequential pool does, whichever way it chooses its items.
 ghost use Rattle.std.specs.Prelude.{◌≡◌, ◌∷◌, [], ◌++◌, ◌↔◌, ℕ, Option, Some, None, List, Result, Ok, Err, IsTrue};
 ghost use Rattle.std.specs.Prelude.{OnErr, MatchResult, slice_get, slice_set};
-ghost use Rattle.lockfree_object_pool.specs.declared.pull_error.PullError.{PullError};
+ghost use Rattle.pool_parts.specs.declared.pull_error.PullError.{PullError};
 ghost use Rattle.object_pool_cores.specs.declared.sequential.item.Item.{Item};
 ghost use Rattle.object_pool_cores.specs.declared.sequential.attach_error.AttachError.{AttachError};
 ghost use Rattle.object_pool_cores.specs.Inside.SequentialItem.{item_value, with_value};
@@ -9,7 +9,7 @@ ghost use Rattle.object_pool_cores.specs.Attach.{refused_value};
 ghost use Rattle.object_pool_cores.specs.Bag.{PullsFromBag, ReturnsToBag, pulled_value};
 
 use crate::sequential::{AttachError, Item};
-use lockfree_object_pool::PullError;
+use nonblocking_pools::PullError;
 
 /// A pool that one owner uses. Its ghost members say what it gives and takes; its laws tie them together.
 pub trait SequentialPool<T> {

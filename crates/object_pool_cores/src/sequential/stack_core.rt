@@ -4,10 +4,10 @@ ghost use Rattle.object_pool_cores.specs.Inside.SequentialItem.{item_value, has_
 ghost use Rattle.object_pool_cores.specs.Stack.{kept_of, init_of, reset_of, Pulls, Gives, Attaches, HoldRooms};
 
 use crate::sequential::{AttachError, Item, SequentialPool};
-use lockfree_object_pool::PullError;
-use lockfree_object_pool::clean::Clean;
-use lockfree_object_pool::closures::{Init, Reset};
-use lockfree_object_pool::stack::{Room, Stack};
+use nonblocking_pools::PullError;
+use nonblocking_pools::clean::Clean;
+use nonblocking_pools::closures::{Init, Reset};
+use nonblocking_pools::stack::{Room, Stack};
 use std::alloc::Global;
 
 /// A pool that keeps what was returned. An item brings its own room, so a return takes no memory.

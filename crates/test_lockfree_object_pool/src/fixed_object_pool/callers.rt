@@ -5,8 +5,8 @@ ghost use Rattle.lockfree_object_pool.specs.FixedPool.{pool_identity, pool_items
 ghost use Rattle.lockfree_object_pool.specs.FixedReusable.{reusable_item};
 ghost use Rattle.lockfree_object_pool.specs.Note.{note_page, note_history};
 ghost use Rattle.lockfree_object_pool.specs.Ledger.{History, IsPrefixOf, WasOutBetween};
-ghost use Rattle.lockfree_object_pool.specs.declared.page.history.Operation.TheVariants.{Return};
-ghost use Rattle.lockfree_object_pool.specs.declared.pull_error.PullError.TheVariants.{Limit};
+ghost use Rattle.pool_parts.specs.declared.page.history.Operation.TheVariants.{Return};
+ghost use Rattle.pool_parts.specs.declared.pull_error.PullError.TheVariants.{Limit};
 ghost use Rattle.test_lockfree_object_pool.specs.Returned.{EndsWithReturn, EndsWithReturnOf, WasReturnedBefore, WasUsedSince};
 
 use super::numbers::{NumberItem, NumberPool, held, new_pool};

@@ -2,7 +2,7 @@
 ghost use Rattle.std.specs.Prelude.{◌≡◌, ◌⊎◌, ℕ, ◌∷◌, ⊤, Some, IfSome};
 ghost use Rattle.lockfree_object_pool.specs.LinearPool.{reusable_item};
 ghost use Rattle.lockfree_object_pool.specs.Ledger.{History, WasReturned};
-ghost use Rattle.lockfree_object_pool.specs.declared.page.history.Operation.TheVariants.{Pull};
+ghost use Rattle.pool_parts.specs.declared.page.history.Operation.TheVariants.{Pull};
 
 use super::*;
 use crate::assert_equal::assert_equal;

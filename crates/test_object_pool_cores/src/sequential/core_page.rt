@@ -1,9 +1,9 @@
 //! Worked cases of a page of one owner.
 use super::Mortal;
 use crate::assert_equal::assert_equal;
-use lockfree_object_pool::PullError;
-use lockfree_object_pool::clean::AnyValue;
-use lockfree_object_pool::page::PageId;
+use pool_parts::PullError;
+use pool_parts::clean::AnyValue;
+use pool_parts::page::PageId;
 use object_pool_cores::sequential::CorePage;
 use std::alloc::Global;
 use std::cell::Cell;

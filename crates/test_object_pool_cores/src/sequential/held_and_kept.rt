@@ -1,9 +1,9 @@
 //! Stack cores that keep many items, and players that hold many and let many go.
 use super::{Mortals, Zeros};
 use crate::assert_equal::assert_equal;
-use lockfree_object_pool::PullError;
-use lockfree_object_pool::clean::AnyValue;
-use lockfree_object_pool::closures::{Copied, Keep};
+use pool_parts::PullError;
+use pool_parts::clean::AnyValue;
+use pool_parts::closures::{Copied, Keep};
 use object_pool_cores::sequential::*;
 use std::alloc::{AllocError, Global};
 use std::cell::Cell;

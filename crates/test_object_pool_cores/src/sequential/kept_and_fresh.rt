@@ -1,9 +1,9 @@
 //! Worked cases of the stack core and the none core, by values.
 use super::{Mortals, Zeros};
 use crate::assert_equal::assert_equal;
-use lockfree_object_pool::PullError;
-use lockfree_object_pool::clean::AnyValue;
-use lockfree_object_pool::closures::{Copied, Keep};
+use pool_parts::PullError;
+use pool_parts::clean::AnyValue;
+use pool_parts::closures::{Copied, Keep};
 use object_pool_cores::sequential::*;
 use std::cell::Cell;
 

@@ -1,9 +1,9 @@
 //! What a linear core makes at its opening, how many pages it looks at, and what it holds past the first few pages.
 use super::Zeros;
 use crate::assert_equal::assert_equal;
-use lockfree_object_pool::PullError;
-use lockfree_object_pool::clean::AnyValue;
-use lockfree_object_pool::closures::{Copied, Keep};
+use pool_parts::PullError;
+use pool_parts::clean::AnyValue;
+use pool_parts::closures::{Copied, Keep};
 use object_pool_cores::sequential::{Item, LinearCore, SequentialPool};
 use std::alloc::Global;
 use std::cell::Cell;

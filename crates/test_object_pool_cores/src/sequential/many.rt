@@ -1,7 +1,7 @@
 //! Cores and players that outgrow a byte and two bytes, the greatest limit, and what a pull looks at after a return.
 use crate::assert_equal::assert_equal;
-use lockfree_object_pool::clean::AnyValue;
-use lockfree_object_pool::closures::{Copied, Keep};
+use pool_parts::clean::AnyValue;
+use pool_parts::closures::{Copied, Keep};
 use object_pool_cores::sequential::*;
 use std::alloc::{AllocError, Global};
 

@@ -1,8 +1,8 @@
 //! Runs of no commands, and of more than a million.
 use crate::assert_equal::assert_equal;
-use lockfree_object_pool::PullError;
-use lockfree_object_pool::clean::AnyValue;
-use lockfree_object_pool::closures::{Copied, Keep};
+use pool_parts::PullError;
+use pool_parts::clean::AnyValue;
+use pool_parts::closures::{Copied, Keep};
 use object_pool_cores::sequential::{Command, LinearCore, Player, Reply};
 use std::alloc::{AllocError, Global};
 

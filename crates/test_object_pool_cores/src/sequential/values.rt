@@ -1,9 +1,9 @@
 //! The values that holders have, where replies tell the numbers alone.
 use super::{Mortal, Mortals, are_mine};
 use crate::assert_equal::assert_equal;
-use lockfree_object_pool::PullError;
-use lockfree_object_pool::clean::AnyValue;
-use lockfree_object_pool::closures::{Copied, Keep, Reset};
+use pool_parts::PullError;
+use pool_parts::clean::AnyValue;
+use pool_parts::closures::{Copied, Keep, Reset};
 use object_pool_cores::sequential::*;
 use std::alloc::Global;
 use std::cell::Cell;

@@ -1,6 +1,6 @@
 //! Links: a link is set once, whoever asks, a chain may be long, and what two notes of one link say.
 ghost use Rattle.std.specs.Prelude.{◌≡◌, IfSome};
-ghost use Rattle.lockfree_object_pool.specs.LinearPage.{shown_page};
+ghost use Rattle.page_chain.specs.LinearPage.{shown_page};
 
 use super::*;
 use crate::assert_equal::assert_equal;

@@ -1,16 +1,16 @@
 //! Callers that need a page's history: what comes before what, and that two histories are of one page.
 ghost use Rattle.std.specs.Prelude.{◌≡◌, ◌⊎◌, ℕ, ◌∷◌, IfSome};
-ghost use Rattle.lockfree_object_pool.specs.Note.{note_page, note_history};
-ghost use Rattle.lockfree_object_pool.specs.OwnedSlot.{owned_slot_item};
-ghost use Rattle.lockfree_object_pool.specs.Page.{page_identity};
-ghost use Rattle.lockfree_object_pool.specs.Ledger.{History, IsPrefixOf};
-ghost use Rattle.lockfree_object_pool.specs.Slot.{slot_item};
-ghost use Rattle.lockfree_object_pool.specs.declared.page.history.Operation.TheVariants.{Return};
+ghost use Rattle.page_chain.specs.Note.{note_page, note_history};
+ghost use Rattle.page_chain.specs.OwnedSlot.{owned_slot_item};
+ghost use Rattle.page_chain.specs.Page.{page_identity};
+ghost use Rattle.page_chain.specs.Ledger.{History, IsPrefixOf};
+ghost use Rattle.page_chain.specs.Slot.{slot_item};
+ghost use Rattle.pool_parts.specs.declared.page.history.Operation.TheVariants.{Return};
 
 use super::{item, owned_item};
 use crate::assert_equal::assert_equal;
-use lockfree_object_pool::clean::{AnyValue, Clean};
-use lockfree_object_pool::page::{
+use page_chain::clean::{AnyValue, Clean};
+use page_chain::page::{
     Allocated, OwnedSlot, Page, PageNote, PageSlot, PullPass, Witness,
 };
 use std::mem::size_of;

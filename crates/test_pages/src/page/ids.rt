@@ -1,9 +1,9 @@
 //! Pages in use: words, ids and values, on one thread and on two.
 use super::item;
 use crate::assert_equal::assert_equal;
-use lockfree_object_pool::PullError;
-use lockfree_object_pool::clean::AnyValue;
-use lockfree_object_pool::page::{Allocated, Page, PageSlot, PullPass, with_bit};
+use page_chain::PullError;
+use page_chain::clean::AnyValue;
+use page_chain::page::{Allocated, Page, PageSlot, PullPass, with_bit};
 use std::alloc::{AllocError, Global};
 use std::sync::atomic::{AtomicUsize, Ordering};
 use std::thread::Threads;

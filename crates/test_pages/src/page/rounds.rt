@@ -1,7 +1,7 @@
 //! Many rounds of two threads that hold one item of a page each, and lose clearings to each other.
 use crate::assert_equal::assert_equal;
-use lockfree_object_pool::clean::AnyValue;
-use lockfree_object_pool::page::Page;
+use page_chain::clean::AnyValue;
+use page_chain::page::Page;
 use std::thread;
 
 /// How many rounds each thread makes.

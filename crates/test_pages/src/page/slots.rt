@@ -1,14 +1,14 @@
 //! What a caller knows of a slot by public contracts alone.
 ghost use Rattle.std.specs.Prelude.{◌≡◌, IfOk, IfSome};
-ghost use Rattle.lockfree_object_pool.specs.FullSeen.{IsFullOf};
-ghost use Rattle.lockfree_object_pool.specs.OwnedSlot.{owned_slot_with};
-ghost use Rattle.lockfree_object_pool.specs.Page.{page_identity, page_opening};
-ghost use Rattle.lockfree_object_pool.specs.Slot.{slot_item, slot_with};
+ghost use Rattle.page_chain.specs.FullSeen.{IsFullOf};
+ghost use Rattle.page_chain.specs.OwnedSlot.{owned_slot_with};
+ghost use Rattle.page_chain.specs.Page.{page_identity, page_opening};
+ghost use Rattle.page_chain.specs.Slot.{slot_item, slot_with};
 
 use super::{item, owned_item};
 use crate::assert_equal::assert_equal;
-use lockfree_object_pool::clean::{AnyValue, Clean};
-use lockfree_object_pool::page::{Allocated, FullSeen, OwnedSlot, Page, PageSlot, PullPass};
+use page_chain::clean::{AnyValue, Clean};
+use page_chain::page::{Allocated, FullSeen, OwnedSlot, Page, PageSlot, PullPass};
 use std::sync::Arc;
 
 /// The value is 0.

@@ -1,9 +1,9 @@
 //! Values that count how often they are made and dropped.
 use super::owned_item;
 use crate::assert_equal::assert_equal;
-use lockfree_object_pool::PullError;
-use lockfree_object_pool::clean::AnyValue;
-use lockfree_object_pool::page::Page;
+use page_chain::PullError;
+use page_chain::clean::AnyValue;
+use page_chain::page::Page;
 use std::alloc::Global;
 use std::mem;
 use std::sync::Arc;

@@ -1,7 +1,7 @@
 //! Proved callers: what they know of a pulled value, of an attached one, and of a refusal.
 ghost use Rattle.std.specs.Prelude.{◌≡◌, IfOk, IfErr, IfSome};
 ghost use Rattle.lockfree_object_pool.specs.StackPool.{stack_with};
-ghost use Rattle.lockfree_object_pool.specs.declared.pull_error.PullError.TheVariants.{Memory};
+ghost use Rattle.pool_parts.specs.declared.pull_error.PullError.TheVariants.{Memory};
 
 use super::*;
 use crate::assert_equal::assert_equal;

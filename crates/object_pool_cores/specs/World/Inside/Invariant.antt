@@ -12,7 +12,7 @@ use Rattle.object_pool_cores.specs.World.State.{WorldPageState, WorldState}
 use Rattle.object_pool_cores.specs.World.Machine.{has_bit, page_value}
 use Rattle.object_pool_cores.specs.World.AbstractPool.{abstract_pool}
 use Rattle.object_pool_cores.specs.World.Trace.{Log, last_made, IsTraceOf}
-use Rattle.lockfree_object_pool.specs.declared.page.TheConstants.{PAGE_ITEMS}
+use Rattle.pool_parts.specs.declared.page.TheConstants.{PAGE_ITEMS}
 
 module _ {T : Type 0} (first : List T) where
   -- an agent found each number of a page out, which is one of so many that are linked

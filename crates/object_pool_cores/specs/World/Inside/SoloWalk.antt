@@ -1,6 +1,6 @@
 -- Where an agent is that runs solo, after each of its steps.
 use Rattle.std.specs.Prelude.{◌≡◌, ◌≢◌, ◌⊎◌, ℕ, ◌+◌, ◌*◌, ◌<◌, ◌≤◌, Option, Some, None, List, [], ◌∷◌, length, ⊤}
-use Rattle.lockfree_object_pool.specs.declared.pull_error.PullError.TheVariants.{Limit}
+use Rattle.pool_parts.specs.declared.pull_error.PullError.TheVariants.{Limit}
 use Rattle.object_pool_cores.specs.declared.interleave.event.Seen.TheVariants as seen
 use Rattle.object_pool_cores.specs.declared.interleave.point.Point.{Point}
 use Rattle.object_pool_cores.specs.declared.interleave.point.Point.TheVariants.{Reading, Clearing, AtLink}

@@ -1,7 +1,7 @@
 use denote.Param.Send.{sendable}
-use Rattle.lockfree_object_pool.proofs.ReusableShared.{reusable_sync}
-use Rattle.lockfree_object_pool.proofs.closures.ready.Copied.TheSendSync as copied
-use Rattle.lockfree_object_pool.proofs.closures.ready.Keep.TheSendSync as keep
+use Rattle.nonblocking_pools.proofs.ReusableShared.{reusable_sync}
+use Rattle.pool_parts.proofs.closures.ready.Copied.TheSendSync as copied
+use Rattle.pool_parts.proofs.closures.ready.Keep.TheSendSync as keep
 use Rattle.examples.proofs.calling.shared.read_twice.Goals as goal
 
 pub join-requires-send-F : goal.join-requires-send-F

@@ -1,4 +1,4 @@
-use Rattle.lockfree_object_pool.proofs.PageOrder.{return_is_later}
+use Rattle.pool_parts.proofs.PageOrder.{return_is_later}
 use Rattle.test_lockfree_object_pool.proofs.Later.{prefix_of_prefix}
 use Rattle.test_lockfree_object_pool.proofs.fixed_object_pool.messages.answered.Goals as goal
 

@@ -1,6 +1,6 @@
 use denote.Param.Send.{sendable}
-use Rattle.lockfree_object_pool.proofs.FixedShared.{borrowed_reusable_sync}
-use Rattle.lockfree_object_pool.proofs.closures.ready.Copied.TheSendSync as copied
+use Rattle.nonblocking_pools.proofs.FixedShared.{borrowed_reusable_sync}
+use Rattle.pool_parts.proofs.closures.ready.Copied.TheSendSync as copied
 use Rattle.test_lockfree_object_pool.proofs.fixed_object_pool.sends.read_twice.Goals as goal
 
 pub join-requires-send-F : goal.join-requires-send-F

@@ -1,5 +1,5 @@
 use Rattle.std.proofs.Common.{◌≡◌, ℕ, Some, inl, inr}
-use Rattle.lockfree_object_pool.proofs.FilledItems.{filled_at}
+use Rattle.pool_parts.proofs.FilledItems.{filled_at}
 use Rattle.test_lockfree_object_pool.proofs.linear_object_pool.origins.pulled.Goals as goal
 
 seven : (value : ℕ) → Some value ≡ Some 7 → value ≡ 7

@@ -1,7 +1,7 @@
 use Rattle.std.proofs.Common.{subst}
-use Rattle.lockfree_object_pool.specs.Note.{note_history}
-use Rattle.lockfree_object_pool.specs.Ledger.{IsPrefixOf}
-use Rattle.lockfree_object_pool.proofs.Ledger.{comparable}
+use Rattle.page_chain.specs.Note.{note_history}
+use Rattle.page_chain.specs.Ledger.{IsPrefixOf}
+use Rattle.pool_parts.proofs.Ledger.{comparable}
 use Rattle.test_pages.proofs.page.histories.compared.Goals as goal
 
 pub returns-clause-compared : goal.returns-clause-compared

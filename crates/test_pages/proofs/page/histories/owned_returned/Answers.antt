@@ -1,4 +1,4 @@
-use Rattle.lockfree_object_pool.proofs.PageOrder.{return_is_later}
+use Rattle.pool_parts.proofs.PageOrder.{return_is_later}
 use Rattle.test_pages.proofs.page.histories.owned_returned.Goals as goal
 
 pub returns : goal.returns

@@ -1,4 +1,4 @@
-use Rattle.lockfree_object_pool.proofs.PageOrder.{pull_is_later}
+use Rattle.pool_parts.proofs.PageOrder.{pull_is_later}
 use Rattle.test_pages.proofs.page.histories.pulled_after.Goals as goal
 
 pub returns-in-Ok-Slot-clause-after : goal.returns-in-Ok-Slot-clause-after

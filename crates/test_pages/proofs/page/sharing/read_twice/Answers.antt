@@ -1,5 +1,5 @@
 use denote.Param.Send.{sendable}
-use Rattle.lockfree_object_pool.proofs.SlotShared.{slot_sync}
+use Rattle.pool_parts.proofs.SlotShared.{slot_sync}
 use Rattle.test_pages.proofs.page.sharing.read_twice.Goals as goal
 
 pub join-requires-send-F : goal.join-requires-send-F

@@ -1,6 +1,6 @@
 use mir.Syntax.{named}
 use denote.Param.{param}
-use Rattle.lockfree_object_pool.proofs.SlotShared.{slot_sync, owned_slot_sync}
+use Rattle.pool_parts.proofs.SlotShared.{slot_sync, owned_slot_sync}
 use Rattle.test_pages.proofs.page.sharing.shared_slots.Goals as goal
 
 pub shared-requires-sync-X : goal.shared-requires-sync-X

@@ -1,4 +1,0 @@
-use Rattle.lockfree_object_pool.proofs.linear_owned_reusable.LinearOwnedReusable.drop.Goals as goal
-
-pub free-requires-clause-on_page : goal.free-requires-clause-on_page
-free-requires-clause-on_page g c = rw c.deref-2.ensures c.args.self.taken.on_page

@@ -1,5 +1,0 @@
-use Rattle.std.proofs.Common.{◌-◌}
-use Rattle.lockfree_object_pool.proofs.linear_page.directory.Directory.hinted.Given as goal
-
-abbrev pub decreases-loop-from : goal.decreases-loop-from
-decreases-loop-from g l = 64 - l.from

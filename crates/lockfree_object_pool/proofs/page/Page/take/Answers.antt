@@ -1,7 +1,0 @@
-use Rattle.lockfree_object_pool.proofs.PageAnswers.{answer_fresh}
-use Rattle.lockfree_object_pool.proofs.page.Page.take.Goals as goal
-
-pub returns-clause-answer : goal.returns-clause-answer
-returns-clause-answer g c =
-    answer_fresh _ _ _ _ _ c.look-word.ensures.found.same_opening c.look-word.ensures.found.did_nothing
-    c.take_lowest.ensures.answer

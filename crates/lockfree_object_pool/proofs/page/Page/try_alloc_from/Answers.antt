@@ -1,5 +1,0 @@
-use Rattle.lockfree_object_pool.proofs.PageAnswers.{answer_after}
-use Rattle.lockfree_object_pool.proofs.page.Page.try_alloc_from.Goals as goal
-
-pub returns-clause-answer : goal.returns-clause-answer
-returns-clause-answer g c = answer_after _ _ _ _ _ c.look_again-word.ensures.found.starts c.take_lowest.ensures.answer

@@ -1,5 +1,0 @@
-use Rattle.lockfree_object_pool.proofs.PageSteps.{loads}
-use Rattle.lockfree_object_pool.proofs.page.items.Items.look.Goals as goal
-
-pub load_new_seat-word-requires : goal.load_new_seat-word-requires
-load_new_seat-word-requires g c = (c.requires, loads _ _ _ _)

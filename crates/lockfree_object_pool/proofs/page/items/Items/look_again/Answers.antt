@@ -1,5 +1,0 @@
-use Rattle.lockfree_object_pool.proofs.PageSteps.{loads_again}
-use Rattle.lockfree_object_pool.proofs.page.items.Items.look_again.Goals as goal
-
-pub load-requires : goal.load-requires
-load-requires g c = (c.requires.items, c.requires.in_items, loads_again _ _ _ _ _ _ c.requires.here)

@@ -1,7 +1,0 @@
-use Rattle.std.proofs.Common.{arith}
-use Rattle.lockfree_object_pool.proofs.PageSteps.{witnesses}
-use Rattle.lockfree_object_pool.proofs.page.items.Items.witness.Goals as goal
-
-pub split_seat-requires : goal.split_seat-requires
-split_seat-requires g c =
-    (c.requires, omega (arith, c.args.self.now.covered, c.args.self.now.some_item), witnesses _ _ _ _)

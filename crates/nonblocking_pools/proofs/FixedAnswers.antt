@@ -1,0 +1,85 @@
+-- What a pool answers, told by what the answer shows and no longer by its user's view.
+use Rattle.std.proofs.Common.{◌≡◌, List, Option, [], ◌∷◌, ℕ, ◌+◌, ◌*◌, ◌<◌, ◌≤◌, None, ap, ◌∙◌}
+use Rattle.std.proofs.Common.{arith, inl, inr}
+use Rattle.std.proofs.lemmas.Bool.{cases_lt}
+use Rattle.atomic_table.specs.Seated.{TableId}
+use Rattle.pool_parts.specs.declared.page.history.Operation.TheVariants.{Pull}
+use Rattle.pool_parts.specs.declared.page.note.PageNote.{PageNote}
+use Rattle.nonblocking_pools.specs.FixedAnswer.{IsPulledWith}
+use Rattle.pool_parts.specs.Note.{note_view}
+use Rattle.pool_parts.specs.FullSeen.{FoundAllOut}
+use Rattle.pool_parts.specs.Holding.{item_known}
+use Rattle.pool_parts.specs.PageRule.{User, StartsFrom, LoadsOn}
+use Rattle.pool_parts.specs.Taking.{MissesAll, TakesOne}
+use Rattle.pool_parts.proofs.Ledger.{goes_on_further, still_out}
+use Rattle.pool_parts.proofs.PageAnswers.{pulled_after, found_out, was_out_from}
+
+module _ {T : Type 0} where
+  -- what a user did in vain, and then a further load
+  pub misses_loaded : (from to place word : ℕ) (one two three : User T) → MissesAll from to one two
+      → LoadsOn place two word three → MissesAll from to one three
+  misses_loaded from to place word one two three missed looked = record {
+    holds_same = looked.holds_same ∙ missed.holds_same;
+    carries_same = looked.carries_same ∙ missed.carries_same;
+    each_was_out = λ id above below. still_out two.0 three.0 id looked.goes_on (missed.each_was_out id above below);
+    goes_on = goes_on_further [] one.0 two.0 three.0 missed.goes_on looked.goes_on;
+  }
+
+  -- and then a further word
+  pub misses_more : (from middle to : ℕ) (one two three : User T) → MissesAll from middle one two
+      → MissesAll middle to two three → MissesAll from to one three
+  misses_more from middle to one two three first second = record {
+    holds_same = second.holds_same ∙ first.holds_same;
+    carries_same = second.carries_same ∙ first.carries_same;
+    each_was_out = λ id above below. elim (cases_lt id middle) [
+      | inl before ↦ still_out two.0 three.0 id second.goes_on (first.each_was_out id above before)
+      | inr past ↦ second.each_was_out id (omega arith) below
+    ];
+    goes_on = goes_on_further [] one.0 two.0 three.0 first.goes_on second.goes_on;
+  }
+
+  pub takes_after : (meets : T → Type 0) (items from to id : ℕ) (value : T) (one two three : User T)
+      → MissesAll from to one two → TakesOne meets items id value two three → TakesOne meets items id value one three
+  takes_after meets items from to id value one two three missed taken = record {
+    in_pool = taken.in_pool;
+    meets_condition = taken.meets_condition;
+    holds = taken.holds;
+    carries = taken.carries ∙ ap (λ l. (id, None) ∷ l) missed.carries_same;
+    goes_on = goes_on_further (Pull three.0.user id value ∷ []) one.0 two.0 three.0 missed.goes_on taken.goes_on;
+  }
+
+  -- what a user has seen out round the whole pool, in three segments
+  pub missed_round : (page words slots : ℕ) (start one two last : User T) → slots ≤ 32 * words
+      → MissesAll (32 * page) (32 * page + 32) start one
+      → MissesAll (32 * (page + 1)) (32 * words) one two → MissesAll 0 (32 * page) two last
+      → MissesAll 0 slots start last
+  missed_round page words slots start one two last covered own behind before = record {
+    holds_same = before.holds_same ∙ behind.holds_same ∙ own.holds_same;
+    carries_same = before.carries_same ∙ behind.carries_same ∙ own.carries_same;
+    each_was_out = λ id _ within. elim (cases_lt id (32 * page)) [
+      | inl low ↦ before.each_was_out id (omega arith) low
+      | inr high ↦ still_out two.0 last.0 id before.goes_on (elim (cases_lt id (32 * page + 32)) [
+        | inl here ↦ still_out one.0 two.0 id behind.goes_on (own.each_was_out id (omega arith) here)
+        | inr past ↦ behind.each_was_out id (omega arith) (omega arith)
+      ])
+    ];
+    goes_on = goes_on_further [] start.0 one.0 last.0 own.goes_on
+        (goes_on_further [] one.0 two.0 last.0 behind.goes_on before.goes_on);
+  }
+
+  -- the item that a pull by a note took
+  pub item_pulled_with : (meets : T → Type 0) (pool : TableId) (note : PageNote T) (start known : User T)
+      (seated : TableId) (id : ℕ) (value : T)
+      → StartsFrom (note_view note) start.0 → TakesOne meets pool.slots id value start known → seated ≡ pool
+      → IsPulledWith pool note (item_known seated known.0 id value)
+  item_pulled_with meets pool note start known seated id value starts taken same = record {
+    is_item = record { of_page = same; in_page = taken.in_pool };
+    pulled = pulled_after seated start.0 known.0 id value taken.goes_on note starts;
+  }
+
+  -- what a user has seen that observed each item taken
+  pub found_all_out : (count : ℕ) (opening : List (Option T)) (start known : User T) → start.0.opening ≡ opening
+      → MissesAll 0 count start known → FoundAllOut count opening known.0
+  found_all_out count opening start known opened missed =
+      found_out count opening start.0 known.0 opened missed.goes_on (λ id within.
+      was_out_from start.0 known.0 id missed.goes_on (missed.each_was_out id (omega arith) within))

@@ -1,0 +1,3 @@
+pub mod FixedAnswers
+pub mod FixedShared
+pub mod ReusableShared

@@ -1,0 +1,21 @@
+use Rattle.std.proofs.Common.{◌∙◌}
+use Rattle.nonblocking_pools.proofs.FixedAnswers.{item_pulled_with, found_all_out}
+use Rattle.pool_parts.proofs.PageAnswers.{after_known}
+use Rattle.nonblocking_pools.proofs.fixed_object_pool.items.FixedItems.pull_from.Goals as goal
+
+pub returns-clause-pulled : goal.returns-clause-pulled
+returns-clause-pulled g c =
+    item_pulled_with g.K.Clean.meets _ _ _ _ _ _ _ c.look_again-word.ensures.found.starts c.in-Some.ensures.outcome
+    (c.take.ensures.pool ∙ c.look_again-word.ensures.items ∙ c.requires)
+
+pub returns-in_default-clause-busy : goal.returns-in_default-clause-busy
+returns-in_default-clause-busy g c =
+    let starts = c.look_again-word.ensures.found.starts in
+    let missed = c.in_default.ensures.outcome in
+    record {
+      all_out = record {
+        of_page = c.take.ensures.pool ∙ c.look_again-word.ensures.items ∙ c.requires;
+        found = found_all_out _ _ _ _ starts.same_opening missed;
+      };
+      after_note = after_known _ _ _ starts missed.goes_on;
+    }

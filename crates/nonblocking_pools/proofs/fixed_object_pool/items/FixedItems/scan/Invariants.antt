@@ -1,0 +1,13 @@
+use Rattle.std.proofs.Common.{◌≡◌, ◌-◌, ◌*◌, [], None}
+use Rattle.pool_parts.specs.Taking.{MissesAll}
+use Rattle.nonblocking_pools.specs.StepCount.{IsWithin, steps_of}
+use Rattle.nonblocking_pools.proofs.fixed_object_pool.items.FixedItems.scan.Given as goal
+
+abbrev pub invariant-loop-page : goal.invariant-loop-page
+invariant-loop-page g l = record {
+  same_pool : l.seat.table_id ≡ l.fn.seat.table_id;
+  carries_none : l.seat.me.1 ≡ [];
+  holds_none : l.seat.me.0.held ≡ None;
+  steps : IsWithin (l.page - l.from) (steps_of l.fn.seat.me.0) (steps_of l.seat.me.0);
+  missed : MissesAll (32 * l.from) (32 * l.page) l.fn.seat.me l.seat.me;
+}

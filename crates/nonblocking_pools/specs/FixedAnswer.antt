@@ -1,0 +1,63 @@
+-- What the answers of a fixed pool show: of a pull, of a refusal, of a return.
+use Rattle.std.specs.Prelude.{◌≡◌, List, Option}
+use Rattle.atomic_table.specs.Seated.{TableId}
+use Rattle.pool_parts.specs.declared.page.note.PageNote.{PageNote}
+use Rattle.pool_parts.specs.declared.page.full_seen.FullSeen.{FullSeen}
+use Rattle.nonblocking_pools.specs.FixedItem.{item_with}
+use Rattle.nonblocking_pools.specs.StepCount.{StepCount, steps_of}
+use Rattle.pool_parts.specs.FullSeen.{full_view, FoundAllOut, IsAllOut, IsAllOutAfter}
+use Rattle.pool_parts.specs.Item.{Item, IsItemIn, IsPulledAs}
+use Rattle.pool_parts.specs.Note.{note_page, note_view, note_opening, note_user, note_history, IsReturned}
+use Rattle.pool_parts.specs.Note.{IsPulledAfter}
+use Rattle.pool_parts.specs.Ledger.{History, operations_of, IsPrefixOf}
+
+module _ {T : Type 0} where
+  -- an item of this pool
+  abbrev pub IsFixedItem : TableId → Item T → Type 0
+  IsFixedItem pool item = IsItemIn pool.slots pool item
+
+  -- an item of this pool, pulled as the pool's one history tells, which begins with these values
+  abbrev pub IsPulledFrom : TableId → List (Option T) → Item T → Type 0
+  IsPulledFrom pool opening item = IsPulledAs (IsFixedItem pool) opening item
+
+  -- the same of a pull by a note: it stands after all that the note knew
+  pub record IsPulledWith (pool : TableId) (note : PageNote T) (item : Item T) : Type 0 where
+    pub is_item : IsFixedItem pool item
+    pub pulled : IsPulledAfter note item
+
+  -- what the refused pull has read and tried
+  abbrev pub busy_steps : FullSeen T → StepCount
+  busy_steps busy = steps_of (full_view busy)
+
+  -- each item of this pool was observed taken by one call
+  abbrev pub IsBusyOf : TableId → List (Option T) → FullSeen T → Type 0
+  IsBusyOf pool opening busy = IsAllOut pool.slots pool opening busy
+
+  -- the same of a pull by a note: its first load stands after all that the note knew
+  abbrev pub IsBusyAfter : TableId → PageNote T → FullSeen T → Type 0
+  IsBusyAfter pool note busy = IsAllOutAfter pool.slots pool note busy
+
+  -- the pool's history up to the first load of the last operation of the note
+  abbrev pub note_since : PageNote T → History T
+  note_since note = (note_view note).since
+
+  -- the same evidence, where the note of a refused pull keeps it: the pull's first load stands after all that the note
+  -- knew
+  pub record IsBusyNote (pool : TableId) (old new : PageNote T) : Type 0 where
+    pub of_pool : note_page new ≡ pool
+    pub same_user : note_user new ≡ note_user old
+    pub found : FoundAllOut pool.slots (note_opening old) (note_view new)
+    pub after_note : IsPrefixOf (note_history old) (note_since new)
+    -- its user did nothing
+    pub same_operations : operations_of (note_user new) (note_history new) ≡ operations_of (note_user old)
+        (note_history old)
+
+  -- what the operations of a note have read and tried
+  abbrev pub note_steps : PageNote T → StepCount
+  note_steps note = steps_of (note_view note)
+
+  -- an item was returned with exactly what its pool's reset left of its value
+  pub record IsGivenBack (leaves : T → T → Type 0) (item : Item T) (note : PageNote T) : Type 0 where
+    pub left : T
+    pub by_reset : leaves item.value left
+    pub returned : IsReturned (item_with item left) note

@@ -1,0 +1,22 @@
+-- What an item that is out of a fixed pool shows.
+use Rattle.nonblocking_pools.specs.declared.fixed_reusable.FixedReusableOf.{FixedReusableOf}
+use Rattle.nonblocking_pools.specs.StepCount.{StepCount, steps_of}
+use Rattle.pool_parts.specs.Holding.{holding_view, held_item}
+use Rattle.pool_parts.specs.Item.{Item}
+
+module _ {T P : Type 0} where
+  -- the borrow or the owner of the pool that the value returns to
+  abbrev pub reusable_pool : FixedReusableOf T P → P
+  reusable_pool reusable = reusable.taken.pool
+
+  -- the item that the reusable has
+  abbrev pub reusable_item : FixedReusableOf T P → Item T
+  reusable_item reusable = held_item reusable.taken.holding reusable.value
+
+  -- what its pull has read and tried
+  abbrev pub reusable_steps : FixedReusableOf T P → StepCount
+  reusable_steps reusable = steps_of (holding_view reusable.taken.holding)
+
+  -- the same item with another value
+  abbrev pub reusable_with : FixedReusableOf T P → T → FixedReusableOf T P
+  reusable_with reusable value = record reusable { value = value }

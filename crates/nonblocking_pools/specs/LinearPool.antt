@@ -1,0 +1,103 @@
+-- What a linear pool and its reusables show.
+use Rattle.std.specs.Prelude.{◌≡◌, ℕ, ◌<◌, Option, None, IfSome, IsSome}
+use Rattle.std.specs.Arc.{arc_value}
+use Rattle.std.specs.Option.{option_map}
+use Rattle.atomic_table.specs.Seated.{TableId}
+use Rattle.pool_parts.specs.Answers.{IsAnswer, IsMadeOrReset}
+use Rattle.pool_parts.specs.Holding.{held_item}
+use Rattle.pool_parts.specs.Item.{Item, HasOrigin}
+use Rattle.page_chain.specs.LinearPage.{first_page}
+use Rattle.pool_parts.specs.Refusal.{Causes}
+use Rattle.pool_parts.specs.Slot.{taken_item}
+use Rattle.page_chain.specs.Walk.{start_of, number_of, IsWalkedTo}
+use Rattle.nonblocking_pools.specs.declared.linear_object_pool.LinearObjectPool.{LinearObjectPool}
+use Rattle.nonblocking_pools.specs.declared.linear_object_pool.answer_of.AnswerOf.{AnswerOf}
+use Rattle.nonblocking_pools.specs.declared.linear_object_pool.page_limit.PageLimit.{PageLimit}
+use Rattle.nonblocking_pools.specs.declared.linear_owned_reusable.LinearOwnedReusable.{LinearOwnedReusable}
+use Rattle.page_chain.specs.declared.linear_page.page_number.PageNumber.{PageNumber}
+use Rattle.nonblocking_pools.specs.declared.linear_reusable.LinearReusable.{LinearReusable}
+use Rattle.pool_parts.specs.declared.made_or_reset.MadeOrReset.{MadeOrReset}
+use Rattle.pool_parts.specs.declared.page.TheConstants.{PAGE_ITEMS}
+
+-- how many pages a limit allows
+abbrev pub limit_pages : Option PageLimit → Option ℕ
+limit_pages limit = option_map (λ limit. limit.pages) limit
+
+module _ {T I R K : Type 0} where
+  -- what makes the pool's values
+  abbrev pub pool_init : LinearObjectPool T I R K → I
+  pool_init pool = pool.init
+
+  -- what resets the pool's values
+  abbrev pub pool_reset : LinearObjectPool T I R K → R
+  pool_reset pool = pool.reset
+
+  -- how many pages the pool may have
+  abbrev pub pool_limit : LinearObjectPool T I R K → Option ℕ
+  pool_limit pool = limit_pages pool.limit
+
+  -- which page the pool's first one is
+  abbrev pub pool_first_page : LinearObjectPool T I R K → TableId
+  pool_first_page pool = first_page pool.chain
+
+  -- which pool the value returns to
+  abbrev pub reusable_pool : LinearReusable T I R K → LinearObjectPool T I R K
+  reusable_pool reusable = reusable.pool.now
+
+  -- the item that the reusable has
+  abbrev pub reusable_item : LinearReusable T I R K → Item T
+  reusable_item reusable = taken_item reusable.taken reusable.value
+
+  -- the number of the item's page, with what the pull learned of the link to it
+  abbrev pub reusable_page : LinearReusable T I R K → PageNumber T (MadeOrReset I R K) (AnswerOf I K)
+  reusable_page reusable = reusable.number
+
+  -- the number of the item's page in the pool
+  abbrev pub reusable_number : LinearReusable T I R K → ℕ
+  reusable_number reusable = number_of (reusable_page reusable)
+
+  -- the same item with another value
+  abbrev pub reusable_with : LinearReusable T I R K → T → LinearReusable T I R K
+  reusable_with reusable value = record reusable { value = value }
+
+  -- which pool the value of an owned reusable returns to
+  abbrev pub owned_pool : LinearOwnedReusable T I R K → LinearObjectPool T I R K
+  owned_pool reusable = arc_value reusable.taken.pool
+
+  -- the item that the owned reusable has
+  abbrev pub owned_item : LinearOwnedReusable T I R K → Item T
+  owned_item reusable = held_item reusable.taken.holding reusable.value
+
+  -- the number of the item's page, with what the pull learned of the link to it
+  abbrev pub owned_page : LinearOwnedReusable T I R K → PageNumber T (MadeOrReset I R K) (AnswerOf I K)
+  owned_page reusable = reusable.taken.number
+
+  -- the number of the item's page in the pool
+  abbrev pub owned_number : LinearOwnedReusable T I R K → ℕ
+  owned_number reusable = number_of (owned_page reusable)
+
+  -- the same item with another value
+  abbrev pub owned_with : LinearOwnedReusable T I R K → T → LinearOwnedReusable T I R K
+  owned_with reusable value = record reusable { value = value }
+
+  -- the item's page is the pool's page of this number: the first one where it is 0, else the one to which that page's
+  -- link leads
+  abbrev pub IsOnPage : LinearObjectPool T I R K → PageNumber T (MadeOrReset I R K) (AnswerOf I K) → Item T → Type 0
+  IsOnPage pool number item = IsWalkedTo (start_of pool.chain) number item.page
+
+  -- what a pull gives: an item of the pool's page of this number
+  pub record Pulls (meets : T → Type 0) (answers : I → Option T → Type 0) (leaves : R → T → T → Type 0)
+      (pool : LinearObjectPool T I R K) (number : PageNumber T (MadeOrReset I R K) (AnswerOf I K)) (item : Item T)
+      : Type 0 where
+    pub in_page : item.id < PAGE_ITEMS
+    pub on_page : IsOnPage pool number item
+    pub of_first : number_of number ≡ 0 → item.page ≡ pool_first_page pool
+    pub within : IfSome (pool_limit pool) (λ pages. number_of number < pages)
+    -- the value that lay there by the page's history, which opened with answers of init
+    pub history : HasOrigin (IsAnswer answers) item
+    pub meets_condition : meets item.value
+    pub made_or_reset : IsMadeOrReset answers leaves item.value
+
+  -- what a pull may be refused for, beside want of memory: a limit, and an init that may answer None
+  abbrev pub pull_causes : (I → Option T → Type 0) → LinearObjectPool T I R K → Causes
+  pull_causes answers pool = record { limited = IsSome (pool_limit pool); init_refuses = answers (pool_init pool) None }

@@ -1,0 +1,288 @@
+//! A pool of a fixed number of items, all made at first: threads pull and return without a lock, and nothing takes memory.
+//!
+//! The items lie 32 to a page, and a page is one word. All words lie in one table, so one sequential history tells what was
+//! pulled and returned of the whole pool. No pull and no return waits for another thread or tries anything twice.
+ghost use Rattle.std.specs.Prelude.{◌≡◌, ◌+◌, ◌/◌, ◌<◌, ◌≤◌, None, Some, IfOk, IfErr, ◌⊎◌};
+ghost use Rattle.std.specs.Arc.{arc_value};
+ghost use Rattle.pool_parts.specs.declared.pull_error.PullError.TheVariants.{Memory, Limit};
+
+use crate::fixed_owned_reusable::FixedOwnedReusable;
+use crate::fixed_reusable::FixedReusable;
+use items::FixedItems;
+use pool_parts::PullError;
+use pool_parts::clean::{AnyValue, Clean};
+use pool_parts::closures::{Init, Reset};
+use pool_parts::made_or_reset::MadeOrReset;
+use pool_parts::page::holding::Holding;
+use pool_parts::page::{FullSeen, PageNote, PullPass, Witness};
+use std::alloc::Global;
+use std::fmt::{self, Debug, Formatter, Write};
+use std::sync::Arc;
+
+pub(crate) mod items;
+
+/// What is known of a fixed pool's history while no item is held. It has no bytes.
+pub type PoolNote<T> = PageNote<T>;
+
+/// What a refused pull has: each item of the pool was observed taken since the pass was made, by a word that was read or by
+/// an attempt on its own bit.
+pub type BusySeen<'p, T> = FullSeen<'p, T>;
+
+/// What [`FixedObjectPool::try_pull`] answers: an item, or that each one was observed taken.
+pub type FixedPulled<'s, 'p, T, I, R, K = AnyValue> = Result<
+    FixedReusable<'s, T, I, R, K>,
+    BusySeen<'p, T>,
+>;
+
+/// A pool of a fixed number of items.
+///
+/// ```rust
+/// let pool: FixedObjectPool<u32, _, _> = FixedObjectPool::new(alloc, Copied::new(0), Copied::new(0), 1_000)?;
+/// let mut item = pool.pull()?; // takes no memory
+/// *item = 5;
+/// drop(item); // the value is 0 again, and in the pool
+/// ```
+pub struct FixedObjectPool<T, I: Init<T, K>, R: Reset<T, K>, K: Clean<T> = AnyValue> {
+    reset: R,
+    pub(crate) items: FixedItems<T, MadeOrReset<I, R, K>>,
+}
+
+/// Not derived: the proof of a caller that drops it has one call here, and a derived drop has that of each field.
+impl<T: Drop, I: Init<T, K>, R: Reset<T, K>, K: Clean<T>> Drop for FixedObjectPool<T, I, R, K> {
+    fn drop(self) {
+        let FixedObjectPool { reset: _, items: _ } = self;
+    }
+}
+
+impl<T: Drop, I: Init<T, K>, R: Reset<T, K>, K: Clean<T>> FixedObjectPool<T, I, R, K> {
+    ghost use Rattle.pool_parts.specs.Answers.{IsMadeOrReset};
+    ghost use Rattle.nonblocking_pools.specs.FixedAnswer.{IsPulledFrom, IsPulledWith, IsBusyOf, IsBusyAfter, IsBusyNote, IsGivenBack, busy_steps, note_steps};
+    ghost use Rattle.nonblocking_pools.specs.FixedPool.{pool_identity, pool_items, pool_pages, pool_opening, pool_reset};
+    ghost use Rattle.pool_parts.specs.Holding.{holding_page, held_item};
+    ghost use Rattle.pool_parts.specs.Items.{IsFilled};
+    ghost use Rattle.nonblocking_pools.specs.FixedReusable.{reusable_pool, reusable_item, reusable_steps};
+    ghost use Rattle.nonblocking_pools.specs.StepCount.{IsWithin, no_steps};
+    ghost use Rattle.pool_parts.specs.Note.{note_page, witness_page, IsNoteOf, HasLearned};
+    ghost use Rattle.pool_parts.specs.Refusal.{RefusesMaking};
+
+    /// A pool of so many free items: item `i` is the answer of call `i` of `init`, counted from 0.
+    ///
+    /// # Errors
+    ///
+    /// `Memory`, or `Init` at the first `None`. The items that were made are dropped.
+    pub fn new(
+        alloc: Global,
+        init: I,
+        reset: R,
+        items: usize,
+    ) -> Result<FixedObjectPool<T, I, R, K>, PullError>
+        requires some_item { 1 ≤ items }
+        ensures reset { IfOk result (λ pool. pool_reset pool ≡ reset) }
+        ensures items { IfOk result (λ pool. pool_items pool ≡ items) }
+        ensures pages { IfOk result (λ pool. pool_pages pool ≡ (items + 31) / 32) }
+        ensures opened { IfOk result (λ pool.
+            IsFilled items (λ made. I.answers init (Some made)) (pool_opening pool)) }
+        ensures refused { IfErr result (RefusesMaking (I.answers init None)) }
+    {
+        let maker = &init;
+        let items = FixedItems::new(alloc, items, &|| maker.make())?;
+        Ok(FixedObjectPool { reset, items })
+    }
+
+    /// How many items the pool has.
+    pub fn items(&self) -> usize
+        ensures { result ≡ pool_items self.now }
+    {
+        self.items.count()
+    }
+
+    /// An item that is free. It begins at the page that a hint names.
+    ///
+    /// # Errors
+    ///
+    /// `Limit`, where each item was observed taken.
+    pub fn pull(&self) -> Result<FixedReusable<'_, T, I, R, K>, PullError>
+        ensures pool { IfOk result (λ item. (reusable_pool item).now ≡ self.now) }
+        ensures pulled { IfOk result (λ item.
+            IsPulledFrom (pool_identity self.now) (pool_opening self.now) (reusable_item item)) }
+        ensures meets { IfOk result (λ item. K.meets (reusable_item item).value) }
+        ensures made_or_reset { IfOk result (λ item.
+            IsMadeOrReset I.answers R.leaves (reusable_item item).value) }
+        ensures brief { IfOk result (λ item.
+            IsWithin (pool_pages self.now) no_steps (reusable_steps item)) }
+        ensures refused { IfErr result (λ error. error ≡ Limit) }
+    {
+        let pass = PullPass::new();
+        match self.try_pull(&pass) {
+            Ok(item) => Ok(item),
+            Err(_) => Err(PullError::Limit),
+        }
+    }
+
+    /// As `pull`, which begins at this page, counted round and round. It reads and sets no hint, so that threads which keep to
+    /// pages of their own share no word of items; a return to a page that was full reads the pool's hint, and may set it.
+    ///
+    /// # Errors
+    ///
+    /// `Limit`, where each item was observed taken.
+    pub fn pull_near(&self, page: usize) -> Result<FixedReusable<'_, T, I, R, K>, PullError>
+        ensures pool { IfOk result (λ item. (reusable_pool item).now ≡ self.now) }
+        ensures pulled { IfOk result (λ item.
+            IsPulledFrom (pool_identity self.now) (pool_opening self.now) (reusable_item item)) }
+        ensures meets { IfOk result (λ item. K.meets (reusable_item item).value) }
+        ensures made_or_reset { IfOk result (λ item.
+            IsMadeOrReset I.answers R.leaves (reusable_item item).value) }
+        ensures brief { IfOk result (λ item.
+            IsWithin (pool_pages self.now) no_steps (reusable_steps item)) }
+        ensures refused { IfErr result (λ error. error ≡ Limit) }
+    {
+        let pass = PullPass::new();
+        match self.items.pull(self.items.page_round(page), &pass) {
+            Ok(pulled) => Ok(FixedReusable::new(self, pulled)),
+            Err(_) => Err(PullError::Limit),
+        }
+    }
+
+    /// As `pull`, which shows what it found where no item was free.
+    ///
+    /// # Errors
+    ///
+    /// The evidence that each item was out during this call.
+    pub fn try_pull<'s, 'p>(&'s self, pass: &'p PullPass) -> FixedPulled<'s, 'p, T, I, R, K>
+        ensures pool { IfOk result (λ item. (reusable_pool item).now ≡ self.now) }
+        ensures pulled { IfOk result (λ item.
+            IsPulledFrom (pool_identity self.now) (pool_opening self.now) (reusable_item item)) }
+        ensures meets { IfOk result (λ item. K.meets (reusable_item item).value) }
+        ensures made_or_reset { IfOk result (λ item.
+            IsMadeOrReset I.answers R.leaves (reusable_item item).value) }
+        ensures brief { IfOk result (λ item.
+            IsWithin (pool_pages self.now) no_steps (reusable_steps item)) }
+        ensures busy { IfErr result (IsBusyOf (pool_identity self.now) (pool_opening self.now)) }
+        ensures busy_brief { IfErr result (λ busy.
+            IsWithin (pool_pages self.now) no_steps (busy_steps busy)) }
+    {
+        Ok(FixedReusable::new(self, self.items.pull_hinted(pass)?))
+    }
+
+    /// As `try_pull`, by a user that knows something of the pool: its pull stands after all that the note knew.
+    ///
+    /// # Errors
+    ///
+    /// The evidence that each item was out during this call.
+    pub fn try_pull_from<'s, 'p>(
+        &'s self,
+        pass: &'p PullPass,
+        note: PoolNote<T>,
+    ) -> FixedPulled<'s, 'p, T, I, R, K>
+        requires { note_page note ≡ pool_identity self.now }
+        ensures pool { IfOk result (λ item. (reusable_pool item).now ≡ self.now) }
+        ensures pulled { IfOk result (λ item.
+            IsPulledWith (pool_identity self.now) note (reusable_item item)) }
+        ensures meets { IfOk result (λ item. K.meets (reusable_item item).value) }
+        ensures made_or_reset { IfOk result (λ item.
+            IsMadeOrReset I.answers R.leaves (reusable_item item).value) }
+        ensures brief { IfOk result (λ item.
+            IsWithin (pool_pages self.now) (note_steps note) (reusable_steps item)) }
+        ensures busy { IfErr result (IsBusyAfter (pool_identity self.now) note) }
+        ensures busy_brief { IfErr result (λ busy.
+            IsWithin (pool_pages self.now) (note_steps note) (busy_steps busy)) }
+    {
+        let pulled = self.items.pull_from(pass, note)?;
+        Ok(FixedReusable::new(self, pulled))
+    }
+
+    /// A note of this pool, which knows its history up to now.
+    pub fn note(&self) -> PoolNote<T>
+        ensures { IsNoteOf (pool_identity self.now) (pool_opening self.now) result }
+    {
+        self.items.shared.note()
+    }
+
+    /// Tells a note what a witness knows. The histories of both are prefixes of one.
+    pub fn tell(&self, note: &mut PoolNote<T>, other: Witness<T>)
+        requires note { note_page note.old ≡ pool_identity self.now }
+        requires other { witness_page other ≡ pool_identity self.now }
+        ensures { HasLearned note.old other note.new }
+    {
+        self.items.shared.tell(note, other);
+    }
+
+    /// As `pull`, with a reusable that owns the pool with others. The pool's owners grow by one before an item is taken.
+    ///
+    /// # Errors
+    ///
+    /// `Memory`, where the pool can have no more owners; `Limit`, where each item was observed taken.
+    pub fn pull_owned(self: &Arc<Self>) -> Result<FixedOwnedReusable<T, I, R, K>, PullError>
+        ensures pool { IfOk result (λ item. arc_value (reusable_pool item) ≡ arc_value self.now) }
+        ensures pulled { IfOk result (λ item.
+            IsPulledFrom (pool_identity (arc_value self.now)) (pool_opening (arc_value self.now))
+            (reusable_item item)) }
+        ensures meets { IfOk result (λ item. K.meets (reusable_item item).value) }
+        ensures made_or_reset { IfOk result (λ item.
+            IsMadeOrReset I.answers R.leaves (reusable_item item).value) }
+        ensures brief { IfOk result (λ item.
+            IsWithin (pool_pages (arc_value self.now)) no_steps (reusable_steps item)) }
+        ensures refused { IfErr result (λ error. (error ≡ Memory) ⊎ (error ≡ Limit)) }
+    {
+        let owner = Arc::try_clone(self)?;
+        let pass = PullPass::new();
+        match self.items.pull_hinted(&pass) {
+            Ok(pulled) => Ok(FixedOwnedReusable::new(owner, pulled)),
+            Err(_) => Err(PullError::Limit),
+        }
+    }
+
+    /// As `pull_near`, by an owner of the pool that has a note of it. The reusable takes over both, so the owners stay as many as they
+    /// are and nothing is counted, and its pull stands after all that the note knew. `give_back_with_owner` hands both out again.
+    ///
+    /// # Errors
+    ///
+    /// The owner and the note, which now knows that each item was out during this call.
+    pub fn pull_by_owner(
+        self: Arc<Self>,
+        page: usize,
+        note: PoolNote<T>,
+    ) -> Result<FixedOwnedReusable<T, I, R, K>, (Arc<Self>, PoolNote<T>)>
+        requires { note_page note ≡ pool_identity (arc_value self) }
+        ensures pool { IfOk result (λ item. arc_value (reusable_pool item) ≡ arc_value self) }
+        ensures pulled { IfOk result (λ item.
+            IsPulledWith (pool_identity (arc_value self)) note (reusable_item item)) }
+        ensures meets { IfOk result (λ item. K.meets (reusable_item item).value) }
+        ensures made_or_reset { IfOk result (λ item.
+            IsMadeOrReset I.answers R.leaves (reusable_item item).value) }
+        ensures brief { IfOk result (λ item.
+            IsWithin (pool_pages (arc_value self)) (note_steps note) (reusable_steps item)) }
+        ensures same_owner { IfErr result (λ kept. arc_value kept.0 ≡ arc_value self) }
+        ensures busy { IfErr result (λ kept.
+            IsBusyNote (pool_identity (arc_value self)) note kept.1) }
+        ensures busy_brief { IfErr result (λ kept.
+            IsWithin (pool_pages (arc_value self)) (note_steps note) (note_steps kept.1)) }
+    {
+        let start = self.items.page_round(page);
+        match self.items.pull_onward(start, note) {
+            Ok(pulled) => Ok(FixedOwnedReusable::new(self, pulled)),
+            Err(note) => Err((self, note)),
+        }
+    }
+
+    /// Resets the value of an item and brings it back.
+    pub(crate) fn give(&self, holding: Holding<T>, value: T) -> PoolNote<T>
+        requires of_pool { holding_page holding ≡ pool_identity self.now }
+        requires in_pool { holding.number < pool_items self.now }
+        ensures { IsGivenBack (R.leaves (pool_reset self.now)) (held_item holding value) result }
+    {
+        let mut left = value;
+        self.reset.reset(&mut left);
+        PageNote {
+            seat: self.items.give(holding, left),
+        }
+    }
+}
+
+impl<T: Drop, I: Init<T, K>, R: Reset<T, K>, K: Clean<T>> Debug for FixedObjectPool<T, I, R, K> {
+    fn fmt<W: Write>(&self, f: &mut Formatter<W>) -> fmt::Result {
+        f.debug_struct("FixedObjectPool")
+            .field("items", &self.items())
+            .finish_non_exhaustive()
+    }
+}

@@ -1,0 +1,325 @@
+//! The items of a fixed pool: a word for each page, and what a pull and a return do there.
+ghost use Rattle.std.specs.Prelude.{◌≡◌, ◌+◌, ◌-◌, ◌*◌, ◌/◌, ◌^◌, ◌<◌, ◌≤◌, ℕ, [], ◌∷◌, Option, None, Some, IfOk, IfErr, MatchOption, false, vec_len};
+ghost use Rattle.std.specs.Int.{bit_at};
+ghost use Rattle.pool_parts.specs.Items.{items_identity};
+ghost use Rattle.pool_parts.specs.Word.{IsAllFree};
+
+use crate::fixed_object_pool::{BusySeen, PoolNote};
+use pool_parts::PullError;
+use pool_parts::clean::Clean;
+use pool_parts::page::holding::Holding;
+use pool_parts::page::items::{Items, TakenValue};
+use pool_parts::page::user_view::UserSeat;
+use pool_parts::page::{PAGE_ITEMS, PageNote, PullPass};
+use pulled_item::PulledItem;
+use std::alloc::{AllocError, Global};
+use std::sync::atomic::AtomicU64;
+use std::sync::atomic::Ordering::SeqCst;
+
+pub(crate) mod pulled_item;
+
+/// The word of one page of which so many items are free, and no other.
+fn low_bits(count: usize) -> u64
+    requires { count ≤ 32 }
+    ensures { result ≡ 2 ^ count - 1 }
+{
+    (1 << count) - 1
+}
+
+/// The words of so many free items.
+fn free_words(alloc: Global, count: usize) -> Result<Vec<u64>, AllocError>
+    requires { 1 ≤ count }
+    ensures pages { IfOk result (λ words. vec_len words ≡ (count + 31) / 32) }
+    ensures all_free { IfOk result (λ words. IsAllFree count words.items) }
+{
+    let last = (count - 1) / PAGE_ITEMS;
+    let mut words = vec![in alloc; u32::MAX as u64; last + 1]?;
+    words[last] = low_bits(count - PAGE_ITEMS * last);
+    Ok(words)
+}
+
+/// The items of a fixed pool. A page is one word, and the words lie side by side.
+#[derive(Drop)]
+pub(crate) struct FixedItems<T, K: Clean<T>> {
+    pub(crate) shared: Items<T, K>,
+    count: usize,
+    pages: usize,
+    /// At which page the next pull starts. It promises nothing.
+    hint: AtomicU64,
+    ghost counted: { count ≡ (items_identity shared).slots },
+    ghost paged: { pages ≡ (items_identity shared).words },
+}
+
+impl<T, K: Clean<T>> FixedItems<T, K> {
+    ghost use Rattle.pool_parts.specs.Answers.{MayMake};
+    ghost use Rattle.nonblocking_pools.specs.FixedAnswer.{IsPulledFrom, IsPulledWith, IsBusyOf, IsBusyAfter, IsBusyNote, busy_steps, note_steps};
+    ghost use Rattle.nonblocking_pools.specs.FixedPool.{fixed_identity, fixed_opening};
+    ghost use Rattle.nonblocking_pools.specs.FixedItem.{pulled_item, pulled_view};
+    ghost use Rattle.pool_parts.specs.Taking.{MissesAll, TakesOne};
+    ghost use Rattle.nonblocking_pools.specs.StepCount.{IsWithin, no_steps, steps_of};
+    ghost use Rattle.pool_parts.specs.Holding.{holding_page, holding_view};
+    ghost use Rattle.pool_parts.specs.Items.{IsFilled};
+    ghost use Rattle.pool_parts.specs.Note.{note_page};
+    ghost use Rattle.pool_parts.specs.PageRule.{GoesOn, KnowsOut, IsSound, item_of};
+    ghost use Rattle.pool_parts.specs.Refusal.{RefusesMaking};
+    ghost use Rattle.pool_parts.specs.declared.page.history.Operation.TheVariants.{Return};
+
+    /// So many free items: item `i` is the answer of call `i` of `init`, counted from 0.
+    ///
+    /// It stops at the first `None`. Where it is refused, the items that were made are dropped.
+    pub(super) fn new<I: Fn() -> Option<T>>(
+        alloc: Global,
+        count: usize,
+        init: &I,
+    ) -> Result<FixedItems<T, K>, PullError>
+    where
+        T: Drop,
+        requires some_item { 1 ≤ count }
+        requires may_make { MayMake I.pre I.post K.meets init.now }
+        ensures refused { IfErr result (RefusesMaking (I.post init.now None)) }
+        ensures count { IfOk result (λ fixed. (fixed_identity fixed).slots ≡ count) }
+        ensures pages { IfOk result (λ fixed. (fixed_identity fixed).words ≡ (count + 31) / 32) }
+        ensures opened { IfOk result
+            (λ fixed. IsFilled count (λ made. I.post init.now (Some made)) (fixed_opening fixed)) }
+    {
+        let Some(_) = count.checked_add(PAGE_ITEMS - 1) else {
+            return Err(PullError::Memory);
+        };
+        let words = free_words(alloc, count)?;
+        let shared = Items::new(alloc, count, &words, init)?;
+        Ok(FixedItems {
+            shared,
+            count,
+            pages: words.len(),
+            hint: AtomicU64::new(0),
+        })
+    }
+
+    /// How many items there are.
+    pub(super) fn count(&self) -> usize
+        ensures { result ≡ (fixed_identity self.now).slots }
+    {
+        self.count
+    }
+
+    /// The page that lies there, where the pages are counted round and round.
+    pub(super) fn page_round(&self, page: usize) -> usize
+        ensures { result < (fixed_identity self.now).words }
+    {
+        page % self.pages
+    }
+
+    /// At which page a pull starts.
+    pub(super) fn hinted(&self) -> usize
+        ensures { result < (fixed_identity self.now).words }
+    {
+        let hint = self.hint.load(SeqCst) as usize;
+        if hint < self.pages { hint } else { 0 }
+    }
+
+    /// Says that a page may have a free item. One that is said already costs a load alone.
+    fn set_hint(&self, page: usize) {
+        if self.hint.load(SeqCst) != page as u64 {
+            self.hint.store(page as u64, SeqCst);
+        }
+    }
+
+    /// An item, or what the pull has seen where it observed each one taken.
+    ///
+    /// It begins at one page, goes on to the last and then from page 0 on. Each word is read once at most, and each bit that
+    /// was set in it is cleared, lowest first, until one was still set.
+    pub(super) fn pull<'p>(
+        &self,
+        start: usize,
+        pass: &'p PullPass,
+    ) -> Result<PulledItem<T>, BusySeen<'p, T>>
+        requires { start < (fixed_identity self.now).words }
+        ensures pulled { IfOk result
+            (λ pulled. IsPulledFrom (fixed_identity self.now) (fixed_opening self.now)
+            (pulled_item pulled)) }
+        ensures meets { IfOk result (λ pulled. K.meets pulled.value) }
+        ensures brief { IfOk result
+            (λ pulled. IsWithin (fixed_identity self.now).words no_steps
+            (steps_of (pulled_view pulled))) }
+        ensures busy { IfErr result (IsBusyOf (fixed_identity self.now) (fixed_opening self.now)) }
+        ensures busy_brief { IfErr result
+            (λ busy. IsWithin (fixed_identity self.now).words no_steps (busy_steps busy)) }
+    {
+        let (word, mut seat) = self.shared.look(start);
+        match self.take(&mut seat, start, word) {
+            Some(taken) => Ok(PulledItem {
+                holding: Holding {
+                    seat,
+                    number: taken.number,
+                },
+                value: taken.value,
+            }),
+            None => Err(BusySeen { seat, pass }),
+        }
+    }
+
+    /// As `pull`, which begins at the hinted page and hints at the page of its item.
+    pub(super) fn pull_hinted<'p>(
+        &self,
+        pass: &'p PullPass,
+    ) -> Result<PulledItem<T>, BusySeen<'p, T>>
+        ensures pulled { IfOk result
+            (λ pulled. IsPulledFrom (fixed_identity self.now) (fixed_opening self.now)
+            (pulled_item pulled)) }
+        ensures meets { IfOk result (λ pulled. K.meets pulled.value) }
+        ensures brief { IfOk result
+            (λ pulled. IsWithin (fixed_identity self.now).words no_steps
+            (steps_of (pulled_view pulled))) }
+        ensures busy { IfErr result (IsBusyOf (fixed_identity self.now) (fixed_opening self.now)) }
+        ensures busy_brief { IfErr result
+            (λ busy. IsWithin (fixed_identity self.now).words no_steps (busy_steps busy)) }
+    {
+        let pulled = self.pull(self.hinted(), pass)?;
+        self.set_hint(pulled.holding.number / PAGE_ITEMS);
+        Ok(pulled)
+    }
+
+    /// As `pull_hinted`, by a user that knows something of the pool: its pull stands after all that it knew.
+    pub(super) fn pull_from<'p>(
+        &self,
+        pass: &'p PullPass,
+        note: PoolNote<T>,
+    ) -> Result<PulledItem<T>, BusySeen<'p, T>>
+        requires { note_page note ≡ fixed_identity self.now }
+        ensures pulled { IfOk result
+            (λ pulled. IsPulledWith (fixed_identity self.now) note (pulled_item pulled)) }
+        ensures meets { IfOk result (λ pulled. K.meets pulled.value) }
+        ensures brief { IfOk result
+            (λ pulled. IsWithin (fixed_identity self.now).words (note_steps note)
+            (steps_of (pulled_view pulled))) }
+        ensures busy { IfErr result (IsBusyAfter (fixed_identity self.now) note) }
+        ensures busy_brief { IfErr result
+            (λ busy. IsWithin (fixed_identity self.now).words (note_steps note) (busy_steps busy)) }
+    {
+        let PageNote { mut seat } = note;
+        let start = self.hinted();
+        let word = self.shared.look_again(&mut seat, start);
+        let Some(taken) = self.take(&mut seat, start, word) else {
+            return Err(BusySeen { seat, pass });
+        };
+        self.set_hint(taken.number / PAGE_ITEMS);
+        Ok(PulledItem {
+            holding: Holding {
+                seat,
+                number: taken.number,
+            },
+            value: taken.value,
+        })
+    }
+
+    /// As `pull`, by a user that knows something of the pool: its pull stands after all that it knew. A refused pull hands the note
+    /// on, which knows what was found.
+    pub(super) fn pull_onward(
+        &self,
+        page: usize,
+        note: PoolNote<T>,
+    ) -> Result<PulledItem<T>, PoolNote<T>>
+        requires page { page < (fixed_identity self.now).words }
+        requires note { note_page note ≡ fixed_identity self.now }
+        ensures pulled { IfOk result
+            (λ pulled. IsPulledWith (fixed_identity self.now) note (pulled_item pulled)) }
+        ensures meets { IfOk result (λ pulled. K.meets pulled.value) }
+        ensures brief { IfOk result
+            (λ pulled. IsWithin (fixed_identity self.now).words (note_steps note)
+            (steps_of (pulled_view pulled))) }
+        ensures busy { IfErr result (IsBusyNote (fixed_identity self.now) note) }
+        ensures busy_brief { IfErr result
+            (λ later. IsWithin (fixed_identity self.now).words (note_steps note)
+            (note_steps later)) }
+    {
+        let PageNote { mut seat } = note;
+        let word = self.shared.look_again(&mut seat, page);
+        match self.take(&mut seat, page, word) {
+            Some(taken) => Ok(PulledItem {
+                holding: Holding {
+                    seat,
+                    number: taken.number,
+                },
+                value: taken.value,
+            }),
+            None => Err(PageNote { seat }),
+        }
+    }
+
+    /// Moves the value home and sets its bit, by the user that has the item. It hints at a page that was full.
+    pub(crate) fn give(&self, holding: Holding<T>, value: T) -> UserSeat<T>
+        requires pool { holding_page holding ≡ fixed_identity self.now }
+        requires in_pool { holding.number < (fixed_identity self.now).slots }
+        requires meets { K.meets value }
+        ensures pool { result.table_id ≡ holding_page holding }
+        ensures carries_none { result.me.1 ≡ [] }
+        ensures holds_none { result.me.0.held ≡ None }
+        ensures here { result.me.0.gone ≡ false }
+        ensures returned { GoesOn (Return result.me.0.user holding.number value ∷ [])
+            (holding_view holding) result.me.0 }
+    {
+        let page = holding.number / PAGE_ITEMS;
+        let (seat, was_full) = self.shared.give(holding, value);
+        if was_full {
+            self.set_hint(page);
+        }
+        seat
+    }
+
+    /// Takes an item that is free, by a user that has read the first word.
+    fn take(&self, seat: &mut UserSeat<T>, start: usize, word: u32) -> Option<TakenValue<T>>
+        requires pool { seat.old.table_id ≡ fixed_identity self.now }
+        requires in_pool { start < (fixed_identity self.now).words }
+        requires carries_none { seat.old.me.1 ≡ [] }
+        requires holds_none { seat.old.me.0.held ≡ None }
+        requires here { seat.old.me.0.gone ≡ false }
+        requires sound { IsSound seat.old.me.0 }
+        requires found { (bit : ℕ) → bit < 32 → bit_at word bit ≡ 0
+            → KnowsOut seat.old.me.0 (item_of start bit) }
+        ensures pool { seat.new.table_id ≡ seat.old.table_id }
+        ensures loads { seat.new.me.0.loads + 1 ≤ seat.old.me.0.loads +
+            (fixed_identity self.now).words }
+        ensures tries { seat.new.me.0.tries ≤ seat.old.me.0.tries + 32 *
+            (fixed_identity self.now).words }
+        ensures outcome { MatchOption result
+            (MissesAll 0 (fixed_identity self.now).slots seat.old.me seat.new.me) (λ taken.
+            TakesOne K.meets (fixed_identity self.now).slots taken.number taken.value seat.old.me
+            seat.new.me) }
+    {
+        if let Some(taken) = self.shared.take_lowest(seat, start, word) {
+            return Some(taken);
+        }
+        if let Some(taken) = self.scan(seat, start + 1, self.pages) {
+            return Some(taken);
+        }
+        if let Some(taken) = self.scan(seat, 0, start) {
+            return Some(taken);
+        }
+        None
+    }
+
+    /// Reads the words from one page up to before another, and takes what is free in them.
+    fn scan(&self, seat: &mut UserSeat<T>, from: usize, to: usize) -> Option<TakenValue<T>>
+        requires pool { seat.old.table_id ≡ fixed_identity self.now }
+        requires ordered { from ≤ to }
+        requires in_pool { to ≤ (fixed_identity self.now).words }
+        requires carries_none { seat.old.me.1 ≡ [] }
+        requires holds_none { seat.old.me.0.held ≡ None }
+        requires here { seat.old.me.0.gone ≡ false }
+        requires sound { IsSound seat.old.me.0 }
+        ensures pool { seat.new.table_id ≡ seat.old.table_id }
+        ensures steps { IsWithin (to - from) (steps_of seat.old.me.0) (steps_of seat.new.me.0) }
+        ensures outcome { MatchOption result
+            (MissesAll (32 * from) (32 * to) seat.old.me seat.new.me) (λ taken.
+            TakesOne K.meets (fixed_identity self.now).slots taken.number taken.value seat.old.me
+            seat.new.me) }
+    {
+        for page in from..to {
+            let word = self.shared.look_on(seat, page);
+            if let Some(taken) = self.shared.take_lowest(seat, page, word) {
+                return Some(taken);
+            }
+        }
+        None
+    }
+}

@@ -1,0 +1,207 @@
+//! A pool over a chain of pages: threads pull and return without a lock.
+//!
+//! A pull takes a free item of the first page, or of a page that a hint names, or of the first page that has one, and makes a
+//! page where each one was full. No pull and no return waits for another thread.
+ghost use Rattle.std.specs.Prelude.{◌≡◌, ◌≤◌, Option, None, Some, IfOk, IfErr};
+ghost use Rattle.std.specs.Arc.{arc_value};
+
+use crate::linear_owned_reusable::LinearOwnedReusable;
+use crate::linear_reusable::LinearReusable;
+pub use answer_of::AnswerOf;
+use page_chain::linear_page::{Chain, WalkEnd};
+use page_limit::PageLimit;
+use pool_parts::PullError;
+use pool_parts::clean::{AnyValue, Clean};
+use pool_parts::closures::{Init, Reset};
+use pool_parts::made_or_reset::MadeOrReset;
+use pool_parts::page::{Allocated, FullSeen, PullPass};
+use std::alloc::Global;
+use std::fmt::{self, Debug, Formatter, Write};
+use std::sync::Arc;
+
+mod answer_of;
+mod page_limit;
+
+/// A pool whose items lie in pages of 32: a page is made at first, and one more where each is full.
+///
+/// ```rust
+/// let pool: LinearObjectPool<u32, _, _> = LinearObjectPool::new(alloc, Copied::new(0), Copied::new(0))?;
+/// let mut item = pool.pull()?;
+/// *item = 5;
+/// drop(item); // the value is 0 again, and in the pool
+/// ```
+pub struct LinearObjectPool<T, I: Init<T, K>, R: Reset<T, K>, K: Clean<T> = AnyValue> {
+    init: I,
+    reset: R,
+    pub(crate) chain: Chain<T, MadeOrReset<I, R, K>, AnswerOf<I, K>>,
+    limit: Option<PageLimit>,
+}
+
+/// Not derived: the proof of a caller that drops it has one call here, and a derived drop has that of each field.
+impl<T: Drop, I: Init<T, K>, R: Reset<T, K>, K: Clean<T>> Drop for LinearObjectPool<T, I, R, K> {
+    fn drop(self) {
+        let LinearObjectPool {
+            init: _,
+            reset: _,
+            chain: _,
+            limit: _,
+        } = self;
+    }
+}
+
+impl<T: Drop, I: Init<T, K>, R: Reset<T, K>, K: Clean<T>> LinearObjectPool<T, I, R, K> {
+    ghost use Rattle.pool_parts.specs.Answers.{IsMadeOrReset};
+    ghost use Rattle.pool_parts.specs.FullSeen.{full_page};
+    ghost use Rattle.nonblocking_pools.specs.LinearPool.{pool_init, pool_reset, pool_limit, limit_pages, pool_first_page};
+    ghost use Rattle.nonblocking_pools.specs.LinearPool.{reusable_pool, reusable_item, reusable_page};
+    ghost use Rattle.nonblocking_pools.specs.LinearPool.{owned_pool, owned_item, owned_page, Pulls, pull_causes};
+    ghost use Rattle.pool_parts.specs.Refusal.{RefusesMaking, RefusesPull};
+    ghost use Rattle.pool_parts.specs.Slot.{slot_item};
+
+    /// A pool of one page, which grows by a page where each is full.
+    ///
+    /// # Errors
+    ///
+    /// `Memory`, or `Init` at the first `None`. The items that were made are dropped.
+    pub fn new(alloc: Global, init: I, reset: R) -> Result<LinearObjectPool<T, I, R, K>, PullError>
+        ensures init { IfOk result (λ pool. pool_init pool ≡ init) }
+        ensures reset { IfOk result (λ pool. pool_reset pool ≡ reset) }
+        ensures limit { IfOk result (λ pool. pool_limit pool ≡ None) }
+        ensures refused { IfErr result (RefusesMaking (I.answers init None)) }
+    {
+        LinearObjectPool::with_page_limit(alloc, init, reset, None)
+    }
+
+    /// A pool of one page, which grows to `pages` pages at most.
+    ///
+    /// # Errors
+    ///
+    /// As `new`.
+    pub fn with_limit(
+        alloc: Global,
+        init: I,
+        reset: R,
+        pages: usize,
+    ) -> Result<LinearObjectPool<T, I, R, K>, PullError>
+        requires some_page { 1 ≤ pages }
+        ensures init { IfOk result (λ pool. pool_init pool ≡ init) }
+        ensures reset { IfOk result (λ pool. pool_reset pool ≡ reset) }
+        ensures limit { IfOk result (λ pool. pool_limit pool ≡ Some pages) }
+        ensures refused { IfErr result (RefusesMaking (I.answers init None)) }
+    {
+        LinearObjectPool::with_page_limit(alloc, init, reset, Some(PageLimit { pages }))
+    }
+
+    fn with_page_limit(
+        alloc: Global,
+        init: I,
+        reset: R,
+        limit: Option<PageLimit>,
+    ) -> Result<LinearObjectPool<T, I, R, K>, PullError>
+        ensures init { IfOk result (λ pool. pool_init pool ≡ init) }
+        ensures reset { IfOk result (λ pool. pool_reset pool ≡ reset) }
+        ensures limit { IfOk result (λ pool. pool_limit pool ≡ limit_pages limit) }
+        ensures refused { IfErr result (RefusesMaking (I.answers init None)) }
+    {
+        let maker = &init;
+        let chain = Chain::new(alloc, &|| maker.make())?;
+        Ok(LinearObjectPool {
+            init,
+            reset,
+            chain,
+            limit,
+        })
+    }
+
+    /// How many pages the pool may have, where it has a limit.
+    pub fn limit(&self) -> Option<usize>
+        ensures { result ≡ pool_limit self.now }
+    {
+        let PageLimit { pages } = self.limit.as_ref()?;
+        Some(*pages)
+    }
+
+    /// A free item, which no one else has until it is dropped. No call waits for another thread.
+    ///
+    /// The first page is asked, then one that a hint names, then each page in turn; of a page the lowest free item comes.
+    ///
+    /// A hint word stands for 64 pages. A pull that finds no hint asks each linked page, so that the making of many pages costs their
+    /// number squared; who links page `2^b` also makes the links of as many pages.
+    ///
+    /// # Errors
+    ///
+    /// `Limit`, where each item of as many pages as the limit allows was observed taken in this call. Where a page is made:
+    /// `Memory`, or `Init` at the first `None`; no page is linked in part then.
+    pub fn pull(&self) -> Result<LinearReusable<'_, T, I, R, K>, PullError>
+        ensures pool { IfOk result (λ item. reusable_pool item ≡ self.now) }
+        ensures pulled { IfOk result (λ item.
+            Pulls K.meets I.answers R.leaves self.now (reusable_page item) (reusable_item item)) }
+        ensures refused { IfErr result (RefusesPull (pull_causes I.answers self.now)) }
+    {
+        let pass = PullPass::new();
+        match self.chain.ask_first(&pass) {
+            Allocated::Slot(slot) => Ok(LinearReusable::new(self, slot, self.chain.first_number())),
+            Allocated::Full(seen) => {
+                let reached = self.pull_further(seen)?;
+                Ok(LinearReusable::new(self, reached.slot, reached.number))
+            }
+        }
+    }
+
+    /// As `pull`, with a reusable that owns the pool with others. The pool's owners grow by one before an item is taken.
+    ///
+    /// # Errors
+    ///
+    /// As `pull`; `Memory` too where the pool can have no more owners.
+    pub fn pull_owned(self: &Arc<Self>) -> Result<LinearOwnedReusable<T, I, R, K>, PullError>
+        ensures pool { IfOk result (λ item. owned_pool item ≡ arc_value self.now) }
+        ensures pulled { IfOk result (λ item.
+            Pulls K.meets I.answers R.leaves (arc_value self.now) (owned_page item) (owned_item item)) }
+        ensures refused { IfErr result (RefusesPull (pull_causes I.answers (arc_value self.now))) }
+    {
+        let owner = Arc::try_clone(self)?;
+        let pass = PullPass::new();
+        match self.chain.ask_first(&pass) {
+            Allocated::Slot(slot) => {
+                let number = self.chain.first_number();
+                Ok(LinearOwnedReusable::new(owner, slot, number))
+            }
+            Allocated::Full(seen) => {
+                let reached = self.pull_further(seen)?;
+                Ok(LinearOwnedReusable::new(owner, reached.slot, reached.number))
+            }
+        }
+    }
+
+    /// The item of a pull that found the first page full, and its page's number.
+    #[inline]
+    fn pull_further(
+        &self,
+        seen: FullSeen<'_, T>,
+    ) -> Result<WalkEnd<'_, T, MadeOrReset<I, R, K>, AnswerOf<I, K>>, PullError>
+        requires { full_page seen ≡ pool_first_page self.now }
+        ensures pulled { IfOk result (λ reached.
+            Pulls K.meets I.answers R.leaves self.now reached.number (slot_item reached.slot)) }
+        ensures refused { IfErr result (RefusesPull (pull_causes I.answers self.now)) }
+    {
+        let init = &self.init;
+        self.chain.pull_further(seen, self.limit(), &|| init.make())
+    }
+
+    /// Leaves a value as it is kept.
+    pub(crate) fn reset(&self, value: &mut T)
+        ensures leaves { R.leaves (pool_reset self.now) value.old value.new }
+        ensures meets { K.meets value.new }
+        ensures made_or_reset { IsMadeOrReset I.answers R.leaves value.new }
+    {
+        self.reset.reset(value);
+    }
+}
+
+impl<T: Drop, I: Init<T, K>, R: Reset<T, K>, K: Clean<T>> Debug for LinearObjectPool<T, I, R, K> {
+    fn fmt<W: Write>(&self, f: &mut Formatter<W>) -> fmt::Result {
+        f.debug_struct("LinearObjectPool")
+            .field("limit", &self.limit())
+            .finish_non_exhaustive()
+    }
+}

@@ -1,0 +1,59 @@
+//! A value that was pulled from a pool that keeps nothing.
+ghost use Rattle.std.specs.Prelude.{◌≡◌};
+
+use std::fmt::{self, Debug, Formatter, Write};
+use std::ops::{Deref, DerefMut};
+
+/// A pulled value, which is dropped with it.
+#[derive(Drop)]
+pub struct NoneReusable<T> {
+    value: T,
+}
+
+impl<T> NoneReusable<T> {
+    ghost use Rattle.nonblocking_pools.specs.NonePool.{none_value};
+
+    /// A reusable of this value, of no pool.
+    pub fn new(value: T) -> NoneReusable<T>
+        ensures { none_value result ≡ value }
+    {
+        NoneReusable { value }
+    }
+}
+
+impl<T> Deref for NoneReusable<T> {
+    type Target = T;
+
+    ghost use Rattle.nonblocking_pools.specs.NonePool.{none_value};
+
+    ghost deref_gives = { λ reusable value. value ≡ none_value reusable };
+
+    fn deref(&self) -> &T {
+        &self.value
+    }
+}
+
+impl<T> DerefMut for NoneReusable<T> {
+    ghost use Rattle.std.specs.Borrow.{sem};
+    ghost use Rattle.nonblocking_pools.specs.NoneLends.{LendsNoneValue};
+    ghost use Rattle.nonblocking_pools.specs.NonePool.{none_value};
+
+    ghost deref_mut_gives = { λ reusable value. value ≡ none_value reusable };
+
+    fn deref_mut(&mut self) -> &mut T
+        ensures* writes_back { sem 𝓛 (LendsNoneValue T.row self.entry result) }
+        ensures shows { result.now ≡ none_value self.old }
+    {
+        &mut self.value
+    }
+}
+
+impl<T: Debug> Debug for NoneReusable<T> {
+    ghost use Rattle.nonblocking_pools.specs.NonePool.{none_value};
+
+    ghost debug_output = { λ reusable. T.debug_output (none_value reusable) };
+
+    fn fmt<W: Write>(&self, f: &mut Formatter<W>) -> fmt::Result {
+        Debug::fmt(&self.value, f)
+    }
+}

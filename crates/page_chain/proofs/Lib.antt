@@ -1,0 +1,2 @@
+pub mod LinkPlaces
+pub mod NumberShared

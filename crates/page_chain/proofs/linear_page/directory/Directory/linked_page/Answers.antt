@@ -1,0 +1,20 @@
+use Rattle.std.proofs.Common.{sym, ◌∙◌}
+use Rattle.page_chain.proofs.LinkPlaces.{knows_link}
+use Rattle.page_chain.proofs.linear_page.directory.Directory.linked_page.Goals as goal
+
+pub into_note-note-requires : goal.into_note-note-requires
+into_note-note-requires g c =
+    let here = rw c.get.ensures at c.place-place.ensures in
+    (knows_link _ _ _ _ c.requires here).in_row
+
+pub get_as-requires : goal.get_as-requires
+get_as-requires g c =
+    let here = rw c.get.ensures at c.place-place.ensures in
+    let note = c.into_note-note.ensures in
+    (λ i. (note.row i, note.offset i)) ∙ (knows_link _ _ _ _ c.requires here).place
+
+pub returns : goal.returns
+returns g c =
+    let here = rw c.get.ensures at c.place-place.ensures in
+    let known = c.into_note-note.ensures.next ∙ (knows_link _ _ _ _ c.requires here).leads_here in
+    sym (rw known at c.in-Some.ensures.agrees)

@@ -1,0 +1,80 @@
+-- Where a walk along the links of a chain came to.
+use Rattle.std.specs.Prelude.{◌≡◌, ◌⊎◌, ℕ, ◌-◌, ◌<◌, ◌≤◌, Option, Some, IfSome}
+use Rattle.std.specs.Arc.{arc_value}
+use Rattle.std.specs.Option.{option_map}
+use Rattle.atomic_table.specs.Seated.{TableId}
+use Rattle.pool_parts.specs.FullSeen.{full_page}
+use Rattle.pool_parts.specs.Item.{Item, IsItemOf, HasOrigin}
+use Rattle.page_chain.specs.LinearPage.{first_page, shown_page, page_number}
+use Rattle.page_chain.specs.LinkNote.{known_link, known_next}
+use Rattle.page_chain.specs.LinkRow.{Cells, IsLinkTo, cell_in_row}
+use Rattle.pool_parts.specs.Page.{page_identity}
+use Rattle.pool_parts.specs.Slot.{slot_item}
+use Rattle.pool_parts.specs.declared.clean.Clean.{Ghosts}
+use Rattle.page_chain.specs.declared.linear_page.Chain.{Chain}
+use Rattle.page_chain.specs.declared.linear_page.LinearPage.{LinearPage}
+use Rattle.page_chain.specs.declared.linear_page.link_note.LinkNote.{LinkNote}
+use Rattle.page_chain.specs.declared.linear_page.page_number.PageNumber.{PageNumber}
+use Rattle.page_chain.specs.declared.linear_page.walk.KnownFull.{KnownFull}
+use Rattle.pool_parts.specs.declared.page.full_seen.Allocated.{Allocated}
+use Rattle.pool_parts.specs.declared.page.full_seen.Allocated.TheVariants.{Slot, Full}
+
+-- where a walk starts: the links of its chain, a page of that chain, and the page's number
+pub record Start : Type 0 where
+  pub links : Cells
+  pub page : TableId
+  pub number : ℕ
+
+module _ {T K O : Type 0} where
+  -- the start of a walk that begins at a chain's first page
+  abbrev pub start_of : Chain T K O → Start
+  start_of chain = record { links = chain.directory; page = first_page chain; number = 0 }
+
+  -- how many links the page lies behind its chain's first one
+  abbrev pub number_of : PageNumber T K O → ℕ
+  number_of known = known.number
+
+  -- the link to the page of this number leads to this page, as the notes of its row and of itself know
+  pub record IsLinkedAt (links : Cells) (known : PageNumber T K O) (page : TableId) : Type 0 where
+    -- where in its row that link lies
+    pub offset : ℕ
+    pub is_link : IsLinkTo links known.number (known.row.cell, offset)
+    pub in_row : cell_in_row known.row.known offset ≡ Some known.link.cell
+    pub leads_here : option_map (λ page. page_identity (arc_value page)) known.link.known ≡ Some page
+
+  -- a walk came to the page of this number: it is the start's, or the one to which the link of that number leads
+  abbrev pub IsWalkedTo : Start → PageNumber T K O → TableId → Type 0
+  IsWalkedTo start known page =
+      ((known.number ≡ start.number) × (page ≡ start.page)) ⊎ IsLinkedAt start.links known page
+
+module _ {T K : Type 0} where
+  -- what a page of a chain answers to a pull: an item of this page with its origin; or each of its ids was observed
+  -- taken
+  abbrev pub IsAnsweredBy : (T → Type 0) → (T → Type 0) → TableId → Allocated T K → Type 0
+  IsAnsweredBy meets may_open page (Slot slot) =
+      IsItemOf meets page (slot_item slot) × HasOrigin may_open (slot_item slot)
+  IsAnsweredBy meets may_open page (Full seen) = full_page seen ≡ page
+
+module _ {T K O : Type 0} {opens : Ghosts O T} where
+  -- the start of a walk that begins at this page
+  abbrev pub start_at : LinearPage T K O opens → Start
+  start_at page = record { links = page.directory.now; page = shown_page page; number = page_number page }
+
+  -- a note of the link to the page of this number knows that page
+  pub record IsKnownAt (links : Cells) (number : ℕ) (note : LinkNote T K O opens) (page : TableId) : Type 0 where
+    pub is_link : IsLinkTo links number (known_link note)
+    pub knows : known_next note ≡ Some page
+
+  -- the page of this number was found full
+  abbrev pub IsFullAt : Cells → KnownFull T K O opens → Type 0
+  IsFullAt links full = IsKnownAt links full.number full.note (full_page full.seen)
+
+-- what a walk took: an item with its origin, of the page of this number, within so many pages from the walk's start
+pub record IsTaken {T K O : Type 0} (meets may_open : T → Type 0) (start : Start) (limit : Option ℕ)
+    (number : PageNumber T K O) (item : Item T) : Type 0 where
+  pub is_item : IsItemOf meets item.page item
+  pub history : HasOrigin may_open item
+  pub from_start : start.number ≤ number_of number
+  pub on_page : IsWalkedTo start number item.page
+  pub of_start : number_of number ≡ start.number → item.page ≡ start.page
+  pub within : IfSome limit (λ pages. number_of number - start.number < pages)

@@ -1,0 +1,312 @@
+//! Where the links of a chain lie: row `b` has the links to the pages `2^b` to `2^(b+1) - 1`, and is made when the first of them is needed.
+//! Beside its link each page has a hint, which is set where the page may have a free item.
+ghost use Rattle.std.specs.Prelude.{◌≡◌, ◌^◌, ◌<◌, length, IfOk, IfErr, IfSome};
+ghost use Rattle.once_cell.specs.Once.{cell_name};
+ghost use Rattle.pool_parts.specs.Refusal.{RefusesMaking};
+
+use super::hints::{HINTS, HintWord};
+use super::opened_page::OpenedPage;
+use super::{LinkNote, PageNumber};
+use once_cell::race::OnceBox;
+use pool_parts::PullError;
+use pool_parts::clean::Clean;
+use pool_parts::page::holding::Holding;
+use std::alloc::{AllocError, Global};
+use std::marker::Model;
+use std::snapshot::Snapshot;
+
+/// How many rows there are: one for each bit of a page's number.
+const ROWS: usize = 64;
+
+/// The links to some pages that follow each other, and the pages' hints.
+#[derive(Drop)]
+pub(super) struct Row<T, K: Clean<T>, O: Clean<T>> {
+    pub(super) links: Vec<OnceBox<OpenedPage<T, K, O>>>,
+    hints: Vec<HintWord>,
+}
+
+impl<T: Drop, K: Clean<T>, O: Clean<T>> Row<T, K, O> {
+    /// A row of links that lead nowhere yet, with this number.
+    fn new(alloc: Global, number: u32) -> Result<Box<Row<T, K, O>>, PullError>
+        requires { number < 64 }
+        ensures len { IfOk result (λ row. length row.value.links.items ≡ 2 ^ number) }
+        ensures refused { IfErr result (RefusesMaking ⊥) }
+    {
+        let len = 1 << number;
+        let mut links = Vec::with_capacity(alloc, len)?;
+        for _ in 0..len {
+            links.push(OnceBox::new(alloc))?;
+        }
+        let hints = no_hints(alloc, len.div_ceil(HINTS))?;
+        Ok(Box::new(alloc, Row { links, hints })?)
+    }
+
+    /// The first hint that is set, by its page's offset in the row.
+    fn first_hint(&self) -> Option<usize> {
+        for (index, word) in self.hints.iter().enumerate() {
+            if let Some(place) = word.first_from(0) {
+                return Some(index << 6 | place as usize);
+            }
+        }
+        None
+    }
+}
+
+/// Words in which no hint is set.
+fn no_hints(alloc: Global, words: usize) -> Result<Vec<HintWord>, PullError>
+    ensures refused { IfErr result (RefusesMaking ⊥) }
+{
+    let mut hints = Vec::with_capacity(alloc, words)?;
+    for _ in 0..words {
+        hints.push(HintWord::new())?;
+    }
+    Ok(hints)
+}
+
+/// The links of a chain. Contracts see the rows.
+#[derive(Drop)]
+pub(super) struct Directory<T, K: Clean<T>, O: Clean<T>> {
+    alloc: Global,
+    rows: Vec<OnceBox<Row<T, K, O>>>,
+    /// A hint a row, which is set where a hint of the row may be set.
+    hinted_rows: HintWord,
+}
+
+impl<T, K: Clean<T>, O: Clean<T>> Model for Directory<T, K, O> {
+    ghost use Rattle.std.specs.Prelude.{◌≡◌, List, length};
+    ghost use Rattle.once_cell.specs.declared.race.once_box.OnceBox.{OnceBox};
+    ghost use Rattle.page_chain.specs.declared.linear_page.directory.Row.{Row};
+
+    ghost Value = { List (OnceBox (Row T K O)) };
+
+    ghost view = { λ directory. directory.rows.items };
+
+    ghost invariant = { λ directory. length directory.rows.items ≡ 64 };
+}
+
+impl<T: Drop, K: Clean<T>, O: Clean<T>> Directory<T, K, O> {
+    ghost use Rattle.std.specs.Arc.{arc_value};
+    ghost use Rattle.page_chain.specs.LinkRow.{IsLinkTo, link_at};
+    ghost use Rattle.pool_parts.specs.Page.{page_identity};
+    ghost use Rattle.pool_parts.specs.Holding.{holding_page};
+    ghost use Rattle.page_chain.specs.Walk.{IsKnownAt, IsLinkedAt};
+
+    pub(super) fn new(alloc: Global) -> Result<Directory<T, K, O>, PullError>
+        ensures refused { IfErr result (RefusesMaking ⊥) }
+    {
+        let mut rows = Vec::with_capacity(alloc, ROWS)?;
+        for _ in 0..ROWS {
+            rows.push(OnceBox::new(alloc))?;
+        }
+        Ok(Directory {
+            alloc,
+            rows,
+            hinted_rows: HintWord::new(),
+        })
+    }
+
+    pub(super) fn allocator(&self) -> Global {
+        self.alloc
+    }
+
+    /// The page with this number, where one is linked, and a note of its link.
+    pub(super) fn linked(&self, number: usize) -> Option<(&OpenedPage<T, K, O>, LinkNote<T, K, O>)>
+        requires { 0 < number }
+        ensures { IfSome result
+            (λ linked. IsKnownAt self.now number linked.1
+            (page_identity (arc_value linked.0.now))) }
+    {
+        let place = self.place(number);
+        let mut note = place.known_row()?;
+        let page = place.get_as(&mut note)?;
+        Some((page, note))
+    }
+
+    /// The page of an item, to which the notes of the page's number lead.
+    pub(super) fn linked_page(
+        &self,
+        number: PageNumber<T, K, O>,
+        holding: &Holding<T>,
+    ) -> &OpenedPage<T, K, O>
+        requires { ∥ IsLinkedAt self.now number (holding_page holding.now) ∥₁ }
+        ensures { page_identity (arc_value result.now) ≡ holding_page holding.now }
+    {
+        let place = self.place(number.get());
+        let mut note = number.into_note(&place);
+        let Some(page) = place.get_as(&mut note) else {
+            unreachable!()
+        };
+        page
+    }
+
+    /// The number of the first page that a hint names.
+    pub(super) fn hinted(&self) -> Option<usize>
+        ensures { IfSome result (λ number. 0 < number) }
+    {
+        let mut from = 0;
+        while from < u64::BITS {
+            let row = self.hinted_rows.first_from(from)?;
+            if let Some(number) = self.hinted_in(row) {
+                return Some(number);
+            }
+            self.hinted_rows.clear(row);
+            if self.hinted_in(row).is_some() {
+                self.hinted_rows.set(row);
+            }
+            from = row + 1;
+        }
+        None
+    }
+
+    /// The number of the first page of a row that a hint names.
+    fn hinted_in(&self, row: u32) -> Option<usize>
+        requires { row < 64 }
+        ensures { IfSome result (λ number. 0 < number) }
+    {
+        let offset = self.rows[row as usize].get()?.first_hint()?;
+        (1usize << row).checked_add(offset)
+    }
+
+    /// Says that a page may have a free item. It has to be called once the item is free.
+    pub(super) fn set_hint(&self, number: usize)
+        requires { 0 < number }
+    {
+        let place = self.place(number);
+        if let Some((word, bit)) = place.hint() {
+            word.set(bit);
+            self.hinted_rows.set(number.ilog2());
+        }
+    }
+
+    /// Says that a page was found full.
+    pub(super) fn clear_hint(&self, number: usize)
+        requires { 0 < number }
+    {
+        if let Some((word, bit)) = self.place(number).hint() {
+            word.clear(bit);
+        }
+    }
+
+    /// Where the link to a page lies.
+    pub(super) fn place(&self, number: usize) -> LinkPlace<'_, T, K, O>
+        requires { 0 < number }
+        ensures { IsLinkTo self.now number (link_at result) }
+    {
+        let row_number = number.ilog2();
+        LinkPlace {
+            alloc: self.alloc,
+            row: &self.rows[row_number as usize],
+            row_number,
+            offset: number - (1 << row_number),
+        }
+    }
+}
+
+/// Where one link lies.
+pub(super) struct LinkPlace<'c, T, K: Clean<T>, O: Clean<T>> {
+    alloc: Global,
+    row: &'c OnceBox<Row<T, K, O>>,
+    row_number: u32,
+    pub(super) offset: usize,
+    ghost in_directory: { row_number < 64 },
+}
+
+impl<T, K: Clean<T>, O: Clean<T>> Copy for LinkPlace<'_, T, K, O> {}
+
+impl<T, K: Clean<T>, O: Clean<T>> Clone for LinkPlace<'_, T, K, O> {
+    ghost use Rattle.std.specs.Prelude.{⊤};
+
+    ghost is_clone = { λ place copy. copy ≡ place };
+
+    ghost is_infallible = { λ _. ⊤ };
+
+    fn clone(&self) -> Result<Self, AllocError> {
+        Ok(*self)
+    }
+}
+
+impl<'c, T: Drop, K: Clean<T>, O: Clean<T>> LinkPlace<'c, T, K, O> {
+    ghost use Rattle.std.specs.Prelude.{None, Some, IfNone};
+    ghost use Rattle.std.specs.Arc.{arc_value};
+    ghost use Rattle.page_chain.specs.LinkRow.{link_at};
+    ghost use Rattle.page_chain.specs.LinkNote.{IsNewNoteOf, known_link, known_next, link_cell};
+    ghost use Rattle.pool_parts.specs.Page.{page_identity};
+
+    /// The word of the page's hint, and the hint's place in it, where the row is there.
+    fn hint(&self) -> Option<(&'c HintWord, u32)>
+        ensures { IfSome result (λ hint. hint.1 < 64) }
+    {
+        let hints = &self.row.get()?.hints;
+        let word = hints.get(self.offset / HINTS)?;
+        Some((word, (self.offset % HINTS) as u32))
+    }
+
+    /// A note of the link, where the row is there.
+    pub(super) fn known_row(&self) -> Option<LinkNote<T, K, O>>
+        ensures { IfSome result (IsNewNoteOf (link_at self.now)) }
+    {
+        let mut row = self.row.note();
+        let links = &self.row.get_as(&mut row)?.links;
+        let link = links.get(self.offset)?.note();
+        Some(LinkNote {
+            row,
+            link,
+            offset: Snapshot::of(&self.offset),
+        })
+    }
+
+    /// A note of the link. The row is made where it isn't there.
+    pub(super) fn new_note(&self) -> Result<LinkNote<T, K, O>, PullError>
+        ensures note { IfOk result (IsNewNoteOf (link_at self.now)) }
+        ensures refused { IfErr result (RefusesMaking ⊥) }
+    {
+        match self.known_row() {
+            Some(note) => Ok(note),
+            None => self.made_row(),
+        }
+    }
+
+    /// As `new_note`, where the row wasn't there.
+    #[cold]
+    fn made_row(&self) -> Result<LinkNote<T, K, O>, PullError>
+        ensures note { IfOk result (IsNewNoteOf (link_at self.now)) }
+        ensures refused { IfErr result (RefusesMaking ⊥) }
+    {
+        let (alloc, number) = (self.alloc, self.row_number);
+        self.row.get_or_try_init(move || Row::new(alloc, number))?;
+        // The row is there now, and long enough. No contract can say so of a set-once cell.
+        self.known_row().ok_or(PullError::Memory)
+    }
+
+    /// The page that is linked here, if one is. The note knows it then.
+    pub(super) fn get_as(&self, note: &mut LinkNote<T, K, O>) -> Option<&'c OpenedPage<T, K, O>>
+        requires { known_link note.old ≡ link_at self.now }
+        ensures link { known_link note.new ≡ known_link note.old }
+        ensures none { IfNone result (known_next note.old ≡ None) }
+        ensures unlearned { IfNone result (known_next note.new ≡ known_next note.old) }
+        ensures known { IfSome result
+            (λ page. known_next note.new ≡ Some (page_identity (arc_value page.now))) }
+        ensures agrees { IfSome result
+            (λ page. IfSome (known_next note.old)
+            (λ known. known ≡ page_identity (arc_value page.now))) }
+    {
+        self.link(note).get_as(&mut note.link)
+    }
+
+    /// The link, by a note of it.
+    pub(super) fn link(&self, note: &mut LinkNote<T, K, O>) -> &'c OnceBox<OpenedPage<T, K, O>>
+        requires { known_link note.old ≡ link_at self.now }
+        ensures row { note.new.row.cell ≡ note.old.row.cell }
+        ensures rest { (note.new.link ≡ note.old.link)
+            × (note.new.offset.value ≡ note.old.offset.value) }
+        ensures cell { cell_name result.now ≡ link_cell note.old }
+    {
+        let Some(row) = self.row.get_as(&mut note.row) else {
+            unreachable!()
+        };
+        let Some(link) = row.links.get(self.offset) else {
+            unreachable!()
+        };
+        link
+    }
+}

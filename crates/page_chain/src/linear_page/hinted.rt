@@ -1,0 +1,127 @@
+//! A pull from a chain: from its first page, else from a page that a hint names, else by the walk behind the first page.
+//!
+//! A page's hint is set where the page may have a free item. The first page has none, since each pull asks it first. Who
+//! frees an item of a page that was full sets the hint after that, and so does who links a page. A pull that leaves the page
+//! full that a hint named clears the hint, looks at the page again, and sets the hint again where an item came back. So an
+//! item that came back before the clearing is seen by that look, and one that came back after it sets the hint itself: once
+//! those calls have ended, each page with a free item has its hint. Between them a hint may be missing, which costs a walk,
+//! or be left over, which costs a look. Neither decides anything: a page is linked and a limit is answered by the walk
+//! alone, with the evidence of each page that it was full in this very pull.
+ghost use Rattle.std.specs.Prelude.{◌≡◌, ◌≤◌, ◌<◌, None, IfSome, IsSome, IfOk, IfErr};
+ghost use Rattle.std.specs.Arc.{arc_value};
+ghost use Rattle.pool_parts.specs.Answers.{MayOpen};
+ghost use Rattle.pool_parts.specs.FullSeen.{full_page};
+ghost use Rattle.page_chain.specs.LinearPage.{first_page};
+ghost use Rattle.pool_parts.specs.Page.{page_identity};
+ghost use Rattle.pool_parts.specs.Refusal.{RefusesPull};
+ghost use Rattle.pool_parts.specs.Slot.{slot_item};
+ghost use Rattle.page_chain.specs.Walk.{start_of, number_of, IsAnsweredBy, IsKnownAt, IsTaken};
+
+use super::opened_page::OpenedPage;
+use super::walk::{KnownFull, WalkEnd};
+use super::{Chain, LinkNote, PageNumber};
+use pool_parts::PullError;
+use pool_parts::clean::Clean;
+use pool_parts::page::{Allocated, FullSeen, Page, PullPass};
+
+impl<T: Drop, K: Clean<T>, O: Clean<T>> Chain<T, K, O> {
+    /// What the first page answers to a pull.
+    pub fn ask_first<'s, 'p>(&'s self, pass: &'p PullPass) -> Allocated<'s, 'p, T, K>
+        ensures { IsAnsweredBy K.meets O.meets (first_page self.now) result }
+    {
+        self.first.take(pass).answer
+    }
+
+    /// The number of the first page.
+    pub fn first_number(&self) -> PageNumber<T, K, O>
+        ensures { number_of result ≡ 0 }
+    {
+        PageNumber::of_start(self.directory.allocator(), 0)
+    }
+
+    /// An item of a page that a hint names, or of the first page that has one, where the first page of the chain was found full
+    /// in this pull.
+    pub fn pull_further<I: Fn() -> Option<T>>(
+        &self,
+        seen: FullSeen<'_, T>,
+        limit: Option<usize>,
+        init: &I,
+    ) -> Result<WalkEnd<'_, T, K, O>, PullError>
+        requires of_first { full_page seen ≡ first_page self.now }
+        requires some_page { IfSome limit (λ pages. 1 ≤ pages) }
+        requires opens { MayOpen I.pre I.post K.meets O.meets init.now }
+        ensures taken { IfOk result (λ reached.
+            IsTaken K.meets O.meets (start_of self.now) limit reached.number (slot_item reached.slot)) }
+        ensures refused { IfErr result (RefusesPull (record {
+          limited = IsSome limit;
+          init_refuses = I.post init.now None;
+        })) }
+    {
+        let mut known = None;
+        if let Some((number, page, note)) = self.hinted_page(limit) {
+            let taken = page.take(seen.pass);
+            if taken.left_full {
+                self.left_full(number, page.owner());
+            }
+            match taken.answer {
+                Allocated::Slot(slot) => {
+                    return Ok(WalkEnd {
+                        slot,
+                        page: page.owner(),
+                        number: PageNumber::of_link(number, note),
+                    });
+                }
+                Allocated::Full(full) => {
+                    known = Some(KnownFull {
+                        number,
+                        note,
+                        seen: full,
+                    });
+                }
+            }
+        }
+        self.first().walk_on(seen, known, limit, init)
+    }
+
+    /// The first page that a hint names within the limit, its number, and a note of the link to it.
+    fn hinted_page(
+        &self,
+        limit: Option<usize>,
+    ) -> Option<(usize, &OpenedPage<T, K, O>, LinkNote<T, K, O>)>
+        ensures known { IfSome result
+            (λ hinted. IsKnownAt self.now.directory hinted.0 hinted.2
+            (page_identity (arc_value hinted.1.now))) }
+        ensures past_first { IfSome result (λ hinted. 0 < hinted.0) }
+        ensures within { IfSome result (λ hinted. IfSome limit (λ pages. hinted.0 < pages)) }
+    {
+        let number = self.directory.hinted()?;
+        if let Some(pages) = limit
+            && pages <= number
+        {
+            return None;
+        }
+        let (linked, note) = self.directory.linked(number)?;
+        Some((number, linked, note))
+    }
+
+    /// Clears the hint of a page that was left full, and sets it again where an item came back meanwhile.
+    ///
+    /// The look at the page's word is for the hint alone: it decides nothing in this pull.
+    fn left_full(&self, number: usize, page: &Page<T, K>)
+        requires { 0 < number }
+    {
+        self.directory.clear_hint(number);
+        if !page.is_full() {
+            self.directory.set_hint(number);
+        }
+    }
+
+    /// Sets the hint of a page that has a free item now and may have been full before. Apart, so that a drop is short enough to be
+    /// inlined.
+    #[inline(never)]
+    pub fn no_longer_full(&self, number: usize) {
+        if number > 0 {
+            self.directory.set_hint(number);
+        }
+    }
+}

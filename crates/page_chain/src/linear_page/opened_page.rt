@@ -1,0 +1,61 @@
+//! A page of a chain, which opened with values of one kind.
+ghost use Rattle.std.specs.Prelude.{◌≡◌};
+ghost use Rattle.std.specs.Arc.{arc_value};
+ghost use Rattle.pool_parts.specs.Page.{page_identity, OpensWith};
+ghost use Rattle.page_chain.specs.Walk.{IsAnsweredBy};
+
+use atomic_table::Badge;
+use pool_parts::clean::Clean;
+use pool_parts::page::{Page, PullPass, Taken};
+use std::marker::{Model, PhantomData};
+use std::sync::{Arc, Mutex};
+
+/// A page with its owners. Each value that it opened with meets the condition `O`.
+///
+/// Contracts see the page's owner. The marker may be sent and shared whatever `O` is.
+#[derive(Drop)]
+pub(super) struct OpenedPage<T, K: Clean<T>, O: Clean<T>> {
+    page: Arc<Page<T, K>>,
+    marker: PhantomData<Mutex<Badge<O>>>,
+}
+
+impl<T, K: Clean<T>, O: Clean<T>> Model for OpenedPage<T, K, O> {
+    ghost use Rattle.std.specs.Arc.{arc_value};
+    ghost use Rattle.std.specs.declared.alloc.Global.{Global};
+    ghost use Rattle.std.specs.declared.sync.Arc.{Arc};
+    ghost use Rattle.pool_parts.specs.Page.{OpensWith};
+    ghost use Rattle.pool_parts.specs.declared.page.Page.{Page};
+
+    ghost Value = { Arc (Page T K) Global };
+
+    ghost view = { λ opened. opened.page };
+
+    ghost invariant = { λ opened. OpensWith O.meets (arc_value opened.page) };
+}
+
+impl<T, K: Clean<T>, O: Clean<T>> OpenedPage<T, K, O> {
+    pub(super) fn new(page: Arc<Page<T, K>>) -> OpenedPage<T, K, O>
+        requires { OpensWith O.meets (arc_value page) }
+        ensures { result ≡ page }
+    {
+        OpenedPage {
+            page,
+            marker: PhantomData,
+        }
+    }
+
+    /// The page, with its owners.
+    pub(super) fn owner(&self) -> &Arc<Page<T, K>>
+        ensures page { result.now ≡ self.now }
+        ensures opened { OpensWith O.meets (arc_value result.now) }
+    {
+        &self.page
+    }
+
+    /// What the page answers to a pull.
+    pub(super) fn take<'s, 'p>(&'s self, pass: &'p PullPass) -> Taken<'s, 'p, T, K>
+        ensures { IsAnsweredBy K.meets O.meets (page_identity (arc_value self.now)) result.answer }
+    {
+        self.owner().take(pass)
+    }
+}

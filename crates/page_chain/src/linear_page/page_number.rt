@@ -1,0 +1,82 @@
+//! The number of a page in its chain.
+ghost use Rattle.std.specs.Prelude.{◌≡◌, Some};
+ghost use Rattle.std.specs.Arc.{arc_value};
+ghost use Rattle.std.specs.Option.{option_map};
+ghost use Rattle.atomic_table.specs.Seated.{TableId};
+ghost use Rattle.page_chain.specs.LinkNote.{known_link, known_next};
+ghost use Rattle.page_chain.specs.LinkRow.{Cells, cell_in_row};
+ghost use Rattle.pool_parts.specs.Page.{page_identity};
+ghost use Rattle.page_chain.specs.Walk.{number_of, IsKnownAt, IsLinkedAt};
+
+use super::LinkNote;
+use super::directory::{LinkPlace, Row};
+use super::opened_page::OpenedPage;
+use once_cell::race::{Note, OnceBox};
+use pool_parts::clean::Clean;
+use std::alloc::Global;
+use std::snapshot::Snapshot;
+
+/// The number of a page in its chain, and what was learned of the link to it: at run time the number alone.
+#[derive(Drop)]
+pub struct PageNumber<T, K: Clean<T>, O: Clean<T>> {
+    number: usize,
+    row: Note<Row<T, K, O>>,
+    link: Note<OpenedPage<T, K, O>>,
+}
+
+// What a note owns names no thread: `proofs/ReusableShared` proves it, and each call that asks for `Sync` has that proof.
+unsafe impl<T, K: Clean<T>, O: Clean<T>> Sync for PageNumber<T, K, O> {}
+
+impl<T: Drop, K: Clean<T>, O: Clean<T>> PageNumber<T, K, O> {
+    /// The number of a page to which no link was passed. Its notes are of no link of a chain.
+    pub(super) fn of_start(alloc: Global, number: usize) -> PageNumber<T, K, O>
+        ensures { number_of result ≡ number }
+    {
+        PageNumber {
+            number,
+            row: OnceBox::new(alloc).note(),
+            link: OnceBox::new(alloc).note(),
+        }
+    }
+
+    /// The number of a page to which the link of this note leads.
+    pub(super) fn of_link(number: usize, note: LinkNote<T, K, O>) -> PageNumber<T, K, O>
+        ensures number { number_of result ≡ number }
+        ensures linked { (links : Cells) (page : TableId) →
+            IsKnownAt links number note page → IsLinkedAt links result page }
+    {
+        let LinkNote {
+            row,
+            link,
+            offset: _,
+        } = note;
+        PageNumber { number, row, link }
+    }
+
+    /// The note of the link at this place, where its row and the link are those of the number's notes.
+    pub(super) fn into_note(self, place: &LinkPlace<'_, T, K, O>) -> LinkNote<T, K, O>
+        requires { cell_in_row self.row.known place.now.offset ≡ Some self.link.cell }
+        ensures row { (known_link result).0 ≡ self.row.cell }
+        ensures offset { (known_link result).1 ≡ place.now.offset }
+        ensures next { known_next result ≡ option_map
+            (λ page. page_identity (arc_value page)) self.link.known }
+    {
+        let PageNumber {
+            number: _,
+            row,
+            link,
+        } = self;
+        LinkNote {
+            row,
+            link,
+            offset: Snapshot::of(&place.offset),
+        }
+    }
+
+    /// How many links the page lies behind its chain's first one.
+    pub fn get(&self) -> usize
+        ensures { result ≡ number_of self.now }
+    {
+        self.number
+    }
+}

@@ -1,0 +1,327 @@
+//! The walk from page to page for an item.
+ghost use Rattle.std.specs.Prelude.{◌≡◌, ◌+◌, ◌-◌, ◌≤◌, ◌<◌, ⊤, Option, None, Some, IfSome, IsSome, IfOk, IfErr, OnOk};
+ghost use Rattle.std.specs.Arc.{arc_value};
+ghost use Rattle.pool_parts.specs.Answers.{MayOpen};
+ghost use Rattle.pool_parts.specs.FullSeen.{full_page};
+ghost use Rattle.pool_parts.specs.Item.{HasOrigin};
+ghost use Rattle.page_chain.specs.LinearPage.{shown_page, IsItemFrom};
+ghost use Rattle.pool_parts.specs.OwnedSlot.{owned_slot_item};
+ghost use Rattle.pool_parts.specs.Page.{page_identity};
+ghost use Rattle.pool_parts.specs.Refusal.{RefusesMaking, RefusesPull};
+ghost use Rattle.pool_parts.specs.Slot.{slot_item};
+ghost use Rattle.page_chain.specs.Walk.{start_at, IsAnsweredBy, IsFullAt, IsKnownAt, IsTaken};
+ghost use Rattle.pool_parts.specs.declared.pull_error.PullError.TheVariants.{Limit};
+
+use super::opened_page::OpenedPage;
+use super::{LinearPage, LinkNote, PageNumber};
+use pool_parts::PullError;
+use pool_parts::clean::Clean;
+use pool_parts::page::{Allocated, FullSeen, OwnedSlot, Page, PageSlot, PullPass};
+use std::sync::Arc;
+
+/// The item that a walk took, and the page at which it stopped.
+#[derive(Drop)]
+pub struct WalkEnd<'c, T, K: Clean<T>, O: Clean<T>> {
+    pub slot: PageSlot<'c, T, K>,
+    /// The slot's page.
+    pub page: &'c Arc<Page<T, K>>,
+    /// The page's number, with what was learned of the link to it.
+    pub number: PageNumber<T, K, O>,
+}
+
+/// A page that was found full in this pull, its number, and a note of the link to it.
+#[derive(Drop)]
+pub(super) struct KnownFull<'p, T, K: Clean<T>, O: Clean<T>> {
+    pub(super) number: usize,
+    pub(super) note: LinkNote<T, K, O>,
+    pub(super) seen: FullSeen<'p, T>,
+}
+
+impl<'c, T: Drop, K: Clean<T>, O: Clean<T>> LinearPage<'c, T, K, O> {
+    /// An item of the first page from this one on that has one, and that page's number, counted from this one.
+    ///
+    /// It goes on only from a page that said in this call that each of its ids was observed taken. Behind the last page it
+    /// links a new one.
+    ///
+    /// # Errors
+    ///
+    /// `Memory`, or `Init` at the first `None`, where a page is made; it isn't linked then.
+    pub fn alloc<I: Fn() -> Option<T>>(
+        &self,
+        init: &I,
+    ) -> Result<(PageSlot<'c, T, K>, usize), PullError>
+        requires { MayOpen I.pre I.post K.meets O.meets init.now }
+        ensures item { IfOk result
+            (λ reached. IsItemFrom K.meets (shown_page self.now) (slot_item reached.0) reached.1) }
+        ensures history { IfOk result (λ reached. HasOrigin O.meets (slot_item reached.0)) }
+        ensures refused { IfErr result (RefusesPull (record {
+          limited = ⊥;
+          init_refuses = I.post init.now None;
+        })) }
+    {
+        let reached = self.walk(None, init)?;
+        let passed = reached.number.get() - self.number;
+        Ok((reached.slot, passed))
+    }
+
+    /// As `alloc`, over the first `pages` pages from this one on alone. It links no page past them.
+    ///
+    /// # Errors
+    ///
+    /// As `alloc`; `Limit`, where each item of these pages was observed taken in this call.
+    pub fn alloc_within<I: Fn() -> Option<T>>(
+        &self,
+        pages: usize,
+        init: &I,
+    ) -> Result<(PageSlot<'c, T, K>, usize), PullError>
+        requires some_page { 1 ≤ pages }
+        requires opens { MayOpen I.pre I.post K.meets O.meets init.now }
+        ensures item { IfOk result
+            (λ reached. IsItemFrom K.meets (shown_page self.now) (slot_item reached.0) reached.1) }
+        ensures history { IfOk result (λ reached. HasOrigin O.meets (slot_item reached.0)) }
+        ensures within { IfOk result (λ reached. reached.1 < pages) }
+        ensures refused { IfErr result (RefusesPull (record {
+          limited = ⊤;
+          init_refuses = I.post init.now None;
+        })) }
+    {
+        let reached = self.walk(Some(pages), init)?;
+        let passed = reached.number.get() - self.number;
+        Ok((reached.slot, passed))
+    }
+
+    /// As `alloc`, with an item that owns its page with others. The page's owners grow by one once the item is taken.
+    ///
+    /// # Errors
+    ///
+    /// As `alloc`; `Memory` too where the page can have no more owners, and then the item is free again.
+    pub fn alloc_owned<I: Fn() -> Option<T>>(
+        &self,
+        init: &I,
+    ) -> Result<(OwnedSlot<T, K>, usize), PullError>
+        requires { MayOpen I.pre I.post K.meets O.meets init.now }
+        ensures item { IfOk result
+            (λ reached. IsItemFrom K.meets (shown_page self.now)
+            (owned_slot_item reached.0) reached.1) }
+        ensures history { IfOk result (λ reached. HasOrigin O.meets (owned_slot_item reached.0)) }
+        ensures refused { IfErr result (RefusesPull (record {
+          limited = ⊥;
+          init_refuses = I.post init.now None;
+        })) }
+    {
+        let (slot, number) = self.walk(None, init)?.into_owned()?;
+        Ok((slot, number.get() - self.number))
+    }
+
+    /// As `alloc_owned`, over the first `pages` pages from this one on alone. It links no page past them.
+    ///
+    /// # Errors
+    ///
+    /// As `alloc_owned`; `Limit`, where each item of these pages was observed taken in this call.
+    pub fn alloc_owned_within<I: Fn() -> Option<T>>(
+        &self,
+        pages: usize,
+        init: &I,
+    ) -> Result<(OwnedSlot<T, K>, usize), PullError>
+        requires some_page { 1 ≤ pages }
+        requires opens { MayOpen I.pre I.post K.meets O.meets init.now }
+        ensures item { IfOk result
+            (λ reached. IsItemFrom K.meets (shown_page self.now)
+            (owned_slot_item reached.0) reached.1) }
+        ensures history { IfOk result (λ reached. HasOrigin O.meets (owned_slot_item reached.0)) }
+        ensures within { IfOk result (λ reached. reached.1 < pages) }
+        ensures refused { IfErr result (RefusesPull (record {
+          limited = ⊤;
+          init_refuses = I.post init.now None;
+        })) }
+    {
+        let (slot, number) = self.walk(Some(pages), init)?.into_owned()?;
+        Ok((slot, number.get() - self.number))
+    }
+
+    /// Goes from page to page, within the limit, until one has an item.
+    pub fn walk<I: Fn() -> Option<T>>(
+        &self,
+        limit: Option<usize>,
+        init: &I,
+    ) -> Result<WalkEnd<'c, T, K, O>, PullError>
+        requires some_page { IfSome limit (λ pages. 1 ≤ pages) }
+        requires opens { MayOpen I.pre I.post K.meets O.meets init.now }
+        ensures taken { IfOk result (λ reached.
+            IsTaken K.meets O.meets (start_at self.now) limit reached.number (slot_item reached.slot)) }
+        ensures page { IfOk result (λ reached.
+            (slot_item reached.slot).page ≡ page_identity (arc_value reached.page.now)) }
+        ensures refused { IfErr result (RefusesPull (record {
+          limited = IsSome limit;
+          init_refuses = I.post init.now None;
+        })) }
+    {
+        let pass = PullPass::new();
+        match self.page.take(&pass).answer {
+            Allocated::Slot(slot) => {
+                let number = PageNumber::of_start(self.directory.allocator(), self.number);
+                Ok(WalkEnd {
+                    slot,
+                    page: self.page.owner(),
+                    number,
+                })
+            }
+            Allocated::Full(seen) => self.walk_on(seen, None, limit, init),
+        }
+    }
+
+    /// As `walk`, where this page was found full in this pull, and maybe one that a hint named, which isn't asked again.
+    ///
+    /// Each link is read once, from the one behind this page on, and each other page is asked once.
+    pub(super) fn walk_on<'p, I: Fn() -> Option<T>>(
+        &self,
+        seen: FullSeen<'p, T>,
+        hinted: Option<KnownFull<'p, T, K, O>>,
+        limit: Option<usize>,
+        init: &I,
+    ) -> Result<WalkEnd<'c, T, K, O>, PullError>
+        requires of_page { full_page seen ≡ shown_page self.now }
+        requires hinted { IfSome hinted (IsFullAt self.now.directory.now) }
+        requires some_page { IfSome limit (λ pages. 1 ≤ pages) }
+        requires opens { MayOpen I.pre I.post K.meets O.meets init.now }
+        ensures taken { IfOk result (λ reached.
+            IsTaken K.meets O.meets (start_at self.now) limit reached.number (slot_item reached.slot)) }
+        ensures page { IfOk result (λ reached.
+            (slot_item reached.slot).page ≡ page_identity (arc_value reached.page.now)) }
+        ensures refused { IfErr result (RefusesPull (record {
+          limited = IsSome limit;
+          init_refuses = I.post init.now None;
+        })) }
+    {
+        let pass = seen.pass;
+        let mut page: &'c OpenedPage<T, K, O> = self.page;
+        let mut number = self.number;
+        let (mut full, mut hinted) = (seen, hinted);
+        loop {
+            one_more(limit, number - self.number)?;
+            let next = number.checked_add(1).ok_or(PullError::Memory)?;
+            let (linked, mut note) = self.behind(next, page, full, init)?;
+            let (known, rest) = known_at(hinted, next);
+            hinted = rest;
+            match self.ask(linked, next, &mut note, known, pass) {
+                Allocated::Slot(slot) => {
+                    return Ok(WalkEnd {
+                        slot,
+                        page: linked.owner(),
+                        number: PageNumber::of_link(next, note),
+                    });
+                }
+                Allocated::Full(seen) => {
+                    full = seen;
+                }
+            }
+            page = linked;
+            number = next;
+        }
+    }
+
+    /// The page with this number, which is linked behind the page before it or is made and linked there, and a note of its link.
+    fn behind<I: Fn() -> Option<T>>(
+        &self,
+        number: usize,
+        before: &'c OpenedPage<T, K, O>,
+        seen: FullSeen<'_, T>,
+        init: &I,
+    ) -> Result<(&'c OpenedPage<T, K, O>, LinkNote<T, K, O>), PullError>
+        requires past_first { 0 < number }
+        requires of_page { full_page seen ≡ page_identity (arc_value before.now) }
+        requires opens { MayOpen I.pre I.post K.meets O.meets init.now }
+        ensures known { IfOk result
+            (λ next. IsKnownAt self.now.directory.now number next.1
+            (page_identity (arc_value next.0.now))) }
+        ensures refused { IfErr result (RefusesMaking (I.post init.now None)) }
+    {
+        let before = LinearPage::new(self.directory, before, number - 1);
+        let mut note = before.next_note()?;
+        let next = before.get_or_create_next_as(seen, init, &mut note)?;
+        Ok((next.page, note))
+    }
+
+    /// What a page that the walk came to answers: what it did already in this pull, or what it does now.
+    fn ask<'p>(
+        &self,
+        page: &'c OpenedPage<T, K, O>,
+        number: usize,
+        note: &mut LinkNote<T, K, O>,
+        known: Option<KnownFull<'p, T, K, O>>,
+        pass: &'p PullPass,
+    ) -> Allocated<'c, 'p, T, K>
+        requires linked { IsKnownAt self.now.directory.now number note.old
+            (page_identity (arc_value page.now)) }
+        requires full { IfSome known (IsFullAt self.now.directory.now) }
+        requires here { IfSome known (λ known. known.number ≡ number) }
+        ensures linked { IsKnownAt self.now.directory.now number note.new
+            (page_identity (arc_value page.now)) }
+        ensures answer { IsAnsweredBy K.meets O.meets (page_identity (arc_value page.now)) result }
+    {
+        match known {
+            Some(known) => {
+                note.compare(known.note);
+                Allocated::Full(known.seen)
+            }
+            None => page.take(pass).answer,
+        }
+    }
+}
+
+/// What was found of the page with this number, where the hinted one is that page; else what was found of the hinted one.
+fn known_at<'p, T, K: Clean<T>, O: Clean<T>>(
+    hinted: Option<KnownFull<'p, T, K, O>>,
+    number: usize,
+) -> (
+    Option<KnownFull<'p, T, K, O>>,
+    Option<KnownFull<'p, T, K, O>>,
+)
+    ensures same { IfSome result.0 (λ known. hinted.entry ≡ Some known) }
+    ensures here { IfSome result.0 (λ known. known.number ≡ number) }
+    ensures rest { IfSome result.1 (λ rest. hinted.entry ≡ Some rest) }
+{
+    let Some(known) = hinted else {
+        return (None, None);
+    };
+    if known.number == number {
+        (Some(known), None)
+    } else {
+        (None, Some(known))
+    }
+}
+
+/// Refuses the page behind so many links where the limit doesn't allow it.
+fn one_more(limit: Option<usize>, passed: usize) -> Result<(), PullError>
+    requires within { IfSome limit (λ pages. passed < pages) }
+    ensures allowed { OnOk result (IfSome limit (λ pages. passed + 1 < pages)) }
+    ensures refused { IfErr result (λ cause. (cause ≡ Limit) × (limit ≡ Some (passed + 1))) }
+{
+    match limit {
+        Some(pages) if pages - passed == 1 => Err(PullError::Limit),
+        _ => Ok(()),
+    }
+}
+
+impl<T: Drop, K: Clean<T>, O: Clean<T>> WalkEnd<'_, T, K, O> {
+    /// The same item, with an owner of its page in place of the borrow, and its page's number.
+    ///
+    /// Where the page can have no more owners, the item goes home again.
+    pub fn into_owned(self) -> Result<(OwnedSlot<T, K>, PageNumber<T, K, O>), PullError>
+        requires of_page { (slot_item self.slot).page ≡ page_identity (arc_value self.page.now) }
+        requires meets { K.meets (slot_item self.slot).value }
+        ensures item { IfOk result
+            (λ reached. owned_slot_item reached.0 ≡ slot_item self.entry.slot) }
+        ensures number { IfOk result (λ reached. reached.1 ≡ self.entry.number) }
+        ensures refused { IfErr result (RefusesMaking ⊥) }
+    {
+        let WalkEnd { slot, page, number } = self;
+        match Arc::try_clone(page) {
+            Ok(owner) => Ok((slot.into_owned(owner), number)),
+            Err(_) => {
+                Page::free(slot);
+                Err(PullError::Memory)
+            }
+        }
+    }
+}

@@ -1,0 +1,14 @@
+pub mod FilledItems
+pub mod KeptPlaces
+pub mod Ledger
+pub mod LedgerHolders
+pub mod PageAnswers
+pub mod PageHistories
+pub mod PageItems
+pub mod PageOpens
+pub mod PageOrder
+pub mod PageSteps
+pub mod SeatShared
+pub mod SlotShared
+pub mod Taking
+pub mod WordBits

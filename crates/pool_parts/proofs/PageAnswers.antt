@@ -1,0 +1,132 @@
+-- What a page answers, told by what the answer shows and no longer by its user's view.
+use Rattle.std.proofs.Common.{◌≡◌, List, [], ◌∷◌, ◌++◌, ℕ, ◌<◌, Option, refl, ap, sym, ◌∙◌, subst}
+use Rattle.atomic_table.specs.Seated.{TableId}
+use Rattle.pool_parts.specs.declared.page.history.Operation.TheVariants.{Pull, Return}
+use Rattle.pool_parts.specs.declared.page.user_view.UserView.{UserView}
+use Rattle.pool_parts.specs.declared.page.note.PageNote.{PageNote}
+use Rattle.pool_parts.specs.declared.page.full_seen.Allocated.{Allocated}
+use Rattle.pool_parts.specs.declared.page.full_seen.Allocated.TheVariants.{Slot, Full}
+use Rattle.pool_parts.specs.Item.{IsPulled}
+use Rattle.pool_parts.specs.Note.{note_page, note_view, note_opening, note_history, IsReturned, IsPulledAfter}
+use Rattle.pool_parts.specs.Ledger.{History, operations_of, IsPrefixOf, WasOutBetween}
+use Rattle.pool_parts.specs.PageRule.{GoesOn, StartsFrom, KnowsOut}
+use Rattle.pool_parts.specs.Holding.{item_known}
+use Rattle.pool_parts.specs.FullSeen.{full_view, FoundAllOut, IsAnswerFrom, IsAnswerOf}
+use Rattle.pool_parts.specs.FullSeen.{IsAnswerAfter}
+use Rattle.pool_parts.proofs.Ledger.{legal_of, prefix_further}
+use Rattle.pool_parts.proofs.LedgerHolders.{came_from_legal, spared_return}
+
+module _ {T : Type 0} where
+  -- what was observed taken since a load, told of the user as it was then
+  pub was_out_from : (start known : UserView T) (id : ℕ) → GoesOn [] start known → KnowsOut known id
+      → WasOutBetween start.opening start.since known.operations id
+  was_out_from start known id goes was =
+      subst (λ (p : List (Option T) × History T). WasOutBetween p.0 p.1 known.operations id) (λ i.
+      (goes.same_opening i, goes.same_since i)) was
+
+  -- the user of a pull has acted since it began: the pull is the one operation more
+  module _ (page : TableId) (start known : UserView T) (id : ℕ) (value : T)
+      (goes : GoesOn (Pull known.user id value ∷ []) start known) where
+    pub pulled : start.own ≡ [] → IsPulled (item_known page known id value)
+    pulled none = record {
+      legal = goes.sound.legal;
+      before = goes.operations.0 ++ start.operations;
+      last = goes.operations.1;
+      origin = came_from_legal known.opening known.operations
+          (goes.operations.0 ++ start.operations) known.user id value goes.operations.1 goes.sound.legal;
+      only = goes.sound.own_operations ∙ goes.own ∙ ap (λ own. Pull known.user id value ∷ own) none;
+    }
+
+    pub pulled_after : (note : PageNote T) → StartsFrom (note_view note) start
+        → IsPulledAfter note (item_known page known id value)
+    pulled_after note starts =
+        let further = prefix_further (note_history note) start.operations
+        (goes.operations.0 ++ start.operations) starts.after_known (goes.operations.0, refl) in
+        let last : known.operations ≡ Pull known.user id value ∷ (further.0 ++ note_history note) =
+        goes.operations.1 ∙ ap (λ operations. Pull known.user id value ∷ operations) further.1 in
+        let same_user = goes.same_user ∙ starts.same_user in
+        record {
+          same_opening = goes.same_opening ∙ starts.same_opening;
+          same_user = same_user;
+          legal = goes.sound.legal;
+          others = further.0;
+          last = last;
+          origin = came_from_legal known.opening known.operations
+              (further.0 ++ note_history note) known.user id value last goes.sound.legal;
+          only = goes.sound.own_operations ∙ goes.own ∙ ap (λ own.
+              Pull known.user id value ∷ own)
+              (starts.own_same ∙ sym starts.own_before
+              ∙ ap (λ user. operations_of user (note_history note)) (sym same_user));
+        }
+
+  -- what a call found that observed each of so many items taken, since its user stood here at its load
+  pub found_out : (count : ℕ) (opening : List (Option T)) (start known : UserView T) → start.opening ≡ opening
+      → GoesOn [] start known
+      → ((id : ℕ) → id < count → WasOutBetween start.opening start.since known.operations id)
+      → FoundAllOut count opening known
+  found_out count opening start known same goes each = record {
+    same_opening = goes.same_opening ∙ same;
+    legal = legal_of opening known (goes.same_opening ∙ same) goes.sound;
+    goes_on = goes.sound.since_load;
+    each_was_out = λ id within.
+        subst (λ (p : List (Option T) × History T). WasOutBetween p.0 p.1 known.operations id) (λ i.
+        (same i, sym goes.same_since i)) (each id within);
+  }
+
+  -- and that load stands after all that it knew before
+  pub after_known : (before start known : UserView T) → StartsFrom before start → GoesOn [] start known
+      → IsPrefixOf before.operations known.since
+  after_known before start known starts goes =
+      subst (IsPrefixOf before.operations) (sym (goes.same_since ∙ starts.from_now)) starts.after_known
+
+  -- a return: nobody was at the item since its pull
+  pub returned : (page : TableId) (old new : UserView T) (note : PageNote T) (id : ℕ) (value : T) → note_view note ≡ new
+      → note_page note ≡ page → GoesOn (Return new.user id value ∷ []) old new
+      → IsReturned (item_known page old id value) note
+  returned page old new note id value is of_page went =
+      let same : GoesOn (Return old.user id value ∷ []) old (note_view note) =
+      subst (λ (p : ℕ × UserView T). GoesOn (Return p.0 id value ∷ []) old p.1) (λ i.
+      (went.same_user i, sym is i)) went in
+      let spared = spared_return old (note_view note) old.user id value refl same in
+      record {
+        of_page = of_page;
+        same_opening = same.same_opening;
+        same_user = same.same_user;
+        legal = legal_of old.opening (note_view note) same.same_opening same.sound;
+        others = spared.0;
+        last = spared.1;
+        untouched = spared.2;
+        only = ap (λ user. operations_of user (note_history note)) (sym same.same_user) ∙ same.sound.own_operations
+            ∙ same.own ∙ ap (λ own. Return old.user id value ∷ own) (sym same.own_before);
+      }
+
+module _ {T K : Type 0} where
+  -- the answer to a user that had done nothing
+  pub answer_fresh : (meets : T → Type 0) (page : TableId) (opening : List (Option T)) (start : UserView T)
+      (answer : Allocated T K) → start.opening ≡ opening → start.own ≡ [] → IsAnswerFrom meets page start answer
+      → IsAnswerOf meets page opening answer
+  answer_fresh meets page opening start (Slot slot) same none is = record {
+    is_item = is.0;
+    same_opening = is.1.same_opening ∙ same;
+    pulled = pulled slot.taken.holding.seat.table_id start slot.taken.holding.seat.me.0 slot.taken.holding.number
+        slot.value is.1 none;
+  }
+  answer_fresh meets page opening start (Full seen) same none is =
+      record { of_page = is.0; found = found_out _ opening start (full_view seen) same is.1 is.2 }
+
+  -- the answer to a user that had a note
+  pub answer_after : (meets : T → Type 0) (page : TableId) (note : PageNote T) (start : UserView T)
+      (answer : Allocated T K) → StartsFrom (note_view note) start → IsAnswerFrom meets page start answer
+      → IsAnswerAfter meets page note answer
+  answer_after meets page note start (Slot slot) starts is = (
+    is.0,
+    pulled_after slot.taken.holding.seat.table_id start slot.taken.holding.seat.me.0 slot.taken.holding.number
+        slot.value is.1 note starts,
+  )
+  answer_after meets page note start (Full seen) starts is = record {
+    all_out = record {
+      of_page = is.0;
+      found = found_out _ (note_opening note) start (full_view seen) starts.same_opening is.1 is.2;
+    };
+    after_note = after_known (note_view note) start (full_view seen) starts is.1;
+  }

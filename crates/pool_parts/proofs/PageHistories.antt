@@ -1,0 +1,192 @@
+-- The history of a page goes on by a step: a pull, a return, a load, or a user that joins or learns.
+use Rattle.std.proofs.Common.{◌≡◌, ◌≢◌, ℕ, false, ◌<◌, List, [], ◌∷◌, ◌++◌, length, set, get_or, Option, Some}
+use Rattle.std.proofs.Common.{None, refl, sym, ◌∙◌, ap, subst, arith, length-append, length-set, inl, inr}
+use mathlib.Core.Option as maybe
+use mathlib.Core.Option.{some}
+use lib.ListN.{get_elem?}
+use native.Mathlib.Decide.{ℕ_discrete}
+use mathlib.Core.Logic.{dite}
+use Rattle.std.specs.Int.{bit_at}
+use Rattle.atomic_table.proofs.Lists.{set_else}
+use Rattle.pool_parts.specs.declared.page.user_view.UserView.{UserView}
+use Rattle.pool_parts.specs.declared.page.history.Operation.{Operation}
+use Rattle.pool_parts.specs.Ledger.{History, user_of, id_of, operations_of, held_id, left_by, value_at}
+use Rattle.pool_parts.specs.Ledger.{MayFollow, IsLegal, IsPrefixOf, WasOutBetween}
+use Rattle.pool_parts.specs.Word.{item_bit}
+use Rattle.pool_parts.specs.PageRule.{PageState, first_view, item_of, HasHistory, Knows, GoesOn, IsSound}
+use Rattle.pool_parts.proofs.Ledger.{operations_of_own, operations_of_other, value_at-here}
+use Rattle.pool_parts.proofs.Ledger.{value_at-elsewhere, informed_later, informed_set, at_below}
+use Rattle.pool_parts.proofs.Ledger.{prefix_same, prefix_further}
+use Rattle.pool_parts.proofs.WordBits.{item_bit_of, Turns}
+use Rattle.pool_parts.proofs.PageItems.{state, at_snoc_last}
+
+module _ {T : Type 0} where
+  -- one view has changed, and nothing else
+  abbrev pub told_page : PageState T → ℕ → UserView T → PageState T
+  told_page page user known = record page { views = set page.views user known }
+
+  -- what a user knows once it has seen these operations, and made its own behind them
+  abbrev went_on : UserView T → History T → History T → Option ℕ → ℕ → ℕ → UserView T
+  went_on old operations made held loads tries = record old {
+    held = held;
+    operations = made ++ operations;
+    own = made ++ old.own;
+    loads = loads;
+    tries = tries;
+  }
+
+  abbrev pub acted : UserView T → History T → Operation T → ℕ → UserView T
+  acted old operations operation tries =
+      went_on old operations (operation ∷ []) (held_id (operation ∷ old.own)) old.loads tries
+
+  abbrev pub has_seen : UserView T → History T → ℕ → ℕ → UserView T
+  has_seen old operations loads tries = went_on old operations [] old.held loads tries
+
+module _ {T : Type 0} (opening : List (Option T)) where
+  -- what a user knows that comes now
+  abbrev pub newcomer : History T → ℕ → UserView T
+  newcomer operations user =
+      record (first_view opening) { user = user; operations = operations; since = operations; loads = 1 }
+
+  pub joins_history : (page : PageState T) (known : UserView T) → (has : HasHistory opening page)
+      → Knows opening has.operations (length page.views) known
+      → HasHistory opening (state page.words page.homes (page.views ++ known ∷ []))
+  joins_history page known has is = record {
+    operations = has.operations;
+    legal = has.legal;
+    free_lies = has.free_lies;
+    out_lies = has.out_lies;
+    informed = λ user view at. elim (at_snoc_last page.views known view user at) [
+      | inl before ↦ has.informed user view before
+      | inr last ↦ subst (λ (pair : ℕ × UserView T). Knows opening has.operations pair.0 pair.1) (λ i.
+          (last.0 i, last.1 i)) is
+    ];
+    no_stranger = λ user past. has.no_stranger user (let all = length-append page.views (known ∷ []) in omega arith);
+  }
+
+  -- an item whose bit is clear in its word is out now, and so since any place before
+  pub clear_out : (page : PageState T) (has : HasHistory opening page) (since : History T) (own : List (Option T))
+      → IsPrefixOf since has.operations → own ≡ opening → (place bit : ℕ) → bit < 32
+      → bit_at (get_or page.words place 0) bit ≡ 0 → WasOutBetween own since has.operations (item_of place bit)
+  clear_out page has since own longer same place bit within clear = (
+    has.operations,
+    longer,
+    prefix_same has.operations,
+    ap (λ o. value_at o has.operations (item_of place bit)) same
+        ∙ has.out_lies (item_of place bit) (item_bit_of page.words place bit within ∙ clear),
+  )
+
+  -- no bit has changed, and one user knows something else
+  pub saw_history : (page : PageState T) (words : List ℕ) (user : ℕ) (known : UserView T)
+      → (has : HasHistory opening page) → ((i : ℕ) → item_bit words i ≡ item_bit page.words i)
+      → Knows opening has.operations user known
+      → HasHistory opening (state words page.homes (set page.views user known))
+  saw_history page words user known has same_bits knows = record {
+    operations = has.operations;
+    legal = has.legal;
+    free_lies = λ i set_now. has.free_lies i (sym (same_bits i) ∙ set_now);
+    out_lies = λ i out_now. has.out_lies i (sym (same_bits i) ∙ out_now);
+    informed = informed_set opening has.operations page.views user known (λ other view _ there.
+        has.informed other view there) knows;
+    no_stranger = λ other past. has.no_stranger other (let all = length-set page.views user known in omega arith);
+  }
+
+  -- one user goes on
+  module _ (page : PageState T) (has : HasHistory opening page) (user : ℕ) (me : UserView T)
+      (at : get_elem? page.views user ≡ some me) (here : me.gone ≡ false) where
+    own_now : operations_of me.user has.operations ≡ me.own
+    own_now = let is = (has.informed user me at).acting here in
+        ap (λ u. operations_of u has.operations) is.number ∙ is.own_so_far
+
+    pub held_now : held_id (operations_of me.user has.operations) ≡ me.held
+    held_now = ap held_id own_now ∙ sym ((has.informed user me at).acting here).sound.holds
+
+    after : (made : History T) (held : Option ℕ) (loads tries : ℕ) → IsLegal opening (made ++ has.operations)
+        → operations_of user (made ++ has.operations) ≡ made ++ me.own → held ≡ held_id (made ++ me.own)
+        → Knows opening (made ++ has.operations) user (went_on me has.operations made held loads tries)
+        × GoesOn made me (went_on me has.operations made held loads tries)
+    after made held loads tries allowed own holds =
+        let knows = has.informed user me at in
+        let is = knows.acting here in
+        let now : History T = made ++ has.operations in
+        let more : IsPrefixOf has.operations now = (made, refl) in
+        let sound : IsSound (went_on me has.operations made held loads tries) = record {
+          legal = subst (λ o. IsLegal o now) (sym is.same_opening) allowed;
+          since_load = prefix_further me.since me.operations now is.sound.since_load
+              (prefix_further me.operations has.operations now knows.seen more);
+          own_operations = ap (λ u. operations_of u now) is.number ∙ own;
+          holds = holds;
+        } in (
+          record {
+            seen = prefix_same now;
+            told = prefix_further me.told has.operations now knows.told more;
+            acting = λ _.
+                record { sound = sound; number = is.number; same_opening = is.same_opening; own_so_far = own };
+          },
+          record {
+            here = here;
+            same_user = refl;
+            same_opening = refl;
+            same_since = refl;
+            operations = (knows.seen.0, ap (λ l. made ++ l) knows.seen.1);
+            own_before = is.sound.own_operations;
+            own = refl;
+            sound = sound;
+          },
+        )
+
+    pub after_load : (loads tries : ℕ)
+        → Knows opening has.operations user (has_seen me has.operations loads tries)
+        × GoesOn [] me (has_seen me has.operations loads tries)
+    after_load loads tries = let is = (has.informed user me at).acting here in
+        after [] me.held loads tries has.legal is.own_so_far is.sound.holds
+
+    -- it acts on an item, whose bit turns to this, and at whose place this lies now
+    pub acts_history : (words : List ℕ) (bit : ℕ) (home : maybe.Option (Option T)) (operation : Operation T) (tries : ℕ)
+        → user_of operation ≡ me.user → MayFollow opening has.operations operation
+        → Turns page.words (id_of operation) bit words
+        → (bit ≡ 1 → (value : T)
+        → get_elem? (set page.homes (id_of operation) home) (id_of operation) ≡ some (some (Some value))
+        → left_by operation ≡ Some value)
+        → (bit ≡ 0 → left_by operation ≡ None)
+        → HasHistory opening
+        (state words (set page.homes (id_of operation) home)
+        (set page.views user (acted me has.operations operation tries)))
+        × GoesOn (operation ∷ []) me (acted me has.operations operation tries)
+    acts_history words bit home operation tries mine may turned free out =
+        let id : ℕ = id_of operation in
+        let homes = set page.homes id home in
+        let known : UserView T = acted me has.operations operation tries in
+        let is = (has.informed user me at).acting here in
+        let number : me.user ≡ user = is.number in
+        let step = after (operation ∷ []) (held_id (operation ∷ me.own)) me.loads tries (may, has.legal)
+        (operations_of_own user operation has.operations (mine ∙ number) ∙ ap (λ l. operation ∷ l) is.own_so_far) refl
+        in (
+          record {
+            operations = operation ∷ has.operations;
+            legal = (may, has.legal);
+            free_lies = λ i set_now found home_now. dite (ℕ_discrete id i)
+                (λ same. value_at-here opening operation has.operations i same
+                ∙ free (sym turned.here ∙ ap (item_bit words) same ∙ set_now) found
+                (ap (get_elem? homes) same ∙ home_now))
+                (λ differ. let other : i ≢ id = λ same. differ (sym same) in
+                value_at-elsewhere opening operation has.operations i differ
+                ∙ has.free_lies i (sym (turned.others i other) ∙ set_now) found
+                (sym (set_else page.homes id i home other) ∙ home_now));
+            out_lies = λ i out_now. dite (ℕ_discrete id i)
+                (λ same. value_at-here opening operation has.operations i same
+                ∙ out (sym turned.here ∙ ap (item_bit words) same ∙ out_now))
+                (λ differ. value_at-elsewhere opening operation has.operations i differ
+                ∙ has.out_lies i (sym (turned.others i (λ same. differ (sym same))) ∙ out_now));
+            informed = informed_set opening (operation ∷ has.operations) page.views user known
+                (λ other view apart there.
+                informed_later opening has.operations operation other view (λ same.
+                apart (sym same ∙ mine ∙ number)) (has.informed other view there)) step.0;
+            no_stranger = λ other past.
+                let below = at_below page.views user me at in
+                let all = length-set page.views user known in
+                operations_of_other other operation has.operations (λ same. let who = mine in absurd (omega arith))
+                ∙ has.no_stranger other (omega arith);
+          },
+          step.1,
+        )

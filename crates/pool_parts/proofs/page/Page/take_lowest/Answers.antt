@@ -1,0 +1,35 @@
+use Rattle.std.proofs.Common.{◌∙◌, ◌∷◌, [], sym, subst, arith}
+use Rattle.pool_parts.specs.Item.{Item, IsItemOf}
+use Rattle.pool_parts.specs.Page.{page_identity}
+use Rattle.pool_parts.specs.PageRule.{GoesOn}
+use Rattle.pool_parts.specs.Holding.{item_known}
+use Rattle.pool_parts.specs.declared.page.history.Operation.TheVariants.{Pull}
+use Rattle.pool_parts.specs.declared.page.user_view.UserView.{UserView}
+use Rattle.pool_parts.proofs.PageAnswers.{was_out_from}
+use Rattle.pool_parts.proofs.page.Page.take_lowest.Goals as goal
+
+pub returns-in-Some-clause-answer : goal.returns-in-Some-clause-answer
+returns-in-Some-clause-answer g c =
+    let took = c.in-Some.ensures.outcome in
+    let item = item_known c.take_lowest.new.seat.table_id c.take_lowest.new.seat.me.0 c.in-Some.taken.number
+    c.in-Some.taken.value in
+    let sized = c.args.self.now.sized in
+    let inside = took.in_pool in
+    let here : IsItemOf g.K.Clean.meets (page_identity c.args.self.now) item = record {
+      is_in = record { of_page = c.take_lowest.ensures.items ∙ c.requires.page; in_page = omega arith };
+      meets_condition = took.meets_condition;
+    } in
+    subst (λ (p : Item g.row.T.Denot × UserView g.row.T.Denot).
+    IsItemOf g.K.Clean.meets (page_identity c.args.self.now) p.0
+    × GoesOn (Pull p.0.holder p.0.id p.0.value ∷ []) c.args.seat.me.0 p.1)
+    (λ i. (sym c.new.ensures.item i, sym c.new.ensures.view i)) (here, took.goes_on)
+
+pub returns-in-None-clause-answer : goal.returns-in-None-clause-answer
+returns-in-None-clause-answer g c =
+    let missed = c.in-None.ensures.outcome in (
+      c.take_lowest.ensures.items ∙ c.requires.page,
+      missed.goes_on,
+      λ id within.
+          was_out_from c.args.seat.me.0 c.take_lowest.new.seat.me.0 id missed.goes_on
+          (missed.each_was_out id (omega arith) (omega arith)),
+    )

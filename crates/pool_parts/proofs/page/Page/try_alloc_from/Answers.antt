@@ -1,0 +1,5 @@
+use Rattle.pool_parts.proofs.PageAnswers.{answer_after}
+use Rattle.pool_parts.proofs.page.Page.try_alloc_from.Goals as goal
+
+pub returns-clause-answer : goal.returns-clause-answer
+returns-clause-answer g c = answer_after _ _ _ _ _ c.look_again-word.ensures.found.starts c.take_lowest.ensures.answer

@@ -1,0 +1,11 @@
+use Rattle.std.proofs.Common.{sym, subst}
+use Rattle.pool_parts.specs.Word.{IsAllFree}
+use Rattle.pool_parts.proofs.PageOpens.{opens}
+use Rattle.pool_parts.proofs.page.items.Items.new.Goals as goal
+
+pub new-requires : goal.new-requires
+new-requires g c =
+    let filled = c.in_ok-items.ensures.all in
+    rw c.of-opening.ensures
+    (opens g.K.Clean.meets c.args.words.now _
+    (subst (λ count. IsAllFree count c.args.words.now) (sym filled.all) c.requires.all_free) filled.each)

@@ -1,0 +1,88 @@
+-- What the answer of a page to a pull shows.
+use Rattle.std.specs.Prelude.{◌≡◌, ℕ, ◌+◌, ◌<◌, ◌≤◌, ◌∷◌, [], List, Option}
+use Rattle.atomic_table.specs.Seated.{TableId}
+use Rattle.pool_parts.specs.declared.page.history.Operation.TheVariants.{Pull}
+use Rattle.pool_parts.specs.declared.page.user_view.UserView.{UserView}
+use Rattle.pool_parts.specs.declared.page.note.PageNote.{PageNote}
+use Rattle.pool_parts.specs.declared.page.full_seen.FullSeen.{FullSeen}
+use Rattle.pool_parts.specs.declared.page.full_seen.Allocated.{Allocated}
+use Rattle.pool_parts.specs.declared.page.full_seen.Allocated.TheVariants.{Slot, Full}
+use Rattle.pool_parts.specs.Item.{IsItemOf, IsPulledOf}
+use Rattle.pool_parts.specs.Note.{note_view, note_opening, note_history, IsPulledAfter}
+use Rattle.pool_parts.specs.Ledger.{History, IsLegal, IsPrefixOf, WasOutBetween}
+use Rattle.pool_parts.specs.PageRule.{GoesOn}
+use Rattle.pool_parts.specs.Slot.{slot_item, slot_view}
+use Rattle.pool_parts.specs.declared.page.TheConstants.{PAGE_ITEMS}
+
+module _ {T : Type 0} where
+  -- which page was found full
+  abbrev pub full_page : FullSeen T → TableId
+  full_page seen = seen.seat.table_id
+
+  -- what the call knows of the page
+  abbrev pub full_view : FullSeen T → UserView T
+  full_view seen = seen.seat.me.0
+
+  -- the page's history up to the call's load
+  abbrev pub full_since : FullSeen T → History T
+  full_since seen = (full_view seen).since
+
+  -- the page's history up to the call's last step
+  abbrev pub full_history : FullSeen T → History T
+  full_history seen = (full_view seen).operations
+
+  -- a user found so many items out, each at some place of a legal history, since its own first load
+  pub record FoundAllOut (count : ℕ) (opening : List (Option T)) (known : UserView T) : Type 0 where
+    pub same_opening : known.opening ≡ opening
+    pub legal : IsLegal opening known.operations
+    pub goes_on : IsPrefixOf known.since known.operations
+    pub each_was_out : (id : ℕ) → id < count → WasOutBetween opening known.since known.operations id
+
+  -- each of the items of this page or fixed pool, which has so many, was observed taken by one call
+  pub record IsAllOut (count : ℕ) (page : TableId) (opening : List (Option T)) (seen : FullSeen T) : Type 0 where
+    pub of_page : full_page seen ≡ page
+    pub found : FoundAllOut count opening (full_view seen)
+
+  -- the same of a call that goes on from a note: its first load stands after all that the note knew
+  pub record IsAllOutAfter (count : ℕ) (page : TableId) (note : PageNote T) (seen : FullSeen T) : Type 0 where
+    pub all_out : IsAllOut count page (note_opening note) seen
+    pub after_note : IsPrefixOf (note_history note) (full_since seen)
+
+  -- each id of this page was observed taken
+  abbrev pub IsFullOf : TableId → List (Option T) → FullSeen T → Type 0
+  IsFullOf page opening seen = IsAllOut PAGE_ITEMS page opening seen
+
+  -- what one call did: it read the page's word once, and tried so many bits at most
+  pub record IsBrief (known : UserView T) : Type 0 where
+    pub one_look : known.loads ≡ 1
+    pub tries : known.tries ≤ PAGE_ITEMS
+
+  -- the same of a call that goes on from a note: it read the word once more, and tried so many bits more at most
+  pub record IsBriefAfter (note : PageNote T) (known : UserView T) : Type 0 where
+    pub one_look_more : known.loads ≡ (note_view note).loads + 1
+    pub tries : known.tries ≤ (note_view note).tries + PAGE_ITEMS
+
+module _ {T K : Type 0} where
+  -- what the call knows of the page, whatever it answers
+  abbrev pub answer_view : Allocated T K → UserView T
+  answer_view (Slot slot) = slot_view slot
+  answer_view (Full seen) = full_view seen
+
+  -- an item of this page; or each of its ids was observed taken
+  abbrev pub IsAnswerOf : (T → Type 0) → TableId → List (Option T) → Allocated T K → Type 0
+  IsAnswerOf meets page opening (Slot slot) = IsPulledOf meets page opening (slot_item slot)
+  IsAnswerOf meets page opening (Full seen) = IsFullOf page opening seen
+
+  -- the same, after all that a note knew
+  abbrev pub IsAnswerAfter : (T → Type 0) → TableId → PageNote T → Allocated T K → Type 0
+  IsAnswerAfter meets page note (Slot slot) = IsItemOf meets page (slot_item slot) × IsPulledAfter note (slot_item slot)
+  IsAnswerAfter meets page note (Full seen) = IsAllOutAfter PAGE_ITEMS page note seen
+
+  -- what a user may be answered that stands here: a pull is its one operation more; a full page was found so by it
+  abbrev pub IsAnswerFrom : (T → Type 0) → TableId → UserView T → Allocated T K → Type 0
+  IsAnswerFrom meets page start (Slot slot) =
+      let item = slot_item slot in
+      IsItemOf meets page item × GoesOn (Pull item.holder item.id item.value ∷ []) start (slot_view slot)
+  IsAnswerFrom meets page start (Full seen) =
+      (full_page seen ≡ page) × GoesOn [] start (full_view seen)
+      × ((id : ℕ) → id < PAGE_ITEMS → WasOutBetween start.opening start.since (full_history seen) id)

@@ -1,0 +1,30 @@
+-- What a user shows that has taken an item of a page or of a fixed pool.
+use Rattle.std.specs.Prelude.{ℕ}
+use Rattle.atomic_table.specs.Seated.{TableId}
+use Rattle.pool_parts.specs.declared.page.holding.Holding.{Holding}
+use Rattle.pool_parts.specs.declared.page.user_view.UserView.{UserView}
+use Rattle.pool_parts.specs.Item.{Item}
+
+module _ {T : Type 0} where
+  -- an item, as the user tells it that took it
+  abbrev pub item_known : TableId → UserView T → ℕ → T → Item T
+  item_known page known id value = record {
+    page = page;
+    opening = known.opening;
+    id = id;
+    value = value;
+    holder = known.user;
+    history = known.operations;
+  }
+
+  -- of which page or pool the item is
+  abbrev pub holding_page : Holding T → TableId
+  holding_page holding = holding.seat.table_id
+
+  -- what the holder of the item knows
+  abbrev pub holding_view : Holding T → UserView T
+  holding_view holding = holding.seat.me.0
+
+  -- the item, with a value
+  abbrev pub held_item : Holding T → T → Item T
+  held_item holding value = item_known (holding_page holding) (holding_view holding) holding.number value

@@ -1,0 +1,97 @@
+-- The ledger: what is done with the items of one pool, one operation after another. The last operation stands first.
+-- A page's ledger is of its 32 numbers, and that of a fixed pool of all its numbers; neither grows. The pulls and
+-- returns of a world's agents, in the crate above, are a ledger too, to whose opening each page that is linked adds its
+-- values.
+use Rattle.std.specs.Prelude.{◌≡◌, ◌≢◌, ◌⊎◌, ℕ, ◌==◌, if◌then◌else◌, List, [], ◌∷◌, ◌++◌, get_or, Option, Some, None, ⊤}
+use Rattle.pool_parts.specs.declared.page.history.Operation.{Operation}
+use Rattle.pool_parts.specs.declared.page.history.Operation.TheVariants.{Pull, Return}
+
+-- a sequential history: pulls and returns, of which the last stands first
+abbrev pub History : Type 0 → Type 0
+History T = List (Operation T)
+
+module _ {T : Type 0} where
+  -- who pulls or returns
+  abbrev pub user_of : Operation T → ℕ
+  user_of (Pull user id value) = user
+  user_of (Return user id value) = user
+
+  -- the number of the item that is pulled or returned
+  abbrev pub id_of : Operation T → ℕ
+  id_of (Pull user id value) = id
+  id_of (Return user id value) = id
+
+  -- no operation is on this number
+  abbrev pub NoOperationOn : ℕ → History T → Type 0
+  NoOperationOn id [] = ⊤
+  NoOperationOn id (operation ∷ before) = (id_of operation ≢ id) × NoOperationOn id before
+
+  -- the operations of one user
+  abbrev pub operations_of : ℕ → History T → History T
+  operations_of user [] = []
+  operations_of user (operation ∷ before) =
+      if user_of operation == user then operation ∷ operations_of user before else operations_of user before
+
+  -- the number that a user holds after its own operations: from its pull to its return
+  abbrev pub held_id : History T → Option ℕ
+  held_id [] = None
+  held_id (Pull user id value ∷ before) = Some id
+  held_id (Return user id value ∷ before) = None
+
+  -- what an operation leaves at its number
+  abbrev pub left_by : Operation T → Option T
+  left_by (Pull user id value) = None
+  left_by (Return user id value) = Some value
+
+  -- what lies at a number, in a pool that opened with these values: what its last operation left, and the opening's where
+  -- no operation was on it
+  abbrev pub value_at : List (Option T) → History T → ℕ → Option T
+  value_at opening [] id = get_or opening id None
+  value_at opening (operation ∷ before) id =
+      if id_of operation == id then left_by operation else value_at opening before id
+
+  -- who holds nothing pulls exactly the value that lies there
+  pub record MayPull (opening : List (Option T)) (before : History T) (user id : ℕ) (value : T) : Type 0 where
+    pub lies_there : value_at opening before id ≡ Some value
+    pub holds_none : held_id (operations_of user before) ≡ None
+
+  -- who pulled a number and hasn't returned it returns it, where nothing lies
+  pub record MayReturn (opening : List (Option T)) (before : History T) (user id : ℕ) : Type 0 where
+    pub is_out : value_at opening before id ≡ None
+    pub holds : held_id (operations_of user before) ≡ Some id
+
+  -- an operation may come after these
+  abbrev pub MayFollow : List (Option T) → History T → Operation T → Type 0
+  MayFollow opening before (Pull user id value) = MayPull opening before user id value
+  MayFollow opening before (Return user id value) = MayReturn opening before user id
+
+  -- a history is legal where each operation may come after those before it
+  abbrev pub IsLegal : List (Option T) → History T → Type 0
+  IsLegal opening [] = ⊤
+  IsLegal opening (operation ∷ before) = MayFollow opening before operation × IsLegal opening before
+
+  -- one history is a prefix of another, which goes on from it
+  abbrev pub IsPrefixOf : History T → History T → Type 0
+  IsPrefixOf prefix history = (later : History T) × (history ≡ later ++ prefix)
+
+  -- a number was out between two places of a history: at some place from the one to the other nothing lay there
+  abbrev pub WasOutBetween : List (Option T) → History T → History T → ℕ → Type 0
+  WasOutBetween opening from to id =
+      (place : History T) × IsPrefixOf from place × IsPrefixOf place to × (value_at opening place id ≡ None)
+
+  -- somebody returned this number with this value, and no operation was on it since
+  pub record WasReturned (history : History T) (id : ℕ) (value : T) : Type 0 where
+    pub user : ℕ
+    pub later : History T
+    pub before : History T
+    pub here : history ≡ later ++ (Return user id value ∷ before)
+    pub untouched : NoOperationOn id later
+
+  -- no operation was on this number, and the pool opened with this value of it
+  pub record WasOpened (opening : List (Option T)) (history : History T) (id : ℕ) (value : T) : Type 0 where
+    pub untouched : NoOperationOn id history
+    pub opened : get_or opening id None ≡ Some value
+
+  -- where a value comes from that lies at a number: the last return of this number left it, or the pool opened with it
+  abbrev pub CameFrom : List (Option T) → History T → ℕ → T → Type 0
+  CameFrom opening history id value = WasReturned history id value ⊎ WasOpened opening history id value

@@ -1,0 +1,32 @@
+-- What an item that is out of its page shows, under a borrow of the page.
+use Rattle.std.specs.Prelude.{ℕ}
+use Rattle.pool_parts.specs.declared.page.user_view.UserView.{UserView}
+use Rattle.pool_parts.specs.declared.page.slot.TakenId.{TakenId}
+use Rattle.pool_parts.specs.declared.page.slot.PageSlot.{PageSlot}
+use Rattle.pool_parts.specs.Holding.{holding_view, held_item}
+use Rattle.pool_parts.specs.Item.{Item}
+
+module _ {T K : Type 0} where
+  -- the id that was taken
+  abbrev pub taken_id : TakenId T K → ℕ
+  taken_id taken = taken.holding.number
+
+  -- what the holder of the id knows of the page
+  abbrev pub taken_view : TakenId T K → UserView T
+  taken_view taken = holding_view taken.holding
+
+  -- the item that was taken, with a value
+  abbrev pub taken_item : TakenId T K → T → Item T
+  taken_item taken value = held_item taken.holding value
+
+  -- the item that the slot has
+  abbrev pub slot_item : PageSlot T K → Item T
+  slot_item slot = taken_item slot.taken slot.value
+
+  -- what the holder of the slot knows of the page
+  abbrev pub slot_view : PageSlot T K → UserView T
+  slot_view slot = taken_view slot.taken
+
+  -- the same slot with another value
+  abbrev pub slot_with : PageSlot T K → T → PageSlot T K
+  slot_with slot value = record slot { value = value }

@@ -1,0 +1,20 @@
+-- What a user's attempts at the words of a page or of a fixed pool came to.
+use Rattle.std.specs.Prelude.{◌≡◌, ℕ, ◌<◌, ◌≤◌, [], ◌∷◌, Some, None}
+use Rattle.pool_parts.specs.declared.page.history.Operation.TheVariants.{Pull}
+use Rattle.pool_parts.specs.PageRule.{User, GoesOn, KnowsOut}
+
+module _ {T : Type 0} where
+  -- the user has observed each item taken, from the one number up to below the other
+  pub record MissesAll (from to : ℕ) (old new : User T) : Type 0 where
+    pub holds_same : new.0.held ≡ old.0.held
+    pub carries_same : new.1 ≡ old.1
+    pub each_was_out : (id : ℕ) → from ≤ id → id < to → KnowsOut new.0 id
+    pub goes_on : GoesOn [] old.0 new.0
+
+  -- the user has taken one item of a pool with so many
+  pub record TakesOne (meets : T → Type 0) (items id : ℕ) (value : T) (old new : User T) : Type 0 where
+    pub in_pool : id < items
+    pub meets_condition : meets value
+    pub holds : new.0.held ≡ Some id
+    pub carries : new.1 ≡ (id, None) ∷ old.1
+    pub goes_on : GoesOn (Pull new.0.user id value ∷ []) old.0 new.0

@@ -1,0 +1,35 @@
+-- The words of a page: bit i of word w is set where item 32 w + i is free.
+use Rattle.std.specs.Prelude.{◌≡◌, ◌≢◌, ℕ, ◌+◌, ◌^◌, ◌<◌, ◌≤◌, ◌/◌, ◌%◌, List, length, slice_index}
+use Rattle.std.specs.Int.{bit_at}
+use Rattle.pool_parts.specs.declared.page.TheConstants.{PAGE_ITEMS}
+
+-- the word whose 32 bits are all set
+abbrev pub all_bits : ℕ
+all_bits = 4294967295
+
+-- bit id is the lowest of the word's set bits
+pub record IsLeastBit (word id : ℕ) : Type 0 where
+  pub in_page : id < PAGE_ITEMS
+  pub set : bit_at word id ≡ 1
+  pub lowest : (i : ℕ) → i < id → bit_at word i ≡ 0
+
+-- bit id is set in new, and each other bit is as in old
+pub record SetsBit (old id new : ℕ) : Type 0 where
+  pub set : bit_at new id ≡ 1
+  pub others : (i : ℕ) → i ≢ id → bit_at new i ≡ bit_at old i
+
+-- bit id is clear in new, and each other bit is as in old
+pub record ClearsBit (old id new : ℕ) : Type 0 where
+  pub clear : bit_at new id ≡ 0
+  pub others : (i : ℕ) → i ≢ id → bit_at new i ≡ bit_at old i
+
+-- the bit of an item, by the item's number
+abbrev pub item_bit : List ℕ → ℕ → ℕ
+item_bit words id = bit_at (slice_index words (id / 32)) (id % 32)
+
+-- words in which the bits of so many items are set, and no others
+pub record IsAllFree (items : ℕ) (words : List ℕ) : Type 0 where
+  pub one_for_32 : length words ≡ (items + 31) / 32
+  pub words_fit : (place : ℕ) → slice_index words place < 2 ^ 32
+  pub set : (id : ℕ) → id < items → item_bit words id ≡ 1
+  pub clear : (id : ℕ) → items ≤ id → item_bit words id ≡ 0

@@ -1,0 +1,15 @@
+//! What object pools are made of: the condition of their values, what makes and resets them, why a pull is refused, pages of
+//! items that threads share without a lock, and the list of values that a stack pool keeps.
+//!
+//! No call waits for another thread.
+#![tactic(auto)]
+
+pub mod clean;
+pub mod closures;
+pub mod lender;
+pub mod made_or_reset;
+pub mod page;
+pub mod pull_error;
+pub mod stack;
+
+pub use pull_error::PullError;

@@ -1,0 +1,292 @@
+//! A page of 32 items that threads share without a lock. Its word has a bit for each item, set where the item is free.
+//!
+//! This file has the pure steps of a word, and a page with its calls. Below it: what users do with a page's items
+//! (`history`), what holds of a page between any two steps and the kinds of step (`rule`), the steps themselves
+//! (`steps`) on the words and places that a page and a fixed pool have (`items`), what a user knows (`user_view`) and has of an
+//! item that it took (`holding`), an item that is out, under a borrow or an owner of its page (`slot`, `owned_slot`), the answer
+//! of a full page (`full_seen`), and what is known of a page while no item is held (`note`).
+//!
+//! No call waits for another thread or tries again: a page reads its word once, and then clears single bits.
+ghost use Rattle.std.specs.Prelude.{◌≡◌, ◌==◌, ◌+◌, ◌-◌, ◌^◌, ◌<◌, ◌≤◌, ◌↔◌, ℕ, [], false, Option, None, Some, IsTrue, IsNone, IfSome, IsOk, IfOk, IfErr, bit_and, bit_or};
+ghost use Rattle.std.specs.Int.{w32, bit_at, bit_not};
+ghost use Rattle.pool_parts.specs.Items.{items_identity};
+ghost use Rattle.pool_parts.specs.Word.{IsLeastBit, SetsBit, ClearsBit};
+ghost use Rattle.pool_parts.specs.declared.page.TheConstants.{PAGE_ITEMS};
+
+use crate::PullError;
+use crate::clean::Clean;
+use holding::Holding;
+use items::Items;
+use std::alloc::Global;
+use user_view::UserSeat;
+
+mod full_seen;
+pub mod history;
+pub mod holding;
+pub mod items;
+mod note;
+mod owned_slot;
+pub mod rule;
+mod slot;
+mod steps;
+pub mod user_view;
+
+pub use full_seen::{Allocated, FullSeen, PullPass, Taken};
+pub use note::{PageNote, Returned, Witness};
+pub use owned_slot::OwnedSlot;
+pub use slot::{PageSlot, TakenId};
+
+/// The number of an item in its page, below 32.
+pub type PageId = u8;
+
+/// How many items a page has.
+pub const PAGE_ITEMS: usize = 32;
+
+/// The word without its lowest set bit, and that bit's place. `None` where no bit is set.
+pub fn take_least(word: u32) -> Option<(u32, PageId)>
+    ensures none { IsNone result ↔ (word ≡ 0) }
+    ensures least { IfSome result (λ taken. IsLeastBit word taken.1) }
+    ensures rest { IfSome result (λ taken. ClearsBit word taken.1 taken.0) }
+    ensures value { IfSome result (λ taken. taken.0 ≡ bit_and word (word - 1)) }
+{
+    if word == 0 {
+        return None;
+    }
+    Some((word & (word - 1), word.trailing_zeros() as PageId))
+}
+
+/// The word with one bit set.
+pub fn with_bit(word: u32, id: PageId) -> u32
+    requires { id < PAGE_ITEMS }
+    ensures bits { SetsBit word id result }
+    ensures value { result ≡ bit_or word (2 ^ id) }
+{
+    word | 1 << id
+}
+
+/// The word with one bit clear.
+pub fn without_bit(word: u32, id: PageId) -> u32
+    requires { id < PAGE_ITEMS }
+    ensures bits { ClearsBit word id result }
+    ensures value { result ≡ bit_and word (bit_not w32 (2 ^ id)) }
+{
+    word & !(1 << id)
+}
+
+/// Whether the bit is set.
+pub fn has_bit(word: u32, id: PageId) -> bool
+    requires { id < PAGE_ITEMS }
+    ensures bits { IsTrue result ↔ (bit_at word id ≡ 1) }
+    ensures value { result ≡ (bit_at word id == 1) }
+{
+    word >> id & 1 == 1
+}
+
+/// Whether no bit is set.
+fn is_none_free(word: u32) -> bool
+    ensures { IsTrue result ↔ (word ≡ 0) }
+{
+    word == 0
+}
+
+/// 32 items that threads share.
+pub struct Page<T, K: Clean<T>> {
+    items: Items<T, K>,
+    ghost sized: { (items_identity items).slots ≡ PAGE_ITEMS },
+}
+
+/// Not derived: the proof of a caller that drops it has one call here, and a derived drop has that of each field.
+impl<T: Drop, K: Clean<T>> Drop for Page<T, K> {
+    fn drop(self) {
+        let Page { items: _ } = self;
+    }
+}
+
+impl<T, K: Clean<T>> Page<T, K> {
+    ghost use Rattle.pool_parts.specs.Answers.{MayMake};
+    ghost use Rattle.pool_parts.specs.FullSeen.{IsAnswerOf, IsAnswerFrom, IsAnswerAfter, IsBrief, IsBriefAfter, answer_view};
+    ghost use Rattle.pool_parts.specs.Holding.{holding_page, held_item};
+    ghost use Rattle.pool_parts.specs.Item.{IsPulledOf};
+    ghost use Rattle.pool_parts.specs.Note.{note_page, witness_page, IsReturned, IsNoteOf, HasLearned};
+    ghost use Rattle.pool_parts.specs.Page.{page_identity, page_opening, OpensWith};
+    ghost use Rattle.pool_parts.specs.PageRule.{IsSound, KnowsOut, item_of};
+    ghost use Rattle.pool_parts.specs.Refusal.{RefusesMaking};
+    ghost use Rattle.pool_parts.specs.Slot.{slot_item, slot_view};
+
+    /// A page of 32 free items: item `i` is the answer of call `i` of `init`, counted from 0.
+    ///
+    /// # Errors
+    ///
+    /// `Memory`, or `Init` at the first `None`. The items that were made are dropped.
+    pub fn new<I: Fn() -> Option<T>>(alloc: Global, init: &I) -> Result<Page<T, K>, PullError>
+    where
+        T: Drop,
+        requires { MayMake I.pre I.post K.meets init.now }
+        ensures refused { IfErr result (RefusesMaking (I.post init.now None)) }
+        ensures opened { IfOk result (OpensWith (λ made. I.post init.now (Some made))) }
+    {
+        let items = Items::new(alloc, PAGE_ITEMS, &[u32::MAX as u64], init)?;
+        Ok(Page { items })
+    }
+
+    /// A slot, or `None` after each of the 32 ids was observed taken during the call.
+    ///
+    /// The word is read once. Then the bits that were set in it are cleared, lowest first, until one was still set.
+    ///
+    /// # Errors
+    ///
+    /// There is none: a page counts no users, and the clause `succeeds` says so. `None` has no clause; `try_alloc` gives the evidence.
+    pub fn alloc(&self) -> Result<Option<PageSlot<'_, T, K>>, PullError>
+        ensures succeeds { IsOk result }
+        ensures pulled { IfOk result
+            (λ found. IfSome found
+            (λ slot. IsPulledOf K.meets (page_identity self.now) (page_opening self.now)
+            (slot_item slot))) }
+        ensures brief { IfOk result (λ found. IfSome found (λ slot. IsBrief (slot_view slot))) }
+    {
+        let pass = PullPass::new();
+        match self.try_alloc(&pass)? {
+            Allocated::Slot(slot) => Ok(Some(slot)),
+            Allocated::Full(_) => Ok(None),
+        }
+    }
+
+    /// As `alloc`, for a pull that may go on to another page: a page that is full says so for this pull.
+    ///
+    /// # Errors
+    ///
+    /// There is none, as of `alloc`.
+    pub fn try_alloc<'s, 'p>(
+        &'s self,
+        pass: &'p PullPass,
+    ) -> Result<Allocated<'s, 'p, T, K>, PullError>
+        ensures succeeds { IsOk result }
+        ensures answer { IfOk result
+            (IsAnswerOf K.meets (page_identity self.now) (page_opening self.now)) }
+        ensures brief { IfOk result (λ answer. IsBrief (answer_view answer)) }
+    {
+        Ok(self.take(pass).answer)
+    }
+
+    /// As `try_alloc`, which is never refused.
+    pub fn take<'s, 'p>(&'s self, pass: &'p PullPass) -> Taken<'s, 'p, T, K>
+        ensures answer { IsAnswerOf K.meets (page_identity self.now)
+            (page_opening self.now) result.answer }
+        ensures brief { IsBrief (answer_view result.answer) }
+    {
+        let (word, seat) = self.items.look(0);
+        self.take_lowest(pass, word, seat)
+    }
+
+    /// As `try_alloc`, by a user that knows something of the page: its pull stands after all that it knew.
+    ///
+    /// # Errors
+    ///
+    /// There is none, as of `alloc`.
+    pub fn try_alloc_from<'s, 'p>(
+        &'s self,
+        pass: &'p PullPass,
+        note: PageNote<T>,
+    ) -> Result<Allocated<'s, 'p, T, K>, PullError>
+        requires page { note_page note ≡ page_identity self.now }
+        ensures succeeds { IsOk result }
+        ensures answer { IfOk result (IsAnswerAfter K.meets (page_identity self.now) note) }
+        ensures brief { IfOk result (λ answer. IsBriefAfter note (answer_view answer)) }
+    {
+        let PageNote { mut seat } = note;
+        let word = self.items.look_again(&mut seat, 0);
+        Ok(self.take_lowest(pass, word, seat).answer)
+    }
+
+    /// A note of this page, by a user that did nothing. It costs one load.
+    ///
+    /// It knows some prefix of the page's history; which one, no contract can say.
+    pub fn note(&self) -> PageNote<T>
+        ensures { IsNoteOf (page_identity self.now) (page_opening self.now) result }
+    {
+        self.items.note()
+    }
+
+    /// Adds what a witness knows of this page to what a note knows. Afterwards the note's history has both histories as prefixes.
+    ///
+    /// A witness comes of another thread's slot or note: so a thread that received it concludes what happened before.
+    pub fn tell(&self, note: &mut PageNote<T>, other: Witness<T>)
+        requires note { note_page note.old ≡ page_identity self.now }
+        requires other { witness_page other ≡ page_identity self.now }
+        ensures { HasLearned note.old other note.new }
+    {
+        self.items.tell(note, other);
+    }
+
+    /// Clears the bits that were set in the word, lowest first, until one was still set.
+    fn take_lowest<'s, 'p>(
+        &'s self,
+        pass: &'p PullPass,
+        word: u32,
+        mut seat: UserSeat<T>,
+    ) -> Taken<'s, 'p, T, K>
+        requires page { seat.table_id ≡ page_identity self.now }
+        requires carries_none { seat.me.1 ≡ [] }
+        requires holds_none { seat.me.0.held ≡ None }
+        requires here { seat.me.0.gone ≡ false }
+        requires sound { IsSound seat.me.0 }
+        requires found { (id : ℕ) → id < PAGE_ITEMS → bit_at word id ≡ 0
+            → KnowsOut seat.me.0 (item_of 0 id) }
+        ensures answer { IsAnswerFrom K.meets (page_identity self.now) seat.me.0 result.answer }
+        ensures loads { (answer_view result.answer).loads ≡ seat.me.0.loads }
+        ensures tries { (answer_view result.answer).tries ≤ seat.me.0.tries + PAGE_ITEMS }
+    {
+        match self.items.take_lowest(&mut seat, 0, word) {
+            Some(taken) => {
+                let id = TakenId {
+                    page: self,
+                    holding: Holding {
+                        seat,
+                        number: taken.number,
+                    },
+                };
+                Taken {
+                    answer: Allocated::Slot(PageSlot::new(id, taken.value)),
+                    left_full: taken.left_full,
+                }
+            }
+            None => Taken {
+                answer: Allocated::Full(FullSeen { seat, pass }),
+                left_full: true,
+            },
+        }
+    }
+
+    /// The value goes home, and the slot's id is free again. The note knows the page's history up to the return.
+    pub fn free(slot: PageSlot<'_, T, K>) -> PageNote<T>
+        requires { K.meets (slot_item slot).value }
+        ensures { IsReturned (slot_item slot.entry) result }
+    {
+        let (taken, value) = slot.into_parts();
+        taken.free(value).note
+    }
+
+    /// The value of an item that is out goes home, and its id is free again.
+    pub fn give(&self, holding: Holding<T>, value: T) -> Returned<T>
+        requires of_page { holding_page holding ≡ page_identity self.now }
+        requires in_page { holding.number < PAGE_ITEMS }
+        requires meets { K.meets value }
+        ensures { IsReturned (held_item holding value) result.note }
+    {
+        let (seat, was_full) = self.items.give(holding, value);
+        Returned {
+            note: PageNote { seat },
+            was_full,
+        }
+    }
+
+    /// Whether no item was free at this moment.
+    pub fn is_full(&self) -> bool {
+        is_none_free(self.get_mask())
+    }
+
+    /// The word at this moment.
+    pub fn get_mask(&self) -> u32 {
+        self.items.look(0).0
+    }
+}

@@ -1,0 +1,161 @@
+//! The items of a page, or of a fixed pool: words with a bit for each item, and a place for each item's value.
+ghost use Rattle.std.specs.Prelude.{◌≡◌, ◌+◌, ◌*◌, ◌/◌, ◌^◌, ◌<◌, ◌≤◌, ℕ, [], None, Some, IfOk, IfErr, MatchOption, false};
+ghost use Rattle.std.specs.Int.{bit_at};
+
+use super::rule::{PageRule, Tells, Witnesses};
+use super::user_view::{UserSeat, UserView};
+use super::{PAGE_ITEMS, PageNote, Witness, take_least};
+use crate::PullError;
+use crate::clean::Clean;
+use atomic_table::Table;
+use std::alloc::Global;
+use std::snapshot::Snapshot;
+
+/// An item that was taken out of its place.
+#[derive(Drop)]
+pub struct TakenValue<T> {
+    pub number: usize,
+    pub value: T,
+    /// Whether no item of its word was free behind the step that took it. It decides nothing.
+    pub left_full: bool,
+}
+
+/// Items that threads share, 32 to a word. A page has one word, a fixed pool as many as its items need.
+#[derive(Drop)]
+pub struct Items<T, K: Clean<T>> {
+    pub(super) table: Table<Option<T>, UserView<T>, Snapshot<Vec<Option<T>>>, PageRule<K>, Global>,
+    ghost some_item: { 1 ≤ table.shared.table_id.slots },
+    ghost covered: { table.shared.table_id.words ≡ (table.shared.table_id.slots + 31) / 32 },
+    ghost small: { table.shared.table_id.slots + 31 < 2 ^ 64 },
+}
+
+impl<T, K: Clean<T>> Items<T, K> {
+    ghost use Rattle.pool_parts.specs.Answers.{MayMake};
+    ghost use Rattle.pool_parts.specs.Taking.{MissesAll, TakesOne};
+    ghost use Rattle.pool_parts.specs.Items.{items_identity, items_opening, IsFilled};
+    ghost use Rattle.pool_parts.specs.Note.{note_page, witness_page, witness_history, IsNoteOf, HasLearned};
+    ghost use Rattle.pool_parts.specs.PageRule.{KnowsOut, IsSound, item_of};
+    ghost use Rattle.pool_parts.specs.Refusal.{RefusesMaking};
+    ghost use Rattle.pool_parts.specs.Word.{IsAllFree};
+
+    /// So many free items, as the words say: item `i` is the answer of call `i` of `init`, counted from 0.
+    ///
+    /// It stops at the first `None`. Where it is refused, the items that were made are dropped.
+    pub fn new<I: Fn() -> Option<T>>(
+        alloc: Global,
+        count: usize,
+        words: &[u64],
+        init: &I,
+    ) -> Result<Items<T, K>, PullError>
+    where
+        T: Drop,
+        requires some_item { 1 ≤ count }
+        requires small { count + 31 < 2 ^ 64 }
+        requires all_free { IsAllFree count words.now }
+        requires may_make { MayMake I.pre I.post K.meets init.now }
+        ensures refused { IfErr result (RefusesMaking (I.post init.now None)) }
+        ensures count { IfOk result (λ items. (items_identity items).slots ≡ count) }
+        ensures opened { IfOk result
+            (λ items. IsFilled count (λ made. I.post init.now (Some made)) (items_opening items)) }
+    {
+        let items = Items::<T, K>::make_items(alloc, count, init)?;
+        let opening = Snapshot::of(&items);
+        match Table::new(alloc, words, items, &opening) {
+            Ok((table, _)) => Ok(Items { table }),
+            Err(_) => Err(PullError::Memory),
+        }
+    }
+
+    fn make_items<I: Fn() -> Option<T>>(
+        alloc: Global,
+        count: usize,
+        init: &I,
+    ) -> Result<Vec<Option<T>>, PullError>
+    where
+        T: Drop,
+        requires { MayMake I.pre I.post K.meets init.now }
+        ensures all { IfOk result (λ items. IsFilled count K.meets items.items) }
+        ensures answers { IfOk result
+            (λ items. IsFilled count (λ made. I.post init.now (Some made)) items.items) }
+        ensures refused { IfErr result (RefusesMaking (I.post init.now None)) }
+    {
+        let mut items = Vec::with_capacity(alloc, count)?;
+        for _ in 0..count {
+            let Some(item) = init() else {
+                return Err(PullError::Init);
+            };
+            items.push(Some(item))?;
+        }
+        Ok(items)
+    }
+
+    /// A note, which knows the history up to now.
+    pub fn note(&self) -> PageNote<T>
+        ensures { IsNoteOf (items_identity self.now) (items_opening self.now) result }
+    {
+        PageNote {
+            seat: self.look(0).1,
+        }
+    }
+
+    /// Tells a note what a witness knows. The histories of both are prefixes of one.
+    pub fn tell(&self, note: &mut PageNote<T>, other: Witness<T>)
+        requires note { note_page note.old ≡ items_identity self.now }
+        requires other { witness_page other ≡ items_identity self.now }
+        ensures { HasLearned note.old other note.new }
+    {
+        let Witness { seat: other } = other;
+        self.table.shared.join_seat::<Tells>(&mut note.seat, other);
+        self.look_again(&mut note.seat, 0);
+    }
+
+    /// A witness of what a user knows.
+    pub fn witness(&self, seat: &mut UserSeat<T>) -> Witness<T>
+        requires { seat.old.table_id ≡ items_identity self.now }
+        ensures items { witness_page result ≡ items_identity self.now }
+        ensures history { witness_history result ≡ seat.old.me.0.operations }
+        ensures same_items { seat.new.table_id ≡ seat.old.table_id }
+        ensures same_user { seat.new.me ≡ seat.old.me }
+    {
+        Witness {
+            seat: self.table.shared.split_seat::<Witnesses>(seat),
+        }
+    }
+
+    /// Clears the bits that were set in a word, lowest first, until one was still set.
+    pub fn take_lowest(
+        &self,
+        seat: &mut UserSeat<T>,
+        page: usize,
+        word: u32,
+    ) -> Option<TakenValue<T>>
+        requires items { seat.old.table_id ≡ items_identity self.now }
+        requires in_items { page < (items_identity self.now).words }
+        requires carries_none { seat.old.me.1 ≡ [] }
+        requires holds_none { seat.old.me.0.held ≡ None }
+        requires here { seat.old.me.0.gone ≡ false }
+        requires sound { IsSound seat.old.me.0 }
+        requires found { (bit : ℕ) → bit < 32 → bit_at word bit ≡ 0
+            → KnowsOut seat.old.me.0 (item_of page bit) }
+        ensures items { seat.new.table_id ≡ seat.old.table_id }
+        ensures steps { (seat.new.me.0.loads ≡ seat.old.me.0.loads)
+            × (seat.new.me.0.tries ≤ seat.old.me.0.tries + 32) }
+        ensures outcome { MatchOption result
+            (MissesAll (32 * page) (32 * page + 32) seat.old.me seat.new.me) (λ taken.
+            TakesOne K.meets (items_identity self.now).slots taken.number taken.value seat.old.me
+            seat.new.me) }
+    {
+        let mut untried = word;
+        while let Some((rest, bit)) = take_least(untried) {
+            if let Some((value, left_full)) = self.clear(seat, page, bit) {
+                return Some(TakenValue {
+                    number: PAGE_ITEMS * page + bit as usize,
+                    value,
+                    left_full,
+                });
+            }
+            untried = rest;
+        }
+        None
+    }
+}

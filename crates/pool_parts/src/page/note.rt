@@ -1,0 +1,45 @@
+//! What somebody knows of a page's history while no item is held: a note, which may pull on from there, and a witness.
+ghost use Rattle.std.specs.Prelude.{◌≡◌, [], None, false};
+ghost use Rattle.pool_parts.specs.OneProof.{same_holding, same_carrying};
+
+use super::user_view::UserSeat;
+
+/// What some user knew of a page's history, for another to be told by [`Page::tell`]. It has no bytes.
+#[derive(Drop)]
+pub struct Witness<T> {
+    pub seat: UserSeat<T>,
+    ghost carries_none: { seat.me.1 ≡ [] } by { same_carrying T.code _ _ },
+}
+
+/// What a user that holds nothing knows of a page's history. It has no bytes.
+///
+/// [`Page::try_alloc_from`] pulls after all that it knows.
+#[derive(Drop)]
+pub struct PageNote<T> {
+    pub seat: UserSeat<T>,
+    ghost here: { seat.me.0.gone ≡ false },
+    ghost holds_none: { seat.me.0.held ≡ None } by { same_holding _ _ },
+    ghost carries_none: { seat.me.1 ≡ [] } by { same_carrying T.code _ _ },
+}
+
+/// How an item came back.
+#[derive(Drop)]
+pub struct Returned<T> {
+    /// What the user that had it knows.
+    pub note: PageNote<T>,
+    /// Whether no item of its page was free before.
+    pub was_full: bool,
+}
+
+impl<T> PageNote<T> {
+    ghost use Rattle.pool_parts.specs.Note.{note_page, note_history, witness_page, witness_history};
+
+    /// What the note knows, for another to be told.
+    pub fn into_witness(self) -> Witness<T>
+        ensures page { witness_page result ≡ note_page self }
+        ensures history { witness_history result ≡ note_history self }
+    {
+        let PageNote { seat } = self;
+        Witness { seat }
+    }
+}

@@ -1,0 +1,152 @@
+//! A slot: an item that is out of its page.
+ghost use Rattle.std.specs.Prelude.{◌≡◌, ◌<◌};
+ghost use Rattle.std.specs.Arc.{arc_value};
+ghost use Rattle.pool_parts.specs.OneProof.{same_page};
+ghost use Rattle.pool_parts.specs.Holding.{holding_page};
+ghost use Rattle.pool_parts.specs.Page.{page_identity};
+ghost use Rattle.pool_parts.specs.declared.page.TheConstants.{PAGE_ITEMS};
+
+use super::holding::Holding;
+use super::owned_slot::OwnedTakenId;
+use super::{OwnedSlot, Page, PageId, Returned, Witness};
+use crate::clean::Clean;
+use crate::lender::Lender;
+use std::ops::{Deref, DerefMut};
+use std::sync::Arc;
+
+/// An id that was taken from a page, without its value.
+#[derive(Drop)]
+pub struct TakenId<'s, T, K: Clean<T>> {
+    pub(super) page: &'s Page<T, K>,
+    pub(super) holding: Holding<T>,
+    ghost of_page: { holding_page holding ≡ page_identity page.now } by { same_page _ _ },
+    ghost in_page: { holding.number < PAGE_ITEMS },
+}
+
+impl<'s, T, K: Clean<T>> TakenId<'s, T, K> {
+    ghost use Rattle.pool_parts.specs.Slot.{taken_id, taken_item};
+    ghost use Rattle.pool_parts.specs.Note.{IsReturned};
+
+    pub fn id(&self) -> PageId
+        ensures value { result ≡ taken_id self.now }
+        ensures in_page { result < PAGE_ITEMS }
+    {
+        self.holding.number as PageId
+    }
+
+    /// The value goes home, and the id is free again.
+    pub fn free(self, value: T) -> Returned<T>
+        requires { K.meets value }
+        ensures { IsReturned (taken_item self.entry value) result.note }
+    {
+        let TakenId { page, holding } = self;
+        page.give(holding, value)
+    }
+}
+
+/// An item that is out of a page, with its value.
+///
+/// A slot that is dropped drops its value, and its id stays out. [`Page::free`] brings both back.
+#[derive(Drop)]
+pub struct PageSlot<'s, T, K: Clean<T>> {
+    lender: Lender,
+    taken: TakenId<'s, T, K>,
+    value: T,
+}
+
+impl<'s, T, K: Clean<T>> PageSlot<'s, T, K> {
+    ghost use Rattle.pool_parts.specs.Holding.{held_item};
+    ghost use Rattle.pool_parts.specs.Note.{witness_page, witness_history};
+    ghost use Rattle.pool_parts.specs.OwnedSlot.{owned_slot_item};
+    ghost use Rattle.pool_parts.specs.Slot.{slot_item, slot_view, taken_item, taken_view};
+
+    pub(super) fn new(taken: TakenId<'s, T, K>, value: T) -> PageSlot<'s, T, K>
+        ensures item { slot_item result ≡ taken_item taken.entry value }
+        ensures view { slot_view result ≡ taken_view taken.entry }
+    {
+        PageSlot {
+            lender: Lender,
+            taken,
+            value,
+        }
+    }
+
+    /// The number of the item in its page.
+    pub fn id(&self) -> PageId
+        ensures value { result ≡ (slot_item self.now).id }
+        ensures in_page { result < PAGE_ITEMS }
+    {
+        self.taken.id()
+    }
+
+    /// What the holder knows of the page, for another to be told. It costs one load.
+    pub fn witness(&mut self) -> Witness<T>
+        ensures page { witness_page result ≡ (slot_item self.old).page }
+        ensures history { witness_history result ≡ (slot_item self.old).history }
+        ensures same_item { slot_item self.new ≡ slot_item self.old }
+    {
+        let taken = &mut self.taken;
+        let page = taken.page;
+        taken.holding.witness(&page.items)
+    }
+
+    /// The id and the value by themselves.
+    pub fn into_parts(self) -> (TakenId<'s, T, K>, T)
+        ensures { taken_item result.0 result.1 ≡ slot_item self.entry }
+    {
+        let PageSlot {
+            lender: _,
+            taken,
+            value,
+        } = self;
+        (taken, value)
+    }
+
+    /// What the holder has, and the value, without the borrow of the page.
+    pub fn into_holding(self) -> (Holding<T>, T)
+        ensures item { held_item result.0 result.1 ≡ slot_item self.entry }
+        ensures in_page { result.0.number < PAGE_ITEMS }
+    {
+        let (TakenId { page: _, holding }, value) = self.into_parts();
+        (holding, value)
+    }
+
+    /// The same item, with an owner of the page in place of the borrow.
+    pub fn into_owned(self, page: Arc<Page<T, K>>) -> OwnedSlot<T, K>
+        requires { (slot_item self).page ≡ page_identity (arc_value page) }
+        ensures { owned_slot_item result ≡ slot_item self.entry }
+    {
+        let (TakenId { page: _, holding }, value) = self.into_parts();
+        OwnedSlot {
+            taken: OwnedTakenId { page, holding },
+            value,
+        }
+    }
+}
+
+impl<T, K: Clean<T>> Deref for PageSlot<'_, T, K> {
+    type Target = T;
+
+    ghost use Rattle.pool_parts.specs.Slot.{slot_item};
+
+    ghost deref_gives = { λ slot value. value ≡ (slot_item slot).value };
+
+    fn deref(&self) -> &T {
+        &self.value
+    }
+}
+
+impl<T, K: Clean<T>> DerefMut for PageSlot<'_, T, K> {
+    ghost use Rattle.std.specs.Borrow.{sem};
+    ghost use Rattle.pool_parts.specs.Lends.{LendsSlotValue};
+    ghost use Rattle.pool_parts.specs.Slot.{slot_item};
+
+    ghost deref_mut_gives = { λ slot value. value ≡ (slot_item slot).value };
+
+    fn deref_mut(&mut self) -> &mut T
+        ensures* writes_back { sem 𝓛 (LendsSlotValue T.row K.row K.Clean self.entry result) }
+        ensures shows { result.now ≡ (slot_item self.old).value }
+    {
+        &mut self.value
+    }
+}

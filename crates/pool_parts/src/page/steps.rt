@@ -1,0 +1,103 @@
+//! The steps on the words of a page or of a fixed pool, and the move of a value out and home.
+ghost use Rattle.std.specs.Prelude.{◌≡◌, ◌<◌, [], ◌∷◌, Some, None, MatchOption, false};
+ghost use Rattle.pool_parts.specs.declared.page.history.Operation.TheVariants.{Return};
+
+use super::holding::Holding;
+use super::items::Items;
+use super::rule::{ClearBit, Look, LookAgain, LookOn, SetBit};
+use super::user_view::UserSeat;
+use super::{PAGE_ITEMS, PageId, has_bit, with_bit, without_bit};
+use crate::clean::Clean;
+
+impl<T, K: Clean<T>> Items<T, K> {
+    ghost use Rattle.pool_parts.specs.Holding.{holding_page, holding_view};
+    ghost use Rattle.pool_parts.specs.Items.{items_identity, items_opening};
+    ghost use Rattle.pool_parts.specs.PageRule.{Loads, LoadsAgain, LoadsOn, Misses, MovesOut, GoesOn, first_view, item_of};
+
+    /// A word at this moment, and a new user that knows of the items that are out in it.
+    pub fn look(&self, page: usize) -> (u32, UserSeat<T>)
+        requires { page < (items_identity self.now).words }
+        ensures items { result.1.table_id ≡ items_identity self.now }
+        ensures found { Loads (first_view (items_opening self.now)) page result.0 result.1.me }
+        ensures carries_none { result.1.me.1 ≡ [] }
+    {
+        let (word, seat) = self.table.shared.load_new_seat::<Look>(page);
+        (word as u32, seat)
+    }
+
+    /// A further word at this moment, for the same user.
+    pub fn look_on(&self, seat: &mut UserSeat<T>, page: usize) -> u32
+        requires items { seat.old.table_id ≡ items_identity self.now }
+        requires in_items { page < (items_identity self.now).words }
+        requires here { seat.old.me.0.gone ≡ false }
+        ensures items { seat.new.table_id ≡ seat.old.table_id }
+        ensures found { LoadsOn page seat.old.me result seat.new.me }
+    {
+        self.table.shared.load::<LookOn>(seat, page) as u32
+    }
+
+    /// A word at this moment, for a user that knows something of the items already.
+    pub fn look_again(&self, seat: &mut UserSeat<T>, page: usize) -> u32
+        requires items { seat.old.table_id ≡ items_identity self.now }
+        requires in_items { page < (items_identity self.now).words }
+        requires here { seat.old.me.0.gone ≡ false }
+        ensures items { seat.new.table_id ≡ seat.old.table_id }
+        ensures found { LoadsAgain page seat.old.me result seat.new.me }
+    {
+        self.table.shared.load::<LookAgain>(seat, page) as u32
+    }
+
+    /// Clears one bit. The value of that item, where it was free, and whether no other bit of its word was set then.
+    pub(super) fn clear(
+        &self,
+        seat: &mut UserSeat<T>,
+        page: usize,
+        bit: PageId,
+    ) -> Option<(T, bool)>
+        requires items { seat.old.table_id ≡ items_identity self.now }
+        requires in_items { page < (items_identity self.now).words }
+        requires in_word { bit < 32 }
+        requires holds_none { seat.old.me.0.held ≡ None }
+        requires here { seat.old.me.0.gone ≡ false }
+        ensures items { seat.new.table_id ≡ seat.old.table_id }
+        ensures outcome { MatchOption result (Misses (item_of page bit) seat.old.me seat.new.me)
+            (λ taken. (item_of page bit < (items_identity self.now).slots) × K.meets taken.0
+            × MovesOut (item_of page bit) taken.0 seat.old.me seat.new.me) }
+    {
+        let words = &self.table.shared;
+        let word = words.fetch_and::<ClearBit<K>>(seat, page, without_bit(u32::MAX, bit) as u64);
+        if !has_bit(word as u32, bit) {
+            return None;
+        }
+        match words.exchange(seat, PAGE_ITEMS * page + bit as usize, None) {
+            Some(value) => Some((value, without_bit(word as u32, bit) == 0)),
+            None => unreachable!(),
+        }
+    }
+
+    /// Moves the value home, then sets its bit. Whether no other bit of its word was set then.
+    ///
+    /// The bit of an item that is out is clear, so to add it sets it: an addition that answers the old word is one locked
+    /// instruction, where an or that does is a loop.
+    pub fn give(&self, holding: Holding<T>, value: T) -> (UserSeat<T>, bool)
+        requires items { holding_page holding ≡ items_identity self.now }
+        requires in_items { holding.number < (items_identity self.now).slots }
+        requires meets { K.meets value }
+        ensures items { result.0.table_id ≡ holding_page holding }
+        ensures carries_none { result.0.me.1 ≡ [] }
+        ensures holds_none { result.0.me.0.held ≡ None }
+        ensures here { result.0.me.0.gone ≡ false }
+        ensures returned { GoesOn (Return result.0.me.0.user holding.number value ∷ [])
+            (holding_view holding) result.0.me.0 }
+    {
+        let words = &self.table.shared;
+        let Holding { mut seat, number } = holding;
+        match words.exchange(&mut seat, number, Some(value)) {
+            None => {}
+            Some(_) => unreachable!(),
+        }
+        let bit = with_bit(0, (number % PAGE_ITEMS) as PageId);
+        let word = words.fetch_add::<SetBit>(&mut seat, number / PAGE_ITEMS, bit as u64);
+        (seat, word == 0)
+    }
+}

@@ -1,0 +1,126 @@
+//! The locked state of a stack pool: the values that are kept, last returned first.
+//!
+//! Each value lies in a boxed place that came with it, so that keeping a value takes no memory.
+ghost use Rattle.std.specs.Prelude.{◌≡◌, [], length, min, IfErr, IfSome, MatchOption};
+ghost use Rattle.pool_parts.specs.declared.pull_error.PullError.TheVariants.{Memory};
+ghost use Rattle.pool_parts.specs.LastIn.{PutsInFront, StaysEmpty, TakesFirst};
+
+use crate::clean::Clean;
+use crate::pull_error::PullError;
+use crate::stack::node::Node;
+use atomic_table::Badge;
+use std::alloc::Global;
+use std::marker::{Model, PhantomData};
+use std::sync::Mutex;
+
+mod node;
+
+/// An empty boxed place for one value.
+#[derive(Drop)]
+pub struct Room<T> {
+    place: Box<Node<T>>,
+}
+
+impl<T> Model for Room<T> {
+    ghost use Rattle.std.specs.Prelude.{⊤, box_value};
+    ghost use Rattle.pool_parts.specs.Kept.{IsVacant};
+
+    ghost Value = { ⊤ };
+
+    ghost view = { λ _. tt };
+
+    ghost invariant = { λ room. IsVacant (box_value room.place) };
+}
+
+impl<T: Drop> Room<T> {
+    /// An empty place.
+    ///
+    /// # Errors
+    ///
+    /// `Memory`.
+    pub fn new(alloc: Global) -> Result<Room<T>, PullError>
+        ensures refused { IfErr result (λ error. error ≡ Memory) }
+    {
+        let place = Box::new(
+            alloc,
+            Node {
+                value: None,
+                next: None,
+            },
+        )?;
+        Ok(Room { place })
+    }
+}
+
+/// A list of kept values, last returned first, each of which meets `K`. The marker may be sent and shared whatever `K` is.
+pub struct Stack<T, K: Clean<T>> {
+    head: Option<Box<Node<T>>>,
+    marker: PhantomData<Mutex<Badge<K>>>,
+}
+
+impl<T, K: Clean<T>> Model for Stack<T, K> {
+    ghost use Rattle.std.specs.Prelude.{List, All};
+    ghost use Rattle.pool_parts.specs.Kept.{kept_values, IsFullChain};
+
+    ghost Value = { List T };
+
+    ghost view = { λ stack. kept_values stack.head };
+
+    ghost invariant = { λ stack. IsFullChain stack.head × All K.meets (kept_values stack.head) };
+}
+
+impl<T: Drop, K: Clean<T>> Stack<T, K> {
+    /// A stack that keeps nothing.
+    pub fn new() -> Stack<T, K>
+        ensures { result ≡ [] }
+    {
+        Stack {
+            head: None,
+            marker: PhantomData,
+        }
+    }
+
+    /// The last value that was put, with its room.
+    pub fn take(&mut self) -> Option<(T, Room<T>)>
+        ensures first { MatchOption result (StaysEmpty self.old self.new)
+            (λ taken. TakesFirst self.old taken.0 self.new) }
+        ensures clean { IfSome result (λ taken. K.meets taken.0) }
+    {
+        let mut place = self.head.take()?;
+        self.head = place.next.take();
+        match place.value.take() {
+            Some(value) => Some((value, Room { place })),
+            None => unreachable!(),
+        }
+    }
+
+    /// Keeps a value in an empty room.
+    pub fn put(&mut self, room: Room<T>, value: T)
+        requires { K.meets value }
+        ensures { PutsInFront self.old value self.new }
+    {
+        let Room { mut place } = room;
+        place.value = Some(value);
+        place.next = self.head.take();
+        self.head = Some(place);
+    }
+
+    /// How many values are kept, `usize::MAX` where there are more.
+    pub fn kept(&self) -> usize
+        ensures { result ≡ min (length self.now) usize.MAX }
+    {
+        let mut count = 0usize;
+        let mut next = &self.head;
+        while let Some(place) = next {
+            count = count.saturating_add(1);
+            next = &place.next;
+        }
+        count
+    }
+}
+
+impl<T: Drop, K: Clean<T>> Drop for Stack<T, K> {
+    fn drop(self) {
+        let Stack { head: _, marker: _ } = self;
+    }
+}
