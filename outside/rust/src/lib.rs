@@ -30,12 +30,13 @@
 #![deny(unsafe_op_in_unsafe_fn)]
 
 mod cells;
-mod guards;
+mod guard;
 mod handle;
 mod lanes;
 mod pool;
 pub mod sys;
+mod threads;
 
-pub use guards::{OwnedReusable, Reusable};
+pub use guard::Guard;
 pub use handle::NewError;
-pub use pool::Pool;
+pub use pool::{OwnedReusable, Pool, Reset, Reusable};

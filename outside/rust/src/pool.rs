@@ -1,23 +1,33 @@
 //! The pool.
 use crate::cells::Cells;
-use crate::guards::{Held, OwnedReusable, Reusable};
-use crate::handle::{Handle, NewError};
+use crate::guard::Guard;
+use crate::handle::{Handle, NewError, PAGE};
 use crate::lanes::Lanes;
 use std::fmt::{self, Debug, Formatter};
 use std::sync::Arc;
 
+/// A reset of any closure.
+pub type Reset<T> = Box<dyn Fn(&mut T) + Send + Sync>;
+
+/// An item that was pulled under a borrow of its pool.
+pub type Reusable<'p, T, R = Reset<T>> = Guard<T, R, &'p Pool<T, R>>;
+
+/// An item that was pulled with an owner of its pool.
+pub type OwnedReusable<T, R = Reset<T>> = Guard<T, R, Arc<Pool<T, R>>>;
+
 /// A pool of a fixed number of items, all made at first.
 ///
-/// A pull waits for no other pull: it is answered by an item that was free, or by `None`. A thread mostly finds the handle that it
-/// used last in a slot of its own, without a lock. Further ones lie under short locks, of which a thread tries its own first.
-pub struct Pool<T> {
-    cells: Cells<T>,
-    lanes: Lanes,
-    reset: Box<dyn Fn(&mut T) + Send + Sync>,
+/// A pull waits for no other pull: it is answered by an item that was free, or by `None`. A thread has handles of its own, which it
+/// takes and keeps by plain reads and writes; where these are too few or too many, it moves some under a short lock. So do threads that
+/// come while 64 others have numbers, at each pull and return.
+pub struct Pool<T, R = Reset<T>> {
+    pub(crate) cells: Cells<T>,
+    pub(crate) lanes: Lanes,
+    pub(crate) reset: R,
 }
 
 impl<T> Pool<T> {
-    /// A pool of so many items, each made by `init`. `reset` is called on each item as it comes back.
+    /// Creates a pool of so many items, each made by `init`. `reset` is called on each item as it comes back.
     ///
     /// # Errors
     ///
@@ -27,20 +37,35 @@ impl<T> Pool<T> {
         init: impl FnMut() -> T,
         reset: impl Fn(&mut T) + Send + Sync + 'static,
     ) -> Result<Pool<T>, NewError> {
-        let first = Handle::first(items)?;
+        Pool::with_reset(items, init, Box::new(reset))
+    }
+}
+
+impl<T, R: Fn(&mut T)> Pool<T, R> {
+    /// As [`new`](Pool::new), with a reset that the pool's type names: it is called directly.
+    ///
+    /// ```
+    /// # use kundratu_pool::Pool;
+    /// let pool = Pool::with_reset(8, String::new, String::clear)?;
+    /// pool.pull().expect("none is held").push('a');
+    /// assert!(pool.pull().expect("it came back").is_empty());
+    /// # Ok::<(), kundratu_pool::NewError>(())
+    /// ```
+    pub fn with_reset(
+        items: usize,
+        mut init: impl FnMut() -> T,
+        reset: R,
+    ) -> Result<Pool<T, R>, NewError> {
+        let lanes = Lanes::new(Handle::first(items)?, items.div_ceil(PAGE));
+        let cells = Cells::new((0..items).map(|_| init()));
         Ok(Pool {
-            cells: Cells::new(items, init),
-            lanes: Lanes::new(first),
-            reset: Box::new(reset),
+            cells: cells.ok_or(NewError::Memory)?,
+            lanes: lanes.ok_or(NewError::Memory)?,
+            reset,
         })
     }
 
-    /// How many items the pool has.
-    pub fn items(&self) -> usize {
-        self.cells.count()
-    }
-
-    /// An item that was free, or `None` where each was out at some time of the call, or memory for one more guard is refused.
+    /// Returns an item that was free, or `None` where each was out at some time of the call, or memory for one more guard is refused.
     ///
     /// Memory is asked for only where more items are out than ever before.
     ///
@@ -52,43 +77,27 @@ impl<T> Pool<T> {
     /// assert!(pool.pull().is_none());
     /// # Ok::<(), kundratu_pool::NewError>(())
     /// ```
-    pub fn pull(&self) -> Option<Reusable<'_, T>> {
-        Held::pull(self).map(Reusable::new)
+    #[inline(always)]
+    pub fn pull(&self) -> Option<Reusable<'_, T, R>> {
+        Some(Guard::new(self, self.lanes.pull()?))
     }
 
     /// As [`pull`](Pool::pull), with a guard that keeps the pool.
-    pub fn pull_owned(self: &Arc<Self>) -> Option<OwnedReusable<T>> {
-        Held::pull(Arc::clone(self)).map(OwnedReusable::new)
-    }
-
-    pub(crate) fn cells(&self) -> &Cells<T> {
-        &self.cells
-    }
-
-    /// A handle that holds a place, with the place.
-    pub(crate) fn take(&self) -> Option<(Handle, usize)> {
-        let mut handle = self.lanes.take()?;
-        match handle.pull() {
-            Some(place) => Some((handle, place)),
-            None => {
-                self.lanes.keep(handle);
-                None
-            }
-        }
-    }
-
-    /// Returns the place of a handle.
-    pub(crate) fn give_back(&self, mut handle: Handle) {
-        handle.give_back();
-        self.lanes.keep(handle);
-    }
-
-    pub(crate) fn reset(&self, item: &mut T) {
-        (self.reset)(item);
+    #[inline(always)]
+    pub fn pull_owned(self: &Arc<Self>) -> Option<OwnedReusable<T, R>> {
+        let out = self.lanes.pull()?;
+        Some(Guard::new(Arc::clone(self), out))
     }
 }
 
-impl<T> Debug for Pool<T> {
+impl<T, R> Pool<T, R> {
+    /// Returns the number of items.
+    pub fn items(&self) -> usize {
+        self.cells.count()
+    }
+}
+
+impl<T, R> Debug for Pool<T, R> {
     fn fmt(&self, f: &mut Formatter<'_>) -> fmt::Result {
         f.debug_struct("Pool")
             .field("items", &self.items())
