@@ -32,10 +32,23 @@ struct Lane {
     idle: [Option<Handle>; 2 * SOME - 1],
 }
 
-/// The idle handles of no thread, and the first handle, of which further ones are made.
+/// The idle handles of no thread, with room for all, and the first handle, of which these are made.
 struct Shared {
     first: Handle,
+    made: usize,
     idle: Vec<Handle>,
+}
+
+impl Shared {
+    /// An idle handle, or a new one.
+    fn take(&mut self) -> Option<Handle> {
+        self.idle.pop().or_else(|| {
+            self.idle.try_reserve(self.made + 1).ok()?;
+            let handle = self.first.share()?;
+            self.made += 1;
+            Some(handle)
+        })
+    }
 }
 
 /// A pool's handles that hold no place.
@@ -56,8 +69,8 @@ impl Lanes {
             idle: from_fn(|_| None),
         };
         let lanes = Cells::new((0..threads::NUMBERS).map(lane))?;
-        let idle = Vec::new();
-        let shared = Mutex::new(Shared { first, idle });
+        let (made, idle) = (0, Vec::new());
+        let shared = Mutex::new(Shared { first, made, idle });
         Some(Lanes { lanes, shared })
     }
 
@@ -91,7 +104,7 @@ impl Lanes {
     fn further(&self) -> Option<Handle> {
         self.own(Lane::take).flatten().or_else(|| {
             let shared = &mut *self.shared();
-            let handle = shared.idle.pop().or_else(|| shared.first.share());
+            let handle = shared.take();
             self.own(|lane| lane.idle[1..=SOME].fill_with(|| shared.idle.pop()));
             handle
         })
