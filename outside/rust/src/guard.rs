@@ -1,9 +1,25 @@
 //! An item that is out, which goes back at the end of its scope.
 use crate::handle::Out;
-use crate::pool::Pool;
+use crate::store::Store;
 use std::fmt::{self, Debug, Formatter};
 use std::marker::PhantomData;
 use std::ops::{Deref, DerefMut};
+
+/// A pool whose items lie in one store or in several.
+pub trait Source {
+    /// The items.
+    type Item;
+    /// Which store.
+    type Part: Copy;
+
+    /// A store from which an item was pulled.
+    #[doc(hidden)]
+    fn store(&self, part: Self::Part) -> &Store<Self::Item>;
+
+    /// Resets an item that comes back.
+    #[doc(hidden)]
+    fn reset(&self, item: &mut Self::Item);
+}
 
 /// An item that is out, of a pool that is held by a borrow or by an owner. Its end resets the item and brings it back.
 ///
@@ -15,60 +31,67 @@ use std::ops::{Deref, DerefMut};
 /// fn is_shared<S: Sync>() {}
 /// is_shared::<Reusable<'static, Cell<u32>>>();
 /// ```
-pub struct Guard<T, R: Fn(&mut T), P: Deref<Target = Pool<T, R>>> {
+pub struct Guard<P: Deref<Target: Source>> {
     pool: P,
+    part: <P::Target as Source>::Part,
     /// It is taken at the guard's end, and nowhere else.
     out: Option<Out>,
-    shared_as: PhantomData<T>,
+    shared_as: PhantomData<<P::Target as Source>::Item>,
 }
 
-impl<T, R: Fn(&mut T), P: Deref<Target = Pool<T, R>>> Guard<T, R, P> {
-    /// Of an item of this pool that is out.
+const HELD: &str = "an item is out until its guard ends";
+
+impl<P: Deref<Target: Source>> Guard<P> {
+    /// Of an item of this store of the pool that is out.
     #[inline(always)]
-    pub(crate) fn new(pool: P, out: Out) -> Self {
+    pub(crate) fn new(pool: P, part: <P::Target as Source>::Part, out: Out) -> Self {
         Guard {
             pool,
+            part,
             out: Some(out),
             shared_as: PhantomData,
         }
     }
 
-    /// Returns the item's number in its pool, counted from 0.
-    pub fn number(&self) -> usize {
+    pub(crate) fn place(&self) -> usize {
         self.out.as_ref().expect(HELD).place
     }
 }
 
-const HELD: &str = "an item is out until its guard ends";
-
-impl<T, R: Fn(&mut T), P: Deref<Target = Pool<T, R>>> Deref for Guard<T, R, P> {
-    type Target = T;
+impl<P: Deref<Target: Source>> Deref for Guard<P> {
+    type Target = <P::Target as Source>::Item;
 
     #[inline(always)]
-    fn deref(&self) -> &T {
-        self.pool.cells.item(self.out.as_ref().expect(HELD))
+    fn deref(&self) -> &Self::Target {
+        let out = self.out.as_ref().expect(HELD);
+        self.pool.store(self.part).cells.item(out)
     }
 }
 
-impl<T, R: Fn(&mut T), P: Deref<Target = Pool<T, R>>> DerefMut for Guard<T, R, P> {
+impl<P: Deref<Target: Source>> DerefMut for Guard<P> {
     #[inline(always)]
-    fn deref_mut(&mut self) -> &mut T {
-        self.pool.cells.item_mut(self.out.as_mut().expect(HELD))
+    fn deref_mut(&mut self) -> &mut Self::Target {
+        let out = self.out.as_mut().expect(HELD);
+        self.pool.store(self.part).cells.item_mut(out)
     }
 }
 
-impl<T, R: Fn(&mut T), P: Deref<Target = Pool<T, R>>> Drop for Guard<T, R, P> {
+impl<P: Deref<Target: Source>> Drop for Guard<P> {
     /// Resets the item and brings it back. Where the reset panics, the item is never pulled again.
     #[inline(always)]
     fn drop(&mut self) {
         if let Some(mut out) = self.out.take() {
-            (self.pool.reset)(self.pool.cells.item_mut(&mut out));
-            self.pool.lanes.give_back(out);
+            let store = self.pool.store(self.part);
+            self.pool.reset(store.cells.item_mut(&mut out));
+            store.lanes.give_back(out);
         }
     }
 }
 
-impl<T: Debug, R: Fn(&mut T), P: Deref<Target = Pool<T, R>>> Debug for Guard<T, R, P> {
+impl<P: Deref<Target: Source>> Debug for Guard<P>
+where
+    <P::Target as Source>::Item: Debug,
+{
     fn fmt(&self, f: &mut Formatter<'_>) -> fmt::Result {
         (**self).fmt(f)
     }

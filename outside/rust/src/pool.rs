@@ -1,19 +1,19 @@
-//! The pool.
-use crate::cells::Cells;
-use crate::guard::Guard;
-use crate::handle::{Handle, NewError, PAGE};
-use crate::lanes::Lanes;
+//! The pool of a fixed number of items.
+use crate::guard::{Guard, Source};
+use crate::handle::NewError;
+use crate::store::Store;
 use std::fmt::{self, Debug, Formatter};
+use std::ops::Deref;
 use std::sync::Arc;
 
 /// A reset of any closure.
 pub type Reset<T> = Box<dyn Fn(&mut T) + Send + Sync>;
 
 /// An item that was pulled under a borrow of its pool.
-pub type Reusable<'p, T, R = Reset<T>> = Guard<T, R, &'p Pool<T, R>>;
+pub type Reusable<'p, T, R = Reset<T>> = Guard<&'p Pool<T, R>>;
 
 /// An item that was pulled with an owner of its pool.
-pub type OwnedReusable<T, R = Reset<T>> = Guard<T, R, Arc<Pool<T, R>>>;
+pub type OwnedReusable<T, R = Reset<T>> = Guard<Arc<Pool<T, R>>>;
 
 /// A pool of a fixed number of items, all made at first.
 ///
@@ -21,9 +21,8 @@ pub type OwnedReusable<T, R = Reset<T>> = Guard<T, R, Arc<Pool<T, R>>>;
 /// takes and keeps by plain reads and writes; where these are too few or too many, it moves some under a short lock. So do threads that
 /// come while 64 others have numbers, at each pull and return.
 pub struct Pool<T, R = Reset<T>> {
-    pub(crate) cells: Cells<T>,
-    pub(crate) lanes: Lanes,
-    pub(crate) reset: R,
+    store: Store<T>,
+    reset: R,
 }
 
 impl<T> Pool<T> {
@@ -53,16 +52,11 @@ impl<T, R: Fn(&mut T)> Pool<T, R> {
     /// ```
     pub fn with_reset(
         items: usize,
-        mut init: impl FnMut() -> T,
+        init: impl FnMut() -> T,
         reset: R,
     ) -> Result<Pool<T, R>, NewError> {
-        let lanes = Lanes::new(Handle::first(items)?, items.div_ceil(PAGE));
-        let cells = Cells::new((0..items).map(|_| init()));
-        Ok(Pool {
-            cells: cells.ok_or(NewError::Memory)?,
-            lanes: lanes.ok_or(NewError::Memory)?,
-            reset,
-        })
+        let store = Store::new(items, init)?;
+        Ok(Pool { store, reset })
     }
 
     /// Returns an item that was free, or `None` where each was out at some time of the call, or memory for one more guard is refused.
@@ -79,21 +73,44 @@ impl<T, R: Fn(&mut T)> Pool<T, R> {
     /// ```
     #[inline(always)]
     pub fn pull(&self) -> Option<Reusable<'_, T, R>> {
-        Some(Guard::new(self, self.lanes.pull()?))
+        let out = self.store.lanes.pull()?;
+        Some(Guard::new(self, (), out))
     }
 
     /// As [`pull`](Pool::pull), with a guard that keeps the pool.
     #[inline(always)]
     pub fn pull_owned(self: &Arc<Self>) -> Option<OwnedReusable<T, R>> {
-        let out = self.lanes.pull()?;
-        Some(Guard::new(Arc::clone(self), out))
+        let out = self.store.lanes.pull()?;
+        Some(Guard::new(Arc::clone(self), (), out))
     }
 }
 
 impl<T, R> Pool<T, R> {
     /// Returns the number of items.
     pub fn items(&self) -> usize {
-        self.cells.count()
+        self.store.cells.count()
+    }
+}
+
+impl<T, R: Fn(&mut T)> Source for Pool<T, R> {
+    type Item = T;
+    type Part = ();
+
+    #[inline(always)]
+    fn store(&self, (): ()) -> &Store<T> {
+        &self.store
+    }
+
+    #[inline(always)]
+    fn reset(&self, item: &mut T) {
+        (self.reset)(item);
+    }
+}
+
+impl<T, R: Fn(&mut T), P: Deref<Target = Pool<T, R>>> Guard<P> {
+    /// Returns the item's number in its pool, counted from 0.
+    pub fn number(&self) -> usize {
+        self.place()
     }
 }
 
