@@ -49,3 +49,7 @@ fn first() -> usize {
     NUMBER.set(own.ok().flatten().unwrap_or(NONE));
     NUMBER.get()
 }
+
+#[cfg(test)]
+#[path = "../unit_tests/threads.rs"]
+mod tests;

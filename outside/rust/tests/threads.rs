@@ -59,9 +59,9 @@ fn two_hundred_threads_hold_different_items_at_once() {
     let pool = zeros(THREADS * 2);
     let all_hold = Barrier::new(THREADS);
     let hold = || {
-        let items = [pool.pull(), pool.pull()].map(|item| item.expect("one is free"));
+        let items = [pool.pull(), pool.pull()];
         all_hold.wait();
-        items.map(|item| item.number())
+        items.map(|item| item.expect("one is free").number())
     };
     let numbers: HashSet<usize> = thread::scope(|scope| {
         let threads: Vec<_> = (0..THREADS).map(|_| scope.spawn(hold)).collect();
