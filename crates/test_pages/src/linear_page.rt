@@ -48,7 +48,10 @@ fn behind_full<'c, T: Drop, I: Fn() -> Option<T>>(
     let pass = PullPass::new();
     match page.page().try_alloc(&pass).ok()? {
         Allocated::Slot(_) => None,
-        Allocated::Full(seen) => page.get_or_create_next(seen, init).ok(),
+        Allocated::Full(seen) => {
+            let (next, _) = page.get_or_create_next(seen, init).ok()?;
+            Some(next)
+        }
     }
 }
 

@@ -9,12 +9,12 @@ use std::sync::atomic::Ordering::SeqCst;
 use std::thread;
 use std::thread::Threads;
 
-/// Two pages that notes of one link know are the same page, whichever threads asked.
+/// Two answers for one page are the same page, whichever threads asked: their notes are of one link.
 fn both_next<'c>(page: &ZeroPage<'c>) -> Option<(ZeroPage<'c>, ZeroPage<'c>)>
     ensures { IfSome result (λ both. shown_page both.0 ≡ shown_page both.1) }
 {
-    let (mut note, mut other) = (page.next_note().ok()?, page.next_note().ok()?);
-    let (first, second) = (page.next_as(&mut note)?, page.next_as(&mut other)?);
+    let (first, mut note) = page.next()?;
+    let (second, other) = page.next()?;
     note.compare(other);
     Some((first, second))
 }

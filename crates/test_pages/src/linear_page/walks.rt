@@ -8,7 +8,8 @@ use std::sync::atomic::AtomicUsize;
 fn behind<'c>(chain: &'c Zeros, links: usize) -> Option<ZeroPage<'c>> {
     let mut page = chain.first();
     for _ in 0..links {
-        page = page.next()?;
+        let (next, _) = page.next()?;
+        page = next;
     }
     Some(page)
 }
