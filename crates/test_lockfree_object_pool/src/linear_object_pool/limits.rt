@@ -3,6 +3,7 @@ ghost use Rattle.std.specs.Prelude.{◌≤◌};
 
 use super::*;
 use crate::assert_equal::assert_equal;
+use crate::made::count_of_calls;
 
 fn bounded(alloc: Global, calls: &Arc<AtomicUsize>, pages: usize) -> Cleared
     requires { 1 ≤ pages }
@@ -13,7 +14,7 @@ fn bounded(alloc: Global, calls: &Arc<AtomicUsize>, pages: usize) -> Cleared
 
 #[test]
 fn a_limit_is_told(rt: HostRuntime) {
-    let calls = new_calls(rt.alloc()).expect(&rt, "memory is left");
+    let calls = count_of_calls(&rt, rt.alloc());
     let unlimited = cleared(rt.alloc(), &calls)
         .expect(&rt, "a pool is made")
         .limit();
@@ -33,7 +34,7 @@ fn shown(alloc: Global, calls: &Arc<AtomicUsize>, pages: usize) -> Option<String
 
 #[test]
 fn each_limit_is_shown(rt: HostRuntime) {
-    let calls = new_calls(rt.alloc()).expect(&rt, "calls are counted");
+    let calls = count_of_calls(&rt, rt.alloc());
     let text = shown(rt.alloc(), &calls, 1).expect(&rt, "a pool is shown");
     assert_equal(
         &rt,
