@@ -1,12 +1,15 @@
 //! Worked cases of the linear core and the player.
 use crate::assert_equal::assert_equal;
+use object_pool_cores::sequential::*;
 use pool_parts::PullError;
 use pool_parts::clean::AnyValue;
-use pool_parts::closures::{Copied, Init, Keep};
-use object_pool_cores::sequential::*;
+use pool_parts::closures::{Copied, Keep};
 use std::alloc::Global;
-use std::cell::Cell;
 use std::process::Abort;
+use std::sync::Arc;
+use test_values::counted::NEVER;
+use test_values::tallied::{Tallied, TalliedValues};
+use test_values::tally::{Tally, new_tally};
 
 mod core_page;
 mod held_and_kept;
@@ -16,50 +19,47 @@ mod many;
 mod runs;
 mod values;
 
-/// Makes zeros, counts its calls, and may refuse one of them.
-#[derive(Drop)]
-struct Zeros<'a> {
-    calls: &'a Cell<u32>,
-    refused: u32,
-}
+/// A linear core of values that are counted.
+type Tracked = LinearCore<Tallied, TalliedValues, Keep, AnyValue>;
 
-impl Init<u32, AnyValue> for Zeros<'_> {
-    fn make(&self) -> Option<u32> {
-        let call = self.calls.get().saturating_add(1);
-        self.calls.set(call);
-        if call == self.refused { None } else { Some(0) }
+/// A stack core of such values.
+type TrackedStack = StackCore<Tallied, TalliedValues, Keep, AnyValue>;
+
+/// Such a linear core, of at most so many pages where there is a limit, whose `init` refuses at one call, counted from 0.
+fn tracked(
+    alloc: Global,
+    tally: &Arc<Tally>,
+    refused: usize,
+    limit: Option<usize>,
+) -> Result<Tracked, PullError> {
+    let init = TalliedValues::new_but(tally, refused)?;
+    match limit {
+        Some(pages) if pages > 0 => LinearCore::with_limit(alloc, init, Keep, pages),
+        _ => LinearCore::new(alloc, init, Keep),
     }
 }
 
-/// A value that counts its end.
-pub(super) struct Mortal<'a> {
-    pub(super) ends: &'a Cell<u32>,
+/// Such a stack core.
+fn tracked_stack(
+    alloc: Global,
+    tally: &Arc<Tally>,
+    refused: usize,
+) -> Result<TrackedStack, PullError> {
+    let init = TalliedValues::new_but(tally, refused)?;
+    Ok(StackCore::new(alloc, init, Keep))
 }
 
-impl Drop for Mortal<'_> {
-    fn drop(self) {
-        let Mortal { ends } = self;
-        ends.set(ends.get().saturating_add(1));
+/// So many items, held together.
+fn hold<T: Drop, P: SequentialPool<T>>(
+    alloc: Global,
+    core: &mut P,
+    count: usize,
+) -> Result<Vec<Item<T>>, PullError> {
+    let mut items = Vec::with_capacity(alloc, count)?;
+    for _ in 0..count {
+        items.push(core.pull()?)?;
     }
-}
-
-/// Makes values that count their ends, and may refuse one call.
-#[derive(Drop)]
-struct Mortals<'a> {
-    calls: &'a Cell<u32>,
-    ends: &'a Cell<u32>,
-    refused: u32,
-}
-
-impl<'a> Init<Mortal<'a>, AnyValue> for Mortals<'a> {
-    fn make(&self) -> Option<Mortal<'a>> {
-        let call = self.calls.get().saturating_add(1);
-        self.calls.set(call);
-        if call == self.refused {
-            return None;
-        }
-        Some(Mortal { ends: self.ends })
-    }
+    Ok(items)
 }
 
 /// Whether each item is the pool's own.
@@ -186,82 +186,64 @@ fn a_limit_of_one_page_holds(rt: HostRuntime) {
 
 #[test]
 fn a_page_is_made_where_none_is_free(rt: HostRuntime) {
-    let calls = Cell::new(0u32);
-    let init = Zeros {
-        calls: &calls,
-        refused: 0,
-    };
-    let mut core: LinearCore<u32, _, _, AnyValue> = LinearCore::new(rt.alloc(), init, Keep).expect(
-        &rt,
-        "a pool is made",
-    );
+    let tally = new_tally(rt.alloc()).expect(&rt, "memory is left");
+    let mut core = tracked(rt.alloc(), &tally, NEVER, None).expect(&rt, "a pool is made");
     assert_equal(
         &rt,
-        (calls.get(), core.pages(), core.limit()),
+        (tally.calls(), core.pages(), core.limit()),
         (32, 1, None),
     );
-    let mut held = Vec::new(rt.alloc());
-    for _ in 0..33 {
-        held.push(core.pull().expect(&rt, "an item is free"))
-            .expect(&rt, "memory is left");
-    }
-    assert_equal(&rt, held.last().and_then(|item| item.number()), Some(32));
-    assert_equal(&rt, (calls.get(), core.pages()), (64, 2));
+    let held = hold(rt.alloc(), &mut core, 33).expect(&rt, "items are free");
+    assert_equal(
+        &rt,
+        (
+            held.last().and_then(|item| item.number()),
+            tally.calls(),
+            core.pages(),
+        ),
+        (Some(32), 64, 2),
+    );
+}
+
+/// With a page held, the pull that is refused by this call of `init` for the next page, counted from 0, drops what it made, and
+/// changes nothing else: the next pull makes that page. How many values were made, and how many are dropped once all ended.
+fn second_page_refused(rt: &impl Abort, alloc: Global, made: usize) -> (usize, usize) {
+    let tally = new_tally(alloc).expect(rt, "memory is left");
+    let calls = made.saturating_add(33);
+    let mut core = tracked(alloc, &tally, calls - 1, None).expect(rt, "a pool is made");
+    let held = hold(alloc, &mut core, 32).expect(rt, "items are free");
+    let refusal = core.pull().err();
+    assert_equal(
+        rt,
+        (refusal, tally.now(), core.pages()),
+        (Some(PullError::Init), (calls, made), 1),
+    );
+    assert!(rt; are_mine(&core, &held));
+    let next = core.pull().expect(rt, "an item is free");
+    assert_equal(
+        rt,
+        (next.number(), tally.now(), core.pages()),
+        (Some(32), (calls.saturating_add(32), made), 2),
+    );
+    drop((next, held, core));
+    (tally.made(), tally.drops())
 }
 
 #[test]
 fn a_refusal_by_init_drops_what_was_made_and_changes_nothing(rt: HostRuntime) {
-    let calls = Cell::new(0u32);
-    let ends = Cell::new(0u32);
-    let init = Mortals {
-        calls: &calls,
-        ends: &ends,
-        refused: 40,
-    };
-    let mut core: LinearCore<Mortal<'_>, _, _, AnyValue> = LinearCore::new(
-        rt.alloc(),
-        init,
-        Keep,
-    ).expect(&rt, "a pool is made");
-    let mut held = Vec::new(rt.alloc());
-    for _ in 0..32 {
-        held.push(core.pull().expect(&rt, "an item is free"))
-            .expect(&rt, "memory is left");
-    }
-    let refused = core.pull();
-    assert!(rt; matches!(&refused, Err(PullError::Init)));
-    assert_equal(&rt, (calls.get(), ends.get(), core.pages()), (40, 7, 1));
-    assert!(rt; are_mine(&core, &held));
-    let next = core.pull().expect(&rt, "an item is free");
-    assert_equal(
-        &rt,
-        (next.number(), calls.get(), core.pages()),
-        (Some(32), 72, 2),
-    );
-    drop(next);
-    drop(held);
-    drop(core);
-    assert_equal(&rt, ends.get(), 71);
+    assert_equal(&rt, second_page_refused(&rt, rt.alloc(), 7), (71, 71));
 }
 
 #[test]
 fn each_call_of_init_may_refuse_the_first_page(rt: HostRuntime) {
-    for refused in 1..33 {
-        let calls = Cell::new(0u32);
-        let ends = Cell::new(0u32);
-        let init = Mortals {
-            calls: &calls,
-            ends: &ends,
-            refused,
-        };
-        let core: Result<LinearCore<Mortal<'_>, _, _, AnyValue>, PullError> = LinearCore::new(
-            rt.alloc(),
-            init,
-            Keep,
+    for made in 0..32usize {
+        let tally = new_tally(rt.alloc()).expect(&rt, "memory is left");
+        let refusal = tracked(rt.alloc(), &tally, made, None).err();
+        assert_equal(
+            &rt,
+            (refusal, tally.now()),
+            (Some(PullError::Init), (made.saturating_add(1), made)),
         );
-        assert!(rt; matches!(&core, Err(PullError::Init)), "at call {refused}");
-        assert_equal(&rt, calls.get(), refused);
-        assert_equal(&rt, ends.get().saturating_add(1), refused);
     }
 }
 

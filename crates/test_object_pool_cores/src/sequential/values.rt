@@ -1,12 +1,10 @@
 //! The values that holders have, where replies tell the numbers alone.
-use super::{Mortal, Mortals, are_mine};
+use super::second_page_refused;
 use crate::assert_equal::assert_equal;
-use pool_parts::PullError;
+use object_pool_cores::sequential::*;
 use pool_parts::clean::AnyValue;
 use pool_parts::closures::{Copied, Keep, Reset};
-use object_pool_cores::sequential::*;
 use std::alloc::Global;
-use std::cell::Cell;
 use std::process::Abort;
 
 #[test]
@@ -61,40 +59,14 @@ fn an_attached_value_comes_again_as_reset_left_it(rt: HostRuntime) {
     assert_equal(&rt, nine_again(&rt, rt.alloc(), zero), Some(0));
 }
 
-/// With a page held, the pull that is refused by this call of `init` for the next page drops what it
-/// made.
-fn second_page_refused(rt: &impl Abort, alloc: Global, refused: u32) {
-    let calls = Cell::new(0u32);
-    let ends = Cell::new(0u32);
-    let init = Mortals {
-        calls: &calls,
-        ends: &ends,
-        refused: refused.saturating_add(32),
-    };
-    let mut core = LinearCore::<Mortal<'_>, _, _, AnyValue>::new(alloc, init, Keep).expect(
-        rt,
-        "a pool is made",
-    );
-    let mut held = Vec::new(alloc);
-    for _ in 0..32 {
-        held.push(core.pull().expect(rt, "an item is free"))
-            .expect(rt, "memory is left");
-    }
-    assert!(rt;
-        matches!(core.pull(), Err(PullError::Init)),
-        "at call {refused}"
-    );
-    assert_equal(rt, ends.get().saturating_add(1), refused);
-    assert_equal(rt, calls.get(), refused.saturating_add(32));
-    assert!(rt; are_mine(&core, &held));
-    let next = core.pull().expect(rt, "an item is free");
-    assert_equal(rt, (next.number(), core.pages()), (Some(32), 2));
-    assert_equal(rt, calls.get(), refused.saturating_add(64));
-}
-
 #[test]
 fn each_call_of_init_may_refuse_the_second_page(rt: HostRuntime) {
-    for refused in 1..33 {
-        second_page_refused(&rt, rt.alloc(), refused);
+    for made in 0..32usize {
+        let values = made.saturating_add(64);
+        assert_equal(
+            &rt,
+            second_page_refused(&rt, rt.alloc(), made),
+            (values, values),
+        );
     }
 }
