@@ -3,7 +3,6 @@ ghost use Rattle.std.specs.Prelude.{◌≤◌};
 
 use super::*;
 use crate::assert_equal::assert_equal;
-use crate::made::count_of_calls;
 
 fn bounded(alloc: Global, calls: &Arc<AtomicUsize>, pages: usize) -> Cleared
     requires { 1 ≤ pages }
@@ -14,7 +13,7 @@ fn bounded(alloc: Global, calls: &Arc<AtomicUsize>, pages: usize) -> Cleared
 
 #[test]
 fn a_limit_is_told(rt: HostRuntime) {
-    let calls = count_of_calls(&rt, rt.alloc());
+    let calls = new_calls(rt.alloc()).expect(&rt, "memory is left");
     let unlimited = cleared(rt.alloc(), &calls)
         .expect(&rt, "a pool is made")
         .limit();
@@ -34,7 +33,7 @@ fn shown(alloc: Global, calls: &Arc<AtomicUsize>, pages: usize) -> Option<String
 
 #[test]
 fn each_limit_is_shown(rt: HostRuntime) {
-    let calls = count_of_calls(&rt, rt.alloc());
+    let calls = new_calls(rt.alloc()).expect(&rt, "calls are counted");
     let text = shown(rt.alloc(), &calls, 1).expect(&rt, "a pool is shown");
     assert_equal(
         &rt,
