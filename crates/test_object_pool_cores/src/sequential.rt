@@ -72,44 +72,68 @@ fn are_mine<T: Drop, P: SequentialPool<T>>(pool: &P, items: &[Item<T>]) -> bool 
     true
 }
 
-/// Plays the commands on a linear pool that keeps values, of at most so many pages where there is a limit.
-fn played(
+/// A command as it stands in a table.
+#[derive(Clone, Copy)]
+enum Do {
+    Pull,
+    Write(usize, u32),
+    Return(usize),
+    Forget(usize),
+    Attach(u32),
+}
+
+/// The command that stands for it.
+fn command_of(what: Do) -> Command<u32> {
+    match what {
+        Do::Pull => Command::Pull,
+        Do::Write(holder, value) => Command::Write(holder, value),
+        Do::Return(holder) => Command::Return(holder),
+        Do::Forget(holder) => Command::Forget(holder),
+        Do::Attach(value) => Command::Attach(value),
+    }
+}
+
+/// What a player replies to a table of commands, in one run.
+fn replies_of<P: SequentialPool<u32>>(
     rt: &impl Abort,
     alloc: Global,
-    limit: Option<usize>,
-    commands: Vec<Command<u32>>,
+    player: &mut Player<u32, P>,
+    table: &[Do],
 ) -> Vec<Reply<u32>> {
-    let init = Copied::<u32, AnyValue>::new(0);
-    let core = match limit {
-        Some(pages) if pages > 0 => LinearCore::with_limit(alloc, init, Keep, pages).expect(
-            rt,
-            "a pool is made",
-        ),
-        _ => LinearCore::new(alloc, init, Keep).expect(rt, "a pool is made"),
-    };
-    let mut player = Player::new(alloc, core);
+    let mut commands = Vec::new(alloc);
+    for what in table {
+        commands
+            .push(command_of(*what))
+            .expect(rt, "memory is left");
+    }
     let mut replies = Vec::new(alloc);
-    player
-        .run(commands, &mut replies)
-        .expect(rt, "memory is left");
+    let ran = player.run(commands, &mut replies);
+    ran.expect(rt, "memory is left");
     replies
 }
 
+/// The same on a new linear pool of zeros that keeps values.
+fn replies_of_linear(rt: &impl Abort, alloc: Global, table: &[Do]) -> Vec<Reply<u32>> {
+    let init = Copied::<u32, AnyValue>::new(0);
+    let core = LinearCore::new(alloc, init, Keep).expect(rt, "a pool is made");
+    replies_of(rt, alloc, &mut Player::new(alloc, core), table)
+}
+
+/// 1 and 2 are written to two items, which come back, and two are pulled again.
+const WRITTEN_AND_PULLED: [Do; 8] = [
+    Do::Pull,
+    Do::Pull,
+    Do::Write(0, 1),
+    Do::Write(1, 2),
+    Do::Return(0),
+    Do::Return(1),
+    Do::Pull,
+    Do::Pull,
+];
+
 #[test]
 fn values_that_reset_keeps_come_again_with_their_numbers(rt: HostRuntime) {
-    let commands = vec![in rt.alloc();
-        Command::Pull,
-        Command::Pull,
-        Command::Write(0, 1),
-        Command::Write(1, 2),
-        Command::Return(0),
-        Command::Return(1),
-        Command::Pull,
-        Command::Pull,
-    ]
-    .expect(&rt, "memory is left");
-    let replies = played(&rt, rt.alloc(), None, commands);
-    let expected = [
+    const EXPECTED: [Reply<u32>; 8] = [
         Reply::Pulled(0, Some(0)),
         Reply::Pulled(1, Some(1)),
         Reply::Written,
@@ -119,40 +143,38 @@ fn values_that_reset_keeps_come_again_with_their_numbers(rt: HostRuntime) {
         Reply::Pulled(2, Some(0)),
         Reply::Pulled(3, Some(1)),
     ];
-    assert_equal(&rt, replies.as_slice(), expected.as_slice());
+    let replies = replies_of_linear(&rt, rt.alloc(), &WRITTEN_AND_PULLED);
+    assert_equal(&rt, replies.as_slice(), EXPECTED.as_slice());
 }
 
 #[test]
 fn the_least_number_comes_first(rt: HostRuntime) {
-    let commands = vec![in rt.alloc();
-        Command::Pull,
-        Command::Pull,
-        Command::Pull,
-        Command::Return(2),
-        Command::Return(0),
-        Command::Pull,
-        Command::Pull,
-    ]
-    .expect(&rt, "memory is left");
-    let replies = played(&rt, rt.alloc(), None, commands);
-    let last = [Reply::Pulled(3, Some(0)), Reply::Pulled(4, Some(2))];
-    assert_equal(&rt, replies.as_slice().get(5..), Some(last.as_slice()));
+    const TABLE: [Do; 7] = [
+        Do::Pull,
+        Do::Pull,
+        Do::Pull,
+        Do::Return(2),
+        Do::Return(0),
+        Do::Pull,
+        Do::Pull,
+    ];
+    const LAST: [Reply<u32>; 2] = [Reply::Pulled(3, Some(0)), Reply::Pulled(4, Some(2))];
+    let replies = replies_of_linear(&rt, rt.alloc(), &TABLE);
+    assert_equal(&rt, replies.as_slice().get(5..), Some(LAST.as_slice()));
 }
 
 #[test]
 fn a_forgotten_number_stays_out(rt: HostRuntime) {
-    let commands = vec![in rt.alloc();
-        Command::Pull,
-        Command::Forget(0),
-        Command::Pull,
-        Command::Return(1),
-        Command::Pull,
-        Command::Return(0),
-        Command::Attach(9),
-    ]
-    .expect(&rt, "memory is left");
-    let replies = played(&rt, rt.alloc(), None, commands);
-    let expected = [
+    const TABLE: [Do; 7] = [
+        Do::Pull,
+        Do::Forget(0),
+        Do::Pull,
+        Do::Return(1),
+        Do::Pull,
+        Do::Return(0),
+        Do::Attach(9),
+    ];
+    const EXPECTED: [Reply<u32>; 7] = [
         Reply::Pulled(0, Some(0)),
         Reply::Forgotten,
         Reply::Pulled(1, Some(1)),
@@ -161,27 +183,25 @@ fn a_forgotten_number_stays_out(rt: HostRuntime) {
         Reply::NoSuchHolder,
         Reply::AttachRefused(AttachError::NotOffered(9)),
     ];
-    assert_equal(&rt, replies.as_slice(), expected.as_slice());
+    let replies = replies_of_linear(&rt, rt.alloc(), &TABLE);
+    assert_equal(&rt, replies.as_slice(), EXPECTED.as_slice());
 }
 
 #[test]
 fn a_limit_of_one_page_holds(rt: HostRuntime) {
-    let mut commands = Vec::new(rt.alloc());
-    for _ in 0..33 {
-        commands.push(Command::Pull).expect(&rt, "memory is left");
-    }
-    commands
-        .push(Command::Return(7))
-        .expect(&rt, "memory is left");
-    commands.push(Command::Pull).expect(&rt, "memory is left");
-    let replies = played(&rt, rt.alloc(), Some(1), commands);
-    let last = [
+    const LAST: [Reply<u32>; 4] = [
         Reply::Pulled(31, Some(31)),
         Reply::Refused(PullError::Limit),
         Reply::Returned,
         Reply::Pulled(32, Some(7)),
     ];
-    assert_equal(&rt, replies.as_slice().get(31..), Some(last.as_slice()));
+    let mut table = [Do::Pull; 35];
+    table[33] = Do::Return(7);
+    let init = Copied::<u32, AnyValue>::new(0);
+    let core = LinearCore::with_limit(rt.alloc(), init, Keep, 1).expect(&rt, "a pool is made");
+    let mut player = Player::new(rt.alloc(), core);
+    let replies = replies_of(&rt, rt.alloc(), &mut player, &table);
+    assert_equal(&rt, replies.as_slice().get(31..), Some(LAST.as_slice()));
 }
 
 #[test]

@@ -1,5 +1,5 @@
 //! Worked cases of the stack core and the none core, by values.
-use super::{Tracked, tracked, tracked_stack};
+use super::{Tracked, WRITTEN_AND_PULLED, replies_of, tracked, tracked_stack};
 use crate::assert_equal::assert_equal;
 use object_pool_cores::sequential::*;
 use pool_parts::PullError;
@@ -20,23 +20,9 @@ fn the_value_that_was_returned_last_comes_first(rt: HostRuntime) {
     };
     let core = StackCore::<u32, _, _, AnyValue>::new(rt.alloc(), init, Keep);
     let mut player = Player::new(rt.alloc(), core);
-    let mut replies = Vec::new(rt.alloc());
-    let commands = vec![in rt.alloc();
-        Command::Pull,
-        Command::Pull,
-        Command::Write(0, 1),
-        Command::Write(1, 2),
-        Command::Return(0),
-        Command::Return(1),
-        Command::Pull,
-        Command::Pull,
-    ]
-    .expect(&rt, "memory is left");
-    player
-        .run(commands, &mut replies)
-        .expect(&rt, "memory is left");
-    let last = [Reply::Pulled(2, None), Reply::Pulled(3, None)];
-    assert_equal(&rt, replies.as_slice().get(6..), Some(last.as_slice()));
+    let replies = replies_of(&rt, rt.alloc(), &mut player, &WRITTEN_AND_PULLED);
+    const LAST: [Reply<u32>; 2] = [Reply::Pulled(2, None), Reply::Pulled(3, None)];
+    assert_equal(&rt, replies.as_slice().get(6..), Some(LAST.as_slice()));
     assert_equal(&rt, (player.held(2), player.held(3)), (Some(&2), Some(&1)));
     assert_equal(
         &rt,

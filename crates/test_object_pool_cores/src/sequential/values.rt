@@ -1,5 +1,5 @@
 //! The values that holders have, where replies tell the numbers alone.
-use super::second_page_refused;
+use super::{Do, WRITTEN_AND_PULLED, replies_of, second_page_refused};
 use crate::assert_equal::assert_equal;
 use object_pool_cores::sequential::*;
 use pool_parts::clean::AnyValue;
@@ -15,23 +15,9 @@ fn a_value_that_reset_keeps_comes_again_with_its_own_number(rt: HostRuntime) {
         "a pool is made",
     );
     let mut player = Player::new(rt.alloc(), core);
-    let mut replies = Vec::new(rt.alloc());
-    let commands = vec![in rt.alloc();
-        Command::Pull,
-        Command::Pull,
-        Command::Write(0, 1),
-        Command::Write(1, 2),
-        Command::Return(0),
-        Command::Return(1),
-        Command::Pull,
-        Command::Pull,
-    ]
-    .expect(&rt, "memory is left");
-    player
-        .run(commands, &mut replies)
-        .expect(&rt, "memory is left");
-    let last = [Reply::Pulled(2, Some(0)), Reply::Pulled(3, Some(1))];
-    assert_equal(&rt, replies.as_slice().get(6..), Some(last.as_slice()));
+    let replies = replies_of(&rt, rt.alloc(), &mut player, &WRITTEN_AND_PULLED);
+    const LAST: [Reply<u32>; 2] = [Reply::Pulled(2, Some(0)), Reply::Pulled(3, Some(1))];
+    assert_equal(&rt, replies.as_slice().get(6..), Some(LAST.as_slice()));
     assert_equal(&rt, (player.held(2), player.held(3)), (Some(&1), Some(&2)));
     assert_equal(&rt, (player.held(0), player.held(1)), (None, None));
 }
@@ -41,14 +27,12 @@ fn nine_again<R: Reset<u32, AnyValue>>(rt: &impl Abort, alloc: Global, reset: R)
     let seven = Copied::<u32, AnyValue>::new(7);
     let core = StackCore::<u32, _, _, AnyValue>::new(alloc, seven, reset);
     let mut player = Player::new(alloc, core);
-    let mut replies = Vec::new(alloc);
-    let commands = vec![in alloc; Command::Attach(9), Command::Return(0), Command::Pull].expect(
+    drop(replies_of(
         rt,
-        "memory is left",
-    );
-    player
-        .run(commands, &mut replies)
-        .expect(rt, "memory is left");
+        alloc,
+        &mut player,
+        &[Do::Attach(9), Do::Return(0), Do::Pull],
+    ));
     player.held(1).copied()
 }
 
