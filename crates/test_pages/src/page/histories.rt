@@ -10,9 +10,7 @@ ghost use Rattle.pool_parts.specs.declared.page.history.Operation.TheVariants.{R
 use super::{item, owned_item};
 use crate::assert_equal::assert_equal;
 use page_chain::clean::{AnyValue, Clean};
-use page_chain::page::{
-    Allocated, OwnedSlot, Page, PageNote, PageSlot, PullPass, Witness,
-};
+use page_chain::page::{Allocated, OwnedSlot, Page, PageNote, PageSlot, PullPass, Witness};
 use std::mem::size_of;
 use std::sync::Arc;
 use std::thread;
