@@ -9,8 +9,8 @@ use std::ops::Deref;
 use std::sync::atomic::{AtomicUsize, Ordering::Relaxed};
 use std::sync::{Arc, OnceLock};
 
-/// How many chunks a pool may have. The last would have more items than there are addresses.
-const CHUNKS: usize = 48;
+/// How many chunks a pool may have. The last would have 2^36 items, past the memory of any machine.
+const CHUNKS: usize = 32;
 
 /// An item that was pulled under a borrow of its [`LinearObjectPool`].
 pub type LinearReusable<'a, T> = Guard<&'a LinearObjectPool<T>>;

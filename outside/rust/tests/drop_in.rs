@@ -73,6 +73,10 @@ macro_rules! keeping_pool {
                 thread::spawn(move || assert_eq!(*item, 7)).join().unwrap();
                 assert_eq!(Arc::strong_count(&pool), 1);
                 assert_eq!(*pool.pull_owned(), 0);
+                let items: Vec<_> = (0..100).map(|_| pool.pull_owned()).collect();
+                assert_eq!(Arc::strong_count(&pool), 101);
+                drop(items);
+                assert_eq!(Arc::strong_count(&pool), 1);
             }
 
             #[test]

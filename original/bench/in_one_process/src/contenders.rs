@@ -146,6 +146,7 @@ impl Wrapped {
     }
 }
 
+#[inline(always)]
 fn pull_one(pool: &Pool<u64>) -> Reusable<'_, u64> {
     pool.pull().expect("one is free")
 }
