@@ -1,5 +1,6 @@
-//! The pools by the names of lockfree-object-pool 0.1.6: what its own tests show, in other words, and what a program meets that
-//! changes to this crate. But for its first line, and for the module `here` at its end, this file passes with that crate too.
+//! The pools by the names of lockfree-object-pool 0.1.6: what its own tests show, in other words,
+//! and what a program meets that changes to this crate. But for its first line, and for the module
+//! `here` at its end, this file passes with that crate too.
 use kundratu_pool as pools;
 
 use pools::{

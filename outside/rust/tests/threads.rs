@@ -7,7 +7,8 @@ use std::sync::atomic::{AtomicUsize, Ordering::SeqCst};
 use std::sync::{Arc, Barrier, Mutex, PoisonError};
 use std::thread;
 
-/// It compiles only where the type isn't of the trait: else it couldn't be decided which of two functions is meant.
+/// It compiles only where the type isn't of the trait: else it couldn't be decided which of two
+/// functions is meant.
 macro_rules! is_not {
     ($type:ty: $trait:path) => {
         const _: fn() = || {
@@ -134,7 +135,8 @@ fn a_pull_is_not_refused_while_most_items_are_free() {
     assert_eq!(count_free(&pool), THREADS * 64);
 }
 
-/// The pages of two items that each of some threads pulls, one after the other, while all hold theirs.
+/// The pages of two items that each of some threads pulls, one after the other, while all hold
+/// theirs.
 fn pages_of_threads(pool: &Pool<u32>) -> [HashSet<usize>; 2] {
     let all_hold = Barrier::new(THREADS_WITH_PAGES);
     let hold = || {
@@ -165,7 +167,8 @@ fn threads_keep_to_pages_of_their_own() {
     assert_eq!(pages.map(|pages| pages.len()), [THREADS_WITH_PAGES; 2]);
 }
 
-/// Where the first half of the items is out, all come to the first page of the other half, and go on from there.
+/// Where the first half of the items is out, all come to the first page of the other half, and go
+/// on from there.
 #[test]
 fn threads_whose_pages_are_full_come_to_pages_of_their_own() {
     let _alone = NUMBERS.lock().unwrap_or_else(PoisonError::into_inner);

@@ -1,6 +1,6 @@
-//! How long a pull and its return take, of the proved pool by its C calls, of the two pools of the Rust crate over it, of the original,
-//! of sharded-slab's pool, of an `ArrayQueue` of indices, and of a mutex round a vector of indices: all in one process, and each with the
-//! same work between.
+//! How long a pull and its return take, of the proved pool by its C calls, of the two pools of the
+//! Rust crate over it, of the original, of sharded-slab's pool, of an `ArrayQueue` of indices, and
+//! of a mutex round a vector of indices: all in one process, and each with the same work between.
 use std::env;
 use std::hint::black_box;
 use std::iter;
@@ -15,7 +15,8 @@ use contenders::{Contender, Grows, Handles, Indices, Original, Queue, Sharded, S
 
 /// How many items each pool has.
 const ITEMS: usize = 65_536;
-/// Of so many rounds the middle one and the least are told: in the quickest of several threads, they may not have run beside each other.
+/// Of so many rounds the middle one and the least are told: in the quickest of several threads,
+/// they may not have run beside each other.
 const ROUNDS: usize = 7;
 /// How many items may be under way between two threads.
 const UNDER_WAY: usize = 256;
@@ -149,7 +150,8 @@ fn cells() -> Box<[AtomicU64]> {
     (0..ITEMS).map(|_| AtomicU64::new(0)).collect()
 }
 
-/// What is done with an item of theirs between the pull and the return, which is what the others do with theirs.
+/// What is done with an item of theirs between the pull and the return, which is what the others do
+/// with theirs.
 fn use_item(cells: &[AtomicU64], index: usize) {
     write_item(cells, index);
     reset_item(cells, index);
