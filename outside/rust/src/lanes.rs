@@ -138,9 +138,12 @@ impl Lanes {
             }
         });
         if let Some(handle) = handle {
-            let some: [_; SOME] = from_fn(|_| self.own(Lane::take).flatten());
-            let all = some.into_iter().flatten().chain([handle]);
-            self.shared().idle.extend(all);
+            let shared = &mut *self.shared();
+            shared.idle.push(handle);
+            self.own(|lane| {
+                let some = lane.idle[1..=SOME].iter_mut();
+                shared.idle.extend(some.filter_map(Option::take));
+            });
         }
     }
 
