@@ -67,6 +67,26 @@ module _ {T : Type 0} where
         (goes_on_further [] one.0 two.0 last.0 behind.goes_on before.goes_on);
   }
 
+  -- the same, where the segment before the first page was seen before the one behind it
+  pub missed_low : (page words slots : ℕ) (start one two last : User T) → slots ≤ 32 * words
+      → MissesAll (32 * page) (32 * page + 32) start one
+      → MissesAll 0 (32 * page) one two → MissesAll (32 * (page + 1)) (32 * words) two last
+      → MissesAll 0 slots start last
+  missed_low page words slots start one two last covered own before behind = record {
+    holds_same = behind.holds_same ∙ before.holds_same ∙ own.holds_same;
+    carries_same = behind.carries_same ∙ before.carries_same ∙ own.carries_same;
+    each_was_out = λ id _ within. elim (cases_lt id (32 * page)) [
+      | inl low ↦ still_out two.0 last.0 id behind.goes_on (before.each_was_out id (omega arith) low)
+      | inr high ↦ elim (cases_lt id (32 * page + 32)) [
+        | inl here ↦ still_out two.0 last.0 id behind.goes_on
+            (still_out one.0 two.0 id before.goes_on (own.each_was_out id (omega arith) here))
+        | inr past ↦ behind.each_was_out id (omega arith) (omega arith)
+      ]
+    ];
+    goes_on = goes_on_further [] start.0 one.0 last.0 own.goes_on
+        (goes_on_further [] one.0 two.0 last.0 before.goes_on behind.goes_on);
+  }
+
   -- the item that a pull by a note took
   pub item_pulled_with : (meets : T → Type 0) (pool : TableId) (note : PageNote T) (start known : User T)
       (seated : TableId) (id : ℕ) (value : T)

@@ -16,7 +16,8 @@ use std::alloc::{AllocError, Global};
 use std::sync::atomic::AtomicU64;
 use std::sync::atomic::Ordering::SeqCst;
 
-pub(crate) mod pulled_item;
+mod low;
+pub mod pulled_item;
 
 /// The word of one page of which so many items are free, and no other.
 fn low_bits(count: usize) -> u64
@@ -40,8 +41,8 @@ fn free_words(alloc: Global, count: usize) -> Result<Vec<u64>, AllocError>
 
 /// The items of a fixed pool. A page is one word, and the words lie side by side.
 #[derive(Drop)]
-pub(crate) struct FixedItems<T, K: Clean<T>> {
-    pub(crate) shared: Items<T, K>,
+pub struct FixedItems<T, K: Clean<T>> {
+    pub shared: Items<T, K>,
     count: usize,
     pages: usize,
     /// At which page the next pull starts. It promises nothing.
@@ -67,7 +68,7 @@ impl<T, K: Clean<T>> FixedItems<T, K> {
     /// So many free items: item `i` is the answer of call `i` of `init`, counted from 0.
     ///
     /// It stops at the first `None`. Where it is refused, the items that were made are dropped.
-    pub(super) fn new<I: Fn() -> Option<T>>(
+    pub fn new<I: Fn() -> Option<T>>(
         alloc: Global,
         count: usize,
         init: &I,
@@ -96,7 +97,7 @@ impl<T, K: Clean<T>> FixedItems<T, K> {
     }
 
     /// How many items there are.
-    pub(super) fn count(&self) -> usize
+    pub fn count(&self) -> usize
         ensures { result ≡ (fixed_identity self.now).slots }
     {
         self.count
@@ -247,7 +248,7 @@ impl<T, K: Clean<T>> FixedItems<T, K> {
     }
 
     /// Moves the value home and sets its bit, by the user that has the item. It hints at a page that was full.
-    pub(crate) fn give(&self, holding: Holding<T>, value: T) -> UserSeat<T>
+    pub fn give(&self, holding: Holding<T>, value: T) -> UserSeat<T>
         requires pool { holding_page holding ≡ fixed_identity self.now }
         requires in_pool { holding.number < (fixed_identity self.now).slots }
         requires meets { K.meets value }
