@@ -16,6 +16,7 @@ use std::alloc::{AllocError, Global};
 use std::sync::atomic::AtomicU64;
 use std::sync::atomic::Ordering::SeqCst;
 
+mod at;
 mod low;
 pub mod pulled_item;
 
