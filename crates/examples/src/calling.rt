@@ -19,5 +19,5 @@ mod scratch;
 mod shared;
 mod stores;
 mod tickets;
-mod writers;
 mod waiting;
+mod writers;

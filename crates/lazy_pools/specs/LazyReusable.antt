@@ -1,8 +1,9 @@
 -- What an item that is out of a lazy pool shows.
-use Rattle.std.specs.Prelude.{Option, Some}
+use Rattle.std.specs.Prelude.{ℕ, Option, Some}
 use Rattle.lazy_pools.specs.declared.lazy_object_pool.lazy_item.LazyItem.{LazyItem}
 use Rattle.lazy_pools.specs.declared.lazy_reusable.LazyReusableOf.{LazyReusableOf}
 use Rattle.pool_parts.specs.declared.page.holding.Holding.{Holding}
+use Rattle.nonblocking_pools.specs.FixedAnswer.{returns_since}
 use Rattle.nonblocking_pools.specs.StepCount.{StepCount, steps_of}
 use Rattle.pool_parts.specs.Holding.{holding_view, held_item}
 use Rattle.pool_parts.specs.Item.{Item}
@@ -32,6 +33,10 @@ module _ {T P : Type 0} where
   -- what its pull has read and tried
   abbrev pub lazy_steps : LazyReusableOf T P → StepCount
   lazy_steps reusable = steps_of (holding_view reusable.taken.holding)
+
+  -- how many returns came within its pull, since the pull's first load
+  abbrev pub lazy_returns : LazyReusableOf T P → ℕ
+  lazy_returns reusable = returns_since (holding_view reusable.taken.holding)
 
   -- the same item with another value
   abbrev pub lazy_with : LazyReusableOf T P → T → LazyReusableOf T P

@@ -10,7 +10,7 @@
 //! No pull but those with a permission to wait waits for another thread, and no return does. A return reads whether anybody waits.
 //!
 //! Serving isn't fair: who waits longest needn't come first. An `init` or a `reset` that waits on its own pool can wait for ever.
-ghost use Rattle.std.specs.Prelude.{◌≡◌, ◌+◌, ◌/◌, ◌<◌, ◌≤◌, ⊤, None, Some, IfOk, IfErr};
+ghost use Rattle.std.specs.Prelude.{◌≡◌, ◌+◌, ◌*◌, ◌/◌, ◌<◌, ◌≤◌, ⊤, None, Some, IfOk, IfErr};
 ghost use Rattle.std.specs.Arc.{arc_value};
 
 use crate::lazy_owned_reusable::LazyOwnedReusable;
@@ -21,6 +21,7 @@ use lazy_item::LazyItem;
 use lazy_refused::LazyRefused;
 use nonblocking_pools::fixed_object_pool::PoolNote;
 use nonblocking_pools::fixed_object_pool::items::FixedItems;
+use nonblocking_pools::fixed_object_pool::items::order::Order;
 use nonblocking_pools::fixed_object_pool::items::pulled_item::PulledItem;
 use pool_parts::PullError;
 use pool_parts::clean::{AnyValue, Clean};
@@ -77,12 +78,12 @@ impl<T: Drop, I: Init<T, K>, R: Reset<T, K>, K: Clean<T>> LazyObjectPool<T, I, R
     ghost use Rattle.pool_parts.specs.Answers.{IsMadeOrReset};
     ghost use Rattle.nonblocking_pools.specs.FixedAnswer.{IsPulledFrom};
     ghost use Rattle.nonblocking_pools.specs.FixedItem.{pulled_item};
-    ghost use Rattle.nonblocking_pools.specs.StepCount.{IsWithin, no_steps};
+    ghost use Rattle.nonblocking_pools.specs.StepCount.{IsWithin, no_steps, passes_to_take};
     ghost use Rattle.pool_parts.specs.Holding.{holding_page, held_item};
     ghost use Rattle.pool_parts.specs.Items.{IsFilled};
     ghost use Rattle.lazy_pools.specs.LazyAnswer.{IsBroughtBack, IsKeptPlace, IsPulledLazily, RefusesLazily, RefusesOnePass, RefusesWaiting};
     ghost use Rattle.lazy_pools.specs.LazyPool.{lazy_identity, lazy_items, lazy_pages, lazy_opening, lazy_init, lazy_reset};
-    ghost use Rattle.lazy_pools.specs.LazyReusable.{lazy_pool, lazy_place, lazy_value, lazy_steps, lazy_item_place, held_place};
+    ghost use Rattle.lazy_pools.specs.LazyReusable.{lazy_pool, lazy_place, lazy_value, lazy_steps, lazy_returns, lazy_item_place, held_place};
     ghost use Rattle.pool_parts.specs.Note.{note_page, witness_page, IsNoteOf, HasLearned, IsReturned};
     ghost use Rattle.pool_parts.specs.Refusal.{RefusesMaking, RefusesPull};
 
@@ -106,7 +107,7 @@ impl<T: Drop, I: Init<T, K>, R: Reset<T, K>, K: Clean<T>> LazyObjectPool<T, I, R
             IsFilled items (λ place. place ≡ None) (lazy_opening pool)) }
         ensures refused { IfErr result (RefusesMaking ⊥) }
     {
-        let places = FixedItems::new(alloc, items, &|| Some(None))?;
+        let places = FixedItems::new(alloc, items, Order::LowFirst, &|| Some(None))?;
         Ok(LazyObjectPool {
             init,
             reset,
@@ -131,11 +132,15 @@ impl<T: Drop, I: Init<T, K>, R: Reset<T, K>, K: Clean<T>> LazyObjectPool<T, I, R
         self.made.load(SeqCst).min(self.places.count())
     }
 
-    /// An item that is free, which is made now where its place is empty. `init` runs while the item counts as out.
+    /// An item that is free, which is made now where its place is empty. `init` runs while the item counts as out, and under no lock.
+    ///
+    /// A further pass over the pool's words comes only after another thread returned an item: a pull is lock-free, but for `init`.
+    /// [`LazyObjectPool::try_pull`] makes one pass.
     ///
     /// # Errors
     ///
-    /// `Limit`, where each item was observed taken; `Init`, where `init` answered `None`: the place is free again, and empty.
+    /// `Limit`, where at one moment of the call no item was free (or 2^32 returns and more came within the call, which the counts of
+    /// the words can't tell from none); `Init`, where `init` answered `None`: the place is free again, and empty.
     pub fn pull(&self) -> Result<LazyReusable<'_, T, I, R, K>, PullError>
         ensures pool { IfOk result (λ item. (lazy_pool item).now ≡ self.now) }
         ensures pulled { IfOk result (λ item.
@@ -145,11 +150,11 @@ impl<T: Drop, I: Init<T, K>, R: Reset<T, K>, K: Clean<T>> LazyObjectPool<T, I, R
         ensures made_or_reset { IfOk result (λ item.
             IsMadeOrReset I.answers R.leaves (lazy_value item)) }
         ensures brief { IfOk result (λ item.
-            IsWithin (lazy_pages self.now) no_steps (lazy_steps item)) }
+            IsWithin (lazy_pages self.now * passes_to_take (lazy_returns item)) no_steps
+            (lazy_steps item)) }
         ensures refused { IfErr result (RefusesLazily (I.answers (lazy_init self.now) None)) }
     {
-        let pass = PullPass::new();
-        match self.places.pull_low(&pass) {
+        match self.places.pull() {
             Ok(pulled) => {
                 let item = self.item(pulled)?;
                 Ok(LazyReusable::new(self, item))
@@ -177,7 +182,7 @@ impl<T: Drop, I: Init<T, K>, R: Reset<T, K>, K: Clean<T>> LazyObjectPool<T, I, R
             (RefusesOnePass (lazy_identity self.now) (lazy_opening self.now)
             (I.answers (lazy_init self.now) None)) }
     {
-        match self.places.pull_low(pass) {
+        match self.places.try_pull(pass) {
             Ok(pulled) => match self.item(pulled) {
                 Ok(item) => Ok(LazyReusable::new(self, item)),
                 Err(_) => Err(LazyRefused::NotMade),
@@ -200,15 +205,15 @@ impl<T: Drop, I: Init<T, K>, R: Reset<T, K>, K: Clean<T>> LazyObjectPool<T, I, R
         ensures made_or_reset { IfOk result (λ item.
             IsMadeOrReset I.answers R.leaves (lazy_value item)) }
         ensures brief { IfOk result (λ item.
-            IsWithin (lazy_pages (arc_value self.now)) no_steps (lazy_steps item)) }
+            IsWithin (lazy_pages (arc_value self.now) * passes_to_take (lazy_returns item)) no_steps
+            (lazy_steps item)) }
         ensures refused { IfErr result (RefusesPull (record {
-            limited = ⊤;
-            init_refuses = I.answers (lazy_init (arc_value self.now)) None;
+          limited = ⊤;
+          init_refuses = I.answers (lazy_init (arc_value self.now)) None;
         })) }
     {
         let owner = Arc::try_clone(self)?;
-        let pass = PullPass::new();
-        match self.places.pull_low(&pass) {
+        match self.places.pull() {
             Ok(pulled) => {
                 let item = self.item(pulled)?;
                 Ok(LazyOwnedReusable::new(owner, item))
@@ -240,7 +245,7 @@ impl<T: Drop, I: Init<T, K>, R: Reset<T, K>, K: Clean<T>> LazyObjectPool<T, I, R
     ///
     /// # Errors
     ///
-    /// `Limit` after that time, where its last try observed each item taken, and where the clock can't be read; `Init` as `pull`.
+    /// `Limit` after that time, where its last try found no item free, and where the clock can't be read; `Init` as `pull`.
     pub fn pull_timeout<W: Wait + Clock>(
         &self,
         rt: &W,
@@ -306,8 +311,8 @@ impl<T: Drop, I: Init<T, K>, R: Reset<T, K>, K: Clean<T>> LazyObjectPool<T, I, R
         ensures made_or_reset { IfOk result (λ item.
             IsMadeOrReset I.answers R.leaves (lazy_value item)) }
         ensures refused { IfErr result (RefusesPull (record {
-            limited = ⊤;
-            init_refuses = I.answers (lazy_init (arc_value self.now)) None;
+          limited = ⊤;
+          init_refuses = I.answers (lazy_init (arc_value self.now)) None;
         })) }
     {
         let owner = Arc::try_clone(self)?;

@@ -1,7 +1,7 @@
 //! A value that was pulled from a lazy pool, with an owner of the pool.
-use pool_parts::clean::AnyValue;
 use crate::lazy_object_pool::LazyObjectPool;
 use crate::lazy_reusable::LazyReusableOf;
+use pool_parts::clean::AnyValue;
 use std::sync::Arc;
 
 /// A pulled value, with an owner of its pool. Its drop resets it and brings it back.

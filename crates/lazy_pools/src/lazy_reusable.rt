@@ -151,8 +151,9 @@ pub type LazyReusable<'p, T, I, R, K = AnyValue> = LazyReusableOf<
 
 impl<T: Drop, P: SharedLazyPool<T>> LazyReusableOf<T, P> {
     ghost use Rattle.lazy_pools.specs.LazyAnswer.{IsBroughtBack};
+    ghost use Rattle.nonblocking_pools.specs.FixedAnswer.{returns_since};
     ghost use Rattle.nonblocking_pools.specs.StepCount.{steps_of};
-    ghost use Rattle.lazy_pools.specs.LazyReusable.{lazy_pool, lazy_place, lazy_value, lazy_steps, lazy_item_place};
+    ghost use Rattle.lazy_pools.specs.LazyReusable.{lazy_pool, lazy_place, lazy_value, lazy_steps, lazy_returns, lazy_item_place};
     ghost use Rattle.nonblocking_pools.specs.FixedItem.{item_with};
     ghost use Rattle.pool_parts.specs.Note.{witness_page, witness_history};
     ghost use Rattle.pool_parts.specs.declared.page.TheConstants.{PAGE_ITEMS};
@@ -164,6 +165,7 @@ impl<T: Drop, P: SharedLazyPool<T>> LazyReusableOf<T, P> {
         ensures place { lazy_place result ≡ lazy_item_place item }
         ensures value { lazy_value result ≡ item.value }
         ensures steps { lazy_steps result ≡ steps_of (holding_view item.holding) }
+        ensures returns { lazy_returns result ≡ returns_since (holding_view item.holding) }
     {
         let LazyItem { holding, value } = item;
         LazyReusableOf {

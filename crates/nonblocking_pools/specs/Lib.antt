@@ -1,10 +1,12 @@
 pub mod FixedAnswer
+pub mod FixedCount
 pub mod FixedItem
 pub mod FixedLends
 pub mod FixedPool
 pub mod FixedReusable
 pub mod LinearLends
 pub mod LinearPool
+pub mod LowFirst
 pub mod NoneLends
 pub mod NonePool
 pub mod PoolAndHolding

@@ -43,7 +43,11 @@ pub fn held<'p, 'c>(
 fn an_item_is_made_when_it_is_first_needed(rt: HostRuntime) {
     let counts = Tally::new();
     let pool = counted(rt.alloc(), &counts, NEVER, 70).expect(&rt, "a pool is made");
-    assert_equal(&rt, (pool.items(), pool.made(), counts.now()), (70, 0, (0, 0)));
+    assert_equal(
+        &rt,
+        (pool.items(), pool.made(), counts.now()),
+        (70, 0, (0, 0)),
+    );
     for _ in 0..3 {
         let item = pool.pull().expect(&rt, "an item is free");
         assert_equal(&rt, (item.number(), item.call), (0, 0));
@@ -56,7 +60,11 @@ fn an_item_is_made_when_it_is_first_needed(rt: HostRuntime) {
     drop(first);
     drop(second);
     let shown = format!(in rt.alloc(); "{pool:?}").expect(&rt, "memory is left");
-    assert_equal(&rt, shown.as_str(), "LazyObjectPool { items: 70, made: 2, .. }");
+    assert_equal(
+        &rt,
+        shown.as_str(),
+        "LazyObjectPool { items: 70, made: 2, .. }",
+    );
     drop(pool);
     assert_equal(&rt, counts.now(), (2, 2));
 }
@@ -118,7 +126,9 @@ fn a_forgotten_item_stays_out(rt: HostRuntime) {
 
 /// A number that follows, as random as a choice here has to be.
 fn next_number(number: u64) -> u64 {
-    number.wrapping_mul(6_364_136_223_846_793_005).wrapping_add(1_442_695_040_888_963_407)
+    number
+        .wrapping_mul(6_364_136_223_846_793_005)
+        .wrapping_add(1_442_695_040_888_963_407)
 }
 
 /// Pulls and returns by chance, in a pool of so many items. Whether as many were made after each step as were out at once until
@@ -159,7 +169,15 @@ fn makes_as_many_as_were_out(alloc: Global, items: usize, seed: u64) -> Option<b
 #[test]
 fn as_many_are_made_as_were_out(rt: HostRuntime) {
     for seed in 0..10u64 {
-        assert_equal(&rt, makes_as_many_as_were_out(rt.alloc(), 200, seed), Some(true));
-        assert_equal(&rt, makes_as_many_as_were_out(rt.alloc(), 1_000, seed), Some(true));
+        assert_equal(
+            &rt,
+            makes_as_many_as_were_out(rt.alloc(), 200, seed),
+            Some(true),
+        );
+        assert_equal(
+            &rt,
+            makes_as_many_as_were_out(rt.alloc(), 1_000, seed),
+            Some(true),
+        );
     }
 }

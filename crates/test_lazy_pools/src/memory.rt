@@ -27,7 +27,11 @@ fn a_pool_is_made_again_where_memory_was_refused(rt: HostRuntime) {
     let pool = again(&|| numbers(rt.alloc(), 70)).expect(&rt, "one request alone is refused");
     let first = pool.pull().expect(&rt, "an item is free");
     let second = pool.pull().expect(&rt, "an item is free");
-    assert_equal(&rt, (*first, *second, pool.items(), pool.made()), (7, 7, 70, 2));
+    assert_equal(
+        &rt,
+        (*first, *second, pool.items(), pool.made()),
+        (7, 7, 70, 2),
+    );
 }
 
 #[test]

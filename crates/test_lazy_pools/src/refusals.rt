@@ -15,17 +15,29 @@ fn a_refusal_brings_the_empty_place_back(rt: HostRuntime) {
         assert_equal(&rt, pool.pull().err(), Some(PullError::Init));
         assert_equal(&rt, (pool.made(), counts.made()), (refused, refused));
         let item = pool.pull().expect(&rt, "an item is free");
-        assert_equal(&rt, (item.number(), item.call), (refused, refused.saturating_add(1)));
+        assert_equal(
+            &rt,
+            (item.number(), item.call),
+            (refused, refused.saturating_add(1)),
+        );
         drop(item);
         let item = pool.pull().expect(&rt, "an item is free");
-        assert_equal(&rt, (item.number(), item.call), (refused, refused.saturating_add(1)));
+        assert_equal(
+            &rt,
+            (item.number(), item.call),
+            (refused, refused.saturating_add(1)),
+        );
         drop(item);
         drop(before);
         let all = held(rt.alloc(), &pool, 33).expect(&rt, "nothing is refused");
         assert_equal(&rt, pool.pull().err(), Some(PullError::Limit));
         drop(all);
         drop(pool);
-        assert_equal(&rt, (counts.calls(), counts.made(), counts.drops()), (34, 33, 33));
+        assert_equal(
+            &rt,
+            (counts.calls(), counts.made(), counts.drops()),
+            (34, 33, 33),
+        );
     }
 }
 
@@ -38,5 +50,9 @@ fn a_pull_of_one_pass_tells_why_it_has_nothing(rt: HostRuntime) {
     let refused = matches!(pool.try_pull(&pass), Err(LazyRefused::NotMade));
     let second = pool.try_pull(&pass).ok();
     let busy = matches!(pool.try_pull(&pass), Err(LazyRefused::Busy(_)));
-    assert_equal(&rt, (first.is_some(), refused, second.is_some(), busy), (true, true, true, true));
+    assert_equal(
+        &rt,
+        (first.is_some(), refused, second.is_some(), busy),
+        (true, true, true, true),
+    );
 }

@@ -4,10 +4,10 @@ use lockfree_object_pool::clean::AnyValue;
 use lockfree_object_pool::closures::Copied;
 use lockfree_object_pool::{LazyObjectPool, PullError};
 use std::alloc::Global;
-use std::thread;
-use std::thread::Threads;
 use std::rt::Clock;
 use std::sync::Wait;
+use std::thread;
+use std::thread::Threads;
 use std::time::{Duration, Instant};
 
 type Zero = Copied<u32, AnyValue>;
@@ -31,14 +31,20 @@ fn long_time() -> Duration {
 #[test]
 fn a_time_is_waited_for_and_then_the_limit_is_told(rt: HostRuntime) {
     let pool = zeros(rt.alloc()).expect(&rt, "a pool is made");
-    let item = pool.pull_timeout(&rt, Duration::from_millis(0)).expect(&rt, "an item is free");
+    let item = pool
+        .pull_timeout(&rt, Duration::from_millis(0))
+        .expect(&rt, "an item is free");
     let start = Instant::now(&rt).expect(&rt, "the clock is read");
     assert_equal(
         &rt,
         pool.pull_timeout(&rt, Duration::from_millis(0)).err(),
         Some(PullError::Limit),
     );
-    assert_equal(&rt, pool.pull_timeout(&rt, short_time()).err(), Some(PullError::Limit));
+    assert_equal(
+        &rt,
+        pool.pull_timeout(&rt, short_time()).err(),
+        Some(PullError::Limit),
+    );
     let gone = start.elapsed(&rt).expect(&rt, "the clock is read");
     assert!(rt; gone >= short_time() && gone < long_time());
     drop(item);

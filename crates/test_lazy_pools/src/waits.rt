@@ -154,27 +154,51 @@ fn all_served<R: Threads + Wait + Clock + Sync>(
 #[test]
 fn eight_threads_wait_for_one_item(rt: HostRuntime) {
     let shared = new_shared(rt.alloc(), 1, 0).expect(&rt, "a pool is made");
-    assert_equal(&rt, all_served(&rt, rt.alloc(), &shared, 5_000, false), Some(true));
-    assert_equal(&rt, (shared.sum(rt.alloc()), shared.pool.made()), (Ok(40_000), 1));
+    assert_equal(
+        &rt,
+        all_served(&rt, rt.alloc(), &shared, 5_000, false),
+        Some(true),
+    );
+    assert_equal(
+        &rt,
+        (shared.sum(rt.alloc()), shared.pool.made()),
+        (Ok(40_000), 1),
+    );
 }
 
 #[test]
 fn eight_threads_wait_for_three_items(rt: HostRuntime) {
     let shared = new_shared(rt.alloc(), 3, 0).expect(&rt, "a pool is made");
-    assert_equal(&rt, all_served(&rt, rt.alloc(), &shared, 5_000, false), Some(true));
+    assert_equal(
+        &rt,
+        all_served(&rt, rt.alloc(), &shared, 5_000, false),
+        Some(true),
+    );
     assert_equal(&rt, shared.sum(rt.alloc()), Ok(40_000));
 }
 
 #[test]
 fn a_refused_maker_lets_the_next_one_try(rt: HostRuntime) {
     let shared = new_shared(rt.alloc(), 1, 2_000).expect(&rt, "a pool is made");
-    assert_equal(&rt, all_served(&rt, rt.alloc(), &shared, 100, false), Some(true));
-    assert_equal(&rt, (shared.sum(rt.alloc()), shared.pool.made()), (Ok(800), 1));
+    assert_equal(
+        &rt,
+        all_served(&rt, rt.alloc(), &shared, 100, false),
+        Some(true),
+    );
+    assert_equal(
+        &rt,
+        (shared.sum(rt.alloc()), shared.pool.made()),
+        (Ok(800), 1),
+    );
 }
 
 #[test]
 fn those_that_give_up_wake_others(rt: HostRuntime) {
     let shared = new_shared(rt.alloc(), 2, 0).expect(&rt, "a pool is made");
-    assert_equal(&rt, all_served(&rt, rt.alloc(), &shared, 5_000, true), Some(true));
+    assert_equal(
+        &rt,
+        all_served(&rt, rt.alloc(), &shared, 5_000, true),
+        Some(true),
+    );
     assert_equal(&rt, shared.sum(rt.alloc()), Ok(40_000));
 }

@@ -5,7 +5,6 @@ use super::LazyObjectPool;
 use nonblocking_pools::fixed_object_pool::items::pulled_item::PulledItem;
 use pool_parts::clean::Clean;
 use pool_parts::closures::{Init, Reset};
-use pool_parts::page::PullPass;
 use std::sync::Wait;
 use std::time::{Clock, Duration, Instant};
 
@@ -27,7 +26,7 @@ impl<T: Drop, I: Init<T, K>, R: Reset<T, K>, K: Clean<T>> LazyObjectPool<T, I, R
         }
     }
 
-    /// As `place_waiting`, for so long at most. `None` after the time, where the last try found each place taken. A clock that can't
+    /// As `place_waiting`, for so long at most. `None` after the time, where the last try found no place free. A clock that can't
     /// be read ends the wait.
     pub(super) fn place_within<W: Wait + Clock>(
         &self,
@@ -53,11 +52,7 @@ impl<T: Drop, I: Init<T, K>, R: Reset<T, K>, K: Clean<T>> LazyObjectPool<T, I, R
         ensures kept { IfSome result (λ pulled.
             IsKeptPlace K.meets I.answers R.leaves pulled.value) }
     {
-        let pass = PullPass::new();
-        match self.places.pull_low(&pass) {
-            Ok(pulled) => Some(pulled),
-            Err(_) => None,
-        }
+        self.places.pull().ok()
     }
 
     /// The first place that a thread gets which announces itself, and tries again each time that a return wakes it.
@@ -79,11 +74,7 @@ impl<T: Drop, I: Init<T, K>, R: Reset<T, K>, K: Clean<T>> LazyObjectPool<T, I, R
     }
 
     /// As `place_later`, for so long at most.
-    fn place_soon<W: Wait + Clock>(
-        &self,
-        rt: &W,
-        time: Duration,
-    ) -> Option<PulledItem<Option<T>>>
+    fn place_soon<W: Wait + Clock>(&self, rt: &W, time: Duration) -> Option<PulledItem<Option<T>>>
         ensures pulled { IfSome result (λ pulled.
             IsPulledFrom (lazy_identity self.now) (lazy_opening self.now) (pulled_item pulled)) }
         ensures kept { IfSome result (λ pulled.
