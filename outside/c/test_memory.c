@@ -1,6 +1,7 @@
 /* What the calls ask of malloc, realloc and free: each refusal is answered by its name and leaves nothing behind, nothing is asked
    for between the making of handles and their end, and all is given back then. Linked with --wrap for the three. */
 #include "kundratu_pool.h"
+#include <malloc.h>
 #include <stdio.h>
 #include <stdlib.h>
 
@@ -9,6 +10,7 @@ void *__real_realloc(void *block, size_t bytes);
 void __real_free(void *block);
 
 static long asked, held, refuse_at = -1;
+static size_t given_back;
 
 static int is_refused(void) {
     return asked++ == refuse_at;
@@ -34,10 +36,11 @@ void *__wrap_realloc(void *block, size_t bytes) {
 
 void __wrap_free(void *block) {
     held -= block != NULL;
+    given_back += malloc_usable_size(block);
     __real_free(block);
 }
 
-enum { ITEMS = 100 };
+enum { ITEMS = 100, MANY = 1000000 };
 
 static int faults;
 
@@ -55,6 +58,16 @@ static long requests_of_new(void) {
     long requests = asked;
     check(kdr_pool_drop(&one) == KDR_DONE && held == 0, "a pool left memory behind");
     return requests;
+}
+
+/* The words of a pool are laid out once before they are shared, so as much is given back meanwhile as the pool keeps. */
+static void make_once(void) {
+    kdr_handle one = KDR_HANDLE_EMPTY;
+    given_back = 0;
+    check(kdr_pool_new(MANY, &one) == KDR_DONE, "no pool");
+    size_t meanwhile = given_back;
+    check(kdr_pool_drop(&one) == KDR_DONE && held == 0, "a great pool left memory behind");
+    check(meanwhile < 2 * (given_back - meanwhile), "a pool was made twice");
 }
 
 static void refuse_new(long requests) {
@@ -95,12 +108,18 @@ static void take_none_between(void) {
         }
         check(kdr_pool_pull(&all[ITEMS], &place) == KDR_ALL_OUT, "a place too many");
         check(kdr_pool_pull(&all[0], &place) == KDR_HOLDS_ONE, "a second place");
+        check(kdr_pool_items(&all[0]) == ITEMS, "another number of places");
         for (size_t at = 0; at < ITEMS; at++) {
             check(kdr_pool_return(&all[at]) == KDR_DONE, "no return");
         }
         check(kdr_pool_return(&all[0]) == KDR_HOLDS_NONE, "a second return");
     }
-    check(asked == 0, "a pull or a return asked for memory");
+    for (size_t page = 0; page < ITEMS; page++) {
+        size_t place;
+        check(kdr_pool_pull_near(&all[0], page, &place) == KDR_DONE, "no place near a page");
+        check(kdr_pool_return(&all[0]) == KDR_DONE, "no return");
+    }
+    check(asked == 0, "a pull, a return or the number of places asked for memory");
     for (size_t at = 0; at <= ITEMS; at++) {
         check(kdr_pool_drop(&all[at]) == KDR_DONE, "no end");
     }
@@ -111,6 +130,7 @@ static void take_none_between(void) {
 int main(void) {
     long requests = requests_of_new();
     refuse_new(requests);
+    make_once();
     refuse_share();
     take_none_between();
     printf("%d faults\n", faults);

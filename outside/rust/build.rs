@@ -1,20 +1,26 @@
-//! Links the two archives that `outside/run` puts into `outside/lib`.
+//! Links the static library: the one of a package, in its folder `lib`, or the one that `outside/library` builds.
 use std::env;
-use std::path::PathBuf;
+use std::path::{Path, PathBuf};
+
+const ARCHIVE: &str = "libkundratu_pool.a";
 
 fn main() {
+    let target = ["ARCH", "OS"].map(|what| env::var(format!("CARGO_CFG_TARGET_{what}")));
+    let target = target.map(|what| what.expect("cargo sets it"));
+    assert_eq!(
+        target,
+        ["x86_64", "linux"],
+        "the library is built for x86-64 Linux"
+    );
     let here = PathBuf::from(env::var_os("CARGO_MANIFEST_DIR").expect("cargo sets it"));
-    let folder = here.join("../lib");
-    for archive in ["libfixed_pool_c.a", "liblibc_c.a"] {
-        let file = folder.join(archive);
-        assert!(
-            file.is_file(),
-            "{} is missing: run outside/run first",
-            file.display()
-        );
-        println!("cargo:rerun-if-changed={}", file.display());
-    }
+    let folders = [here.join("lib"), here.join("../lib")];
+    let is_there = |folder: &&PathBuf| folder.join(ARCHIVE).is_file();
+    let folder = folders.iter().find(is_there).map(PathBuf::as_path);
+    link(folder.expect("the library is missing: run outside/library first"));
+}
+
+fn link(folder: &Path) {
+    println!("cargo:rerun-if-changed={}", folder.join(ARCHIVE).display());
     println!("cargo:rustc-link-search=native={}", folder.display());
-    println!("cargo:rustc-link-lib=static=fixed_pool_c");
-    println!("cargo:rustc-link-lib=static=libc_c");
+    println!("cargo:rustc-link-lib=static=kundratu_pool");
 }

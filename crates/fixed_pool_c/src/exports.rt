@@ -93,7 +93,9 @@ pub extern "C" fn kdr_pool_pull_near(
 }
 
 /// Takes a place for a handle that was taken apart.
+#[inline(always)]
 fn pull_at(handle: &mut Handle, mut held: Box<Held>, page: usize, place: &mut usize) -> u32
+    requires { handle.old.held ≡ None }
     ensures { IsPullAnswer result (Some held.value) handle.new.held place.old place.new }
 {
     match held.hand.take() {

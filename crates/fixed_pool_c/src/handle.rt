@@ -59,6 +59,7 @@ impl Handle {
     }
 
     /// What an open handle has, which is empty from then on.
+    #[inline(always)]
     pub(crate) fn take(&mut self, alloc: Global) -> Option<Box<Held>>
         ensures taken { MatchOption result (self.old.held ≡ None)
             (λ held. self.old.held ≡ Some held.value) }
@@ -70,20 +71,29 @@ impl Handle {
         }
     }
 
-    /// Opens the handle, which is empty. What it still had would be dropped.
+    /// Opens the handle, which is empty.
+    #[inline(always)]
     pub(crate) fn put(&mut self, held: Box<Held>)
+        requires { self.old.held ≡ None }
         ensures { self.new.held ≡ Some held.value }
     {
-        if let Some(before) = replace(self, Handle::of(Loose::of(held))).into_loose() {
-            let _ = before.into_box();
+        match replace(self, Handle::of(Loose::of(held))).into_loose() {
+            None => {}
+            Some(_) => unreachable!(),
         }
     }
 
-    /// Opens the handle with this in its hand.
+    /// Opens the handle, which is empty, and puts this into its hand, which is empty too.
+    #[inline(always)]
     pub(crate) fn hold(&mut self, mut held: Box<Held>, hand: Hand)
+        requires closed { self.old.held ≡ None }
+        requires empty { held.value.hand ≡ None }
         ensures { (later : Held) × (self.new.held ≡ Some later) × (later.hand ≡ Some hand) }
     {
-        held.hand = Some(hand);
+        match replace(&mut held.hand, Some(hand)) {
+            None => {}
+            Some(_) => unreachable!(),
+        }
         self.put(held);
     }
 }

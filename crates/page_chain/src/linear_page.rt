@@ -34,7 +34,7 @@ mod walk;
 
 pub use link_note::LinkNote;
 pub use page_number::PageNumber;
-pub use walk::WalkEnd;
+pub use walk::{LimitSeen, WalkEnd, WalkRefusal};
 
 /// A chain of pages: the first one, and the links behind it.
 ///

@@ -1,45 +1,43 @@
-//! The items of a pool, each of which only the holder of its place reaches.
+//! Values by their places, each of which only the holder of its place reaches.
+use crate::handle::Out;
 use std::cell::UnsafeCell;
 
-/// Items by their places.
-pub(crate) struct Cells<T> {
-    items: Box<[UnsafeCell<T>]>,
-}
+pub(crate) struct Cells<T>(Box<[UnsafeCell<T>]>);
 
-// SAFETY: an item is reached only through its place, which has one holder at a time. So to share the cells is to send items from
-// holder to holder, and no item is ever reached by two threads at once through the cells alone.
+// SAFETY: a value is reached only by the holder of its place, of whom there is one at a time. So to share the cells is to send values
+// from holder to holder.
 unsafe impl<T: Send> Sync for Cells<T> {}
 
 impl<T> Cells<T> {
-    pub(crate) fn new(count: usize, init: impl FnMut() -> T) -> Cells<T> {
-        let mut init = init;
-        Cells {
-            items: (0..count).map(|_| UnsafeCell::new(init())).collect(),
-        }
+    /// The values in their order, or `None` where memory is refused.
+    pub(crate) fn new(values: impl ExactSizeIterator<Item = T>) -> Option<Cells<T>> {
+        let mut cells = Vec::new();
+        cells.try_reserve_exact(values.len()).ok()?;
+        cells.extend(values.map(UnsafeCell::new));
+        Some(Cells(cells.into_boxed_slice()))
     }
 
     pub(crate) fn count(&self) -> usize {
-        self.items.len()
+        self.0.len()
     }
 
-    /// The item at a place.
-    ///
-    /// # Safety
-    ///
-    /// The caller holds the place for as long as the borrow lasts, and has no other borrow of the item that may write.
-    pub(crate) unsafe fn item(&self, place: usize) -> &T {
-        // SAFETY: nobody else reaches the item, since the caller holds its place and writes by no other borrow.
-        unsafe { &*self.items[place].get() }
+    /// Where the value of a place lies, or `None` where there is no such place.
+    #[inline(always)]
+    pub(crate) fn at(&self, place: usize) -> Option<*mut T> {
+        self.0.get(place).map(UnsafeCell::get)
     }
 
-    /// The item at a place, to write.
-    ///
-    /// # Safety
-    ///
-    /// The caller holds the place for as long as the borrow lasts, and has no other borrow of the item.
-    #[allow(clippy::mut_from_ref)]
-    pub(crate) unsafe fn item_mut(&self, place: usize) -> &mut T {
-        // SAFETY: nobody else reaches the item, since the caller holds its place and has no other borrow.
-        unsafe { &mut *self.items[place].get() }
+    /// The value at a place of this very pool.
+    #[inline(always)]
+    pub(crate) fn item<'c>(&'c self, out: &'c Out) -> &'c T {
+        // SAFETY: `out` holds the place, and who writes there borrows it to write.
+        unsafe { &*self.0[out.place].get() }
+    }
+
+    /// The value at a place of this very pool, to write.
+    #[inline(always)]
+    pub(crate) fn item_mut<'c>(&'c self, out: &'c mut Out) -> &'c mut T {
+        // SAFETY: `out` holds the place, and is borrowed to write, so nobody else reaches the value.
+        unsafe { &mut *self.0[out.place].get() }
     }
 }

@@ -1,17 +1,17 @@
-//! A handle of the C library, whose rules the types here keep.
+//! A handle of the C library, with its rules as types.
 use crate::sys::{
-    kdr_pool_drop, kdr_pool_new, kdr_pool_pull, kdr_pool_return, kdr_pool_share, RawHandle,
+    kdr_pool_drop, kdr_pool_new, kdr_pool_pull, kdr_pool_pull_near, kdr_pool_return,
+    kdr_pool_share, RawHandle,
 };
 use std::error::Error;
-use std::ffi::c_void;
 use std::fmt::{self, Display, Formatter};
 use std::mem::ManuallyDrop;
-use std::ptr::null_mut;
-use std::sync::atomic::{AtomicPtr, Ordering::SeqCst};
 
 const DONE: u32 = 0;
 const ALL_OUT: u32 = 1;
 const NO_PLACES: u32 = 6;
+/// How many places a page has.
+pub(crate) const PAGE: usize = 32;
 
 /// Why a pool wasn't made.
 #[derive(Clone, Copy, Debug, PartialEq, Eq)]
@@ -33,91 +33,72 @@ impl Display for NewError {
 
 impl Error for NewError {}
 
-/// An open handle: it holds one place of its pool, or none.
-pub(crate) struct Handle {
-    raw: RawHandle,
+/// A handle of a pool, which holds no place. It keeps to one place in memory, whoever has it.
+pub(crate) struct Handle(Box<[RawHandle; 1]>);
+
+/// A place that is out, with the handle that holds it. Where it is dropped, the place stays out.
+pub(crate) struct Out {
+    handle: ManuallyDrop<Handle>,
+    pub(crate) place: usize,
 }
 
-// SAFETY: the library proves that a handle may go to another thread (`Handle: Send` of `crates/fixed_pool_c`).
-unsafe impl Send for Handle {}
-
 impl Handle {
-    /// The first handle of a new pool of so many places.
+    /// An empty handle, or `None` where memory is refused.
+    fn empty() -> Option<Handle> {
+        let mut one = Vec::new();
+        one.try_reserve_exact(1).ok()?;
+        one.push(RawHandle::empty());
+        one.into_boxed_slice().try_into().ok().map(Handle)
+    }
+
+    /// Makes a pool of so many places, and its first handle.
     pub(crate) fn first(items: usize) -> Result<Handle, NewError> {
-        let mut raw = RawHandle { at: null_mut() };
-        // SAFETY: `raw` is an empty handle that nobody else has.
-        match unsafe { kdr_pool_new(items, &mut raw) } {
-            DONE => Ok(Handle { raw }),
+        let mut handle = Handle::empty().ok_or(NewError::Memory)?;
+        match kdr_pool_new(items, &mut handle.0[0]) {
+            DONE => Ok(handle),
             NO_PLACES => Err(NewError::NoItems),
             _ => Err(NewError::Memory),
         }
     }
 
-    /// A further handle of the same pool, or `None` where memory is refused.
+    /// Makes a further handle of the same pool, or `None` where memory is refused.
     pub(crate) fn share(&mut self) -> Option<Handle> {
-        let mut raw = RawHandle { at: null_mut() };
-        // SAFETY: both are handles that nobody else has, and `raw` is another one than this.
-        let answer = unsafe { kdr_pool_share(&mut self.raw, &mut raw) };
-        (answer == DONE).then(|| Handle { raw })
+        let mut other = Handle::empty()?;
+        let answer = kdr_pool_share(&mut self.0[0], &mut other.0[0]);
+        (answer == DONE).then_some(other)
     }
 
-    /// Takes a place, or none where each is out. The handle held none.
-    pub(crate) fn pull(&mut self) -> Option<usize> {
-        let mut place = 0;
-        // SAFETY: this is a handle that nobody else has, and `place` is a number of this function's own.
-        let answer = unsafe { kdr_pool_pull(&mut self.raw, &mut place) };
+    /// Pulls a place, or hands the handle back where each was out at some time of the call. It looks first at this page, or where the
+    /// handle's last place was.
+    #[inline(always)]
+    pub(crate) fn pull(mut self, page: Option<usize>) -> Result<Out, Handle> {
+        let (handle, mut place) = (&mut self.0[0], 0);
+        let answer = match page {
+            Some(page) => kdr_pool_pull_near(handle, page, &mut place),
+            None => kdr_pool_pull(handle, &mut place),
+        };
         debug_assert!(answer == DONE || answer == ALL_OUT);
-        (answer == DONE).then_some(place)
-    }
-
-    /// Returns the place that the handle holds.
-    pub(crate) fn give_back(&mut self) {
-        // SAFETY: this is a handle that nobody else has.
-        let answer = unsafe { kdr_pool_return(&mut self.raw) };
-        debug_assert_eq!(answer, DONE);
+        if answer != DONE {
+            return Err(self);
+        }
+        let handle = ManuallyDrop::new(self);
+        Ok(Out { handle, place })
     }
 }
 
 impl Drop for Handle {
     fn drop(&mut self) {
-        // SAFETY: this is a handle that nobody else has, and nobody uses it afterwards.
-        let _ = unsafe { kdr_pool_drop(&mut self.raw) };
+        // An empty handle is answered by its name.
+        kdr_pool_drop(&mut self.0[0]);
     }
 }
 
-/// Room for one idle handle, which threads put there and take without a lock.
-pub(crate) struct Slot {
-    at: AtomicPtr<c_void>,
-}
-
-impl Slot {
-    pub(crate) fn new() -> Slot {
-        Slot {
-            at: AtomicPtr::new(null_mut()),
-        }
-    }
-
-    /// The handle that was there.
-    pub(crate) fn take(&self) -> Option<Handle> {
-        let at = self.at.swap(null_mut(), SeqCst);
-        (!at.is_null()).then(|| Handle {
-            raw: RawHandle { at },
-        })
-    }
-
-    /// Puts a handle there, or hands it back where there is one.
-    pub(crate) fn put(&self, handle: Handle) -> Option<Handle> {
-        let handle = ManuallyDrop::new(handle);
-        let at = handle.raw.at;
-        match self.at.compare_exchange(null_mut(), at, SeqCst, SeqCst) {
-            Ok(_) => None,
-            Err(_) => Some(ManuallyDrop::into_inner(handle)),
-        }
-    }
-}
-
-impl Drop for Slot {
-    fn drop(&mut self) {
-        drop(self.take());
+impl Out {
+    /// Returns the place.
+    #[inline(always)]
+    pub(crate) fn give_back(mut self) -> Handle {
+        let answer = kdr_pool_return(&mut self.handle.0[0]);
+        debug_assert_eq!(answer, DONE);
+        ManuallyDrop::into_inner(self.handle)
     }
 }

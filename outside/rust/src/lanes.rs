@@ -1,89 +1,182 @@
-//! The handles that hold no place, in lanes: each thread keeps to one, so that threads seldom meet.
+//! The handles that hold no place. A thread has some in a lane, which no other thread reaches while it runs: it takes and keeps them by
+//! plain reads and writes. The others lie behind a lock.
 //!
-//! A pull begins where its handle's last one found a place, and the handle that was kept last is taken first. So a thread comes back to
-//! the pages where it was, and threads have pages of their own.
-use crate::handle::{Handle, Slot};
-use std::cell::Cell;
-use std::sync::atomic::{AtomicUsize, Ordering};
+//! A lane knows the page where its thread's pulls begin. So threads keep to pages of their own, whichever handles they have.
+use crate::cells::Cells;
+use crate::handle::{Handle, Out, PAGE};
+use crate::threads;
+use std::array::from_fn;
 use std::sync::{Mutex, MutexGuard, PoisonError};
 
-/// How many lanes a pool has. A power of two.
-const LANES: usize = 16;
+/// How many handles move at once between a lane and the shared ones.
+const SOME: usize = 7;
 
-/// The idle handles of one lane, on cache lines of their own.
-#[repr(align(128))]
-struct Lane {
-    /// The handle that was kept last, mostly.
-    last: Slot,
-    idle: Mutex<Vec<Handle>>,
+/// Why no place was pulled.
+#[derive(Debug)]
+pub(crate) enum Refused {
+    /// Each was out at some time of the call.
+    AllOut,
+    /// Memory for a further handle was refused.
+    Memory,
 }
 
-impl Lane {
-    fn take(&self) -> Option<Handle> {
-        self.last
-            .take()
-            .or_else(|| self.idle.try_lock().ok()?.pop())
+/// The idle handles of one thread, on cache lines of their own. The first room has the one that was kept last, mostly.
+#[repr(align(128))]
+struct Lane {
+    /// At which page the next pull begins.
+    page: usize,
+    /// How far from the first page the thread begins. Numbers of pages are counted round and round.
+    apart: usize,
+    /// The page is so far from one where others came too.
+    is_apart: bool,
+    idle: [Option<Handle>; 2 * SOME - 1],
+}
+
+/// The idle handles of no thread, with room for all, and the first handle, of which these are made.
+struct Shared {
+    first: Handle,
+    made: usize,
+    idle: Vec<Handle>,
+}
+
+impl Shared {
+    /// An idle handle, or a new one.
+    fn take(&mut self) -> Option<Handle> {
+        self.idle.pop().or_else(|| {
+            self.idle.try_reserve(self.made + 1).ok()?;
+            let handle = self.first.share()?;
+            self.made += 1;
+            Some(handle)
+        })
     }
 }
 
 /// A pool's handles that hold no place.
 pub(crate) struct Lanes {
-    lanes: [Lane; LANES],
-    /// Only new handles are made of it.
-    first: Mutex<Handle>,
+    lanes: Cells<Lane>,
+    shared: Mutex<Shared>,
 }
 
 impl Lanes {
-    pub(crate) fn new(first: Handle) -> Lanes {
-        Lanes {
-            lanes: std::array::from_fn(|_| Lane {
-                last: Slot::new(),
-                idle: Mutex::new(Vec::new()),
-            }),
-            first: Mutex::new(first),
-        }
-    }
-
-    /// A handle that holds no place, or `None` where memory for a further one is refused.
-    pub(crate) fn take(&self) -> Option<Handle> {
-        let idle = self.round().find_map(Lane::take);
-        idle.or_else(|| lock(&self.first).share())
-    }
-
-    /// Keeps a handle that holds no place.
-    pub(crate) fn keep(&self, handle: Handle) {
-        let Some(handle) = self.lanes[own_lane()].last.put(handle) else {
-            return;
+    /// The lanes of a pool of so many pages, or `None` where memory is refused.
+    pub(crate) fn new(first: Handle, pages: usize) -> Option<Lanes> {
+        // Threads begin so far apart that the words of their pages lie on cache lines of their own.
+        let apart = if pages % 17 == 0 { 1 } else { 17 };
+        let lane = |number| Lane {
+            page: number * apart % pages,
+            apart: number * apart,
+            is_apart: false,
+            idle: from_fn(|_| None),
         };
-        match self.round().find_map(|lane| lane.idle.try_lock().ok()) {
-            Some(mut idle) => idle.push(handle),
-            None => lock(&self.lanes[own_lane()].idle).push(handle),
+        let lanes = Cells::new((0..threads::NUMBERS).map(lane))?;
+        let (made, idle) = (0, Vec::new());
+        let shared = Mutex::new(Shared { first, made, idle });
+        Some(Lanes { lanes, shared })
+    }
+
+    /// Makes this call with the thread's lane, where it has one. The call makes no other of this function.
+    #[inline(always)]
+    fn own<A>(&self, call: impl FnOnce(&mut Lane) -> A) -> Option<A> {
+        let lane = self.lanes.at(threads::own())?;
+        // SAFETY: no other thread has this number, and no call of this thread is within another.
+        Some(call(unsafe { &mut *lane }))
+    }
+
+    /// Pulls a place, or answers `None` where each was out at some time of the call, or memory for a further handle is refused.
+    #[inline(always)]
+    pub(crate) fn pull(&self) -> Option<Out> {
+        let pulled = self.own(|lane| lane.idle[0].take().map(|handle| lane.pull(handle)));
+        pulled.flatten().unwrap_or_else(|| self.try_pull().ok())
+    }
+
+    /// As `pull`, by any handle, and says why where it is refused.
+    #[cold]
+    pub(crate) fn try_pull(&self) -> Result<Out, Refused> {
+        let mut handle = Some(self.further().ok_or(Refused::Memory)?);
+        let pulled = self.own(|lane| lane.pull(handle.take()?));
+        let shared = |handle| self.shared().idle.push(handle);
+        pulled
+            .unwrap_or_else(|| handle?.pull(None).map_err(shared).ok())
+            .ok_or(Refused::AllOut)
+    }
+
+    /// An idle handle, or a new one. Some others come from the shared ones into the lane, which has none.
+    fn further(&self) -> Option<Handle> {
+        self.own(Lane::take).flatten().or_else(|| {
+            let shared = &mut *self.shared();
+            let handle = shared.take();
+            self.own(|lane| lane.idle[1..=SOME].fill_with(|| shared.idle.pop()));
+            handle
+        })
+    }
+
+    /// Returns a place, and keeps its handle.
+    #[inline(always)]
+    pub(crate) fn give_back(&self, out: Out) {
+        let mut handle = Some(out.give_back());
+        self.own(|lane| {
+            if lane.idle[0].is_none() {
+                lane.idle[0] = handle.take();
+            }
+        });
+        if let Some(handle) = handle {
+            self.keep_further(handle);
         }
     }
 
-    /// The lanes, from this thread's own on.
-    fn round(&self) -> impl Iterator<Item = &Lane> {
-        let own = own_lane();
-        (0..LANES).map(move |further| &self.lanes[(own + further) % LANES])
+    /// Keeps a handle in the lane. Where there is no room, it goes to the shared ones, with some of the lane.
+    #[cold]
+    fn keep_further(&self, handle: Handle) {
+        let mut handle = Some(handle);
+        self.own(|lane| {
+            if let Some(room) = lane.idle.iter_mut().find(|room| room.is_none()) {
+                *room = handle.take();
+            }
+        });
+        if let Some(handle) = handle {
+            let some: [_; SOME] = from_fn(|_| self.own(Lane::take).flatten());
+            let all = some.into_iter().flatten().chain([handle]);
+            self.shared().idle.extend(all);
+        }
+    }
+
+    /// Nothing panics under this lock, so it isn't poisoned.
+    fn shared(&self) -> MutexGuard<'_, Shared> {
+        self.shared.lock().unwrap_or_else(PoisonError::into_inner)
     }
 }
 
-/// Nothing panics under these locks, so none is poisoned.
-fn lock<T>(mutex: &Mutex<T>) -> MutexGuard<'_, T> {
-    mutex.lock().unwrap_or_else(PoisonError::into_inner)
-}
-
-/// The lane of this thread: threads are counted as they come.
-fn own_lane() -> usize {
-    static THREADS: AtomicUsize = AtomicUsize::new(0);
-    thread_local! {
-        static LANE: Cell<Option<usize>> = const { Cell::new(None) };
+impl Lane {
+    /// Pulls a place near the lane's page. A handle that gets none goes to the first room, which is empty.
+    #[inline(always)]
+    fn pull(&mut self, handle: Handle) -> Option<Out> {
+        match handle.pull(Some(self.page)) {
+            Ok(out) => {
+                if out.place / PAGE != self.page {
+                    self.go_on(out.place / PAGE);
+                }
+                Some(out)
+            }
+            Err(handle) => {
+                self.idle[0] = Some(handle);
+                None
+            }
+        }
     }
-    LANE.with(|lane| {
-        lane.get().unwrap_or_else(|| {
-            let own = THREADS.fetch_add(1, Ordering::Relaxed) % LANES;
-            lane.set(Some(own));
-            own
-        })
-    })
+
+    /// Goes on from a full page, by way of this one. Others came here too, so the next pull begins apart from them; where it finds
+    /// nothing there either, the lane keeps to the page where it found a place.
+    #[cold]
+    fn go_on(&mut self, page: usize) {
+        self.page = if self.is_apart {
+            page
+        } else {
+            page + self.apart
+        };
+        self.is_apart = !self.is_apart;
+    }
+
+    fn take(&mut self) -> Option<Handle> {
+        self.idle.iter_mut().find_map(Option::take)
+    }
 }

@@ -30,12 +30,22 @@
 #![deny(unsafe_op_in_unsafe_fn)]
 
 mod cells;
-mod guards;
+mod guard;
 mod handle;
 mod lanes;
+mod linear;
+mod none;
 mod pool;
+mod stack;
+mod store;
 pub mod sys;
+mod threads;
 
-pub use guards::{OwnedReusable, Reusable};
+pub use guard::Guard;
 pub use handle::NewError;
-pub use pool::Pool;
+pub use linear::{LinearObjectPool, LinearOwnedReusable, LinearReusable};
+pub use none::{NoneObjectPool, NoneReusable};
+pub use pool::{OwnedReusable, Pool, Reset, Reusable};
+pub use stack::{MutexObjectPool, MutexOwnedReusable, MutexReusable};
+pub use stack::{SpinLock, StackGuard, StackObjectPool};
+pub use stack::{SpinLockObjectPool, SpinLockOwnedReusable, SpinLockReusable};

@@ -1,23 +1,32 @@
-//! The pool.
-use crate::cells::Cells;
-use crate::guards::{Held, OwnedReusable, Reusable};
-use crate::handle::{Handle, NewError};
-use crate::lanes::Lanes;
+//! The pool of a fixed number of items.
+use crate::guard::{Guard, Source};
+use crate::handle::NewError;
+use crate::store::Store;
 use std::fmt::{self, Debug, Formatter};
+use std::ops::Deref;
 use std::sync::Arc;
+
+/// A reset of any closure.
+pub type Reset<T> = Box<dyn Fn(&mut T) + Send + Sync>;
+
+/// An item that was pulled under a borrow of its pool.
+pub type Reusable<'p, T, R = Reset<T>> = Guard<&'p Pool<T, R>>;
+
+/// An item that was pulled with an owner of its pool.
+pub type OwnedReusable<T, R = Reset<T>> = Guard<Arc<Pool<T, R>>>;
 
 /// A pool of a fixed number of items, all made at first.
 ///
-/// A pull waits for no other pull: it is answered by an item that was free, or by `None`. A thread mostly finds the handle that it
-/// used last in a slot of its own, without a lock. Further ones lie under short locks, of which a thread tries its own first.
-pub struct Pool<T> {
-    cells: Cells<T>,
-    lanes: Lanes,
-    reset: Box<dyn Fn(&mut T) + Send + Sync>,
+/// A pull waits for no other pull: it is answered by an item that was free, or by `None`. A thread has handles of its own, which it
+/// takes and keeps by plain reads and writes; where these are too few or too many, it moves some under a short lock. So do threads that
+/// come while 64 others have numbers, at each pull and return.
+pub struct Pool<T, R = Reset<T>> {
+    store: Store<T>,
+    reset: R,
 }
 
 impl<T> Pool<T> {
-    /// A pool of so many items, each made by `init`. `reset` is called on each item as it comes back.
+    /// Creates a pool of so many items, each made by `init`. `reset` is called on each item as it comes back.
     ///
     /// # Errors
     ///
@@ -27,20 +36,30 @@ impl<T> Pool<T> {
         init: impl FnMut() -> T,
         reset: impl Fn(&mut T) + Send + Sync + 'static,
     ) -> Result<Pool<T>, NewError> {
-        let first = Handle::first(items)?;
-        Ok(Pool {
-            cells: Cells::new(items, init),
-            lanes: Lanes::new(first),
-            reset: Box::new(reset),
-        })
+        Pool::with_reset(items, init, Box::new(reset))
+    }
+}
+
+impl<T, R: Fn(&mut T)> Pool<T, R> {
+    /// As [`new`](Pool::new), with a reset that the pool's type names: it is called directly.
+    ///
+    /// ```
+    /// # use kundratu_pool::Pool;
+    /// let pool = Pool::with_reset(8, String::new, String::clear)?;
+    /// pool.pull().expect("none is held").push('a');
+    /// assert!(pool.pull().expect("it came back").is_empty());
+    /// # Ok::<(), kundratu_pool::NewError>(())
+    /// ```
+    pub fn with_reset(
+        items: usize,
+        init: impl FnMut() -> T,
+        reset: R,
+    ) -> Result<Pool<T, R>, NewError> {
+        let store = Store::new(items, init)?;
+        Ok(Pool { store, reset })
     }
 
-    /// How many items the pool has.
-    pub fn items(&self) -> usize {
-        self.cells.count()
-    }
-
-    /// An item that was free, or `None` where each was out at some time of the call, or memory for one more guard is refused.
+    /// Returns an item that was free, or `None` where each was out at some time of the call, or memory for one more guard is refused.
     ///
     /// Memory is asked for only where more items are out than ever before.
     ///
@@ -52,43 +71,50 @@ impl<T> Pool<T> {
     /// assert!(pool.pull().is_none());
     /// # Ok::<(), kundratu_pool::NewError>(())
     /// ```
-    pub fn pull(&self) -> Option<Reusable<'_, T>> {
-        Held::pull(self).map(Reusable::new)
+    #[inline(always)]
+    pub fn pull(&self) -> Option<Reusable<'_, T, R>> {
+        let out = self.store.lanes.pull()?;
+        Some(Guard::new(self, (), out))
     }
 
     /// As [`pull`](Pool::pull), with a guard that keeps the pool.
-    pub fn pull_owned(self: &Arc<Self>) -> Option<OwnedReusable<T>> {
-        Held::pull(Arc::clone(self)).map(OwnedReusable::new)
+    #[inline(always)]
+    pub fn pull_owned(self: &Arc<Self>) -> Option<OwnedReusable<T, R>> {
+        let out = self.store.lanes.pull()?;
+        Some(Guard::new(Arc::clone(self), (), out))
+    }
+}
+
+impl<T, R> Pool<T, R> {
+    /// Returns the number of items.
+    pub fn items(&self) -> usize {
+        self.store.cells.count()
+    }
+}
+
+impl<T, R: Fn(&mut T)> Source for Pool<T, R> {
+    type Item = T;
+    type Part = ();
+
+    #[inline(always)]
+    fn store(&self, (): ()) -> &Store<T> {
+        &self.store
     }
 
-    pub(crate) fn cells(&self) -> &Cells<T> {
-        &self.cells
-    }
-
-    /// A handle that holds a place, with the place.
-    pub(crate) fn take(&self) -> Option<(Handle, usize)> {
-        let mut handle = self.lanes.take()?;
-        match handle.pull() {
-            Some(place) => Some((handle, place)),
-            None => {
-                self.lanes.keep(handle);
-                None
-            }
-        }
-    }
-
-    /// Returns the place of a handle.
-    pub(crate) fn give_back(&self, mut handle: Handle) {
-        handle.give_back();
-        self.lanes.keep(handle);
-    }
-
-    pub(crate) fn reset(&self, item: &mut T) {
+    #[inline(always)]
+    fn reset(&self, item: &mut T) {
         (self.reset)(item);
     }
 }
 
-impl<T> Debug for Pool<T> {
+impl<T, R: Fn(&mut T), P: Deref<Target = Pool<T, R>>> Guard<P> {
+    /// Returns the item's number in its pool, counted from 0.
+    pub fn number(&self) -> usize {
+        self.place()
+    }
+}
+
+impl<T, R> Debug for Pool<T, R> {
     fn fmt(&self, f: &mut Formatter<'_>) -> fmt::Result {
         f.debug_struct("Pool")
             .field("items", &self.items())

@@ -75,7 +75,7 @@ fn two_at_a_time_are_two_places() {
 
 #[test]
 fn each_item_comes_once_and_then_none() {
-    for items in [1, 31, 32, 33, 100] {
+    for items in [1, 31, 32, 33, 100, 300] {
         let pool = zeros(items);
         let held: Vec<Reusable<'_, u32>> = std::iter::from_fn(|| pool.pull()).collect();
         let numbers: HashSet<usize> = held.iter().map(Reusable::number).collect();
@@ -111,6 +111,52 @@ fn a_pool_of_nothing_is_refused() {
 fn a_pool_past_all_memory_is_refused() {
     let refused = Pool::<u32>::new(usize::MAX, || 0, |_| ()).err();
     assert_eq!(refused, Some(NewError::Memory));
+    assert_eq!(NewError::Memory.to_string(), "memory was refused");
+}
+
+#[test]
+fn a_pool_is_shown_by_its_number_of_items() {
+    assert_eq!(format!("{:?}", zeros(100)), "Pool { items: 100, .. }");
+}
+
+#[test]
+fn each_of_many_items_is_reset() {
+    let pool = zeros(300);
+    let mut held: Vec<_> = std::iter::from_fn(|| pool.pull()).collect();
+    held.iter_mut().for_each(|item| **item = 7);
+    drop(held);
+    let held: Vec<_> = std::iter::from_fn(|| pool.pull()).collect();
+    assert_eq!(held.len(), 300);
+    assert!(held.iter().all(|item| **item == 0));
+}
+
+#[test]
+fn an_item_that_a_panic_drops_is_reset() {
+    let pool = zeros(1);
+    let panicked = catch_unwind(AssertUnwindSafe(|| {
+        let mut item = pool.pull().expect("it is free");
+        *item = 5;
+        panic!("on purpose")
+    }));
+    assert!(panicked.is_err());
+    assert_eq!(*pool.pull().expect("it came back"), 0);
+}
+
+#[test]
+fn a_pools_type_may_name_its_reset() {
+    let reset: fn(&mut String) = String::clear;
+    let pool = Pool::with_reset(1, String::new, reset).expect("there is memory");
+    let pool: Pool<String, fn(&mut String)> = pool;
+    pool.pull().expect("it is free").push('a');
+    assert!(pool.pull().expect("it came back").is_empty());
+}
+
+#[test]
+fn a_refused_owned_pull_keeps_no_owner() {
+    let pool = Arc::new(zeros(1));
+    let _item = pool.pull();
+    assert!(pool.pull_owned().is_none());
+    assert_eq!(Arc::strong_count(&pool), 1);
 }
 
 #[test]

@@ -111,11 +111,17 @@ impl<T, K: Clean<T>> FixedItems<T, K> {
         self.count
     }
 
-    /// The page that lies there, where the pages are counted round and round.
+    /// Returns the page of this number, where the pages are counted round and round.
+    ///
+    /// A division takes as long as an atomic step, so it is made only for a number that is past the pages.
     pub(super) fn page_round(&self, page: usize) -> usize
         ensures { result < (fixed_identity self.now).words }
     {
-        page % self.pages
+        if page < self.pages {
+            page
+        } else {
+            page % self.pages
+        }
     }
 
     /// At which page a pull starts.

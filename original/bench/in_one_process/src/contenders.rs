@@ -6,7 +6,6 @@ use kundratu_pool::sys::{
 };
 use kundratu_pool::Pool;
 use lockfree_object_pool::LinearObjectPool;
-use std::ptr::null_mut;
 use std::sync::atomic::AtomicU64;
 use std::sync::Mutex;
 
@@ -30,13 +29,9 @@ pub trait Contender: Sync {
 /// A handle of the C library, as a C program has it.
 pub struct OwnHandle(RawHandle);
 
-// SAFETY: the library proves that a handle may go to another thread.
-unsafe impl Send for OwnHandle {}
-
 impl Drop for OwnHandle {
     fn drop(&mut self) {
-        // SAFETY: nobody else has the handle.
-        unsafe { kdr_pool_drop(&mut self.0) };
+        kdr_pool_drop(&mut self.0);
     }
 }
 
@@ -48,9 +43,8 @@ pub struct Handles {
 
 impl Handles {
     pub fn new(items: usize, cells: Box<[AtomicU64]>) -> Handles {
-        let mut first = OwnHandle(RawHandle { at: null_mut() });
-        // SAFETY: the handle is empty, and nobody else has it.
-        assert_eq!(unsafe { kdr_pool_new(items, &mut first.0) }, 0);
+        let mut first = OwnHandle(RawHandle::empty());
+        assert_eq!(kdr_pool_new(items, &mut first.0), 0);
         Handles {
             first: Mutex::new(first),
             cells,
@@ -64,25 +58,21 @@ impl Contender for Handles {
 
     fn user(&self) -> OwnHandle {
         let mut first = self.first.lock().expect("no panic");
-        let mut own = OwnHandle(RawHandle { at: null_mut() });
-        // SAFETY: nobody else has the two handles.
-        assert_eq!(unsafe { kdr_pool_share(&mut first.0, &mut own.0) }, 0);
+        let mut own = OwnHandle(RawHandle::empty());
+        assert_eq!(kdr_pool_share(&mut first.0, &mut own.0), 0);
         own
     }
 
     fn turn(&self, user: &mut OwnHandle) {
         let mut place = 0;
-        // SAFETY: nobody else has the handle.
-        assert_eq!(unsafe { kdr_pool_pull(&mut user.0, &mut place) }, 0);
+        assert_eq!(kdr_pool_pull(&mut user.0, &mut place), 0);
         use_item(&self.cells, place);
-        // SAFETY: nobody else has the handle.
-        unsafe { kdr_pool_return(&mut user.0) };
+        kdr_pool_return(&mut user.0);
     }
 
     fn hold(&self) -> OwnHandle {
         let mut own = self.user();
-        // SAFETY: nobody else has the handle.
-        assert_eq!(unsafe { kdr_pool_pull(&mut own.0, &mut 0) }, 0);
+        assert_eq!(kdr_pool_pull(&mut own.0, &mut 0), 0);
         own
     }
 }

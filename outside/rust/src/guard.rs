@@ -1,0 +1,98 @@
+//! An item that is out, which goes back at the end of its scope.
+use crate::handle::Out;
+use crate::store::Store;
+use std::fmt::{self, Debug, Formatter};
+use std::marker::PhantomData;
+use std::ops::{Deref, DerefMut};
+
+/// A pool whose items lie in one store or in several.
+pub trait Source {
+    /// The items.
+    type Item;
+    /// Which store.
+    type Part: Copy;
+
+    /// A store from which an item was pulled.
+    #[doc(hidden)]
+    fn store(&self, part: Self::Part) -> &Store<Self::Item>;
+
+    /// Resets an item that comes back.
+    #[doc(hidden)]
+    fn reset(&self, item: &mut Self::Item);
+}
+
+/// An item that is out, of a pool that is held by a borrow or by an owner. Its end resets the item and brings it back.
+///
+/// Threads share a guard only where they may share its item:
+///
+/// ```compile_fail
+/// # use kundratu_pool::Reusable;
+/// # use std::cell::Cell;
+/// fn is_shared<S: Sync>() {}
+/// is_shared::<Reusable<'static, Cell<u32>>>();
+/// ```
+pub struct Guard<P: Deref<Target: Source>> {
+    pool: P,
+    part: <P::Target as Source>::Part,
+    /// It is taken at the guard's end, and nowhere else.
+    out: Option<Out>,
+    shared_as: PhantomData<<P::Target as Source>::Item>,
+}
+
+const HELD: &str = "an item is out until its guard ends";
+
+impl<P: Deref<Target: Source>> Guard<P> {
+    /// Of an item of this store of the pool that is out.
+    #[inline(always)]
+    pub(crate) fn new(pool: P, part: <P::Target as Source>::Part, out: Out) -> Self {
+        Guard {
+            pool,
+            part,
+            out: Some(out),
+            shared_as: PhantomData,
+        }
+    }
+
+    pub(crate) fn place(&self) -> usize {
+        self.out.as_ref().expect(HELD).place
+    }
+}
+
+impl<P: Deref<Target: Source>> Deref for Guard<P> {
+    type Target = <P::Target as Source>::Item;
+
+    #[inline(always)]
+    fn deref(&self) -> &Self::Target {
+        let out = self.out.as_ref().expect(HELD);
+        self.pool.store(self.part).cells.item(out)
+    }
+}
+
+impl<P: Deref<Target: Source>> DerefMut for Guard<P> {
+    #[inline(always)]
+    fn deref_mut(&mut self) -> &mut Self::Target {
+        let out = self.out.as_mut().expect(HELD);
+        self.pool.store(self.part).cells.item_mut(out)
+    }
+}
+
+impl<P: Deref<Target: Source>> Drop for Guard<P> {
+    /// Resets the item and brings it back. Where the reset panics, the item is never pulled again.
+    #[inline(always)]
+    fn drop(&mut self) {
+        if let Some(mut out) = self.out.take() {
+            let store = self.pool.store(self.part);
+            self.pool.reset(store.cells.item_mut(&mut out));
+            store.lanes.give_back(out);
+        }
+    }
+}
+
+impl<P: Deref<Target: Source>> Debug for Guard<P>
+where
+    <P::Target as Source>::Item: Debug,
+{
+    fn fmt(&self, f: &mut Formatter<'_>) -> fmt::Result {
+        (**self).fmt(f)
+    }
+}

@@ -1,0 +1,319 @@
+//! The pools by the names of lockfree-object-pool 0.1.6: what its own tests show, in other words, and what a program meets that
+//! changes to this crate. But for its first line, and for the module `here` at its end, this file passes with that crate too.
+use kundratu_pool as pools;
+
+use pools::{
+    LinearObjectPool, LinearOwnedReusable, LinearReusable, MutexObjectPool, MutexOwnedReusable,
+    MutexReusable, NoneObjectPool, NoneReusable, SpinLockObjectPool, SpinLockOwnedReusable,
+    SpinLockReusable,
+};
+use std::collections::HashSet;
+use std::mem::ManuallyDrop;
+use std::panic::{catch_unwind, AssertUnwindSafe};
+use std::sync::atomic::{AtomicUsize, Ordering::SeqCst};
+use std::sync::{mpsc, Arc};
+use std::thread;
+
+/// What holds of each pool that keeps its items.
+macro_rules! keeping_pool {
+    ($module:ident, $pool:ident, $borrowed:ident, $owned:ident) => {
+        mod $module {
+            use super::*;
+
+            fn zeros() -> $pool<u32> {
+                $pool::<u32>::new(Default::default, |number| *number = 0)
+            }
+
+            #[test]
+            fn an_item_is_reset_before_it_comes_again() {
+                let pool = zeros();
+                for _ in 0..2 {
+                    let mut item = pool.pull();
+                    assert_eq!(*item, 0);
+                    *item += 1;
+                }
+            }
+
+            #[test]
+            fn an_item_comes_as_its_reset_left_it() {
+                let pool = $pool::<u32>::new(|| 0, |_| {});
+                let mut item: $borrowed<'_, u32> = pool.pull();
+                *item = 5;
+                drop(item);
+                assert_eq!(*pool.pull(), 5);
+            }
+
+            #[test]
+            fn threads_hold_different_items() {
+                let pool = Arc::new(zeros());
+                let (sender, receiver) = mpsc::channel();
+                let threads: Vec<_> = (0..5)
+                    .map(|number| {
+                        let (pool, sender) = (Arc::clone(&pool), sender.clone());
+                        thread::spawn(move || {
+                            let mut item = pool.pull();
+                            *item = number;
+                            sender.send(*item).unwrap();
+                        })
+                    })
+                    .collect();
+                let told: HashSet<u32> = (0..5).map(|_| receiver.recv().unwrap()).collect();
+                assert_eq!(told, (0..5).collect());
+                for thread in threads {
+                    thread.join().unwrap();
+                }
+            }
+
+            #[test]
+            fn an_owned_item_keeps_its_pool_and_goes_to_another_thread() {
+                let pool = Arc::new(zeros());
+                let mut item: $owned<u32> = pool.pull_owned();
+                assert_eq!(Arc::strong_count(&pool), 2);
+                *item = 7;
+                thread::spawn(move || assert_eq!(*item, 7)).join().unwrap();
+                assert_eq!(Arc::strong_count(&pool), 1);
+                assert_eq!(*pool.pull_owned(), 0);
+            }
+
+            #[test]
+            fn an_item_that_a_panic_drops_is_reset() {
+                let pool = zeros();
+                let panicked = catch_unwind(AssertUnwindSafe(|| {
+                    let mut item = pool.pull();
+                    *item = 5;
+                    panic!("on purpose")
+                }));
+                assert!(panicked.is_err());
+                assert_eq!(*pool.pull(), 0);
+            }
+
+            #[test]
+            fn an_item_whose_reset_panics_is_not_pulled_again() {
+                let reset = |number: &mut u32| assert_eq!(*number, 0, "it was written to");
+                let pool = $pool::<u32>::new(|| 0, reset);
+                let mut item = pool.pull();
+                *item = 1;
+                assert!(catch_unwind(AssertUnwindSafe(|| drop(item))).is_err());
+                let items: Vec<_> = (0..100).map(|_| pool.pull()).collect();
+                assert!(items.iter().all(|item| **item == 0));
+            }
+
+            #[test]
+            fn threads_that_hold_many_items_find_them_as_they_wrote_them() {
+                let pool = zeros();
+                thread::scope(|scope| {
+                    for thread in 1..5 {
+                        let pool = &pool;
+                        scope.spawn(move || {
+                            for turn in 0..200 {
+                                let mut items: Vec<_> = (0..turn).map(|_| pool.pull()).collect();
+                                assert!(items.iter().all(|item| **item == 0));
+                                items.iter_mut().for_each(|item| **item = thread);
+                                thread::yield_now();
+                                assert!(items.iter().all(|item| **item == thread));
+                            }
+                        });
+                    }
+                });
+            }
+        }
+    };
+}
+
+keeping_pool!(
+    linear,
+    LinearObjectPool,
+    LinearReusable,
+    LinearOwnedReusable
+);
+keeping_pool!(mutex, MutexObjectPool, MutexReusable, MutexOwnedReusable);
+keeping_pool!(
+    spin_lock,
+    SpinLockObjectPool,
+    SpinLockReusable,
+    SpinLockOwnedReusable
+);
+
+fn zeros() -> LinearObjectPool<u32> {
+    LinearObjectPool::<u32>::new(Default::default, |number| *number = 0)
+}
+
+fn address(item: &u32) -> usize {
+    item as *const u32 as usize
+}
+
+#[test]
+fn one_at_a_time_is_one_place() {
+    let pool = zeros();
+    let addresses: HashSet<usize> = (0..10)
+        .map(|_| {
+            let mut item = pool.pull();
+            *item += 1;
+            let borrowed = &mut *item;
+            *borrowed += 1;
+            assert_eq!(*item, 2);
+            address(&item)
+        })
+        .collect();
+    assert_eq!(addresses.len(), 1);
+}
+
+#[test]
+fn two_at_a_time_are_two_places() {
+    let pool = zeros();
+    let addresses: HashSet<usize> = (0..10)
+        .flat_map(|_| {
+            let (first, second) = (pool.pull(), pool.pull());
+            [address(&first), address(&second)]
+        })
+        .collect();
+    assert_eq!(addresses.len(), 2);
+}
+
+#[test]
+fn a_thousand_at_a_time_are_a_thousand_places_twice() {
+    let pool = zeros();
+    let hold = || {
+        let items: Vec<_> = (0..1_000).map(|_| pool.pull()).collect();
+        items
+            .iter()
+            .map(|item| address(item))
+            .collect::<HashSet<_>>()
+    };
+    let places = hold();
+    assert_eq!(places.len(), 1_000);
+    assert_eq!(hold().len(), 1_000);
+}
+
+#[test]
+fn items_may_borrow_what_lives_on() {
+    let pool = LinearObjectPool::<&'static str>::new(|| "new", |text| *text = "back");
+    assert_eq!(*pool.pull(), "new");
+    let pool = LinearObjectPool::<Vec<&str>>::new(Vec::new, Vec::clear);
+    pool.pull().push("a");
+    assert!(pool.pull().is_empty());
+}
+
+#[test]
+fn a_value_from_elsewhere_goes_to_its_stack_pool() {
+    let pool = Arc::new(MutexObjectPool::<u32>::new(|| 0, |number| *number += 1));
+    drop(MutexReusable::new(&pool, ManuallyDrop::new(5)));
+    assert_eq!(*pool.pull(), 6);
+    drop(MutexOwnedReusable::new(
+        Arc::clone(&pool),
+        ManuallyDrop::new(8),
+    ));
+    assert_eq!(*pool.pull(), 9);
+    let pool = Arc::new(SpinLockObjectPool::<u32>::new(|| 0, |number| *number += 1));
+    drop(SpinLockReusable::new(&pool, ManuallyDrop::new(5)));
+    assert_eq!(*pool.pull(), 6);
+    drop(SpinLockOwnedReusable::new(
+        Arc::clone(&pool),
+        ManuallyDrop::new(8),
+    ));
+    assert_eq!(*pool.pull(), 9);
+}
+
+#[test]
+fn the_item_that_came_back_last_is_pulled_first_from_a_stack_pool() {
+    let pool = SpinLockObjectPool::<u32>::new(|| 0, |_| {});
+    let (mut first, mut second) = (pool.pull(), pool.pull());
+    (*first, *second) = (1, 2);
+    drop(first);
+    drop(second);
+    let items = [pool.pull(), pool.pull(), pool.pull()];
+    assert_eq!(
+        items.iter().map(|item| **item).collect::<Vec<_>>(),
+        [2, 1, 0]
+    );
+}
+
+#[test]
+fn a_pool_that_keeps_nothing_makes_each_item() {
+    let pool = Arc::new(NoneObjectPool::<u32>::new(Default::default));
+    for _ in 0..2 {
+        let mut item: NoneReusable<u32> = pool.pull();
+        assert_eq!(*item, 0);
+        *item += 1;
+    }
+    *pool.pull_owned() += 1;
+    assert_eq!(*NoneReusable::new(5), 5);
+}
+
+/// Counts how many there are.
+struct Counted(Arc<AtomicUsize>);
+
+impl Drop for Counted {
+    fn drop(&mut self) {
+        self.0.fetch_sub(1, SeqCst);
+    }
+}
+
+fn counted(count: &Arc<AtomicUsize>) -> impl Fn() -> Counted + Clone {
+    let count = Arc::clone(count);
+    move || {
+        count.fetch_add(1, SeqCst);
+        Counted(Arc::clone(&count))
+    }
+}
+
+#[test]
+fn items_are_made_before_they_are_needed_and_dropped_with_their_pool() {
+    let count = Arc::new(AtomicUsize::new(0));
+    let pool = LinearObjectPool::new(counted(&count), |_| {});
+    assert_eq!(count.load(SeqCst), 32);
+    let mut items: Vec<_> = (0..32).map(|_| pool.pull()).collect();
+    assert_eq!(count.load(SeqCst), 32);
+    items.pop();
+    items.push(pool.pull());
+    assert_eq!(count.load(SeqCst), 32);
+    items.push(pool.pull());
+    assert!(count.load(SeqCst) > 32);
+    drop(items);
+    drop(pool);
+    assert_eq!(count.load(SeqCst), 0);
+}
+
+/// What this crate does in another way.
+mod here {
+    use super::*;
+
+    #[test]
+    fn chunks_double_and_each_is_made_only_where_all_items_are_out() {
+        let count = Arc::new(AtomicUsize::new(0));
+        let pool = LinearObjectPool::new(counted(&count), |_| {});
+        let mut items = Vec::new();
+        for chunk in 0..6 {
+            let made = 32 * ((2 << chunk) - 1);
+            items.extend((items.len()..made).map(|_| pool.pull()));
+            assert_eq!(count.load(SeqCst), made);
+            items.swap_remove(made / 2);
+            items.push(pool.pull());
+            assert_eq!(count.load(SeqCst), made);
+        }
+    }
+
+    #[test]
+    fn threads_that_need_a_chunk_at_once_make_it_once() {
+        let count = Arc::new(AtomicUsize::new(0));
+        let pool = LinearObjectPool::new(counted(&count), |_| {});
+        let _first: Vec<_> = (0..32).map(|_| pool.pull()).collect();
+        thread::scope(|scope| {
+            for _ in 0..8 {
+                scope.spawn(|| (0..8).map(|_| pool.pull()).for_each(std::mem::forget));
+            }
+        });
+        assert_eq!(count.load(SeqCst), 32 + 64);
+    }
+
+    #[test]
+    fn a_chunk_whose_making_panics_is_made_at_a_later_pull() {
+        static CALLS: AtomicUsize = AtomicUsize::new(0);
+        let init = || assert_ne!(CALLS.fetch_add(1, SeqCst), 40, "on purpose");
+        let pool = LinearObjectPool::<()>::new(init, |()| {});
+        let _first: Vec<_> = (0..32).map(|_| pool.pull()).collect();
+        assert!(catch_unwind(AssertUnwindSafe(|| drop(pool.pull()))).is_err());
+        let _item = pool.pull();
+        assert_eq!(CALLS.load(SeqCst), 41 + 64);
+    }
+}

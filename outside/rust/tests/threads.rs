@@ -1,0 +1,131 @@
+//! What threads see that share a pool, more of them than have numbers, and at their ends.
+use kundratu_pool::{OwnedReusable, Pool, Reusable};
+use std::cell::{Cell, RefCell};
+use std::collections::HashSet;
+use std::rc::Rc;
+use std::sync::atomic::{AtomicUsize, Ordering::SeqCst};
+use std::sync::{Arc, Barrier};
+use std::thread;
+
+/// It compiles only where the type isn't of the trait: else it couldn't be decided which of two functions is meant.
+macro_rules! is_not {
+    ($type:ty: $trait:path) => {
+        const _: fn() = || {
+            trait Ambiguous<A> {
+                fn here() {}
+            }
+            impl<T: ?Sized> Ambiguous<()> for T {}
+            struct OfTheTrait;
+            impl<T: ?Sized + $trait> Ambiguous<OfTheTrait> for T {}
+            <$type as Ambiguous<_>>::here();
+        };
+    };
+}
+
+is_not!(Pool<Rc<u8>>: Sync);
+is_not!(Pool<Rc<u8>>: Send);
+is_not!(Reusable<'static, Rc<u8>>: Send);
+is_not!(OwnedReusable<Rc<u8>>: Send);
+is_not!(Reusable<'static, Cell<u32>>: Sync);
+is_not!(OwnedReusable<Cell<u32>>: Sync);
+is_not!(Pool<u32, Box<dyn Fn(&mut u32)>>: Sync);
+
+const _: fn() = || {
+    fn is_sent_and_shared<T: Send + Sync>() {}
+    is_sent_and_shared::<Pool<Cell<u32>>>();
+    is_sent_and_shared::<Reusable<'static, u32>>();
+    is_sent_and_shared::<OwnedReusable<u32>>();
+};
+
+fn zeros(items: usize) -> Pool<u32> {
+    Pool::new(items, || 0, |number| *number = 0).expect("there is memory")
+}
+
+#[test]
+fn threads_read_by_one_guard() {
+    let pool = zeros(1);
+    let mut item = pool.pull().expect("it is free");
+    *item = 7;
+    thread::scope(|scope| {
+        for _ in 0..4 {
+            scope.spawn(|| assert_eq!(*item, 7));
+        }
+    });
+}
+
+#[test]
+fn two_hundred_threads_hold_different_items_at_once() {
+    const THREADS: usize = 200;
+    let pool = zeros(THREADS * 2);
+    let all_hold = Barrier::new(THREADS);
+    let hold = || {
+        let items = [pool.pull(), pool.pull()];
+        all_hold.wait();
+        items.map(|item| item.expect("one is free").number())
+    };
+    let numbers: HashSet<usize> = thread::scope(|scope| {
+        let threads: Vec<_> = (0..THREADS).map(|_| scope.spawn(hold)).collect();
+        let numbers = threads
+            .into_iter()
+            .map(|thread| thread.join().expect("it ends"));
+        numbers.flatten().collect()
+    });
+    assert_eq!(numbers, (0..THREADS * 2).collect());
+    assert_eq!(count_free(&pool), THREADS * 2);
+}
+
+/// Pulls all that is free, for good.
+fn count_free(pool: &Pool<u32>) -> usize {
+    std::iter::from_fn(|| pool.pull().map(std::mem::forget)).count()
+}
+
+thread_local! {
+    static LATE: RefCell<Option<OwnedReusable<u32>>> = const { RefCell::new(None) };
+}
+
+/// Drops its item, and pulls and drops another one, where the thread's other values may have ended.
+struct AtTheEnd(Arc<Pool<u32>>);
+
+impl Drop for AtTheEnd {
+    fn drop(&mut self) {
+        drop(self.0.pull());
+    }
+}
+
+thread_local! {
+    static LAST: RefCell<Option<AtTheEnd>> = const { RefCell::new(None) };
+}
+
+#[test]
+fn guards_end_and_are_pulled_at_a_threads_end() {
+    let pool = Arc::new(zeros(2));
+    for _ in 0..3 {
+        let other = Arc::clone(&pool);
+        let thread = thread::spawn(move || {
+            LAST.set(Some(AtTheEnd(Arc::clone(&other))));
+            LATE.set(other.pull_owned());
+        });
+        thread.join().expect("it ends");
+    }
+    assert_eq!(count_free(&pool), 2);
+}
+
+#[test]
+fn a_pull_is_not_refused_while_most_items_are_free() {
+    const THREADS: usize = 8;
+    let pool = zeros(THREADS * 64);
+    let refused = AtomicUsize::new(0);
+    thread::scope(|scope| {
+        for _ in 0..THREADS {
+            scope.spawn(|| {
+                for turn in 0..20_000 {
+                    let items: Vec<_> = (0..turn % 8).map(|_| pool.pull()).collect();
+                    let missing = items.iter().filter(|item| item.is_none()).count();
+                    refused.fetch_add(missing, SeqCst);
+                }
+            });
+        }
+    });
+    assert_eq!(refused.load(SeqCst), 0);
+    assert_eq!(count_free(&pool), THREADS * 64);
+}
