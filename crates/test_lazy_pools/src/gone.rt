@@ -1,7 +1,7 @@
 //! Items that leave their pool: their places are empty again.
 use crate::assert_equal::assert_equal;
 use crate::makings::counted;
-use lockfree_object_pool::PullError;
+use lazy_pools::PullError;
 use std::sync::Arc;
 use test_values::counted::NEVER;
 use test_values::tally::Tally;

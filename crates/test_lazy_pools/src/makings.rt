@@ -2,9 +2,9 @@
 ghost use Rattle.std.specs.Prelude.{◌≤◌};
 
 use crate::assert_equal::assert_equal;
-use lockfree_object_pool::clean::AnyValue;
-use lockfree_object_pool::closures::Keep;
-use lockfree_object_pool::{LazyObjectPool, LazyReusable, PullError};
+use lazy_pools::clean::AnyValue;
+use lazy_pools::closures::Keep;
+use lazy_pools::{LazyObjectPool, LazyReusable, PullError};
 use std::alloc::Global;
 use std::mem;
 use test_values::counted::{Counted, CountedValues, NEVER};

@@ -1,8 +1,8 @@
 //! Pools that are made where memory is refused, and calls that take none.
 use crate::assert_equal::assert_equal;
-use lockfree_object_pool::clean::AnyValue;
-use lockfree_object_pool::closures::Copied;
-use lockfree_object_pool::{LazyObjectPool, PullError};
+use lazy_pools::clean::AnyValue;
+use lazy_pools::closures::Copied;
+use lazy_pools::{LazyObjectPool, PullError};
 use std::alloc::Global;
 use std::sync::Arc;
 use std::time::Duration;

@@ -1,9 +1,9 @@
 //! Items that own their pool, and the end of a pool whose last owner is an item.
 use crate::assert_equal::assert_equal;
 use crate::makings::{CountedPool, counted};
-use lockfree_object_pool::clean::AnyValue;
-use lockfree_object_pool::closures::Copied;
-use lockfree_object_pool::{LazyObjectPool, LazyOwnedReusable, PullError};
+use lazy_pools::clean::AnyValue;
+use lazy_pools::closures::Copied;
+use lazy_pools::{LazyObjectPool, LazyOwnedReusable, PullError};
 use std::sync::Arc;
 use std::thread;
 use std::time::Duration;

@@ -1,9 +1,9 @@
 //! A maker that refuses: the place is free again, and empty.
 use crate::assert_equal::assert_equal;
 use crate::makings::{counted, held};
-use lockfree_object_pool::PullError;
-use lockfree_object_pool::lazy_object_pool::lazy_refused::LazyRefused;
-use lockfree_object_pool::page::PullPass;
+use lazy_pools::PullError;
+use lazy_pools::lazy_object_pool::lazy_refused::LazyRefused;
+use lazy_pools::page::PullPass;
 use test_values::tally::Tally;
 
 #[test]

@@ -1,7 +1,7 @@
 //! Callers that need a pool and its reusables to be sent and shared, each under the least that its parts have to allow.
-use lockfree_object_pool::clean::Clean;
-use lockfree_object_pool::closures::{Init, Reset};
-use lockfree_object_pool::{LazyObjectPool, LazyOwnedReusable, LazyReusable};
+use lazy_pools::clean::Clean;
+use lazy_pools::closures::{Init, Reset};
+use lazy_pools::{LazyObjectPool, LazyOwnedReusable, LazyReusable};
 
 fn sent<X: Send>(_value: &X) {}
 

@@ -1,8 +1,8 @@
 //! Pulls that wait for so long at most.
 use crate::assert_equal::assert_equal;
-use lockfree_object_pool::clean::AnyValue;
-use lockfree_object_pool::closures::Copied;
-use lockfree_object_pool::{LazyObjectPool, PullError};
+use lazy_pools::clean::AnyValue;
+use lazy_pools::closures::Copied;
+use lazy_pools::{LazyObjectPool, PullError};
 use std::alloc::Global;
 use std::rt::Clock;
 use std::sync::Wait;

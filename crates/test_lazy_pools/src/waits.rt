@@ -3,9 +3,9 @@
 ghost use Rattle.std.specs.Prelude.{◌≤◌, ⊤};
 
 use crate::assert_equal::assert_equal;
-use lockfree_object_pool::clean::AnyValue;
-use lockfree_object_pool::closures::{Init, Keep};
-use lockfree_object_pool::{LazyObjectPool, PullError};
+use lazy_pools::clean::AnyValue;
+use lazy_pools::closures::{Init, Keep};
+use lazy_pools::{LazyObjectPool, PullError};
 use std::alloc::Global;
 use std::rt::Clock;
 use std::sync::Wait;
