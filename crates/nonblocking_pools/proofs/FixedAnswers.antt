@@ -8,6 +8,7 @@ use Rattle.pool_parts.specs.declared.page.note.PageNote.{PageNote}
 use Rattle.pool_parts.specs.declared.page.user_view.UserView.{UserView}
 use Rattle.nonblocking_pools.specs.FixedAnswer.{IsPulledWith, IsFullSince, FoundFull, returns_between, returns_since}
 use Rattle.nonblocking_pools.specs.FixedCount.{FindsFull}
+use Rattle.nonblocking_pools.specs.LowFirst.{MissesBoth}
 use Rattle.nonblocking_pools.specs.StepCount.{StepCount, IsWithin, steps_of}
 use Rattle.pool_parts.specs.Note.{note_view}
 use Rattle.pool_parts.specs.FullSeen.{FoundAllOut}
@@ -74,6 +75,33 @@ module _ {T : Type 0} where
     goes_on = goes_on_further [] start.0 one.0 last.0 own.goes_on
         (goes_on_further [] one.0 two.0 last.0 behind.goes_on before.goes_on);
   }
+
+  -- the same, where the segment before the first page was seen before the one behind it
+  pub missed_low : (page words slots : ℕ) (start one last : User T) → slots ≤ 32 * words
+      → MissesAll (32 * page) (32 * page + 32) start one → MissesBoth page words one last
+      → MissesAll 0 slots start last
+  missed_low page words slots start one last covered own others =
+      let middle = others.middle in
+      let before = others.before in
+      let behind = others.behind in
+      record {
+        holds_same = behind.holds_same ∙ before.holds_same ∙ own.holds_same;
+        carries_same = behind.carries_same ∙ before.carries_same ∙ own.carries_same;
+        each_was_out = λ id _ within. elim (cases_lt id (32 * page)) [
+          | inl low ↦ out_longer last.0.opening start.0.operations one.0.operations last.0.operations id
+              own.goes_on.operations
+              (still_out one.0.operations middle.0 last.0 id behind.goes_on (before.each_was_out id (omega arith) low))
+          | inr high ↦ elim (cases_lt id (32 * page + 32)) [
+            | inl here ↦ still_out start.0.operations middle.0 last.0 id behind.goes_on
+                (still_out start.0.operations one.0 middle.0 id before.goes_on (own.each_was_out id (omega arith) here))
+            | inr past ↦ out_longer last.0.opening start.0.operations middle.0.operations last.0.operations id
+                (goes_on_further [] start.0 one.0 middle.0 own.goes_on before.goes_on).operations
+                (behind.each_was_out id (omega arith) (omega arith))
+          ]
+        ];
+        goes_on = goes_on_further [] start.0 one.0 last.0 own.goes_on
+            (goes_on_further [] one.0 middle.0 last.0 before.goes_on behind.goes_on);
+      }
 
   -- the item that a pull by a note took
   pub item_pulled_with : (meets : T → Type 0) (pool : TableId) (note : PageNote T) (start known : User T)

@@ -62,7 +62,7 @@ impl<T, K: Clean<T>> Items<T, K> {
     }
 
     /// Clears one bit. The value of that item, where it was free, and whether no other bit of its word was set then.
-    pub(super) fn clear(
+    pub fn clear(
         &self,
         seat: &mut UserSeat<T>,
         page: usize,
