@@ -3,7 +3,7 @@
 /// It was done.
 pub const DONE: u32 = 0;
 
-/// Each place was found out.
+/// All places were out at one moment.
 pub const ALL_OUT: u32 = 1;
 
 /// The handle holds a place already.

@@ -61,9 +61,24 @@ impl<
     }
 }
 
+/// What a reusable keeps for its drop: the permission to wait for the lock of its pool. Nothing but the return may use it.
+///
+/// Each permission that can be copied is one. A reusable asks for no more of it, so no call but its drop can wait.
+pub trait ReturnPermission<T, P>: Copy + Drop {
+    /// Returns a value to its pool.
+    fn give_to(&self, pool: &P, room: Room<T>, value: T);
+}
+
+impl<T: Drop, P: SharedStackPool<T>, W: Wait + Copy> ReturnPermission<T, P> for W {
+    #[inline(always)]
+    fn give_to(&self, pool: &P, room: Room<T>, value: T) {
+        pool.give(self, room, value);
+    }
+}
+
 /// A value with the room for its return. Its drop waits for the pool's lock, and brings it back
-/// reset.
-pub struct StackReusable<T: Drop, P: SharedStackPool<T>, W: Wait + Copy> {
+/// reset. No other call of it waits.
+pub struct StackReusable<T: Drop, P: SharedStackPool<T>, W: ReturnPermission<T, P>> {
     pool: P,
     lender: Lender,
     rt: W,
@@ -71,7 +86,7 @@ pub struct StackReusable<T: Drop, P: SharedStackPool<T>, W: Wait + Copy> {
     value: T,
 }
 
-impl<T: Drop, P: SharedStackPool<T>, W: Wait + Copy> StackReusable<T, P, W> {
+impl<T: Drop, P: SharedStackPool<T>, W: ReturnPermission<T, P>> StackReusable<T, P, W> {
     ghost use Rattle.std.specs.Prelude.{MatchResult};
     ghost use Rattle.lockfree_object_pool.specs.StackPool.{stack_pool, stack_value};
 
@@ -119,7 +134,7 @@ impl<T: Drop, P: SharedStackPool<T>, W: Wait + Copy> StackReusable<T, P, W> {
     }
 }
 
-impl<T: Drop, P: SharedStackPool<T>, W: Wait + Copy> Deref for StackReusable<T, P, W> {
+impl<T: Drop, P: SharedStackPool<T>, W: ReturnPermission<T, P>> Deref for StackReusable<T, P, W> {
     type Target = T;
 
     ghost use Rattle.lockfree_object_pool.specs.StackPool.{stack_value};
@@ -131,7 +146,7 @@ impl<T: Drop, P: SharedStackPool<T>, W: Wait + Copy> Deref for StackReusable<T, 
     }
 }
 
-impl<T: Drop, P: SharedStackPool<T>, W: Wait + Copy> DerefMut for StackReusable<T, P, W> {
+impl<T: Drop, P: SharedStackPool<T>, W: ReturnPermission<T, P>> DerefMut for StackReusable<T, P, W> {
     ghost use Rattle.std.specs.Borrow.{sem};
     ghost use Rattle.lockfree_object_pool.specs.StackLends.{LendsStackValue};
     ghost use Rattle.lockfree_object_pool.specs.StackPool.{stack_value};
@@ -146,7 +161,7 @@ impl<T: Drop, P: SharedStackPool<T>, W: Wait + Copy> DerefMut for StackReusable<
     }
 }
 
-impl<T: Drop, P: SharedStackPool<T>, W: Wait + Copy> Drop for StackReusable<T, P, W> {
+impl<T: Drop, P: SharedStackPool<T>, W: ReturnPermission<T, P>> Drop for StackReusable<T, P, W> {
     // Inlined, so that the value isn't handed on through memory.
     #[inline(always)]
     fn drop(self) {
@@ -157,11 +172,11 @@ impl<T: Drop, P: SharedStackPool<T>, W: Wait + Copy> Drop for StackReusable<T, P
             room,
             value,
         } = self;
-        pool.give(&rt, room, value);
+        rt.give_to(&pool, room, value);
     }
 }
 
-impl<T: Debug + Drop, P: SharedStackPool<T>, W: Wait + Copy> Debug for StackReusable<T, P, W> {
+impl<T: Debug + Drop, P: SharedStackPool<T>, W: ReturnPermission<T, P>> Debug for StackReusable<T, P, W> {
     ghost use Rattle.lockfree_object_pool.specs.StackPool.{stack_value};
 
     ghost debug_output = { λ reusable. T.debug_output (stack_value reusable) };

@@ -1,18 +1,21 @@
 -- What a pool answers, told by what the answer shows and no longer by its user's view.
-use Rattle.std.proofs.Common.{◌≡◌, List, Option, [], ◌∷◌, ℕ, ◌+◌, ◌*◌, ◌<◌, ◌≤◌, None, ap, ◌∙◌}
+use Rattle.std.proofs.Common.{◌≡◌, List, Option, [], ◌∷◌, ℕ, ◌+◌, ◌*◌, ◌<◌, ◌≤◌, None, ap, ◌∙◌, sym, subst}
 use Rattle.std.proofs.Common.{arith, inl, inr}
 use Rattle.std.proofs.lemmas.Bool.{cases_lt}
 use Rattle.atomic_table.specs.Seated.{TableId}
 use Rattle.pool_parts.specs.declared.page.history.Operation.TheVariants.{Pull}
 use Rattle.pool_parts.specs.declared.page.note.PageNote.{PageNote}
-use Rattle.nonblocking_pools.specs.FixedAnswer.{IsPulledWith}
+use Rattle.pool_parts.specs.declared.page.user_view.UserView.{UserView}
+use Rattle.nonblocking_pools.specs.FixedAnswer.{IsPulledWith, IsFullSince, FoundFull, returns_between, returns_since}
+use Rattle.nonblocking_pools.specs.FixedCount.{FindsFull}
+use Rattle.nonblocking_pools.specs.StepCount.{StepCount, IsWithin, steps_of}
 use Rattle.pool_parts.specs.Note.{note_view}
 use Rattle.pool_parts.specs.FullSeen.{FoundAllOut}
 use Rattle.pool_parts.specs.Holding.{item_known}
-use Rattle.pool_parts.specs.PageRule.{User, StartsFrom, LoadsOn}
+use Rattle.pool_parts.specs.PageRule.{User, StartsFrom, LoadsOn, IsSound, KnowsOut}
 use Rattle.pool_parts.specs.Taking.{MissesAll, TakesOne}
-use Rattle.pool_parts.proofs.Ledger.{goes_on_further, still_out}
-use Rattle.pool_parts.proofs.PageAnswers.{pulled_after, found_out, was_out_from}
+use Rattle.pool_parts.proofs.Ledger.{goes_on_further, still_out, out_longer, legal_of}
+use Rattle.pool_parts.proofs.PageAnswers.{pulled_after, found_out, was_out_from, knows_out}
 
 module _ {T : Type 0} where
   -- what a user did in vain, and then a further load
@@ -21,7 +24,8 @@ module _ {T : Type 0} where
   misses_loaded from to place word one two three missed looked = record {
     holds_same = looked.holds_same ∙ missed.holds_same;
     carries_same = looked.carries_same ∙ missed.carries_same;
-    each_was_out = λ id above below. still_out two.0 three.0 id looked.goes_on (missed.each_was_out id above below);
+    each_was_out = λ id above below.
+        still_out one.0.operations two.0 three.0 id looked.goes_on (missed.each_was_out id above below);
     goes_on = goes_on_further [] one.0 two.0 three.0 missed.goes_on looked.goes_on;
   }
 
@@ -32,8 +36,9 @@ module _ {T : Type 0} where
     holds_same = second.holds_same ∙ first.holds_same;
     carries_same = second.carries_same ∙ first.carries_same;
     each_was_out = λ id above below. elim (cases_lt id middle) [
-      | inl before ↦ still_out two.0 three.0 id second.goes_on (first.each_was_out id above before)
-      | inr past ↦ second.each_was_out id (omega arith) below
+      | inl before ↦ still_out one.0.operations two.0 three.0 id second.goes_on (first.each_was_out id above before)
+      | inr past ↦ out_longer three.0.opening one.0.operations two.0.operations three.0.operations id
+          first.goes_on.operations (second.each_was_out id (omega arith) below)
     ];
     goes_on = goes_on_further [] one.0 two.0 three.0 first.goes_on second.goes_on;
   }
@@ -57,10 +62,13 @@ module _ {T : Type 0} where
     holds_same = before.holds_same ∙ behind.holds_same ∙ own.holds_same;
     carries_same = before.carries_same ∙ behind.carries_same ∙ own.carries_same;
     each_was_out = λ id _ within. elim (cases_lt id (32 * page)) [
-      | inl low ↦ before.each_was_out id (omega arith) low
-      | inr high ↦ still_out two.0 last.0 id before.goes_on (elim (cases_lt id (32 * page + 32)) [
-        | inl here ↦ still_out one.0 two.0 id behind.goes_on (own.each_was_out id (omega arith) here)
-        | inr past ↦ behind.each_was_out id (omega arith) (omega arith)
+      | inl low ↦ out_longer last.0.opening start.0.operations two.0.operations last.0.operations id
+          (goes_on_further [] start.0 one.0 two.0 own.goes_on behind.goes_on).operations
+          (before.each_was_out id (omega arith) low)
+      | inr high ↦ still_out start.0.operations two.0 last.0 id before.goes_on (elim (cases_lt id (32 * page + 32)) [
+        | inl here ↦ still_out start.0.operations one.0 two.0 id behind.goes_on (own.each_was_out id (omega arith) here)
+        | inr past ↦ out_longer two.0.opening start.0.operations one.0.operations two.0.operations id
+            own.goes_on.operations (behind.each_was_out id (omega arith) (omega arith))
       ])
     ];
     goes_on = goes_on_further [] start.0 one.0 last.0 own.goes_on
@@ -79,7 +87,35 @@ module _ {T : Type 0} where
 
   -- what a user has seen that observed each item taken
   pub found_all_out : (count : ℕ) (opening : List (Option T)) (start known : User T) → start.0.opening ≡ opening
-      → MissesAll 0 count start known → FoundAllOut count opening known.0
-  found_all_out count opening start known opened missed =
+      → IsSound start.0 → MissesAll 0 count start known → FoundAllOut count opening known.0
+  found_all_out count opening start known opened sound missed =
       found_out count opening start.0 known.0 opened missed.goes_on (λ id within.
-      was_out_from start.0 known.0 id missed.goes_on (missed.each_was_out id (omega arith) within))
+      was_out_from start.0 known.0 id missed.goes_on sound.since_load (missed.each_was_out id (omega arith) within))
+
+  pub knows_all_out : (count : ℕ) (start known : User T) → IsSound start.0 → MissesAll 0 count start known → (id : ℕ)
+      → id < count → KnowsOut known.0 id
+  knows_all_out count start known sound missed id within =
+      knows_out start.0 known.0 id missed.goes_on sound.since_load (missed.each_was_out id (omega arith) within)
+
+  -- what a user has seen that found the pool full
+  pub found_full : (items : ℕ) (opening : List (Option T)) (start known : User T) → start.0.opening ≡ opening
+      → start.0.since ≡ start.0.operations → FindsFull items start known → FoundFull items opening known.0
+  found_full items opening start known opened from_now found =
+      let goes = found.reads_on.goes_on in
+      let same = goes.same_opening ∙ opened in
+      record {
+        same_opening = same;
+        legal = legal_of opening known.0 same goes.sound;
+        goes_on = goes.sound.since_load;
+        full = subst (λ since. IsFullSince items since known.0) (sym (goes.same_since ∙ from_now)) found.full;
+      }
+
+  -- what a call has read and tried, by the returns since its first load
+  pub within_passes : (passes : ℕ → ℕ) (words : ℕ) (before : StepCount) (start known : UserView T)
+      → known.since ≡ start.operations → start.loads ≡ before.loads + 1 → start.tries ≡ before.tries
+      → known.loads + 1 ≤ start.loads + words * passes (returns_between start.operations known.operations)
+      → known.tries ≤ start.tries + 32 * (words * passes (returns_between start.operations known.operations))
+      → IsWithin (words * passes (returns_since known)) before (steps_of known)
+  within_passes passes words before start known since loads tries fewer fewer_tries =
+      subst (λ from. IsWithin (words * passes (returns_between from known.operations)) before (steps_of known)) (sym since)
+      record { loads = omega arith; tries = omega arith }

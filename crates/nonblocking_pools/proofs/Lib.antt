@@ -1,3 +1,4 @@
 pub mod FixedAnswers
+pub mod FixedCounts
 pub mod FixedShared
 pub mod ReusableShared

@@ -1,4 +1,5 @@
 pub mod FixedAnswer
+pub mod FixedCount
 pub mod FixedItem
 pub mod FixedLends
 pub mod FixedPool

@@ -9,12 +9,13 @@ use Rattle.pool_parts.specs.Item.{Item, HasOrigin}
 use Rattle.page_chain.specs.LinearPage.{first_page}
 use Rattle.pool_parts.specs.Refusal.{Causes}
 use Rattle.pool_parts.specs.Slot.{taken_item}
-use Rattle.page_chain.specs.Walk.{start_of, number_of, IsWalkedTo}
+use Rattle.page_chain.specs.Walk.{Start, start_of, number_of, IsWalkedTo, IsRefusedBy}
 use Rattle.nonblocking_pools.specs.declared.linear_object_pool.LinearObjectPool.{LinearObjectPool}
 use Rattle.nonblocking_pools.specs.declared.linear_object_pool.answer_of.AnswerOf.{AnswerOf}
 use Rattle.nonblocking_pools.specs.declared.linear_object_pool.page_limit.PageLimit.{PageLimit}
 use Rattle.nonblocking_pools.specs.declared.linear_owned_reusable.LinearOwnedReusable.{LinearOwnedReusable}
 use Rattle.page_chain.specs.declared.linear_page.page_number.PageNumber.{PageNumber}
+use Rattle.page_chain.specs.declared.linear_page.walk.WalkRefusal.{WalkRefusal}
 use Rattle.nonblocking_pools.specs.declared.linear_reusable.LinearReusable.{LinearReusable}
 use Rattle.pool_parts.specs.declared.made_or_reset.MadeOrReset.{MadeOrReset}
 use Rattle.pool_parts.specs.declared.page.TheConstants.{PAGE_ITEMS}
@@ -39,6 +40,10 @@ module _ {T I R K : Type 0} where
   -- which page the pool's first one is
   abbrev pub pool_first_page : LinearObjectPool T I R K → TableId
   pool_first_page pool = first_page pool.chain
+
+  -- where a pull begins: at the pool's first page, with number 0
+  abbrev pub pool_start : LinearObjectPool T I R K → Start
+  pool_start pool = start_of pool.chain
 
   -- which pool the value returns to
   abbrev pub reusable_pool : LinearReusable T I R K → LinearObjectPool T I R K
@@ -83,7 +88,7 @@ module _ {T I R K : Type 0} where
   -- the item's page is the pool's page of this number: the first one where it is 0, else the one to which that page's
   -- link leads
   abbrev pub IsOnPage : LinearObjectPool T I R K → PageNumber T (MadeOrReset I R K) (AnswerOf I K) → Item T → Type 0
-  IsOnPage pool number item = IsWalkedTo (start_of pool.chain) number item.page
+  IsOnPage pool number item = IsWalkedTo (pool_start pool) number item.page
 
   -- what a pull gives: an item of the pool's page of this number
   pub record Pulls (meets : T → Type 0) (answers : I → Option T → Type 0) (leaves : R → T → T → Type 0)
@@ -97,6 +102,13 @@ module _ {T I R K : Type 0} where
     pub history : HasOrigin (IsAnswer answers) item
     pub meets_condition : meets item.value
     pub made_or_reset : IsMadeOrReset answers leaves item.value
+
+  -- why a pull has no item, and what it saw: each page up to the pool's limit was found full in it, or no further page
+  -- could be made
+  abbrev pub IsLinearRefusal : (I → Option T → Type 0) → LinearObjectPool T I R K
+      → WalkRefusal T (MadeOrReset I R K) (AnswerOf I K) → Type 0
+  IsLinearRefusal answers pool refusal =
+      IsRefusedBy (pool_start pool) (pool_limit pool) (answers (pool_init pool) None) refusal
 
   -- what a pull may be refused for, beside want of memory: a limit, and an init that may answer None
   abbrev pub pull_causes : (I → Option T → Type 0) → LinearObjectPool T I R K → Causes

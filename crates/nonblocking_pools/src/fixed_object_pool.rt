@@ -1,8 +1,9 @@
 //! A pool of a fixed number of items, all made at first: threads pull and return without a lock, and nothing takes memory.
 //!
 //! The items lie 32 to a page, and a page is one word. All words lie in one table, so one sequential history tells what was
-//! pulled and returned of the whole pool. No pull and no return waits for another thread or tries anything twice.
-ghost use Rattle.std.specs.Prelude.{◌≡◌, ◌+◌, ◌/◌, ◌<◌, ◌≤◌, None, Some, IfOk, IfErr, ◌⊎◌};
+//! pulled and returned of the whole pool. No pull and no return waits for another thread. The upper half of each word counts the
+//! returns of its page, so that a pull which took nothing sees whether an item came back while it looked.
+ghost use Rattle.std.specs.Prelude.{◌≡◌, ◌+◌, ◌*◌, ◌/◌, ◌<◌, ◌≤◌, None, Some, IfOk, IfErr, ◌⊎◌};
 ghost use Rattle.std.specs.Arc.{arc_value};
 ghost use Rattle.pool_parts.specs.declared.pull_error.PullError.TheVariants.{Memory, Limit};
 
@@ -24,8 +25,8 @@ pub(crate) mod items;
 /// What is known of a fixed pool's history while no item is held. It has no bytes.
 pub type PoolNote<T> = PageNote<T>;
 
-/// What a refused pull has: each item of the pool was observed taken since the pass was made, by a word that was read or by
-/// an attempt on its own bit.
+/// What a pull of one pass has that took no item: each item of the pool was observed taken since the pass was made, by a
+/// word that was read or by an attempt on its own bit.
 pub type BusySeen<'p, T> = FullSeen<'p, T>;
 
 /// What [`FixedObjectPool::try_pull`] answers: an item, or that each one was observed taken.
@@ -56,13 +57,13 @@ impl<T: Drop, I: Init<T, K>, R: Reset<T, K>, K: Clean<T>> Drop for FixedObjectPo
 
 impl<T: Drop, I: Init<T, K>, R: Reset<T, K>, K: Clean<T>> FixedObjectPool<T, I, R, K> {
     ghost use Rattle.pool_parts.specs.Answers.{IsMadeOrReset};
-    ghost use Rattle.nonblocking_pools.specs.FixedAnswer.{IsPulledFrom, IsPulledWith, IsBusyOf, IsBusyAfter, IsBusyNote, IsGivenBack, busy_steps, note_steps};
+    ghost use Rattle.nonblocking_pools.specs.FixedAnswer.{IsPulledFrom, IsPulledWith, IsBusyOf, IsBusyAfter, IsFullNoteAfter, IsGivenBack, busy_steps, note_steps, returns_since};
     ghost use Rattle.nonblocking_pools.specs.FixedPool.{pool_identity, pool_items, pool_pages, pool_opening, pool_reset};
     ghost use Rattle.pool_parts.specs.Holding.{holding_page, held_item};
     ghost use Rattle.pool_parts.specs.Items.{IsFilled};
-    ghost use Rattle.nonblocking_pools.specs.FixedReusable.{reusable_pool, reusable_item, reusable_steps};
-    ghost use Rattle.nonblocking_pools.specs.StepCount.{IsWithin, no_steps};
-    ghost use Rattle.pool_parts.specs.Note.{note_page, witness_page, IsNoteOf, HasLearned};
+    ghost use Rattle.nonblocking_pools.specs.FixedReusable.{reusable_pool, reusable_item, reusable_steps, reusable_returns};
+    ghost use Rattle.nonblocking_pools.specs.StepCount.{IsWithin, no_steps, passes_to_take, passes_to_refuse};
+    ghost use Rattle.pool_parts.specs.Note.{note_page, note_view, witness_page, IsNoteOf, HasLearned};
     ghost use Rattle.pool_parts.specs.Refusal.{RefusesMaking};
 
     /// A pool of so many free items: item `i` is the answer of call `i` of `init`, counted from 0.
@@ -98,9 +99,15 @@ impl<T: Drop, I: Init<T, K>, R: Reset<T, K>, K: Clean<T>> FixedObjectPool<T, I, 
 
     /// An item that is free. It begins at the page that a hint names.
     ///
+    /// It passes over the words of the pool, each read once and each set bit tried once. Most pulls take an item within this
+    /// first pass. One that took nothing reads each word twice more: where no item was free at one moment, it is refused;
+    /// where another thread has returned an item meanwhile, it passes over the words again. So a further pass comes only
+    /// after another thread's return: a pull is lock-free. [`FixedObjectPool::try_pull`] makes one pass, and is wait-free.
+    ///
     /// # Errors
     ///
-    /// `Limit`, where each item was observed taken.
+    /// `Limit`, where at one moment of the call no item was free (or 2^32 returns and more came within the call, which the
+    /// counts of the words can't tell from none).
     pub fn pull(&self) -> Result<FixedReusable<'_, T, I, R, K>, PullError>
         ensures pool { IfOk result (λ item. (reusable_pool item).now ≡ self.now) }
         ensures pulled { IfOk result (λ item.
@@ -109,12 +116,12 @@ impl<T: Drop, I: Init<T, K>, R: Reset<T, K>, K: Clean<T>> FixedObjectPool<T, I, 
         ensures made_or_reset { IfOk result (λ item.
             IsMadeOrReset I.answers R.leaves (reusable_item item).value) }
         ensures brief { IfOk result (λ item.
-            IsWithin (pool_pages self.now) no_steps (reusable_steps item)) }
+            IsWithin (pool_pages self.now * passes_to_take (reusable_returns item)) no_steps
+            (reusable_steps item)) }
         ensures refused { IfErr result (λ error. error ≡ Limit) }
     {
-        let pass = PullPass::new();
-        match self.try_pull(&pass) {
-            Ok(item) => Ok(item),
+        match self.items.pull() {
+            Ok(pulled) => Ok(FixedReusable::new(self, pulled)),
             Err(_) => Err(PullError::Limit),
         }
     }
@@ -124,7 +131,7 @@ impl<T: Drop, I: Init<T, K>, R: Reset<T, K>, K: Clean<T>> FixedObjectPool<T, I, 
     ///
     /// # Errors
     ///
-    /// `Limit`, where each item was observed taken.
+    /// `Limit`, as of `pull`.
     pub fn pull_near(&self, page: usize) -> Result<FixedReusable<'_, T, I, R, K>, PullError>
         ensures pool { IfOk result (λ item. (reusable_pool item).now ≡ self.now) }
         ensures pulled { IfOk result (λ item.
@@ -133,17 +140,17 @@ impl<T: Drop, I: Init<T, K>, R: Reset<T, K>, K: Clean<T>> FixedObjectPool<T, I, 
         ensures made_or_reset { IfOk result (λ item.
             IsMadeOrReset I.answers R.leaves (reusable_item item).value) }
         ensures brief { IfOk result (λ item.
-            IsWithin (pool_pages self.now) no_steps (reusable_steps item)) }
+            IsWithin (pool_pages self.now * passes_to_take (reusable_returns item)) no_steps
+            (reusable_steps item)) }
         ensures refused { IfErr result (λ error. error ≡ Limit) }
     {
-        let pass = PullPass::new();
-        match self.items.pull(self.items.page_round(page), &pass) {
+        match self.items.pull_near(self.items.page_round(page)) {
             Ok(pulled) => Ok(FixedReusable::new(self, pulled)),
             Err(_) => Err(PullError::Limit),
         }
     }
 
-    /// As `pull`, which shows what it found where no item was free.
+    /// As `pull`, which makes one pass and shows what it found where it took no item. It is wait-free.
     ///
     /// # Errors
     ///
@@ -161,7 +168,7 @@ impl<T: Drop, I: Init<T, K>, R: Reset<T, K>, K: Clean<T>> FixedObjectPool<T, I, 
         ensures busy_brief { IfErr result (λ busy.
             IsWithin (pool_pages self.now) no_steps (busy_steps busy)) }
     {
-        Ok(FixedReusable::new(self, self.items.pull_hinted(pass)?))
+        Ok(FixedReusable::new(self, self.items.try_pull(pass)?))
     }
 
     /// As `try_pull`, by a user that knows something of the pool: its pull stands after all that the note knew.
@@ -211,7 +218,7 @@ impl<T: Drop, I: Init<T, K>, R: Reset<T, K>, K: Clean<T>> FixedObjectPool<T, I, 
     ///
     /// # Errors
     ///
-    /// `Memory`, where the pool can have no more owners; `Limit`, where each item was observed taken.
+    /// `Memory`, where the pool can have no more owners; `Limit`, as of `pull`.
     pub fn pull_owned(self: &Arc<Self>) -> Result<FixedOwnedReusable<T, I, R, K>, PullError>
         ensures pool { IfOk result (λ item. arc_value (reusable_pool item) ≡ arc_value self.now) }
         ensures pulled { IfOk result (λ item.
@@ -221,15 +228,15 @@ impl<T: Drop, I: Init<T, K>, R: Reset<T, K>, K: Clean<T>> FixedObjectPool<T, I, 
         ensures made_or_reset { IfOk result (λ item.
             IsMadeOrReset I.answers R.leaves (reusable_item item).value) }
         ensures brief { IfOk result (λ item.
-            IsWithin (pool_pages (arc_value self.now)) no_steps (reusable_steps item)) }
+            IsWithin (pool_pages (arc_value self.now) * passes_to_take (reusable_returns item))
+            no_steps (reusable_steps item)) }
         ensures refused { IfErr result (λ error. (error ≡ Memory) ⊎ (error ≡ Limit)) }
     {
         let owner = Arc::try_clone(self)?;
-        let pass = PullPass::new();
-        match self.items.pull_hinted(&pass) {
-            Ok(pulled) => Ok(FixedOwnedReusable::new(owner, pulled)),
-            Err(_) => Err(PullError::Limit),
-        }
+        let Ok(pulled) = self.items.pull() else {
+            return Err(PullError::Limit);
+        };
+        Ok(FixedOwnedReusable::new(owner, pulled))
     }
 
     /// As `pull_near`, by an owner of the pool that has a note of it. The reusable takes over both, so the owners stay as many as they
@@ -237,7 +244,8 @@ impl<T: Drop, I: Init<T, K>, R: Reset<T, K>, K: Clean<T>> FixedObjectPool<T, I, 
     ///
     /// # Errors
     ///
-    /// The owner and the note, which now knows that each item was out during this call.
+    /// The owner and the note, which now knows that the pool was full at one moment of this call (or that so many returns
+    /// came within it as `pull` says).
     pub fn pull_by_owner(
         self: Arc<Self>,
         page: usize,
@@ -251,12 +259,15 @@ impl<T: Drop, I: Init<T, K>, R: Reset<T, K>, K: Clean<T>> FixedObjectPool<T, I, 
         ensures made_or_reset { IfOk result (λ item.
             IsMadeOrReset I.answers R.leaves (reusable_item item).value) }
         ensures brief { IfOk result (λ item.
-            IsWithin (pool_pages (arc_value self)) (note_steps note) (reusable_steps item)) }
+            IsWithin (pool_pages (arc_value self) * passes_to_take (reusable_returns item))
+            (note_steps note) (reusable_steps item)) }
         ensures same_owner { IfErr result (λ kept. arc_value kept.0 ≡ arc_value self) }
-        ensures busy { IfErr result (λ kept.
-            IsBusyNote (pool_identity (arc_value self)) note kept.1) }
-        ensures busy_brief { IfErr result (λ kept.
-            IsWithin (pool_pages (arc_value self)) (note_steps note) (note_steps kept.1)) }
+        ensures full { IfErr result (λ kept.
+            IsFullNoteAfter (pool_identity (arc_value self)) note kept.1) }
+        ensures full_brief { IfErr result (λ kept.
+            IsWithin
+            (pool_pages (arc_value self) * passes_to_refuse (returns_since (note_view kept.1)))
+            (note_steps note) (note_steps kept.1)) }
     {
         let start = self.items.page_round(page);
         match self.items.pull_onward(start, note) {

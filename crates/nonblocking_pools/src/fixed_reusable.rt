@@ -125,7 +125,8 @@ pub type FixedReusable<'p, T, I, R, K = AnyValue> = FixedReusableOf<
 impl<T: Drop, P: SharedFixedPool<T>> FixedReusableOf<T, P> {
     ghost use Rattle.nonblocking_pools.specs.FixedAnswer.{IsGivenBack};
     ghost use Rattle.nonblocking_pools.specs.FixedItem.{pulled_item, pulled_view};
-    ghost use Rattle.nonblocking_pools.specs.FixedReusable.{reusable_pool, reusable_item, reusable_steps};
+    ghost use Rattle.nonblocking_pools.specs.FixedAnswer.{returns_since};
+    ghost use Rattle.nonblocking_pools.specs.FixedReusable.{reusable_pool, reusable_item, reusable_steps, reusable_returns};
     ghost use Rattle.nonblocking_pools.specs.StepCount.{steps_of};
     ghost use Rattle.pool_parts.specs.Note.{witness_page, witness_history};
     ghost use Rattle.pool_parts.specs.declared.page.TheConstants.{PAGE_ITEMS};
@@ -136,6 +137,7 @@ impl<T: Drop, P: SharedFixedPool<T>> FixedReusableOf<T, P> {
         ensures pool { reusable_pool result ≡ pool }
         ensures item { reusable_item result ≡ pulled_item pulled }
         ensures steps { reusable_steps result ≡ steps_of (pulled_view pulled) }
+        ensures returns { reusable_returns result ≡ returns_since (pulled_view pulled) }
     {
         let PulledItem { holding, value } = pulled;
         FixedReusableOf {

@@ -8,7 +8,7 @@ ghost use Rattle.std.specs.Arc.{arc_value};
 use crate::linear_owned_reusable::LinearOwnedReusable;
 use crate::linear_reusable::LinearReusable;
 pub use answer_of::AnswerOf;
-use page_chain::linear_page::{Chain, WalkEnd};
+use page_chain::linear_page::{Chain, WalkEnd, WalkRefusal};
 use page_limit::PageLimit;
 use pool_parts::PullError;
 use pool_parts::clean::{AnyValue, Clean};
@@ -21,6 +21,20 @@ use std::sync::Arc;
 
 mod answer_of;
 mod page_limit;
+
+/// Why [`LinearObjectPool::try_pull`] has no item: each page up to the pool's limit was found full, or no further page could be made.
+pub type LinearRefusal<'p, T, I, R, K = AnyValue> = WalkRefusal<
+    'p,
+    T,
+    MadeOrReset<I, R, K>,
+    AnswerOf<I, K>,
+>;
+
+/// What [`LinearObjectPool::try_pull`] answers.
+pub type LinearPulled<'s, 'p, T, I, R, K = AnyValue> = Result<
+    LinearReusable<'s, T, I, R, K>,
+    LinearRefusal<'p, T, I, R, K>,
+>;
 
 /// A pool whose items lie in pages of 32: a page is made at first, and one more where each is full.
 ///
@@ -54,7 +68,8 @@ impl<T: Drop, I: Init<T, K>, R: Reset<T, K>, K: Clean<T>> LinearObjectPool<T, I,
     ghost use Rattle.pool_parts.specs.FullSeen.{full_page};
     ghost use Rattle.nonblocking_pools.specs.LinearPool.{pool_init, pool_reset, pool_limit, limit_pages, pool_first_page};
     ghost use Rattle.nonblocking_pools.specs.LinearPool.{reusable_pool, reusable_item, reusable_page};
-    ghost use Rattle.nonblocking_pools.specs.LinearPool.{owned_pool, owned_item, owned_page, Pulls, pull_causes};
+    ghost use Rattle.nonblocking_pools.specs.LinearPool.{owned_pool, owned_item, owned_page, Pulls, pull_causes, IsLinearRefusal};
+    ghost use Rattle.page_chain.specs.Walk.{cause_of};
     ghost use Rattle.pool_parts.specs.Refusal.{RefusesMaking, RefusesPull};
     ghost use Rattle.pool_parts.specs.Slot.{slot_item};
 
@@ -141,10 +156,40 @@ impl<T: Drop, I: Init<T, K>, R: Reset<T, K>, K: Clean<T>> LinearObjectPool<T, I,
         let pass = PullPass::new();
         match self.chain.ask_first(&pass) {
             Allocated::Slot(slot) => Ok(LinearReusable::new(self, slot, self.chain.first_number())),
-            Allocated::Full(seen) => {
-                let reached = self.pull_further(seen)?;
-                Ok(LinearReusable::new(self, reached.slot, reached.number))
+            Allocated::Full(seen) => match self.pull_further(seen) {
+                Ok(reached) => Ok(LinearReusable::new(self, reached.slot, reached.number)),
+                Err(refusal) => Err(refusal.cause()),
+            },
+        }
+    }
+
+    /// As `pull`, which shows what it found if it has no item.
+    ///
+    /// # Errors
+    ///
+    /// `Limit`, with the evidence that each page up to the limit was full during this call; or `Making`, with the reason why no
+    /// further page could be made.
+    pub fn try_pull<'s, 'p>(&'s self, pass: &'p PullPass) -> LinearPulled<'s, 'p, T, I, R, K>
+        ensures pool { IfOk result (λ item. reusable_pool item ≡ self.now) }
+        ensures pulled { IfOk result (λ item.
+            Pulls K.meets I.answers R.leaves self.now (reusable_page item) (reusable_item item)) }
+        ensures refused { IfErr result (IsLinearRefusal I.answers self.now) }
+    {
+        match self.chain.ask_first(pass) {
+            Allocated::Slot(slot) => {
+                let number = self.chain.first_number();
+                Ok(LinearReusable::new(self, slot, number))
             }
+            Allocated::Full(seen) => match self.pull_further(seen) {
+                Ok(
+                    WalkEnd {
+                        slot,
+                        number,
+                        page: _,
+                    },
+                ) => Ok(LinearReusable::new(self, slot, number)),
+                Err(refusal) => Err(refusal),
+            },
         }
     }
 
@@ -166,23 +211,25 @@ impl<T: Drop, I: Init<T, K>, R: Reset<T, K>, K: Clean<T>> LinearObjectPool<T, I,
                 let number = self.chain.first_number();
                 Ok(LinearOwnedReusable::new(owner, slot, number))
             }
-            Allocated::Full(seen) => {
-                let reached = self.pull_further(seen)?;
-                Ok(LinearOwnedReusable::new(owner, reached.slot, reached.number))
-            }
+            Allocated::Full(seen) => match self.pull_further(seen) {
+                Ok(reached) => Ok(LinearOwnedReusable::new(owner, reached.slot, reached.number)),
+                Err(refusal) => Err(refusal.cause()),
+            },
         }
     }
 
     /// The item of a pull that found the first page full, and its page's number.
     #[inline]
-    fn pull_further(
-        &self,
-        seen: FullSeen<'_, T>,
-    ) -> Result<WalkEnd<'_, T, MadeOrReset<I, R, K>, AnswerOf<I, K>>, PullError>
+    fn pull_further<'s, 'p>(
+        &'s self,
+        seen: FullSeen<'p, T>,
+    ) -> Result<WalkEnd<'s, T, MadeOrReset<I, R, K>, AnswerOf<I, K>>, LinearRefusal<'p, T, I, R, K>>
         requires { full_page seen ≡ pool_first_page self.now }
         ensures pulled { IfOk result (λ reached.
             Pulls K.meets I.answers R.leaves self.now reached.number (slot_item reached.slot)) }
-        ensures refused { IfErr result (RefusesPull (pull_causes I.answers self.now)) }
+        ensures evidence { IfErr result (IsLinearRefusal I.answers self.now) }
+        ensures refused { IfErr result (λ refusal.
+            RefusesPull (pull_causes I.answers self.now) (cause_of refusal)) }
     {
         let init = &self.init;
         self.chain.pull_further(seen, self.limit(), &|| init.make())

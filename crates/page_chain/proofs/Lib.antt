@@ -1,2 +1,3 @@
+pub mod FullPages
 pub mod LinkPlaces
 pub mod NumberShared

@@ -3,7 +3,7 @@ use Rattle.std.specs.Prelude.{◌≡◌, ℕ, ◌+◌, ◌<◌, Some, IfSome}
 use Rattle.std.specs.Arc.{arc_value}
 use Rattle.atomic_table.specs.Seated.{TableId}
 use Rattle.pool_parts.specs.Item.{Item}
-use Rattle.page_chain.specs.LinkNote.{known_next}
+use Rattle.page_chain.specs.LinkNote.{known_link, known_next}
 use Rattle.page_chain.specs.LinkRow.{link_at}
 use Rattle.pool_parts.specs.Page.{page_identity}
 use Rattle.pool_parts.specs.declared.clean.Clean.{Ghosts}
@@ -29,11 +29,17 @@ module _ {T K O : Type 0} {opens : Ghosts O T} where
   abbrev pub next_link : LinearPage T K O opens → ℕ × ℕ
   next_link page = link_at page.next
 
-  -- the page behind a page: a note of the link knows it, and knew no other before
+  -- the page after a page: this note is of the link between them, and knows it
+  pub record IsNext (page : LinearPage T K O opens) (note : LinkNote T K O opens) (next : LinearPage T K O opens)
+      : Type 0 where
+    pub one_further : page_number next ≡ page_number page + 1
+    pub of_link : known_link note ≡ next_link page
+    pub known : known_next note ≡ Some (shown_page next)
+
+  -- the same for a note that knew no other page before
   pub record IsNextAs (page : LinearPage T K O opens) (before after : LinkNote T K O opens)
       (next : LinearPage T K O opens) : Type 0 where
-    pub one_further : page_number next ≡ page_number page + 1
-    pub known : known_next after ≡ Some (shown_page next)
+    pub is_next : IsNext page after next
     pub agrees : IfSome (known_next before) (λ known. known ≡ shown_page next)
 
 -- an item that meets the condition; where no link was passed it is one of the start

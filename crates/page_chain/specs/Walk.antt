@@ -1,5 +1,5 @@
 -- Where a walk along the links of a chain came to.
-use Rattle.std.specs.Prelude.{◌≡◌, ◌⊎◌, ℕ, ◌-◌, ◌<◌, ◌≤◌, Option, Some, IfSome}
+use Rattle.std.specs.Prelude.{◌≡◌, ◌⊎◌, ℕ, ◌+◌, ◌-◌, ◌<◌, ◌≤◌, Option, Some, IfSome}
 use Rattle.std.specs.Arc.{arc_value}
 use Rattle.std.specs.Option.{option_map}
 use Rattle.atomic_table.specs.Seated.{TableId}
@@ -16,6 +16,13 @@ use Rattle.page_chain.specs.declared.linear_page.LinearPage.{LinearPage}
 use Rattle.page_chain.specs.declared.linear_page.link_note.LinkNote.{LinkNote}
 use Rattle.page_chain.specs.declared.linear_page.page_number.PageNumber.{PageNumber}
 use Rattle.page_chain.specs.declared.linear_page.walk.KnownFull.{KnownFull}
+use Rattle.page_chain.specs.declared.linear_page.walk.LimitSeen.{LimitSeen}
+use Rattle.page_chain.specs.declared.linear_page.walk.WalkRefusal.{WalkRefusal}
+use Rattle.page_chain.specs.declared.linear_page.walk.WalkRefusal.TheVariants.{Limit, Making}
+use Rattle.pool_parts.specs.declared.page.full_seen.FullSeen.{FullSeen}
+use Rattle.pool_parts.specs.declared.pull_error.PullError.{PullError}
+use Rattle.pool_parts.specs.declared.pull_error.PullError.TheVariants.{Limit as LimitCause}
+use Rattle.pool_parts.specs.Refusal.{RefusesMaking}
 use Rattle.pool_parts.specs.declared.page.full_seen.Allocated.{Allocated}
 use Rattle.pool_parts.specs.declared.page.full_seen.Allocated.TheVariants.{Slot, Full}
 
@@ -68,6 +75,32 @@ module _ {T K O : Type 0} {opens : Ghosts O T} where
   -- the page of this number was found full
   abbrev pub IsFullAt : Cells → KnownFull T K O opens → Type 0
   IsFullAt links full = IsKnownAt links full.number full.note (full_page full.seen)
+
+-- the page of this number, as a walk comes to it, was found full in one pull
+pub record WasFull (T K O : Type 0) (start : Start) (number : ℕ) : Type 0 where
+  -- the number with what was learned of the link to the page
+  pub known : PageNumber T K O
+  pub is_number : number_of known ≡ number
+  -- each of its ids was observed taken
+  pub full : FullSeen T
+  pub on_page : IsWalkedTo start known (full_page full)
+
+-- each of so many pages from a walk's start was found full, and this is of the last of them
+pub record IsAllFull {T K O : Type 0} (start : Start) (pages : ℕ) (seen : LimitSeen T K O) : Type 0 where
+  pub last : number_of seen.number + 1 ≡ start.number + pages
+  pub on_page : IsWalkedTo start seen.number (full_page seen.seen)
+  pub each : (number : ℕ) → start.number ≤ number → number < start.number + pages → WasFull T K O start number
+
+module _ {T K O : Type 0} where
+  -- why a walk has no item: there is a limit, and each page up to it was found full; or no further page could be made
+  abbrev pub IsRefusedBy : Start → Option ℕ → Type 0 → WalkRefusal T K O → Type 0
+  IsRefusedBy start limit init_refuses (Limit seen) = (pages : ℕ) × (limit ≡ Some pages) × IsAllFull start pages seen
+  IsRefusedBy start limit init_refuses (Making cause) = RefusesMaking init_refuses cause
+
+  -- the name of a walk's refusal
+  abbrev pub cause_of : WalkRefusal T K O → PullError
+  cause_of (Limit seen) = LimitCause
+  cause_of (Making cause) = cause
 
 -- what a walk took: an item with its origin, of the page of this number, within so many pages from the walk's start
 pub record IsTaken {T K O : Type 0} (meets may_open : T → Type 0) (start : Start) (limit : Option ℕ)

@@ -34,7 +34,7 @@ mod walk;
 
 pub use link_note::LinkNote;
 pub use page_number::PageNumber;
-pub use walk::WalkEnd;
+pub use walk::{LimitSeen, WalkEnd, WalkRefusal};
 
 /// A chain of pages: the first one, and the links behind it.
 ///
@@ -108,7 +108,7 @@ impl<T, K: Clean<T>, O: Clean<T>> Clone for LinearPage<'_, T, K, O> {
 
 impl<'c, T: Drop, K: Clean<T>, O: Clean<T>> LinearPage<'c, T, K, O> {
     ghost use Rattle.pool_parts.specs.FullSeen.{full_page};
-    ghost use Rattle.page_chain.specs.LinearPage.{shown_page, page_number, next_link, IsNextAs};
+    ghost use Rattle.page_chain.specs.LinearPage.{shown_page, page_number, next_link, IsNext, IsNextAs};
     ghost use Rattle.page_chain.specs.LinkNote.{IsNewNoteOf, known_link, known_next};
     ghost use Rattle.page_chain.specs.Walk.{start_at};
 
@@ -146,12 +146,13 @@ impl<'c, T: Drop, K: Clean<T>, O: Clean<T>> LinearPage<'c, T, K, O> {
         self.number
     }
 
-    /// The page behind this one, where one is linked.
-    pub fn next(&self) -> Option<LinearPage<'c, T, K, O>>
-        ensures { IfSome result (λ next. page_number next ≡ page_number self.now + 1) }
+    /// The page after this one, if one is linked, and a note of the link, which knows that page. It takes no memory.
+    pub fn next(&self) -> Option<(LinearPage<'c, T, K, O>, LinkNote<T, K, O>)>
+        ensures { IfSome result (λ answer. IsNext self.now answer.1 answer.0) }
     {
         let mut note = self.next.known_row()?;
-        self.next_as(&mut note)
+        let next = self.next_as(&mut note)?;
+        Some((next, note))
     }
 
     /// A note of the link to the next page, which knows no page yet. It takes memory where the link has no place yet.
@@ -180,7 +181,8 @@ impl<'c, T: Drop, K: Clean<T>, O: Clean<T>> LinearPage<'c, T, K, O> {
         Some(LinearPage::new(self.directory, page, number))
     }
 
-    /// The page behind this one; where none is linked, one is made and linked, if no other thread was first.
+    /// The page after this one, and a note of the link, which knows that page. If none is linked, one is made and linked, unless
+    /// another thread was first.
     ///
     /// A page that another thread's came before is dropped, with its items.
     ///
@@ -191,14 +193,15 @@ impl<'c, T: Drop, K: Clean<T>, O: Clean<T>> LinearPage<'c, T, K, O> {
         &self,
         seen: FullSeen<'_, T>,
         init: &I,
-    ) -> Result<LinearPage<'c, T, K, O>, PullError>
+    ) -> Result<(LinearPage<'c, T, K, O>, LinkNote<T, K, O>), PullError>
         requires of_page { full_page seen ≡ shown_page self.now }
         requires opens { MayOpen I.pre I.post K.meets O.meets init.now }
-        ensures number { IfOk result (λ next. page_number next ≡ page_number self.now + 1) }
+        ensures next { IfOk result (λ answer. IsNext self.now answer.1 answer.0) }
         ensures refused { IfErr result (RefusesMaking (I.post init.now None)) }
     {
         let mut note = self.next_note()?;
-        self.get_or_create_next_as(seen, init, &mut note)
+        let next = self.get_or_create_next_as(seen, init, &mut note)?;
+        Ok((next, note))
     }
 
     /// As `get_or_create_next`, for a caller with a note of the link: where the note knows the page that is linked here, that page

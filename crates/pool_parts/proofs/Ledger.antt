@@ -5,7 +5,7 @@ use mathlib.Core.Option.{some, some-ne-none}
 use lib.ListN.{get_elem?}
 use Rattle.atomic_table.proofs.Lists.{at_set}
 use Rattle.pool_parts.specs.declared.page.user_view.UserView.{UserView}
-use Rattle.pool_parts.specs.PageRule.{IsSound, Knows, GoesOn, KnowsOut}
+use Rattle.pool_parts.specs.PageRule.{IsSound, Knows, GoesOn, IsOutNow}
 use Rattle.pool_parts.specs.declared.page.history.Operation.{Operation}
 use Rattle.pool_parts.specs.Ledger.{History, user_of, id_of, operations_of, left_by, value_at}
 use Rattle.pool_parts.specs.Ledger.{IsLegal, IsPrefixOf, WasOutBetween}
@@ -112,13 +112,24 @@ module _ {T : Type 0} where
     sound = second.sound;
   }
 
-  -- what was observed taken stays so
-  pub still_out : (old new : UserView T) (id : ℕ) → GoesOn [] old new → KnowsOut old id → KnowsOut new id
-  still_out old new id goes was =
-      subst (λ (p : List (Option T) × History T). WasOutBetween p.0 p.1 new.operations id) (λ i.
-      (sym goes.same_opening i, sym goes.same_since i)) (
+  -- what was observed taken since some place stays so
+  pub still_out : (from : History T) (old new : UserView T) (id : ℕ) → GoesOn [] old new
+      → WasOutBetween old.opening from old.operations id → WasOutBetween new.opening from new.operations id
+  still_out from old new id goes was =
+      subst (λ opening. WasOutBetween opening from new.operations id) (sym goes.same_opening) (
         was.0,
         was.1,
         prefix_further was.0 old.operations new.operations was.2 (goes.operations.0, goes.operations.1),
         was.3,
       )
+
+  -- an item that is out now was out since any place before
+  pub out_since : (from : History T) (known : UserView T) (id : ℕ) → IsPrefixOf from known.operations
+      → IsOutNow known id → WasOutBetween known.opening from known.operations id
+  out_since from known id longer out = (known.operations, longer, prefix_same known.operations, out)
+
+  -- and what was so since one place was so since each before it
+  pub out_longer : (opening : List (Option T)) (before from to : History T) (id : ℕ) → IsPrefixOf before from
+      → WasOutBetween opening from to id → WasOutBetween opening before to id
+  out_longer opening before from to id longer was =
+      (was.0, prefix_further before from was.0 longer was.1, was.2, was.3)

@@ -8,6 +8,7 @@ pub mod PageItems
 pub mod PageOpens
 pub mod PageOrder
 pub mod PageSteps
+pub mod Returns
 pub mod SeatShared
 pub mod SlotShared
 pub mod Taking

@@ -13,16 +13,24 @@ use Rattle.pool_parts.specs.PageRule.{GoesOn, StartsFrom, KnowsOut}
 use Rattle.pool_parts.specs.Holding.{item_known}
 use Rattle.pool_parts.specs.FullSeen.{full_view, FoundAllOut, IsAnswerFrom, IsAnswerOf}
 use Rattle.pool_parts.specs.FullSeen.{IsAnswerAfter}
-use Rattle.pool_parts.proofs.Ledger.{legal_of, prefix_further}
+use Rattle.pool_parts.proofs.Ledger.{legal_of, prefix_further, out_longer}
 use Rattle.pool_parts.proofs.LedgerHolders.{came_from_legal, spared_return}
 
 module _ {T : Type 0} where
   -- what was observed taken since a load, told of the user as it was then
-  pub was_out_from : (start known : UserView T) (id : ℕ) → GoesOn [] start known → KnowsOut known id
+  pub was_out_from : (start known : UserView T) (id : ℕ) → GoesOn [] start known → IsPrefixOf start.since start.operations
+      → WasOutBetween known.opening start.operations known.operations id
       → WasOutBetween start.opening start.since known.operations id
-  was_out_from start known id goes was =
-      subst (λ (p : List (Option T) × History T). WasOutBetween p.0 p.1 known.operations id) (λ i.
-      (goes.same_opening i, goes.same_since i)) was
+  was_out_from start known id goes began was =
+      out_longer start.opening start.since start.operations known.operations id began
+      (subst (λ opening. WasOutBetween opening start.operations known.operations id) goes.same_opening was)
+
+  -- and of the user as it is now
+  pub knows_out : (start known : UserView T) (id : ℕ) → GoesOn [] start known → IsPrefixOf start.since start.operations
+      → WasOutBetween known.opening start.operations known.operations id → KnowsOut known id
+  knows_out start known id goes began was =
+      subst (λ since. WasOutBetween known.opening since known.operations id) (sym goes.same_since)
+      (out_longer known.opening start.since start.operations known.operations id began was)
 
   -- the user of a pull has acted since it began: the pull is the one operation more
   module _ (page : TableId) (start known : UserView T) (id : ℕ) (value : T)

@@ -1,5 +1,5 @@
 -- The history of a page goes on by a step: a pull, a return, a load, or a user that joins or learns.
-use Rattle.std.proofs.Common.{◌≡◌, ◌≢◌, ℕ, false, ◌<◌, List, [], ◌∷◌, ◌++◌, length, set, get_or, Option, Some}
+use Rattle.std.proofs.Common.{◌≡◌, ◌≢◌, ℕ, false, ◌*◌, ◌%◌, ◌^◌, ◌<◌, List, [], ◌∷◌, ◌++◌, length, set, get_or, Option, Some}
 use Rattle.std.proofs.Common.{None, refl, sym, ◌∙◌, ap, subst, arith, length-append, length-set, inl, inr}
 use mathlib.Core.Option as maybe
 use mathlib.Core.Option.{some}
@@ -11,8 +11,8 @@ use Rattle.atomic_table.proofs.Lists.{set_else}
 use Rattle.pool_parts.specs.declared.page.user_view.UserView.{UserView}
 use Rattle.pool_parts.specs.declared.page.history.Operation.{Operation}
 use Rattle.pool_parts.specs.Ledger.{History, user_of, id_of, operations_of, held_id, left_by, value_at}
-use Rattle.pool_parts.specs.Ledger.{MayFollow, IsLegal, IsPrefixOf, WasOutBetween}
-use Rattle.pool_parts.specs.Word.{item_bit}
+use Rattle.pool_parts.specs.Ledger.{MayFollow, IsLegal, IsPrefixOf, returns_on}
+use Rattle.pool_parts.specs.Word.{item_bit, count_in}
 use Rattle.pool_parts.specs.PageRule.{PageState, first_view, item_of, HasHistory, Knows, GoesOn, IsSound}
 use Rattle.pool_parts.proofs.Ledger.{operations_of_own, operations_of_other, value_at-here}
 use Rattle.pool_parts.proofs.Ledger.{value_at-elsewhere, informed_later, informed_set, at_below}
@@ -42,15 +42,15 @@ module _ {T : Type 0} where
   abbrev pub has_seen : UserView T → History T → ℕ → ℕ → UserView T
   has_seen old operations loads tries = went_on old operations [] old.held loads tries
 
-module _ {T : Type 0} (opening : List (Option T)) where
+module _ {T : Type 0} (raise : ℕ) (opening : List (Option T)) where
   -- what a user knows that comes now
   abbrev pub newcomer : History T → ℕ → UserView T
   newcomer operations user =
       record (first_view opening) { user = user; operations = operations; since = operations; loads = 1 }
 
-  pub joins_history : (page : PageState T) (known : UserView T) → (has : HasHistory opening page)
+  pub joins_history : (page : PageState T) (known : UserView T) → (has : HasHistory raise opening page)
       → Knows opening has.operations (length page.views) known
-      → HasHistory opening (state page.words page.homes (page.views ++ known ∷ []))
+      → HasHistory raise opening (state page.words page.homes (page.views ++ known ∷ []))
   joins_history page known has is = record {
     operations = has.operations;
     legal = has.legal;
@@ -62,26 +62,24 @@ module _ {T : Type 0} (opening : List (Option T)) where
           (last.0 i, last.1 i)) is
     ];
     no_stranger = λ user past. has.no_stranger user (let all = length-append page.views (known ∷ []) in omega arith);
+    counted = has.counted;
   }
 
-  -- an item whose bit is clear in its word is out now, and so since any place before
-  pub clear_out : (page : PageState T) (has : HasHistory opening page) (since : History T) (own : List (Option T))
-      → IsPrefixOf since has.operations → own ≡ opening → (place bit : ℕ) → bit < 32
-      → bit_at (get_or page.words place 0) bit ≡ 0 → WasOutBetween own since has.operations (item_of place bit)
-  clear_out page has since own longer same place bit within clear = (
-    has.operations,
-    longer,
-    prefix_same has.operations,
-    ap (λ o. value_at o has.operations (item_of place bit)) same
-        ∙ has.out_lies (item_of place bit) (item_bit_of page.words place bit within ∙ clear),
-  )
+  -- an item whose bit is clear in its word is out now
+  pub clear_out : (page : PageState T) (has : HasHistory raise opening page) (own : List (Option T)) → own ≡ opening
+      → (place bit : ℕ) → bit < 32 → bit_at (get_or page.words place 0) bit ≡ 0
+      → value_at own has.operations (item_of place bit) ≡ None
+  clear_out page has own same place bit within clear =
+      ap (λ o. value_at o has.operations (item_of place bit)) same
+      ∙ has.out_lies (item_of place bit) (item_bit_of page.words place bit within ∙ clear)
 
   -- no bit has changed, and one user knows something else
   pub saw_history : (page : PageState T) (words : List ℕ) (user : ℕ) (known : UserView T)
-      → (has : HasHistory opening page) → ((i : ℕ) → item_bit words i ≡ item_bit page.words i)
+      → (has : HasHistory raise opening page) → ((i : ℕ) → item_bit words i ≡ item_bit page.words i)
+      → ((p : ℕ) → count_in (get_or words p 0) ≡ count_in (get_or page.words p 0))
       → Knows opening has.operations user known
-      → HasHistory opening (state words page.homes (set page.views user known))
-  saw_history page words user known has same_bits knows = record {
+      → HasHistory raise opening (state words page.homes (set page.views user known))
+  saw_history page words user known has same_bits same_counts knows = record {
     operations = has.operations;
     legal = has.legal;
     free_lies = λ i set_now. has.free_lies i (sym (same_bits i) ∙ set_now);
@@ -89,10 +87,11 @@ module _ {T : Type 0} (opening : List (Option T)) where
     informed = informed_set opening has.operations page.views user known (λ other view _ there.
         has.informed other view there) knows;
     no_stranger = λ other past. has.no_stranger other (let all = length-set page.views user known in omega arith);
+    counted = λ place. same_counts place ∙ has.counted place;
   }
 
   -- one user goes on
-  module _ (page : PageState T) (has : HasHistory opening page) (user : ℕ) (me : UserView T)
+  module _ (page : PageState T) (has : HasHistory raise opening page) (user : ℕ) (me : UserView T)
       (at : get_elem? page.views user ≡ some me) (here : me.gone ≡ false) where
     own_now : operations_of me.user has.operations ≡ me.own
     own_now = let is = (has.informed user me at).acting here in
@@ -149,11 +148,12 @@ module _ {T : Type 0} (opening : List (Option T)) where
         → get_elem? (set page.homes (id_of operation) home) (id_of operation) ≡ some (some (Some value))
         → left_by operation ≡ Some value)
         → (bit ≡ 0 → left_by operation ≡ None)
-        → HasHistory opening
+        → ((p : ℕ) → count_in (get_or words p 0) ≡ (raise * returns_on p (operation ∷ has.operations)) % 2 ^ 32)
+        → HasHistory raise opening
         (state words (set page.homes (id_of operation) home)
         (set page.views user (acted me has.operations operation tries)))
         × GoesOn (operation ∷ []) me (acted me has.operations operation tries)
-    acts_history words bit home operation tries mine may turned free out =
+    acts_history words bit home operation tries mine may turned free out counted =
         let id : ℕ = id_of operation in
         let homes = set page.homes id home in
         let known : UserView T = acted me has.operations operation tries in
@@ -187,6 +187,7 @@ module _ {T : Type 0} (opening : List (Option T)) where
                 let all = length-set page.views user known in
                 operations_of_other other operation has.operations (λ same. let who = mine in absurd (omega arith))
                 ∙ has.no_stranger other (omega arith);
+            counted = counted;
           },
           step.1,
         )

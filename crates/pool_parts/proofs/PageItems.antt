@@ -1,5 +1,5 @@
 -- Who holds which item of a page after a step, and what lies at home.
-use Rattle.std.proofs.Common.{◌≡◌, ◌≢◌, ℕ, zero, suc, ◌^◌, ◌<◌, ◌⊎◌, List, [], ◌∷◌, ◌++◌, length, set, get_or, Option}
+use Rattle.std.proofs.Common.{◌≡◌, ◌≢◌, ℕ, zero, suc, ◌<◌, ◌⊎◌, List, [], ◌∷◌, ◌++◌, length, set, Option}
 use Rattle.std.proofs.Common.{Some, None, refl, sym, ◌∙◌, ap, subst, arith, length-set, inl, inr}
 use mathlib.Core.Option.{some, none, some-injective, some-ne-none}
 use mathlib.Core.Option as maybe
@@ -56,7 +56,6 @@ module _ {T : Type 0} (meets : T → Type 0) where
       → IsPage meets (state page.words page.homes (page.views ++ known ∷ []))
   joins_page page known is holds_none = record {
     all_places = is.all_places;
-    words_fit = is.words_fit;
     free_is_home = is.free_is_home;
     held_is_out = λ user id holds. is.held_is_out user id (held_before page known holds_none user id holds);
     one_holder = λ user other id one two. is.one_holder user other id (held_before page known holds_none user id one)
@@ -65,10 +64,9 @@ module _ {T : Type 0} (meets : T → Type 0) where
 
   -- a bit is cleared that was set: the item goes out with the user
   pub takes_item : (page : PageState T) (words : List ℕ) (user id : ℕ) (known : UserView T) → IsPage meets page
-      → id < length page.homes → Turns page.words id 0 words → ((p : ℕ) → get_or words p 0 < 2 ^ 32) → IsSet page id
-      → known.held ≡ Some id
+      → id < length page.homes → Turns page.words id 0 words → IsSet page id → known.held ≡ Some id
       → IsPage meets (state words (set page.homes id none) (set page.views user known))
-  takes_item page words user id known is within turned fits free holds_id =
+  takes_item page words user id known is within turned free holds_id =
       let after = holds_after page words (set page.homes id none) user known in
       let places = length-set page.homes id none in
       let alone : (other i : ℕ) → known.held ≡ Some i → UserHolds page other i → ⊥ = λ other i mine theirs.
@@ -77,7 +75,6 @@ module _ {T : Type 0} (meets : T → Type 0) where
       omega (arith, (is.held_is_out other i theirs).1) in
       record {
         all_places = let all = is.all_places in let count = turned.same_count in omega arith;
-        words_fit = fits;
         free_is_home = λ i set_now.
             let other : i ≢ id = λ same. let clear = turned.here in let here = ap (item_bit words) same in
             absurd (omega arith) in
@@ -106,11 +103,11 @@ module _ {T : Type 0} (meets : T → Type 0) where
 
   -- no bit has changed: the page is as it was, and one user knows more
   pub keeps_item : (page : PageState T) (words : List ℕ) (user : ℕ) (old known : UserView T) → IsPage meets page
-      → length words ≡ length page.words → ((p : ℕ) → get_or words p 0 < 2 ^ 32)
-      → ((i : ℕ) → item_bit words i ≡ item_bit page.words i) → get_elem? page.views user ≡ some old
+      → length words ≡ length page.words → ((i : ℕ) → item_bit words i ≡ item_bit page.words i)
+      → get_elem? page.views user ≡ some old
       → ((i : ℕ) → known.held ≡ Some i → old.held ≡ Some i)
       → IsPage meets (state words page.homes (set page.views user known))
-  keeps_item page words user old known is count fits same_bits at held_before =
+  keeps_item page words user old known is count same_bits at held_before =
       let held : (other i : ℕ) → UserHolds (state words page.homes (set page.views user known)) other i
       → UserHolds page other i = λ other i holds. elim (holds_after page words page.homes user known other i holds) [
         | inl mine ↦ subst (λ one. UserHolds page one i) (sym mine.0) (old, at, held_before i mine.1)
@@ -118,7 +115,6 @@ module _ {T : Type 0} (meets : T → Type 0) where
       ] in
       record {
         all_places = let all = is.all_places in omega arith;
-        words_fit = fits;
         free_is_home = λ i set_now. is.free_is_home i (sym (same_bits i) ∙ set_now);
         held_is_out = λ other i holds. let was = is.held_is_out other i (held other i holds) in
             (was.0, same_bits i ∙ was.1);
@@ -129,10 +125,10 @@ module _ {T : Type 0} (meets : T → Type 0) where
   -- a bit is set that its holder's value is home for: the item is free again
   pub gives_item : (page : PageState T) (words : List ℕ) (user id : ℕ) (old : UserView T) (value : T)
       (known : UserView T)
-      → IsPage meets page → id < length page.homes → Turns page.words id 1 words → ((p : ℕ) → get_or words p 0 < 2 ^ 32)
+      → IsPage meets page → id < length page.homes → Turns page.words id 1 words
       → get_elem? page.views user ≡ some old → old.held ≡ Some id → meets value → known.held ≡ None
       → IsPage meets (state words (set page.homes id (some (Some value))) (set page.views user known))
-  gives_item page words user id old value known is within turned fits at holds met holds_none =
+  gives_item page words user id old value known is within turned at holds met holds_none =
       let homes = set page.homes id (some (Some value)) in
       let places = length-set page.homes id (some (Some value)) in
       let after : (other i : ℕ) → UserHolds (state words homes (set page.views user known)) other i
@@ -143,7 +139,6 @@ module _ {T : Type 0} (meets : T → Type 0) where
       ] in
       record {
         all_places = let all = is.all_places in let count = turned.same_count in omega arith;
-        words_fit = fits;
         free_is_home = λ i set_now. dite (ℕ_discrete i id)
             (λ same. (
               value,

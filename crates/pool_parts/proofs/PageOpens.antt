@@ -1,5 +1,5 @@
 -- A new page keeps the rule.
-use Rattle.std.proofs.Common.{◌≡◌, ℕ, zero, suc, ◌<◌, List, [], ◌∷◌, length, get_or, Option, Some, None, refl}
+use Rattle.std.proofs.Common.{◌≡◌, ℕ, mul-zero, zero, suc, ◌<◌, List, [], ◌∷◌, length, get_or, Option, Some, None, refl}
 use Rattle.std.proofs.Common.{sym, ap, subst, arith, map}
 use Rattle.std.proofs.lemmas.List.{length-map, get_or_past}
 use mathlib.Core.Option.{some, some-injective, some-ne-none}
@@ -47,7 +47,6 @@ module _ {T : Type 0} (meets : T → Type 0) where
     opens_page : IsPage meets (opening words items (first_view items))
     opens_page = record {
       all_places = let places = same_count in let all = free.one_for_32 in omega arith;
-      words_fit = free.words_fit;
       free_is_home = λ id one. let found = filled_at items id (let none = free.clear id in grind arith) each in
           (found.0, at_map some items id (Some found.0) found.1, found.2);
       held_is_out = λ user id holds. absurd (first_holds_none items holds.0 user id holds.1 holds.2);
@@ -73,8 +72,8 @@ module _ {T : Type 0} (meets : T → Type 0) where
     nothing_past : (id : ℕ) → item_bit words id ≡ 0 → get_or items id None ≡ None
     nothing_past id out = grind (arith, free.set id, get_or_past items id None)
 
-    pub opens : IsKept meets items (opening words items (first_view items))
-    opens = (
+    pub opens : (raise : ℕ) → IsKept meets raise items (opening words items (first_view items))
+    opens raise = (
       opens_page,
       record {
         operations = [];
@@ -83,5 +82,7 @@ module _ {T : Type 0} (meets : T → Type 0) where
         out_lies = nothing_past;
         informed = first_informed;
         no_stranger = λ user past. refl;
+        counted = λ place. let fits = free.words_fit place in let none = mul-zero raise in
+            grind arith;
       },
     )

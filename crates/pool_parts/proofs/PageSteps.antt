@@ -1,14 +1,14 @@
 -- Each kind of step on a page keeps its rule.
 use Rattle.std.proofs.Common.{◌≡◌, ℕ, ◌^◌, false, true≢false, ◌+◌, ◌*◌, ◌/◌, ◌%◌, ◌<◌, List, [], ◌∷◌, ◌++◌, length, set}
-use Rattle.std.proofs.Common.{get_or, Option, Some, None, bit_and, bit_or, refl, sym, ◌∙◌, ap, subst, arith, append-nil}
-use Rattle.std.proofs.Common.{inl, inr}
+use Rattle.std.proofs.Common.{get_or, Option, Some, None, bit_and, refl, sym, ◌∙◌, ap, subst, arith, append-nil}
+use Rattle.std.proofs.Common.{get_or-set_same, eq-eqb, ne_eqb, mul-add, mul-one}
+use Rattle.std.proofs.Common.{inl, inr, ◌≤◌}
 use mathlib.Core.Option.{some, none, some-injective}
 use lib.ListN.{get_elem?}
 use Rattle.std.proofs.lemmas.Bool.{cases_lt}
-use Rattle.std.proofs.lemmas.List.{set-get_or}
+use Rattle.std.proofs.lemmas.List.{set-get_or, get_or-set_other}
 use native.Mathlib.Decide.{ℕ_discrete}
 use mathlib.Core.Logic.{dite}
-use Rattle.std.proofs.lemmas.Nat.{and_le_l, or_lt}
 use Rattle.std.proofs.lemmas.Nat.Bits.{bit_at-lt}
 use Rattle.std.specs.Int.{bit_at}
 use Rattle.atomic_table.specs.Table.{keeps, takes, gives, rest, Allows, Enters, Joins, Splits}
@@ -16,25 +16,25 @@ use Rattle.atomic_table.proofs.Lists.{at_set, set_again, set_here}
 use Rattle.pool_parts.specs.declared.page.user_view.UserView.{UserView}
 use Rattle.pool_parts.specs.declared.page.history.Operation.{Operation}
 use Rattle.pool_parts.specs.declared.page.history.Operation.TheVariants.{Pull, Return}
-use Rattle.pool_parts.specs.Ledger.{History, operations_of, MayFollow, IsPrefixOf}
-use Rattle.pool_parts.specs.Word.{all_bits, SetsBit, ClearsBit, item_bit}
-use Rattle.pool_parts.specs.PageRule.{PageState, User, first_view, item_of, IsSet, IsClear, IsKept, IsSound}
+use Rattle.pool_parts.specs.Ledger.{History, operations_of, value_at, MayFollow, IsPrefixOf, returns_on}
+use Rattle.pool_parts.specs.Word.{whole_word, count_in, SetsBit, ClearsBit, item_bit}
+use Rattle.pool_parts.specs.PageRule.{PageState, User, first_view, item_of, IsSet, IsClear, HasHistory, IsKept, IsSound}
 use Rattle.pool_parts.specs.PageRule.{IsInformed, Knows, GoesOn, Takes, Misses, Loads, LoadsAgain, LoadsOn}
-use Rattle.pool_parts.specs.PageRule.{Clears, GivesBack, told_of, gone_view, witness_of}
+use Rattle.pool_parts.specs.PageRule.{Counts, Clears, GivesBack, told_of, gone_view, witness_of}
 use Rattle.pool_parts.proofs.Ledger.{prefix_same, at_below}
-use Rattle.pool_parts.proofs.WordBits.{lacks_one, and_clears, add_sets, or_sets, item_bit_of, Turns, turns}
-use Rattle.pool_parts.proofs.WordBits.{fits_after}
+use Rattle.pool_parts.proofs.WordBits.{lacks_one, and_clears, Raises, raises, item_bit_of, Turns, turns, same_count}
+use Rattle.pool_parts.proofs.WordBits.{same_counts}
 use Rattle.pool_parts.proofs.PageItems.{state, joins_page, takes_item, keeps_item}
 use Rattle.pool_parts.proofs.PageItems.{gives_item}
 use Rattle.pool_parts.proofs.PageHistories.{newcomer, told_page, acted, has_seen, joins_history, clear_out}
 use Rattle.pool_parts.proofs.PageHistories.{saw_history, after_load, acts_history, held_now}
 
-module _ {T : Type 0} (meets : T → Type 0) (opening : List (Option T)) where
+module _ {T : Type 0} (meets : T → Type 0) (raise : ℕ) (opening : List (Option T)) where
   pub loads : (slots place : ℕ)
-      → Enters (IsKept meets opening) slots place (λ word known. Loads (first_view opening) place word (known, []))
+      → Enters (IsKept meets raise opening) slots place (λ word known. Loads (first_view opening) place word (known, []))
   loads slots place page kept places fits =
       let has = kept.1 in
-      let known : UserView T = newcomer opening has.operations (length page.views) in
+      let known : UserView T = newcomer raise opening has.operations (length page.views) in
       let own : operations_of (length page.views) has.operations ≡ [] =
       has.no_stranger (length page.views) (omega arith) in
       let sound : IsSound known =
@@ -42,14 +42,13 @@ module _ {T : Type 0} (meets : T → Type 0) (opening : List (Option T)) where
         known,
         (
           joins_page meets page known kept.0 refl,
-          joins_history opening page known has record {
+          joins_history raise opening page known has record {
             seen = prefix_same has.operations;
             told = (has.operations, sym (append-nil has.operations));
             acting = λ _. record { sound = sound; number = refl; same_opening = refl; own_so_far = own };
           },
         ),
         record {
-          word_fits = kept.0.words_fit place;
           holds_none = refl;
           here = refl;
           same_opening = refl;
@@ -58,26 +57,26 @@ module _ {T : Type 0} (meets : T → Type 0) (opening : List (Option T)) where
           loads = refl;
           tries = refl;
           sound = sound;
-          clear_are_out = clear_out opening page has has.operations opening (prefix_same has.operations) refl place;
+          clear_are_out = clear_out raise opening page has opening refl place;
         },
       )
 
   -- one user knows something else, and holds what it held, or nothing
-  sees : (page : PageState T) (user : ℕ) (old known : UserView T) → (kept : IsKept meets opening page)
+  sees : (page : PageState T) (user : ℕ) (old known : UserView T) → (kept : IsKept meets raise opening page)
       → get_elem? page.views user ≡ some old → ((i : ℕ) → known.held ≡ Some i → old.held ≡ Some i)
-      → Knows opening kept.1.operations user known → IsKept meets opening (told_page page user known)
+      → Knows opening kept.1.operations user known → IsKept meets raise opening (told_page page user known)
   sees page user old known kept at held knows = (
-    keeps_item meets page page.words user old known kept.0 refl kept.0.words_fit (λ i. refl) at held,
-    saw_history opening page page.words user known kept.1 (λ i. refl) knows,
+    keeps_item meets page page.words user old known kept.0 refl (λ i. refl) at held,
+    saw_history raise opening page page.words user known kept.1 (λ i. refl) (λ i. refl) knows,
   )
 
   -- so it is where a user reads a word
-  reads : (page : PageState T) (place user : ℕ) (old known : UserView T) → (kept : IsKept meets opening page)
+  reads : (page : PageState T) (place user : ℕ) (old known : UserView T) → (kept : IsKept meets raise opening page)
       → get_elem? page.views user ≡ some old → known.held ≡ old.held → Knows opening kept.1.operations user known
-      → IsKept meets opening
+      → IsKept meets raise opening
       (state (set page.words place (get_or page.words place 0)) page.homes (set page.views user known))
   reads page place user old known kept at same knows =
-      subst (λ words. IsKept meets opening (state words page.homes (set page.views user known)))
+      subst (λ words. IsKept meets raise opening (state words page.homes (set page.views user known)))
       (sym (set-get_or page.words place 0)) (sees page user old known kept at (λ i holds. sym same ∙ holds) knows)
 
   -- what a user knows, beside what it was told and where its last call began
@@ -97,11 +96,11 @@ module _ {T : Type 0} (meets : T → Type 0) (opening : List (Option T)) where
   }
 
   pub loads_again : (slots place user : ℕ) (me : User T) → me.0.gone ≡ false
-      → Allows (IsKept meets opening) slots user me place (λ word. word) (LoadsAgain place me)
+      → Allows (IsKept meets raise opening) slots user me place (λ word. word) (LoadsAgain place me)
   loads_again slots place user me here page kept places at fits =
       let has = kept.1 in
       let knew = has.informed user me.0 at in
-      let step = after_load opening page has user me.0 at here (me.0.loads + 1) me.0.tries in
+      let step = after_load raise opening page has user me.0 at here (me.0.loads + 1) me.0.tries in
       let known : UserView T =
       record me.0 { operations = has.operations; since = has.operations; loads = me.0.loads + 1 } in
       let is : IsInformed opening has.operations user known = told_since
@@ -113,7 +112,6 @@ module _ {T : Type 0} (meets : T → Type 0) (opening : List (Option T)) where
         reads page place user me.0 known kept at refl
             record { seen = step.0.seen; told = knew.told; acting = λ _. is },
         record {
-          word_fits = kept.0.words_fit place;
           holds_same = refl;
           here = here;
           starts = record {
@@ -129,20 +127,19 @@ module _ {T : Type 0} (meets : T → Type 0) (opening : List (Option T)) where
           loads = refl;
           tries = refl;
           sound = is.sound;
-          clear_are_out = clear_out opening page has has.operations me.0.opening (prefix_same has.operations)
-              is.same_opening place;
+          clear_are_out = clear_out raise opening page has me.0.opening is.same_opening place;
         },
       )
 
   -- a witness of what a user knows
-  pub witnesses : (user : ℕ) (me : UserView T) → Splits (IsKept meets opening) user me me (witness_of me)
+  pub witnesses : (user : ℕ) (me : UserView T) → Splits (IsKept meets raise opening) user me me (witness_of me)
   witnesses user me page kept at =
       let has = kept.1 in
-      subst (λ views. IsKept meets opening record
+      subst (λ views. IsKept meets raise opening record
       { words = page.words; homes = page.homes; views = views ++ witness_of me ∷ [] })
       (sym (set_again page.views user me at)) (
         joins_page meets page (witness_of me) kept.0 refl,
-        joins_history opening page (witness_of me) has record {
+        joins_history raise opening page (witness_of me) has record {
           seen = (has.informed user me at).seen;
           told = (has.operations, sym (append-nil has.operations));
           acting = λ gone. absurd (true≢false gone);
@@ -150,7 +147,7 @@ module _ {T : Type 0} (meets : T → Type 0) (opening : List (Option T)) where
       )
 
   pub tells : (user other : ℕ) (me them : UserView T) → me.gone ≡ false
-      → Joins (IsKept meets opening) user me other them (told_of me them) gone_view
+      → Joins (IsKept meets raise opening) user me other them (told_of me them) gone_view
   tells user other me them here page kept at apart at_other =
       let known = told_of me them in
       let theirs : get_elem? page.views other ≡ some them = elim (at_set page.views user other known them at_other) [
@@ -158,7 +155,7 @@ module _ {T : Type 0} (meets : T → Type 0) (opening : List (Option T)) where
         | inr found ↦ found.1
       ] in
       let knew = kept.1.informed user me at in
-      let has_told : IsKept meets opening (told_page page user known) =
+      let has_told : IsKept meets raise opening (told_page page user known) =
       sees page user me known kept at (λ i holds. holds) record {
         seen = knew.seen;
         told = (kept.1.informed other them theirs).seen;
@@ -171,30 +168,68 @@ module _ {T : Type 0} (meets : T → Type 0) (opening : List (Option T)) where
       record { seen = none; told = none; acting = λ gone. absurd (true≢false gone) }
 
   pub loads_on : (slots place user : ℕ) (me : User T) → me.0.gone ≡ false
-      → Allows (IsKept meets opening) slots user me place (λ word. word) (LoadsOn place me)
+      → Allows (IsKept meets raise opening) slots user me place (λ word. word) (LoadsOn place me)
   loads_on slots place user me here page kept places at fits =
       let has = kept.1 in
       let known : UserView T = has_seen me.0 has.operations (me.0.loads + 1) me.0.tries in
-      let step = after_load opening page has user me.0 at here (me.0.loads + 1) me.0.tries in
+      let step = after_load raise opening page has user me.0 at here (me.0.loads + 1) me.0.tries in
       let is = step.0.acting here in (
         known,
         keeps,
         tt,
         reads page place user me.0 known kept at refl step.0,
         record {
-          word_fits = kept.0.words_fit place;
           holds_same = refl;
           carries_same = refl;
           loads = refl;
           tries = refl;
           goes_on = step.1;
-          clear_are_out = clear_out opening page has me.0.since me.0.opening is.sound.since_load is.same_opening place;
+          clear_are_out = clear_out raise opening page has me.0.opening is.same_opening place;
+        },
+      )
+
+  -- an item whose bit is set in its word is free now
+  set_free : (page : PageState T) (kept : IsKept meets raise opening page) (own : List (Option T)) → own ≡ opening
+      → (slots : ℕ) → length page.homes ≡ slots → (place bit : ℕ) → bit < 32
+      → bit_at (get_or page.words place 0) bit ≡ 1
+      → (item_of place bit < slots)
+      × ((value : T) × (value_at own kept.1.operations (item_of place bit) ≡ Some value))
+  set_free page kept own same slots places place bit within one =
+      let id : ℕ = item_of place bit in
+      let free : IsSet page id = item_bit_of page.words place bit within ∙ one in
+      let item = kept.0.free_is_home id free in
+      let inside = at_below page.homes id (some (Some item.0)) item.1 in (
+        omega arith,
+        (
+          item.0,
+          ap (λ o. value_at o kept.1.operations id) same ∙ kept.1.free_lies id free item.0 item.1,
+        ),
+      )
+
+  pub counts : (slots place user : ℕ) (me : User T) → raise ≡ 1 → me.0.gone ≡ false
+      → Allows (IsKept meets raise opening) slots user me place (λ word. word) (λ word.
+      Counts slots place me word (count_in word))
+  unfolding loads_on
+  counts slots place user me once here page kept places at fits =
+      let has = kept.1 in
+      let loaded = loads_on slots place user me here page kept places at fits in
+      let opened = (has.informed user me.0 at).acting here in (
+        loaded.0,
+        loaded.1,
+        loaded.2,
+        loaded.3,
+        record {
+          loads_on = loaded.4;
+          set_are_free = set_free page kept me.0.opening opened.same_opening slots places place;
+          counts = has.counted place ∙ ap (λ r. (r * returns_on place has.operations) % 2 ^ 32) once
+              ∙ ap (λ n. n % 2 ^ 32) (let one : 1 * returns_on place has.operations ≡ returns_on place has.operations
+              = omega arith in one);
         },
       )
 
   pub clears : (slots place user operand bit : ℕ) (me : User T) → bit < 32 → 32 * place < slots
-      → ClearsBit all_bits bit operand → me.0.held ≡ None → me.0.gone ≡ false
-      → Allows (IsKept meets opening) slots user me place (λ word.
+      → ClearsBit whole_word bit operand → me.0.held ≡ None → me.0.gone ≡ false
+      → Allows (IsKept meets raise opening) slots user me place (λ word.
       bit_and word operand) (Clears meets slots place operand me)
   clears slots place user operand bit me within inside lacks holds_none here page kept places at fits =
       let is = kept.0 in
@@ -203,12 +238,11 @@ module _ {T : Type 0} (meets : T → Type 0) (opening : List (Option T)) where
       let words : List ℕ = set page.words place (bit_and word operand) in
       let id : ℕ = item_of place bit in
       let below : place < length page.words = let all = is.all_places in omega arith in
-      let small = is.words_fit place in
-      let bits = and_clears word operand bit small lacks in
-      let all_fit = fits_after page.words place (bit_and word operand) below is.words_fit
-      (let less = and_le_l word operand in omega arith) in
+      let bits = and_clears word operand bit fits lacks in
+      let counts_same = same_counts page.words place (bit_and word operand) below
+      (same_count word bit (bit_and word operand) within bits.others) in
       let turned : Turns page.words id 0 words =
-      turns page.words place bit 0 (bit_and word operand) within below bits.clear bits.others in
+      turns page.words place bit 0 (bit_and word operand) within below bits.clear (λ b _. bits.others b) in
       let own_bit : item_bit page.words id ≡ bit_at word bit = item_bit_of page.words place bit within in
       elim (cases_lt 0 (bit_at word bit)) [
         | inl some_bit ↦
@@ -221,16 +255,15 @@ module _ {T : Type 0} (meets : T → Type 0) (opening : List (Option T)) where
             let known : UserView T = acted me.0 has.operations operation (me.0.tries + 1) in
             let may : MayFollow opening has.operations operation = record {
               lies_there = has.free_lies id free item.0 item.1;
-              holds_none = held_now opening page has user me.0 at here ∙ holds_none;
+              holds_none = held_now raise opening page has user me.0 at here ∙ holds_none;
             } in
-            let history = acts_history opening page has user me.0 at here words 0 none operation (me.0.tries + 1)
-            refl may turned (λ one. absurd (omega arith)) (λ _. refl) in (
+            let history = acts_history raise opening page has user me.0 at here words 0 none operation (me.0.tries + 1)
+            refl may turned (λ one. absurd (omega arith)) (λ _. refl) (λ p. counts_same p ∙ has.counted p) in (
               known,
               takes id (Some item.0),
               item.1,
-              (takes_item meets page words user id known is inside_places turned all_fit free refl, history.0),
+              (takes_item meets page words user id known is inside_places turned free refl, history.0),
               record {
-                word_fits = small;
                 took = λ i inside lacks_i _. subst (λ i.
                     Takes meets slots (item_of place i) me (known, (id, Some item.0) ∷ me.1))
                     (lacks_one operand bit i inside lacks lacks_i) record {
@@ -250,26 +283,23 @@ module _ {T : Type 0} (meets : T → Type 0) (opening : List (Option T)) where
             let same_bits : (i : ℕ)
             → item_bit words i ≡ item_bit page.words i =
             λ i. dite (ℕ_discrete i id) (λ same. rw same (turned.here ∙ sym out)) (turned.others i) in
-            let step = after_load opening page has user me.0 at here me.0.loads (me.0.tries + 1) in
+            let step = after_load raise opening page has user me.0 at here me.0.loads (me.0.tries + 1) in
             let is_now = step.0.acting here in (
               known,
               keeps,
               tt,
               (
-                keeps_item meets page words user me.0 known is turned.same_count all_fit same_bits at
-                    (λ i holds. holds),
-                saw_history opening page words user known has same_bits step.0,
+                keeps_item meets page words user me.0 known is turned.same_count same_bits at (λ i holds. holds),
+                saw_history raise opening page words user known has same_bits counts_same step.0,
               ),
               record {
-                word_fits = small;
                 took = λ i inside lacks_i one. let here =
                     ap (bit_at word) (lacks_one operand bit i inside lacks lacks_i) in absurd (omega arith);
                 missed = λ i inside lacks_i _. subst (λ i.
                     Misses (item_of place i) me (known, me.1)) (lacks_one operand bit i inside lacks lacks_i) record {
                       holds_same = refl;
                       carries_same = refl;
-                      was_out = clear_out opening page has me.0.since me.0.opening is_now.sound.since_load
-                          is_now.same_opening place bit within zero_bit;
+                      was_out = clear_out raise opening page has me.0.opening is_now.same_opening place bit within zero_bit;
                       counts = record { loads_same = refl; one_more = refl };
                       goes_on = step.1;
                     };
@@ -277,14 +307,34 @@ module _ {T : Type 0} (meets : T → Type 0) (opening : List (Option T)) where
             )
       ]
 
-  pub gives_back : (slots user operand id : ℕ) (out me : User T) (value : T) → id < slots → operand < 2 ^ 32
-      → SetsBit 0 (id % 32) operand → out.0.held ≡ Some id → out.0.gone ≡ false → out.1 ≡ (id, None) ∷ []
+  -- what each word counts after a return
+  counted_after : (page : PageState T) (has : HasHistory raise opening page) (user id new : ℕ) (value : T)
+      → id / 32 < length page.words → Raises (get_or page.words (id / 32) 0) (id % 32) raise new → (p : ℕ)
+      → count_in (get_or (set page.words (id / 32) new) p 0)
+      ≡ (raise * returns_on p (Return user id value ∷ has.operations)) % 2 ^ 32
+  counted_after page has user id new value below raised p = dite (ℕ_discrete (id / 32) p)
+      (λ here.
+      let before : ℕ = returns_on p has.operations in
+      let had = has.counted p in
+      let more = mul-add raise before 1 in
+      let own = mul-one raise in
+      let word : get_or (set page.words (id / 32) new) p 0 ≡ new =
+      ap (get_or (set page.words (id / 32) new) p) refl ∙ subst (λ q. get_or (set page.words (id / 32) new) q 0 ≡ new)
+      here (get_or-set_same page.words (id / 32) new 0 below) in
+      let was = raised.count ∙ ap (λ q. (count_in (get_or page.words q 0) + raise) % 2 ^ 32) here in
+      rw (eq-eqb (id / 32) p here) (ap count_in word ∙ was ∙ omega arith))
+      (λ other. rw (ne_eqb (id / 32) p other) (ap count_in
+      (get_or-set_other page.words (id / 32) p new 0 (λ same. other (sym same))) ∙ has.counted p))
+
+  pub gives_back : (slots user bit operand id : ℕ) (out me : User T) (value : T) → id < slots → bit < 2 ^ 32
+      → raise ≤ 1 → operand ≡ raise * 2 ^ 32 + bit
+      → SetsBit 0 (id % 32) bit → out.0.held ≡ Some id → out.0.gone ≡ false → out.1 ≡ (id, None) ∷ []
       → me ≡ (out.0, (id, Some value) ∷ rest out.1) → meets value
-      → Allows (IsKept meets opening) slots user me (id / 32) (λ word. (word + operand) % 2 ^ 64) (λ _. GivesBack me)
-  gives_back slots user operand id out me value within small sets holds here carries moved met =
+      → Allows (IsKept meets raise opening) slots user me (id / 32) (λ word. (word + operand) % 2 ^ 64) (λ _. GivesBack me)
+  gives_back slots user added operand id out me value within small once is_sum sets holds here carries moved met =
       let is_me : me ≡ (out.0, (id, Some value) ∷ []) =
       moved ∙ ap (λ (carried : List (ℕ × Option T)). (out.0, (id, Some value) ∷ rest carried)) carries in
-      subst (λ me. Allows (IsKept meets opening) slots user me (id / 32) (λ word.
+      subst (λ me. Allows (IsKept meets raise opening) slots user me (id / 32) (λ word.
       (word + operand) % 2 ^ 64) (λ _. GivesBack me)) (sym is_me) (λ page kept places at fits.
       let is = kept.0 in
       let has = kept.1 in
@@ -298,24 +348,23 @@ module _ {T : Type 0} (meets : T → Type 0) (opening : List (Option T)) where
       let clear : bit_at word bit ≡ 0 = (is.held_is_out user id (out.0, at, holds)).1 in
       let operation : Operation T = Return out.0.user id value in
       let may : MayFollow opening has.operations operation =
-      record { is_out = has.out_lies id clear; holds = held_now opening page has user out.0 at here ∙ holds } in
-      let set_by_or : new ≡ bit_or word operand = add_sets word operand bit (is.words_fit place) small sets clear in
-      let bits = subst (SetsBit word bit) (sym set_by_or) (or_sets word operand bit sets) in
-      let all_fit = fits_after page.words place new below is.words_fit
-      (let fits = or_lt 32 word operand (is.words_fit place) small in omega arith) in
+      record { is_out = has.out_lies id clear; holds = held_now raise opening page has user out.0 at here ∙ holds } in
+      let raised : Raises word bit raise new = subst (λ o. Raises word bit raise ((word + o) % 2 ^ 64)) (sym is_sum)
+      (raises word added bit raise (omega arith) small once fits sets clear) in
       let turned : Turns page.words id 1 words =
       subst (λ i. Turns page.words i 1 words) whole
-      (turns page.words place bit 1 new (omega arith) below bits.set bits.others) in
+      (turns page.words place bit 1 new (omega arith) below raised.set raised.others) in
       let known : UserView T = acted out.0 has.operations operation out.0.tries in
       let inside : id < length page.homes = omega arith in
-      let history = acts_history opening page has user out.0 at here words 1 (some (Some value)) operation out.0.tries
+      let history = acts_history raise opening page has user out.0 at here words 1 (some (Some value)) operation out.0.tries
       refl may turned (λ _ found home. some-injective (Some value) (Some found)
       (some-injective (some (Some value)) (some (Some found))
-      (sym (set_here page.homes id (some (Some value)) inside) ∙ home))) (λ one. absurd (omega arith)) in (
+      (sym (set_here page.homes id (some (Some value)) inside) ∙ home))) (λ one. absurd (omega arith))
+      (counted_after page has out.0.user id new value below raised) in (
         known,
         gives,
         tt,
-        (gives_item meets page words user id out.0 value known is inside turned all_fit at holds met refl, history.0),
+        (gives_item meets page words user id out.0 value known is inside turned at holds met refl, history.0),
         record {
           holds_none = refl;
           carries = refl;

@@ -11,8 +11,11 @@ use Rattle.std.proofs.lemmas.Bool.{cases_lt}
 use Rattle.std.proofs.lemmas.Nat.Bits.{bit_at_lowest, bit_at-suc, bit_at_and}
 use Rattle.std.proofs.lemmas.Nat.Bits.{bit_at_above, bit_at-lt, bit_at_ones}
 use Rattle.std.proofs.lemmas.Nat.Bits.{bit_at_ones_above, bit_at_or, bit_at-zero, same_from_bits}
+use Rattle.std.proofs.lemmas.Nat.Bits.{bit_at_cat_low, bit_at_cat_high, bit_at_mask_inside, bit_at_mask_below}
+use Rattle.std.proofs.lemmas.Nat.Bits.{bit_at_mask_above}
+use Rattle.std.proofs.lemmas.Nat.{or_lt}
 use lib.Pow.{pow_mono, ones_lt}
-use Rattle.pool_parts.specs.Word.{all_bits, SetsBit, ClearsBit, item_bit, IsAllFree}
+use Rattle.pool_parts.specs.Word.{all_bits, whole_word, count_in, IsLowHalf, SetsBit, ClearsBit, item_bit, IsAllFree}
 
 -- one less turns the lowest set bit off, the bits below it on, and leaves those above it
 bit_at-less_one : (k word : ℕ) → bit_at word k ≡ 1 → ((i : ℕ) → i < k → bit_at word i ≡ 0) → (i : ℕ)
@@ -46,8 +49,69 @@ clears_least word k set lowest =
       others = λ i other. grind (arith, bit_at_and word (word - 1) i, lowest i, (less i).1);
     }
 
+-- the lower half of a word
+pub low_half_is : (word : ℕ) → IsLowHalf word (bit_and word all_bits)
+low_half_is word i within =
+    let ones = bit_at_ones 32 i within in
+    let low = bit_at-lt word i in
+    bit_at_and word all_bits i ∙ omega arith
+
+pub low_half_rest : (word : ℕ) → IsLowHalf word (word % 2 ^ 32)
+low_half_rest word i within =
+    let whole : word / 2 ^ 32 * 2 ^ 32 + word % 2 ^ 32 ≡ word = omega arith in
+    sym (bit_at_cat_low (word / 2 ^ 32) 32 (word % 2 ^ 32) i within) ∙ ap (λ w. bit_at w i) whole
+
+-- a bit of the count
+bit_at_count : (word i : ℕ) → bit_at (count_in word) i ≡ bit_at word (i + 32)
+bit_at_count word i =
+    let whole : word / 2 ^ 32 * 2 ^ 32 + word % 2 ^ 32 ≡ word = omega arith in
+    let place : i + 32 - 32 ≡ i = omega arith in
+    ap (bit_at (word / 2 ^ 32)) (sym place)
+    ∙ sym (bit_at_cat_high (word / 2 ^ 32) 32 (word % 2 ^ 32) (i + 32) (omega arith) (omega arith))
+    ∙ ap (λ w. bit_at w (i + 32)) whole
+
+-- a word of which one bit of the lower half has changed has the same count
+pub same_count : (old id new : ℕ) → id < 32 → ((i : ℕ) → i ≢ id → bit_at new i ≡ bit_at old i)
+    → count_in new ≡ count_in old
+same_count old id new within others = same_from_bits (count_in new) (count_in old) (λ i.
+    bit_at_count new i ∙ others (i + 32) (λ same. absurd (omega arith)) ∙ sym (bit_at_count old i))
+
+-- a word that lacks one bit of the lower half alone, those of the count being set
+pub lacks_of_whole : (low id : ℕ) → id < 32 → ClearsBit all_bits id low
+    → ClearsBit whole_word id (bit_or 18446744069414584320 low)
+lacks_of_whole low id within lacks = record {
+  clear = grind (arith, bit_at_or 18446744069414584320 low id, lacks.clear, bit_at_mask_below 32 64 id within);
+  others = λ i other. elim (cases_lt i 32) [
+    | inl below ↦ grind (
+      arith,
+      bit_at_or 18446744069414584320 low i,
+      lacks.others i other,
+      bit_at_mask_below 32 64 i below,
+      bit_at_ones 32 i below,
+      bit_at_ones 64 i (omega arith),
+    )
+    | inr from ↦ elim (cases_lt i 64) [
+      | inl inside ↦ grind (
+        arith,
+        bit_at_or 18446744069414584320 low i,
+        bit_at-lt low i,
+        bit_at_mask_inside 32 64 i from inside,
+        bit_at_ones 64 i inside,
+      )
+      | inr past ↦ grind (
+        arith,
+        bit_at_or 18446744069414584320 low i,
+        lacks.others i other,
+        bit_at_ones_above 32 i from,
+        bit_at_mask_above 32 64 i past,
+        bit_at_ones_above 64 i past,
+      )
+    ]
+  ];
+}
+
 -- an and with a word that lacks one bit alone clears that bit
-pub and_clears : (word operand id : ℕ) → word < 2 ^ 32 → ClearsBit all_bits id operand
+pub and_clears : (word operand id : ℕ) → word < 2 ^ 64 → ClearsBit whole_word id operand
     → ClearsBit word id (bit_and word operand)
 and_clears word operand id fits lacks = record {
   clear = grind (arith, bit_at_and word operand id, lacks.clear);
@@ -56,8 +120,8 @@ and_clears word operand id fits lacks = record {
     bit_at_and word operand i,
     lacks.others i other,
     bit_at-lt word i,
-    bit_at_ones 32 i,
-    bit_at_above word 32 i fits,
+    bit_at_ones 64 i,
+    bit_at_above word 64 i fits,
   );
 }
 
@@ -69,14 +133,38 @@ or_sets word operand id has = record {
 }
 
 -- to add a word that has one bit alone is an or with it, where that bit was clear
-pub add_sets : (word operand id : ℕ) → word < 2 ^ 32 → operand < 2 ^ 32 → SetsBit 0 id operand → bit_at word id ≡ 0
-    → (word + operand) % 2 ^ 64 ≡ bit_or word operand
-add_sets word operand id word_fits operand_fits has clear =
+add_sets : (word operand id : ℕ) → SetsBit 0 id operand → bit_at word id ≡ 0 → word + operand ≡ bit_or word operand
+add_sets word operand id has clear =
     let apart : bit_and word operand ≡ 0 = same_from_bits (bit_and word operand) 0 (λ i.
     let here : i ≡ id → bit_at word i ≡ 0 = λ same. ap (bit_at word) same ∙ clear in
     grind (arith, bit_at_and word operand i, bit_at-zero i, bit_at-lt operand i, has.others i)) in
     let sum = or_add_and word operand in
     omega arith
+
+-- a word of which a bit of the lower half, which was clear, and this much of the count were added in one step
+pub record Raises (word id raise new : ℕ) : Type 0 where
+  pub set : bit_at new id ≡ 1
+  pub others : (i : ℕ) → i < 32 → i ≢ id → bit_at new i ≡ bit_at word i
+  pub count : count_in new ≡ (count_in word + raise) % 2 ^ 32
+
+pub raises : (word bit id raise : ℕ) → id < 32 → bit < 2 ^ 32 → raise ≤ 1 → word < 2 ^ 64 → SetsBit 0 id bit
+    → bit_at word id ≡ 0
+    → Raises word id raise ((word + (raise * 2 ^ 32 + bit)) % 2 ^ 64)
+raises word bit id raise within small once fits has clear =
+    let low : ℕ = word % 2 ^ 32 in
+    let new : ℕ = (word + (raise * 2 ^ 32 + bit)) % 2 ^ 64 in
+    let low_fits : low < 2 ^ 32 = omega arith in
+    let sum : low + bit ≡ bit_or low bit = add_sets low bit id has (low_half_rest word id within ∙ clear) in
+    let both_fit = or_lt 32 low bit low_fits small in
+    let sets = or_sets low bit id has in
+    let new_low : new % 2 ^ 32 ≡ bit_or low bit = omega arith in
+    let bits : (i : ℕ) → i < 32 → bit_at new i ≡ bit_at (bit_or low bit) i =
+    λ i below. sym (low_half_rest new i below) ∙ ap (λ w. bit_at w i) new_low in
+    record {
+      set = bits id within ∙ sets.set;
+      others = λ i below other. bits i below ∙ sets.others i other ∙ low_half_rest word i below;
+      count = omega arith;
+    }
 
 -- an item's bit is the bit of its word
 pub item_bit_of : (words : List ℕ) (place bit : ℕ) → bit < 32
@@ -94,7 +182,7 @@ pub record Turns (old : List ℕ) (id value : ℕ) (new : List ℕ) : Type 0 whe
 
 -- words of which one bit of one word has changed
 pub turns : (words : List ℕ) (place bit value new : ℕ) → bit < 32 → place < length words → bit_at new bit ≡ value
-    → ((b : ℕ) → b ≢ bit → bit_at new b ≡ bit_at (get_or words place 0) b)
+    → ((b : ℕ) → b < 32 → b ≢ bit → bit_at new b ≡ bit_at (get_or words place 0) b)
     → Turns words (32 * place + bit) value (set words place new)
 turns words place bit value new within inside here others = record {
   here = item_bit_of (set words place new) place bit within ∙ ap (λ w.
@@ -104,22 +192,24 @@ turns words place bit value new within inside here others = record {
       let apart : i % 32 ≢ bit = λ e. differ (omega arith) in
       ap (λ w. bit_at w (i % 32))
       (ap (λ p. get_or (set words place new) p 0) same ∙ get_or-set_same words place new 0 inside)
-      ∙ others (i % 32) apart ∙ ap (λ p. bit_at (get_or words p 0) (i % 32)) (sym same))
+      ∙ others (i % 32) (omega arith) apart ∙ ap (λ p. bit_at (get_or words p 0) (i % 32)) (sym same))
       (λ other. ap (λ w. bit_at w (i % 32)) (get_or-set_other words place (i / 32) new 0 other));
   same_count = length-set words place new;
 }
 
--- each word still fits, once one has changed
-pub fits_after : (words : List ℕ) (place new : ℕ) → place < length words → ((p : ℕ) → get_or words p 0 < 2 ^ 32)
-    → new < 2 ^ 32 → (p : ℕ) → get_or (set words place new) p 0 < 2 ^ 32
-fits_after words place new inside fit small p = dite (ℕ_discrete p place)
-    (λ same. rw (same, get_or-set_same words place new 0 inside) small)
-    (λ other. rw (get_or-set_other words place p new 0 other) (fit p))
+-- one word has changed, and has the same count
+pub same_counts : (words : List ℕ) (place new : ℕ) → place < length words
+    → count_in new ≡ count_in (get_or words place 0) → (p : ℕ)
+    → count_in (get_or (set words place new) p 0) ≡ count_in (get_or words p 0)
+same_counts words place new inside same p = dite (ℕ_discrete p place)
+    (λ here. rw (here, get_or-set_same words place new 0 inside) same)
+    (λ other. ap count_in (get_or-set_other words place p new 0 other))
 
 -- a word that lacks one bit alone tells which
-pub lacks_one : (operand bit other : ℕ) → other < 32 → ClearsBit all_bits bit operand → ClearsBit all_bits other operand
-    → bit ≡ other
-lacks_one operand bit other within one two = grind (arith, one.others other, two.clear, bit_at_ones 32 other within)
+pub lacks_one : (operand bit other : ℕ) → other < 32 → ClearsBit whole_word bit operand
+    → ClearsBit whole_word other operand → bit ≡ other
+lacks_one operand bit other within one two =
+    grind (arith, one.others other, two.clear, bit_at_ones 64 other (omega arith))
 
 -- words that are all set but the last, of which only the lowest bits are
 module _ (full low : ℕ) (some : 0 < low) (within : low ≤ 32) where

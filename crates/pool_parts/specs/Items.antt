@@ -15,4 +15,8 @@ module _ {T K : Type 0} where
 
   -- the values that they opened with, by number
   abbrev pub items_opening : Items T K → List (Option T)
-  items_opening items = items.table.shared.key.value.items
+  items_opening items = items.table.shared.key.values.value.items
+
+  -- by how much a return raises its word's count
+  abbrev pub items_raise : Items T K → ℕ
+  items_raise items = items.table.shared.key.raise.value

@@ -2,7 +2,8 @@
 -- A page's ledger is of its 32 numbers, and that of a fixed pool of all its numbers; neither grows. The pulls and
 -- returns of a world's agents, in the crate above, are a ledger too, to whose opening each page that is linked adds its
 -- values.
-use Rattle.std.specs.Prelude.{◌≡◌, ◌≢◌, ◌⊎◌, ℕ, ◌==◌, if◌then◌else◌, List, [], ◌∷◌, ◌++◌, get_or, Option, Some, None, ⊤}
+use Rattle.std.specs.Prelude.{◌≡◌, ◌≢◌, ◌⊎◌, ℕ, ◌+◌, ◌/◌, ◌<◌, ◌==◌, if◌then◌else◌, Bool, true, List, [], ◌∷◌, ◌++◌, get_or}
+use Rattle.std.specs.Prelude.{Option, Some, None, ⊤}
 use Rattle.pool_parts.specs.declared.page.history.Operation.{Operation}
 use Rattle.pool_parts.specs.declared.page.history.Operation.TheVariants.{Pull, Return}
 
@@ -78,6 +79,28 @@ module _ {T : Type 0} where
   abbrev pub WasOutBetween : List (Option T) → History T → History T → ℕ → Type 0
   WasOutBetween opening from to id =
       (place : History T) × IsPrefixOf from place × IsPrefixOf place to × (value_at opening place id ≡ None)
+
+  -- no number was free between two places of a history: at some place from the one to the other, which is the same for
+  -- all of so many numbers
+  abbrev pub WasFullBetween : List (Option T) → History T → History T → ℕ → Type 0
+  WasFullBetween opening from to count =
+      (place : History T) × IsPrefixOf from place × IsPrefixOf place to
+      × ((id : ℕ) → id < count → value_at opening place id ≡ None)
+
+  -- how many returns there are of the numbers that pass a test
+  abbrev pub returns_among : (ℕ → Bool) → History T → ℕ
+  returns_among passes [] = 0
+  returns_among passes (Pull user id value ∷ before) = returns_among passes before
+  returns_among passes (Return user id value ∷ before) =
+      if passes id then returns_among passes before + 1 else returns_among passes before
+
+  -- how many returns there are
+  abbrev pub returns_of : History T → ℕ
+  returns_of history = returns_among (λ id. true) history
+
+  -- how many returns there are of the 32 numbers of one word
+  abbrev pub returns_on : ℕ → History T → ℕ
+  returns_on place history = returns_among (λ id. id / 32 == place) history
 
   -- somebody returned this number with this value, and no operation was on it since
   pub record WasReturned (history : History T) (id : ℕ) (value : T) : Type 0 where

@@ -1,5 +1,5 @@
 -- The rule of a page: what holds between any two steps on it, and what each kind of step tells its user.
-use Rattle.std.specs.Prelude.{◌≡◌, ℕ, ◌+◌, ◌*◌, ◌^◌, ◌<◌, ◌≤◌, List, [], ◌∷◌, ◌++◌, true, false, length, slice_index}
+use Rattle.std.specs.Prelude.{◌≡◌, ℕ, ◌+◌, ◌*◌, ◌%◌, ◌^◌, ◌<◌, ◌≤◌, List, [], ◌∷◌, ◌++◌, true, false, length, slice_index}
 use Rattle.std.specs.Prelude.{Option, Some, None}
 use mathlib.Core.Option.{some}
 use lib.ListN.{get_elem?}
@@ -8,8 +8,8 @@ use Rattle.atomic_table.specs.Table.{State, Me, rest}
 use Rattle.pool_parts.specs.declared.page.history.Operation.TheVariants.{Pull, Return}
 use Rattle.pool_parts.specs.declared.page.user_view.UserView.{UserView}
 use Rattle.pool_parts.specs.Ledger.{History, operations_of, held_id, value_at, IsLegal, IsPrefixOf}
-use Rattle.pool_parts.specs.Ledger.{WasOutBetween}
-use Rattle.pool_parts.specs.Word.{all_bits, ClearsBit, item_bit}
+use Rattle.pool_parts.specs.Ledger.{WasOutBetween, returns_on}
+use Rattle.pool_parts.specs.Word.{whole_word, count_in, ClearsBit, item_bit}
 
 -- a page as plain data: its words, 32 places a word, and what each user knows
 abbrev pub PageState : Type 0 → Type 0
@@ -81,14 +81,14 @@ module _ {T : Type 0} where
   pub record IsPage (meets : T → Type 0) (page : PageState T) : Type 0 where
     -- each place has a bit in some word
     pub all_places : length page.homes ≤ 32 * length page.words
-    pub words_fit : (place : ℕ) → slice_index page.words place < 2 ^ 32
     -- so no bit is set that has no place
     pub free_is_home : (id : ℕ) → IsSet page id → (value : T) × IsHome page id value × meets value
     pub held_is_out : (user id : ℕ) → UserHolds page user id → (id < length page.homes) × IsClear page id
     pub one_holder : (user other id : ℕ) → UserHolds page user id → UserHolds page other id → user ≡ other
 
-  -- the page stands where one legal history of its users' operations has led, of which each user knows a prefix
-  pub record HasHistory (opening : List (Option T)) (page : PageState T) : Type 0 where
+  -- the page stands where one legal history of its users' operations has led, of which each user knows a prefix; a return
+  -- raises its word's count by so much
+  pub record HasHistory (raise : ℕ) (opening : List (Option T)) (page : PageState T) : Type 0 where
     pub operations : History T
     pub legal : IsLegal opening operations
     pub free_lies : (id : ℕ) → IsSet page id → (value : T) → IsHome page id value
@@ -97,10 +97,12 @@ module _ {T : Type 0} where
     pub informed : (user : ℕ) (known : UserView T) → get_elem? page.views user ≡ some known
         → Knows opening operations user known
     pub no_stranger : (user : ℕ) → length page.views ≤ user → operations_of user operations ≡ []
+    -- the upper half of each word counts the returns of its items; where a return raises it by 0, it stays 0
+    pub counted : (place : ℕ) → count_in (slice_index page.words place) ≡ (raise * returns_on place operations) % 2 ^ 32
 
   -- what holds of a page between any two steps
-  abbrev pub IsKept : (T → Type 0) → List (Option T) → PageState T → Type 0
-  IsKept meets opening page = IsPage meets page × HasHistory opening page
+  abbrev pub IsKept : (T → Type 0) → ℕ → List (Option T) → PageState T → Type 0
+  IsKept meets raise opening page = IsPage meets page × HasHistory raise opening page
 
   -- a user went on: the page's history is longer by what others did, and then by what it did itself
   pub record GoesOn (made : History T) (old new : UserView T) : Type 0 where
@@ -116,6 +118,14 @@ module _ {T : Type 0} where
   -- the user knows that the item was out, at some place since its call's first load
   abbrev pub KnowsOut : UserView T → ℕ → Type 0
   KnowsOut known id = WasOutBetween known.opening known.since known.operations id
+
+  -- the item is out, in the history that the user knows
+  abbrev pub IsOutNow : UserView T → ℕ → Type 0
+  IsOutNow known id = value_at known.opening known.operations id ≡ None
+
+  -- the item is free there
+  abbrev pub IsFreeNow : UserView T → ℕ → Type 0
+  IsFreeNow known id = (value : T) × (value_at known.opening known.operations id ≡ Some value)
 
   -- one step more: a bit was tried
   pub record HasTried (old new : UserView T) : Type 0 where
@@ -135,13 +145,12 @@ module _ {T : Type 0} where
   pub record Misses (id : ℕ) (old new : User T) : Type 0 where
     pub holds_same : new.0.held ≡ old.0.held
     pub carries_same : new.1 ≡ old.1
-    pub was_out : KnowsOut new.0 id
+    pub was_out : IsOutNow new.0 id
     pub counts : HasTried old.0 new.0
     pub goes_on : GoesOn [] old.0 new.0
 
   -- a load of one word by a new user: it knows that the items are out whose bits are clear
   pub record Loads (first : UserView T) (place word : ℕ) (new : User T) : Type 0 where
-    pub word_fits : word < 2 ^ 32
     pub holds_none : new.0.held ≡ None
     pub here : new.0.gone ≡ false
     pub same_opening : new.0.opening ≡ first.opening
@@ -150,7 +159,7 @@ module _ {T : Type 0} where
     pub loads : new.0.loads ≡ 1
     pub tries : new.0.tries ≡ 0
     pub sound : IsSound new.0
-    pub clear_are_out : (bit : ℕ) → bit < 32 → bit_at word bit ≡ 0 → KnowsOut new.0 (item_of place bit)
+    pub clear_are_out : (bit : ℕ) → bit < 32 → bit_at word bit ≡ 0 → IsOutNow new.0 (item_of place bit)
 
   -- where a user stands after a load, that knew this before
   pub record StartsFrom (known start : UserView T) : Type 0 where
@@ -164,7 +173,6 @@ module _ {T : Type 0} where
 
   -- a load by a user that knew something: it knows more now, and what it finds out starts anew
   pub record LoadsAgain (place : ℕ) (old : User T) (word : ℕ) (new : User T) : Type 0 where
-    pub word_fits : word < 2 ^ 32
     pub holds_same : new.0.held ≡ old.0.held
     pub here : new.0.gone ≡ false
     pub starts : StartsFrom old.0 new.0
@@ -172,25 +180,30 @@ module _ {T : Type 0} where
     pub loads : new.0.loads ≡ old.0.loads + 1
     pub tries : new.0.tries ≡ old.0.tries
     pub sound : IsSound new.0
-    pub clear_are_out : (bit : ℕ) → bit < 32 → bit_at word bit ≡ 0 → KnowsOut new.0 (item_of place bit)
+    pub clear_are_out : (bit : ℕ) → bit < 32 → bit_at word bit ≡ 0 → IsOutNow new.0 (item_of place bit)
 
   -- a load of a further word by the same call: what it knows goes on from its first load
   pub record LoadsOn (place : ℕ) (old : User T) (word : ℕ) (new : User T) : Type 0 where
-    pub word_fits : word < 2 ^ 32
     pub holds_same : new.0.held ≡ old.0.held
     pub carries_same : new.1 ≡ old.1
     pub loads : new.0.loads ≡ old.0.loads + 1
     pub tries : new.0.tries ≡ old.0.tries
     pub goes_on : GoesOn [] old.0 new.0
-    pub clear_are_out : (bit : ℕ) → bit < 32 → bit_at word bit ≡ 0 → KnowsOut new.0 (item_of place bit)
+    pub clear_are_out : (bit : ℕ) → bit < 32 → bit_at word bit ≡ 0 → IsOutNow new.0 (item_of place bit)
+
+  -- the same of a word that counts its returns: what it counts, and that the items are free whose bits are set
+  pub record Counts (places place : ℕ) (old : User T) (word count : ℕ) (new : User T) : Type 0 where
+    pub loads_on : LoadsOn place old word new
+    pub set_are_free : (bit : ℕ) → bit < 32 → bit_at word bit ≡ 1
+        → (item_of place bit < places) × IsFreeNow new.0 (item_of place bit)
+    pub counts : count ≡ returns_on place new.0.operations % 2 ^ 32
 
   -- a clearing of the one bit that the operand leaves out
   pub record Clears (meets : T → Type 0) (places place operand : ℕ) (old : User T) (word : ℕ)
       (new : User T) : Type 0 where
-    pub word_fits : word < 2 ^ 32
-    pub took : (bit : ℕ) → bit < 32 → ClearsBit all_bits bit operand → bit_at word bit ≡ 1
+    pub took : (bit : ℕ) → bit < 32 → ClearsBit whole_word bit operand → bit_at word bit ≡ 1
         → Takes meets places (item_of place bit) old new
-    pub missed : (bit : ℕ) → bit < 32 → ClearsBit all_bits bit operand → bit_at word bit ≡ 0
+    pub missed : (bit : ℕ) → bit < 32 → ClearsBit whole_word bit operand → bit_at word bit ≡ 0
         → Misses (item_of place bit) old new
 
   -- the user has taken the item, and the value that lay there has moved out

@@ -1,14 +1,16 @@
 -- What a user's attempts at the words of a page or of a fixed pool came to.
 use Rattle.std.specs.Prelude.{◌≡◌, ℕ, ◌<◌, ◌≤◌, [], ◌∷◌, Some, None}
 use Rattle.pool_parts.specs.declared.page.history.Operation.TheVariants.{Pull}
-use Rattle.pool_parts.specs.PageRule.{User, GoesOn, KnowsOut}
+use Rattle.pool_parts.specs.Ledger.{WasOutBetween}
+use Rattle.pool_parts.specs.PageRule.{User, GoesOn}
 
 module _ {T : Type 0} where
-  -- the user has observed each item taken, from the one number up to below the other
+  -- the user has observed each item taken, from the one number up to below the other, since it stood at its beginning
   pub record MissesAll (from to : ℕ) (old new : User T) : Type 0 where
     pub holds_same : new.0.held ≡ old.0.held
     pub carries_same : new.1 ≡ old.1
-    pub each_was_out : (id : ℕ) → from ≤ id → id < to → KnowsOut new.0 id
+    pub each_was_out : (id : ℕ) → from ≤ id → id < to
+        → WasOutBetween new.0.opening old.0.operations new.0.operations id
     pub goes_on : GoesOn [] old.0 new.0
 
   -- the user has taken one item of a pool with so many

@@ -1,4 +1,4 @@
--- The words of a page: bit i of word w is set where item 32 w + i is free.
+-- The words of a page: bit i of word w is set where item 32 w + i is free. The 32 bits above are the word's count.
 use Rattle.std.specs.Prelude.{◌≡◌, ◌≢◌, ℕ, ◌+◌, ◌^◌, ◌<◌, ◌≤◌, ◌/◌, ◌%◌, List, length, slice_index}
 use Rattle.std.specs.Int.{bit_at}
 use Rattle.pool_parts.specs.declared.page.TheConstants.{PAGE_ITEMS}
@@ -6,6 +6,18 @@ use Rattle.pool_parts.specs.declared.page.TheConstants.{PAGE_ITEMS}
 -- the word whose 32 bits are all set
 abbrev pub all_bits : ℕ
 all_bits = 4294967295
+
+-- the word whose 64 bits are all set
+abbrev pub whole_word : ℕ
+whole_word = 18446744073709551615
+
+-- the count in the upper half of a word
+abbrev pub count_in : ℕ → ℕ
+count_in word = word / 2 ^ 32
+
+-- this is the lower half of the word: its 32 bits, without the count
+abbrev pub IsLowHalf : ℕ → ℕ → Type 0
+IsLowHalf word half = (i : ℕ) → i < 32 → bit_at half i ≡ bit_at word i
 
 -- bit id is the lowest of the word's set bits
 pub record IsLeastBit (word id : ℕ) : Type 0 where

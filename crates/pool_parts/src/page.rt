@@ -9,8 +9,8 @@
 //! No call waits for another thread or tries again: a page reads its word once, and then clears single bits.
 ghost use Rattle.std.specs.Prelude.{◌≡◌, ◌==◌, ◌+◌, ◌-◌, ◌^◌, ◌<◌, ◌≤◌, ◌↔◌, ℕ, [], false, Option, None, Some, IsTrue, IsNone, IfSome, IsOk, IfOk, IfErr, bit_and, bit_or};
 ghost use Rattle.std.specs.Int.{w32, bit_at, bit_not};
-ghost use Rattle.pool_parts.specs.Items.{items_identity};
-ghost use Rattle.pool_parts.specs.Word.{IsLeastBit, SetsBit, ClearsBit};
+ghost use Rattle.pool_parts.specs.Items.{items_identity, items_raise};
+ghost use Rattle.pool_parts.specs.Word.{IsLeastBit, SetsBit, ClearsBit, IsLowHalf, whole_word, count_in};
 ghost use Rattle.pool_parts.specs.declared.page.TheConstants.{PAGE_ITEMS};
 
 use crate::PullError;
@@ -41,6 +41,9 @@ pub type PageId = u8;
 
 /// How many items a page has.
 pub const PAGE_ITEMS: usize = 32;
+
+/// The bits of a word's count.
+const COUNT_BITS: u64 = 0xffff_ffff_0000_0000;
 
 /// The word without its lowest set bit, and that bit's place. `None` where no bit is set.
 pub fn take_least(word: u32) -> Option<(u32, PageId)>
@@ -89,10 +92,33 @@ fn is_none_free(word: u32) -> bool
     word == 0
 }
 
+/// The lower half of a word: the bits of its items, without the count above them.
+fn low_half(word: u64) -> u32
+    ensures { IsLowHalf word result }
+{
+    (word & u32::MAX as u64) as u32
+}
+
+/// The count in the upper half of a word.
+fn count_of(word: u64) -> u32
+    ensures { result ≡ count_in word }
+{
+    (word >> 32) as u32
+}
+
+/// A word whose bits are all set but this one, those of the count too.
+fn all_but(id: PageId) -> u64
+    requires { id < PAGE_ITEMS }
+    ensures { ClearsBit whole_word id result }
+{
+    COUNT_BITS | without_bit(u32::MAX, id) as u64
+}
+
 /// 32 items that threads share.
 pub struct Page<T, K: Clean<T>> {
     items: Items<T, K>,
     ghost sized: { (items_identity items).slots ≡ PAGE_ITEMS },
+    ghost counts_nothing: { items_raise items ≡ 0 },
 }
 
 /// Not derived: the proof of a caller that drops it has one call here, and a derived drop has that of each field.
@@ -109,7 +135,7 @@ impl<T, K: Clean<T>> Page<T, K> {
     ghost use Rattle.pool_parts.specs.Item.{IsPulledOf};
     ghost use Rattle.pool_parts.specs.Note.{note_page, witness_page, IsReturned, IsNoteOf, HasLearned};
     ghost use Rattle.pool_parts.specs.Page.{page_identity, page_opening, OpensWith};
-    ghost use Rattle.pool_parts.specs.PageRule.{IsSound, KnowsOut, item_of};
+    ghost use Rattle.pool_parts.specs.PageRule.{IsSound, IsOutNow, item_of};
     ghost use Rattle.pool_parts.specs.Refusal.{RefusesMaking};
     ghost use Rattle.pool_parts.specs.Slot.{slot_item, slot_view};
 
@@ -125,7 +151,7 @@ impl<T, K: Clean<T>> Page<T, K> {
         ensures refused { IfErr result (RefusesMaking (I.post init.now None)) }
         ensures opened { IfOk result (OpensWith (λ made. I.post init.now (Some made))) }
     {
-        let items = Items::new(alloc, PAGE_ITEMS, &[u32::MAX as u64], init)?;
+        let items = Items::new(alloc, PAGE_ITEMS, &[u32::MAX as u64], 0, init)?;
         Ok(Page { items })
     }
 
@@ -231,7 +257,7 @@ impl<T, K: Clean<T>> Page<T, K> {
         requires here { seat.me.0.gone ≡ false }
         requires sound { IsSound seat.me.0 }
         requires found { (id : ℕ) → id < PAGE_ITEMS → bit_at word id ≡ 0
-            → KnowsOut seat.me.0 (item_of 0 id) }
+            → IsOutNow seat.me.0 (item_of 0 id) }
         ensures answer { IsAnswerFrom K.meets (page_identity self.now) seat.me.0 result.answer }
         ensures loads { (answer_view result.answer).loads ≡ seat.me.0.loads }
         ensures tries { (answer_view result.answer).tries ≤ seat.me.0.tries + PAGE_ITEMS }
@@ -273,7 +299,7 @@ impl<T, K: Clean<T>> Page<T, K> {
         requires meets { K.meets value }
         ensures { IsReturned (held_item holding value) result.note }
     {
-        let (seat, was_full) = self.items.give(holding, value);
+        let (seat, was_full) = self.items.give(holding, value, 0);
         Returned {
             note: PageNote { seat },
             was_full,

@@ -292,7 +292,7 @@ impl<'c, T: Value> Pages<'c, T> {
             return Ok(());
         };
         let known = self.chain.len();
-        if let Some(next) = last.next() {
+        if let Some((next, _)) = last.next() {
             self.chain.push(next)?;
             compare_pages_there(call, known, next.number())?;
         }

@@ -46,7 +46,7 @@ fn behind_full<'c>(
         Allocated::Slot(_) => Ok(None),
         Allocated::Full(seen) => page
             .get_or_create_next(seen, &|| Tallied::new(tally))
-            .map(Some),
+            .map(|(next, _)| Some(next)),
     }
 }
 

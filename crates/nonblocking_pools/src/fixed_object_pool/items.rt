@@ -1,7 +1,7 @@
 //! The items of a fixed pool: a word for each page, and what a pull and a return do there.
 ghost use Rattle.std.specs.Prelude.{◌≡◌, ◌+◌, ◌-◌, ◌*◌, ◌/◌, ◌^◌, ◌<◌, ◌≤◌, ℕ, [], ◌∷◌, Option, None, Some, IfOk, IfErr, MatchOption, false, vec_len};
 ghost use Rattle.std.specs.Int.{bit_at};
-ghost use Rattle.pool_parts.specs.Items.{items_identity};
+ghost use Rattle.pool_parts.specs.Items.{items_identity, items_raise};
 ghost use Rattle.pool_parts.specs.Word.{IsAllFree};
 
 use crate::fixed_object_pool::{BusySeen, PoolNote};
@@ -16,6 +16,7 @@ use std::alloc::{AllocError, Global};
 use std::sync::atomic::AtomicU64;
 use std::sync::atomic::Ordering::SeqCst;
 
+mod full;
 pub(crate) mod pulled_item;
 
 /// The word of one page of which so many items are free, and no other.
@@ -48,19 +49,20 @@ pub(crate) struct FixedItems<T, K: Clean<T>> {
     hint: AtomicU64,
     ghost counted: { count ≡ (items_identity shared).slots },
     ghost paged: { pages ≡ (items_identity shared).words },
+    ghost counts_returns: { items_raise shared ≡ 1 },
 }
 
 impl<T, K: Clean<T>> FixedItems<T, K> {
     ghost use Rattle.pool_parts.specs.Answers.{MayMake};
-    ghost use Rattle.nonblocking_pools.specs.FixedAnswer.{IsPulledFrom, IsPulledWith, IsBusyOf, IsBusyAfter, IsBusyNote, busy_steps, note_steps};
+    ghost use Rattle.nonblocking_pools.specs.FixedAnswer.{IsPulledFrom, IsPulledWith, IsBusyOf, IsBusyAfter, IsFullNote, IsFullNoteAfter, busy_steps, note_steps, returns_since};
     ghost use Rattle.nonblocking_pools.specs.FixedPool.{fixed_identity, fixed_opening};
     ghost use Rattle.nonblocking_pools.specs.FixedItem.{pulled_item, pulled_view};
     ghost use Rattle.pool_parts.specs.Taking.{MissesAll, TakesOne};
-    ghost use Rattle.nonblocking_pools.specs.StepCount.{IsWithin, no_steps, steps_of};
+    ghost use Rattle.nonblocking_pools.specs.StepCount.{IsWithin, no_steps, steps_of, passes_to_take, passes_to_refuse};
     ghost use Rattle.pool_parts.specs.Holding.{holding_page, holding_view};
     ghost use Rattle.pool_parts.specs.Items.{IsFilled};
-    ghost use Rattle.pool_parts.specs.Note.{note_page};
-    ghost use Rattle.pool_parts.specs.PageRule.{GoesOn, KnowsOut, IsSound, item_of};
+    ghost use Rattle.pool_parts.specs.Note.{note_page, note_view};
+    ghost use Rattle.pool_parts.specs.PageRule.{GoesOn, IsOutNow, IsSound, item_of};
     ghost use Rattle.pool_parts.specs.Refusal.{RefusesMaking};
     ghost use Rattle.pool_parts.specs.declared.page.history.Operation.TheVariants.{Return};
 
@@ -86,7 +88,7 @@ impl<T, K: Clean<T>> FixedItems<T, K> {
             return Err(PullError::Memory);
         };
         let words = free_words(alloc, count)?;
-        let shared = Items::new(alloc, count, &words, init)?;
+        let shared = Items::new(alloc, count, &words, 1, init)?;
         Ok(FixedItems {
             shared,
             count,
@@ -130,16 +132,11 @@ impl<T, K: Clean<T>> FixedItems<T, K> {
         }
     }
 
-    /// An item, or what the pull has seen where it observed each one taken.
+    /// An item, or what the pull has seen where it observed each one taken. It makes one pass.
     ///
-    /// It begins at one page, goes on to the last and then from page 0 on. Each word is read once at most, and each bit that
-    /// was set in it is cleared, lowest first, until one was still set.
-    pub(super) fn pull<'p>(
-        &self,
-        start: usize,
-        pass: &'p PullPass,
-    ) -> Result<PulledItem<T>, BusySeen<'p, T>>
-        requires { start < (fixed_identity self.now).words }
+    /// It begins at the hinted page, goes on to the last and then from page 0 on. Each word is read once at most, and each
+    /// bit that was set in it is cleared, lowest first, until one was still set. It hints at the page of its item.
+    pub(super) fn try_pull<'p>(&self, pass: &'p PullPass) -> Result<PulledItem<T>, BusySeen<'p, T>>
         ensures pulled { IfOk result
             (λ pulled. IsPulledFrom (fixed_identity self.now) (fixed_opening self.now)
             (pulled_item pulled)) }
@@ -151,8 +148,41 @@ impl<T, K: Clean<T>> FixedItems<T, K> {
         ensures busy_brief { IfErr result
             (λ busy. IsWithin (fixed_identity self.now).words no_steps (busy_steps busy)) }
     {
+        let page = self.hinted();
+        let (word, mut seat) = self.shared.look(page);
+        let Some(taken) = self.take(&mut seat, page, word) else {
+            return Err(BusySeen { seat, pass });
+        };
+        self.set_hint(taken.number / PAGE_ITEMS);
+        Ok(PulledItem {
+            holding: Holding {
+                seat,
+                number: taken.number,
+            },
+            value: taken.value,
+        })
+    }
+
+    /// An item, or a note of a pool that was full at one moment. It begins at this page.
+    pub(super) fn pull_near(&self, start: usize) -> Result<PulledItem<T>, PoolNote<T>>
+        requires { start < (fixed_identity self.now).words }
+        ensures pulled { IfOk result
+            (λ pulled. IsPulledFrom (fixed_identity self.now) (fixed_opening self.now)
+            (pulled_item pulled)) }
+        ensures meets { IfOk result (λ pulled. K.meets pulled.value) }
+        ensures brief { IfOk result
+            (λ pulled. IsWithin
+            ((fixed_identity self.now).words * passes_to_take (returns_since (pulled_view pulled)))
+            no_steps (steps_of (pulled_view pulled))) }
+        ensures full { IfErr result
+            (IsFullNote (fixed_identity self.now) (fixed_opening self.now)) }
+        ensures full_brief { IfErr result
+            (λ note. IsWithin
+            ((fixed_identity self.now).words * passes_to_refuse (returns_since (note_view note)))
+            no_steps (note_steps note)) }
+    {
         let (word, mut seat) = self.shared.look(start);
-        match self.take(&mut seat, start, word) {
+        match self.take_or_full(&mut seat, start, word) {
             Some(taken) => Ok(PulledItem {
                 holding: Holding {
                     seat,
@@ -160,32 +190,33 @@ impl<T, K: Clean<T>> FixedItems<T, K> {
                 },
                 value: taken.value,
             }),
-            None => Err(BusySeen { seat, pass }),
+            None => Err(PoolNote { seat }),
         }
     }
 
-    /// As `pull`, which begins at the hinted page and hints at the page of its item.
-    pub(super) fn pull_hinted<'p>(
-        &self,
-        pass: &'p PullPass,
-    ) -> Result<PulledItem<T>, BusySeen<'p, T>>
+    /// As `pull_near`, which begins at the hinted page and hints at the page of its item.
+    pub(super) fn pull(&self) -> Result<PulledItem<T>, PoolNote<T>>
         ensures pulled { IfOk result
             (λ pulled. IsPulledFrom (fixed_identity self.now) (fixed_opening self.now)
             (pulled_item pulled)) }
         ensures meets { IfOk result (λ pulled. K.meets pulled.value) }
         ensures brief { IfOk result
-            (λ pulled. IsWithin (fixed_identity self.now).words no_steps
-            (steps_of (pulled_view pulled))) }
-        ensures busy { IfErr result (IsBusyOf (fixed_identity self.now) (fixed_opening self.now)) }
-        ensures busy_brief { IfErr result
-            (λ busy. IsWithin (fixed_identity self.now).words no_steps (busy_steps busy)) }
+            (λ pulled. IsWithin
+            ((fixed_identity self.now).words * passes_to_take (returns_since (pulled_view pulled)))
+            no_steps (steps_of (pulled_view pulled))) }
+        ensures full { IfErr result
+            (IsFullNote (fixed_identity self.now) (fixed_opening self.now)) }
+        ensures full_brief { IfErr result
+            (λ note. IsWithin
+            ((fixed_identity self.now).words * passes_to_refuse (returns_since (note_view note)))
+            no_steps (note_steps note)) }
     {
-        let pulled = self.pull(self.hinted(), pass)?;
+        let pulled = self.pull_near(self.hinted())?;
         self.set_hint(pulled.holding.number / PAGE_ITEMS);
         Ok(pulled)
     }
 
-    /// As `pull_hinted`, by a user that knows something of the pool: its pull stands after all that it knew.
+    /// As `try_pull`, by a user that knows something of the pool: its pull stands after all that it knew.
     pub(super) fn pull_from<'p>(
         &self,
         pass: &'p PullPass,
@@ -218,8 +249,8 @@ impl<T, K: Clean<T>> FixedItems<T, K> {
         })
     }
 
-    /// As `pull`, by a user that knows something of the pool: its pull stands after all that it knew. A refused pull hands the note
-    /// on, which knows what was found.
+    /// As `pull_near`, by a user that knows something of the pool: its pull stands after all that it knew. A refused pull
+    /// hands the note on, which knows what was found.
     pub(super) fn pull_onward(
         &self,
         page: usize,
@@ -231,16 +262,18 @@ impl<T, K: Clean<T>> FixedItems<T, K> {
             (λ pulled. IsPulledWith (fixed_identity self.now) note (pulled_item pulled)) }
         ensures meets { IfOk result (λ pulled. K.meets pulled.value) }
         ensures brief { IfOk result
-            (λ pulled. IsWithin (fixed_identity self.now).words (note_steps note)
-            (steps_of (pulled_view pulled))) }
-        ensures busy { IfErr result (IsBusyNote (fixed_identity self.now) note) }
-        ensures busy_brief { IfErr result
-            (λ later. IsWithin (fixed_identity self.now).words (note_steps note)
-            (note_steps later)) }
+            (λ pulled. IsWithin
+            ((fixed_identity self.now).words * passes_to_take (returns_since (pulled_view pulled)))
+            (note_steps note) (steps_of (pulled_view pulled))) }
+        ensures full { IfErr result (IsFullNoteAfter (fixed_identity self.now) note) }
+        ensures full_brief { IfErr result
+            (λ later. IsWithin
+            ((fixed_identity self.now).words * passes_to_refuse (returns_since (note_view later)))
+            (note_steps note) (note_steps later)) }
     {
         let PageNote { mut seat } = note;
         let word = self.shared.look_again(&mut seat, page);
-        match self.take(&mut seat, page, word) {
+        match self.take_or_full(&mut seat, page, word) {
             Some(taken) => Ok(PulledItem {
                 holding: Holding {
                     seat,
@@ -265,7 +298,7 @@ impl<T, K: Clean<T>> FixedItems<T, K> {
             (holding_view holding) result.me.0 }
     {
         let page = holding.number / PAGE_ITEMS;
-        let (seat, was_full) = self.shared.give(holding, value);
+        let (seat, was_full) = self.shared.give(holding, value, 1);
         if was_full {
             self.set_hint(page);
         }
@@ -281,7 +314,7 @@ impl<T, K: Clean<T>> FixedItems<T, K> {
         requires here { seat.old.me.0.gone ≡ false }
         requires sound { IsSound seat.old.me.0 }
         requires found { (bit : ℕ) → bit < 32 → bit_at word bit ≡ 0
-            → KnowsOut seat.old.me.0 (item_of start bit) }
+            → IsOutNow seat.old.me.0 (item_of start bit) }
         ensures pool { seat.new.table_id ≡ seat.old.table_id }
         ensures loads { seat.new.me.0.loads + 1 ≤ seat.old.me.0.loads +
             (fixed_identity self.now).words }

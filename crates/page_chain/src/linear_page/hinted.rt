@@ -15,12 +15,11 @@ ghost use Rattle.page_chain.specs.LinearPage.{first_page};
 ghost use Rattle.pool_parts.specs.Page.{page_identity};
 ghost use Rattle.pool_parts.specs.Refusal.{RefusesPull};
 ghost use Rattle.pool_parts.specs.Slot.{slot_item};
-ghost use Rattle.page_chain.specs.Walk.{start_of, number_of, IsAnsweredBy, IsKnownAt, IsTaken};
+ghost use Rattle.page_chain.specs.Walk.{start_of, number_of, IsAnsweredBy, IsKnownAt, IsTaken, IsRefusedBy, cause_of};
 
 use super::opened_page::OpenedPage;
-use super::walk::{KnownFull, WalkEnd};
+use super::walk::{KnownFull, WalkEnd, WalkRefusal};
 use super::{Chain, LinkNote, PageNumber};
-use pool_parts::PullError;
 use pool_parts::clean::Clean;
 use pool_parts::page::{Allocated, FullSeen, Page, PullPass};
 
@@ -41,21 +40,23 @@ impl<T: Drop, K: Clean<T>, O: Clean<T>> Chain<T, K, O> {
 
     /// An item of a page that a hint names, or of the first page that has one, where the first page of the chain was found full
     /// in this pull.
-    pub fn pull_further<I: Fn() -> Option<T>>(
-        &self,
-        seen: FullSeen<'_, T>,
+    pub fn pull_further<'s, 'p, I: Fn() -> Option<T>>(
+        &'s self,
+        seen: FullSeen<'p, T>,
         limit: Option<usize>,
         init: &I,
-    ) -> Result<WalkEnd<'_, T, K, O>, PullError>
+    ) -> Result<WalkEnd<'s, T, K, O>, WalkRefusal<'p, T, K, O>>
         requires of_first { full_page seen ≡ first_page self.now }
         requires some_page { IfSome limit (λ pages. 1 ≤ pages) }
         requires opens { MayOpen I.pre I.post K.meets O.meets init.now }
         ensures taken { IfOk result (λ reached.
             IsTaken K.meets O.meets (start_of self.now) limit reached.number (slot_item reached.slot)) }
-        ensures refused { IfErr result (RefusesPull (record {
+        ensures evidence { IfErr result
+            (IsRefusedBy (start_of self.now) limit (I.post init.now None)) }
+        ensures refused { IfErr result (λ refusal. RefusesPull (record {
           limited = IsSome limit;
           init_refuses = I.post init.now None;
-        })) }
+        }) (cause_of refusal)) }
     {
         let mut known = None;
         if let Some((number, page, note)) = self.hinted_page(limit) {

@@ -1,5 +1,5 @@
 //! The walk from page to page for an item.
-ghost use Rattle.std.specs.Prelude.{◌≡◌, ◌+◌, ◌-◌, ◌≤◌, ◌<◌, ⊤, Option, None, Some, IfSome, IsSome, IfOk, IfErr, OnOk};
+ghost use Rattle.std.specs.Prelude.{◌≡◌, ◌+◌, ◌-◌, ◌≤◌, ◌<◌, ⊤, Option, None, Some, IfSome, IsSome, IsTrue, IsFalse, IfOk, IfErr};
 ghost use Rattle.std.specs.Arc.{arc_value};
 ghost use Rattle.pool_parts.specs.Answers.{MayOpen};
 ghost use Rattle.pool_parts.specs.FullSeen.{full_page};
@@ -9,8 +9,8 @@ ghost use Rattle.pool_parts.specs.OwnedSlot.{owned_slot_item};
 ghost use Rattle.pool_parts.specs.Page.{page_identity};
 ghost use Rattle.pool_parts.specs.Refusal.{RefusesMaking, RefusesPull};
 ghost use Rattle.pool_parts.specs.Slot.{slot_item};
-ghost use Rattle.page_chain.specs.Walk.{start_at, IsAnsweredBy, IsFullAt, IsKnownAt, IsTaken};
-ghost use Rattle.pool_parts.specs.declared.pull_error.PullError.TheVariants.{Limit};
+ghost use Rattle.page_chain.specs.Walk.{start_at, IsAnsweredBy, IsFullAt, IsKnownAt, IsTaken, IsRefusedBy, cause_of};
+ghost use Rattle.page_chain.specs.declared.linear_page.walk.WalkRefusal.TheVariants.{Making};
 
 use super::opened_page::OpenedPage;
 use super::{LinearPage, LinkNote, PageNumber};
@@ -29,12 +29,49 @@ pub struct WalkEnd<'c, T, K: Clean<T>, O: Clean<T>> {
     pub number: PageNumber<T, K, O>,
 }
 
+/// The last page of a limit, which was found full in this pull, and its number. Each page before it was found full too.
+#[derive(Drop)]
+pub struct LimitSeen<'p, T, K: Clean<T>, O: Clean<T>> {
+    /// The page's number, with what was learned of the link to it.
+    pub number: PageNumber<T, K, O>,
+    pub seen: FullSeen<'p, T>,
+}
+
+/// Why a walk has no item.
+#[derive(Drop)]
+pub enum WalkRefusal<'p, T, K: Clean<T>, O: Clean<T>> {
+    /// Each page up to the limit was found full.
+    Limit(LimitSeen<'p, T, K, O>),
+    /// No further page could be made or linked: `Memory` or `Init`.
+    Making(PullError),
+}
+
 /// A page that was found full in this pull, its number, and a note of the link to it.
 #[derive(Drop)]
 pub(super) struct KnownFull<'p, T, K: Clean<T>, O: Clean<T>> {
     pub(super) number: usize,
     pub(super) note: LinkNote<T, K, O>,
     pub(super) seen: FullSeen<'p, T>,
+}
+
+impl<T, K: Clean<T>, O: Clean<T>> From<PullError> for WalkRefusal<'_, T, K, O> {
+    ghost from_gives = { λ cause refusal. refusal ≡ Making cause };
+
+    fn from(cause: PullError) -> Self {
+        WalkRefusal::Making(cause)
+    }
+}
+
+impl<T: Drop, K: Clean<T>, O: Clean<T>> WalkRefusal<'_, T, K, O> {
+    /// The refusal's name, without its evidence.
+    pub fn cause(self) -> PullError
+        ensures { result ≡ cause_of self.entry }
+    {
+        match self {
+            WalkRefusal::Limit(_) => PullError::Limit,
+            WalkRefusal::Making(cause) => cause,
+        }
+    }
 }
 
 impl<'c, T: Drop, K: Clean<T>, O: Clean<T>> LinearPage<'c, T, K, O> {
@@ -166,7 +203,10 @@ impl<'c, T: Drop, K: Clean<T>, O: Clean<T>> LinearPage<'c, T, K, O> {
                     number,
                 })
             }
-            Allocated::Full(seen) => self.walk_on(seen, None, limit, init),
+            Allocated::Full(seen) => match self.walk_on(seen, None, limit, init) {
+                Ok(reached) => Ok(reached),
+                Err(refusal) => Err(refusal.cause()),
+            },
         }
     }
 
@@ -179,7 +219,7 @@ impl<'c, T: Drop, K: Clean<T>, O: Clean<T>> LinearPage<'c, T, K, O> {
         hinted: Option<KnownFull<'p, T, K, O>>,
         limit: Option<usize>,
         init: &I,
-    ) -> Result<WalkEnd<'c, T, K, O>, PullError>
+    ) -> Result<WalkEnd<'c, T, K, O>, WalkRefusal<'p, T, K, O>>
         requires of_page { full_page seen ≡ shown_page self.now }
         requires hinted { IfSome hinted (IsFullAt self.now.directory.now) }
         requires some_page { IfSome limit (λ pages. 1 ≤ pages) }
@@ -188,17 +228,24 @@ impl<'c, T: Drop, K: Clean<T>, O: Clean<T>> LinearPage<'c, T, K, O> {
             IsTaken K.meets O.meets (start_at self.now) limit reached.number (slot_item reached.slot)) }
         ensures page { IfOk result (λ reached.
             (slot_item reached.slot).page ≡ page_identity (arc_value reached.page.now)) }
-        ensures refused { IfErr result (RefusesPull (record {
+        ensures evidence { IfErr result (IsRefusedBy (start_at self.now) limit (I.post init.now None)) }
+        ensures refused { IfErr result (λ refusal. RefusesPull (record {
           limited = IsSome limit;
           init_refuses = I.post init.now None;
-        })) }
+        }) (cause_of refusal)) }
     {
         let pass = seen.pass;
         let mut page: &'c OpenedPage<T, K, O> = self.page;
-        let mut number = self.number;
+        let mut at = PageNumber::of_start(self.directory.allocator(), self.number);
         let (mut full, mut hinted) = (seen, hinted);
         loop {
-            one_more(limit, number - self.number)?;
+            let number = at.get();
+            if is_last(limit, number - self.number) {
+                return Err(WalkRefusal::Limit(LimitSeen {
+                    number: at,
+                    seen: full,
+                }));
+            }
             let next = number.checked_add(1).ok_or(PullError::Memory)?;
             let (linked, mut note) = self.behind(next, page, full, init)?;
             let (known, rest) = known_at(hinted, next);
@@ -216,7 +263,7 @@ impl<'c, T: Drop, K: Clean<T>, O: Clean<T>> LinearPage<'c, T, K, O> {
                 }
             }
             page = linked;
-            number = next;
+            at = PageNumber::of_link(next, note);
         }
     }
 
@@ -291,15 +338,15 @@ fn known_at<'p, T, K: Clean<T>, O: Clean<T>>(
     }
 }
 
-/// Refuses the page behind so many links where the limit doesn't allow it.
-fn one_more(limit: Option<usize>, passed: usize) -> Result<(), PullError>
+/// Whether the page behind so many links is the last that the limit allows.
+fn is_last(limit: Option<usize>, passed: usize) -> bool
     requires within { IfSome limit (λ pages. passed < pages) }
-    ensures allowed { OnOk result (IfSome limit (λ pages. passed + 1 < pages)) }
-    ensures refused { IfErr result (λ cause. (cause ≡ Limit) × (limit ≡ Some (passed + 1))) }
+    ensures last { IsTrue result → limit ≡ Some (passed + 1) }
+    ensures not_last { IsFalse result → IfSome limit (λ pages. passed + 1 < pages) }
 {
     match limit {
-        Some(pages) if pages - passed == 1 => Err(PullError::Limit),
-        _ => Ok(()),
+        Some(pages) => pages - passed == 1,
+        None => false,
     }
 }
 

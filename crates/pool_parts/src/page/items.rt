@@ -2,7 +2,7 @@
 ghost use Rattle.std.specs.Prelude.{◌≡◌, ◌+◌, ◌*◌, ◌/◌, ◌^◌, ◌<◌, ◌≤◌, ℕ, [], None, Some, IfOk, IfErr, MatchOption, false};
 ghost use Rattle.std.specs.Int.{bit_at};
 
-use super::rule::{PageRule, Tells, Witnesses};
+use super::rule::{Opening, PageRule, Tells, Witnesses};
 use super::user_view::{UserSeat, UserView};
 use super::{PAGE_ITEMS, PageNote, Witness, take_least};
 use crate::PullError;
@@ -23,7 +23,7 @@ pub struct TakenValue<T> {
 /// Items that threads share, 32 to a word. A page has one word, a fixed pool as many as its items need.
 #[derive(Drop)]
 pub struct Items<T, K: Clean<T>> {
-    pub(super) table: Table<Option<T>, UserView<T>, Snapshot<Vec<Option<T>>>, PageRule<K>, Global>,
+    pub(super) table: Table<Option<T>, UserView<T>, Opening<T>, PageRule<K>, Global>,
     ghost some_item: { 1 ≤ table.shared.table_id.slots },
     ghost covered: { table.shared.table_id.words ≡ (table.shared.table_id.slots + 31) / 32 },
     ghost small: { table.shared.table_id.slots + 31 < 2 ^ 64 },
@@ -32,19 +32,21 @@ pub struct Items<T, K: Clean<T>> {
 impl<T, K: Clean<T>> Items<T, K> {
     ghost use Rattle.pool_parts.specs.Answers.{MayMake};
     ghost use Rattle.pool_parts.specs.Taking.{MissesAll, TakesOne};
-    ghost use Rattle.pool_parts.specs.Items.{items_identity, items_opening, IsFilled};
+    ghost use Rattle.pool_parts.specs.Items.{items_identity, items_opening, items_raise, IsFilled};
     ghost use Rattle.pool_parts.specs.Note.{note_page, witness_page, witness_history, IsNoteOf, HasLearned};
-    ghost use Rattle.pool_parts.specs.PageRule.{KnowsOut, IsSound, item_of};
+    ghost use Rattle.pool_parts.specs.PageRule.{IsOutNow, IsSound, item_of};
     ghost use Rattle.pool_parts.specs.Refusal.{RefusesMaking};
     ghost use Rattle.pool_parts.specs.Word.{IsAllFree};
 
-    /// So many free items, as the words say: item `i` is the answer of call `i` of `init`, counted from 0.
+    /// So many free items, as the words say: item `i` is the answer of call `i` of `init`, counted from 0. A return raises
+    /// its word's count by `raise`.
     ///
     /// It stops at the first `None`. Where it is refused, the items that were made are dropped.
     pub fn new<I: Fn() -> Option<T>>(
         alloc: Global,
         count: usize,
         words: &[u64],
+        raise: u64,
         init: &I,
     ) -> Result<Items<T, K>, PullError>
     where
@@ -55,11 +57,15 @@ impl<T, K: Clean<T>> Items<T, K> {
         requires may_make { MayMake I.pre I.post K.meets init.now }
         ensures refused { IfErr result (RefusesMaking (I.post init.now None)) }
         ensures count { IfOk result (λ items. (items_identity items).slots ≡ count) }
+        ensures raise { IfOk result (λ items. items_raise items ≡ raise) }
         ensures opened { IfOk result
             (λ items. IsFilled count (λ made. I.post init.now (Some made)) (items_opening items)) }
     {
         let items = Items::<T, K>::make_items(alloc, count, init)?;
-        let opening = Snapshot::of(&items);
+        let opening = Opening {
+            values: Snapshot::of(&items),
+            raise: Snapshot::of(&raise),
+        };
         match Table::new(alloc, words, items, &opening) {
             Ok((table, _)) => Ok(Items { table }),
             Err(_) => Err(PullError::Memory),
@@ -136,7 +142,7 @@ impl<T, K: Clean<T>> Items<T, K> {
         requires here { seat.old.me.0.gone ≡ false }
         requires sound { IsSound seat.old.me.0 }
         requires found { (bit : ℕ) → bit < 32 → bit_at word bit ≡ 0
-            → KnowsOut seat.old.me.0 (item_of page bit) }
+            → IsOutNow seat.old.me.0 (item_of page bit) }
         ensures items { seat.new.table_id ≡ seat.old.table_id }
         ensures steps { (seat.new.me.0.loads ≡ seat.old.me.0.loads)
             × (seat.new.me.0.tries ≤ seat.old.me.0.tries + 32) }

@@ -8,8 +8,14 @@ use atomic_table::{Join, Play, Split, TableRule};
 use std::marker::PhantomData;
 use std::snapshot::Snapshot;
 
-/// The values that a page opened with. It has no bytes.
-pub type Opening<T> = Snapshot<Vec<Option<T>>>;
+/// What a page opened with. It has no bytes.
+#[derive(Drop)]
+pub struct Opening<T> {
+    /// Its values, by number.
+    pub values: Snapshot<Vec<Option<T>>>,
+    /// By how much a return raises its word's count.
+    pub raise: Snapshot<u64>,
+}
 
 /// The rule of a page: each free item is at home and meets the condition, each item that is out has one holder at most,
 /// and the page stands where one legal history has led.
@@ -17,12 +23,12 @@ pub struct PageRule<K> {
     condition: PhantomData<K>,
 }
 
-impl<T, K: Clean<T>> TableRule<Option<T>, UserView<T>, Snapshot<Vec<Option<T>>>> for PageRule<K> {
+impl<T, K: Clean<T>> TableRule<Option<T>, UserView<T>, Opening<T>> for PageRule<K> {
     ghost use Rattle.pool_parts.specs.PageRule.{IsKept, first_view};
 
-    ghost holds = { λ key. IsKept K.meets key.value.items };
+    ghost holds = { λ key. IsKept K.meets key.raise.value key.values.value.items };
 
-    ghost first = { λ key. first_view key.value.items };
+    ghost first = { λ key. first_view key.values.value.items };
 }
 
 /// A load of one word by a new user.
@@ -50,6 +56,17 @@ impl<T> Play<Option<T>, UserView<T>> for LookOn {
     ghost use Rattle.pool_parts.specs.PageRule.{LoadsOn};
 
     ghost then = { λ step old word new. LoadsOn step.word old word new };
+}
+
+/// A load of a further word by the same call, of words that count their returns.
+pub struct Count;
+
+impl<T> Play<Option<T>, UserView<T>> for Count {
+    ghost use Rattle.pool_parts.specs.PageRule.{Counts};
+    ghost use Rattle.pool_parts.specs.Word.{count_in};
+
+    ghost then = { λ step old word new.
+        Counts step.slots step.word old word (count_in word) new };
 }
 
 /// A user leaves a witness of what it knows.

@@ -1,20 +1,20 @@
 //! The steps on the words of a page or of a fixed pool, and the move of a value out and home.
-ghost use Rattle.std.specs.Prelude.{◌≡◌, ◌<◌, [], ◌∷◌, Some, None, MatchOption, false};
+ghost use Rattle.std.specs.Prelude.{◌≡◌, ◌<◌, ◌≤◌, [], ◌∷◌, Some, None, MatchOption, false};
 ghost use Rattle.pool_parts.specs.declared.page.history.Operation.TheVariants.{Return};
 
 use super::holding::Holding;
 use super::items::Items;
-use super::rule::{ClearBit, Look, LookAgain, LookOn, SetBit};
+use super::rule::{ClearBit, Count, Look, LookAgain, LookOn, SetBit};
 use super::user_view::UserSeat;
-use super::{PAGE_ITEMS, PageId, has_bit, with_bit, without_bit};
+use super::{PAGE_ITEMS, PageId, all_but, count_of, has_bit, low_half, with_bit, without_bit};
 use crate::clean::Clean;
 
 impl<T, K: Clean<T>> Items<T, K> {
     ghost use Rattle.pool_parts.specs.Holding.{holding_page, holding_view};
-    ghost use Rattle.pool_parts.specs.Items.{items_identity, items_opening};
-    ghost use Rattle.pool_parts.specs.PageRule.{Loads, LoadsAgain, LoadsOn, Misses, MovesOut, GoesOn, first_view, item_of};
+    ghost use Rattle.pool_parts.specs.Items.{items_identity, items_opening, items_raise};
+    ghost use Rattle.pool_parts.specs.PageRule.{Loads, LoadsAgain, LoadsOn, Counts, Misses, MovesOut, GoesOn, first_view, item_of};
 
-    /// A word at this moment, and a new user that knows of the items that are out in it.
+    /// The bits of a word at this moment, and a new user that knows of the items that are out in it.
     pub fn look(&self, page: usize) -> (u32, UserSeat<T>)
         requires { page < (items_identity self.now).words }
         ensures items { result.1.table_id ≡ items_identity self.now }
@@ -22,10 +22,10 @@ impl<T, K: Clean<T>> Items<T, K> {
         ensures carries_none { result.1.me.1 ≡ [] }
     {
         let (word, seat) = self.table.shared.load_new_seat::<Look>(page);
-        (word as u32, seat)
+        (low_half(word), seat)
     }
 
-    /// A further word at this moment, for the same user.
+    /// The bits of a further word at this moment, for the same user.
     pub fn look_on(&self, seat: &mut UserSeat<T>, page: usize) -> u32
         requires items { seat.old.table_id ≡ items_identity self.now }
         requires in_items { page < (items_identity self.now).words }
@@ -33,10 +33,10 @@ impl<T, K: Clean<T>> Items<T, K> {
         ensures items { seat.new.table_id ≡ seat.old.table_id }
         ensures found { LoadsOn page seat.old.me result seat.new.me }
     {
-        self.table.shared.load::<LookOn>(seat, page) as u32
+        low_half(self.table.shared.load::<LookOn>(seat, page))
     }
 
-    /// A word at this moment, for a user that knows something of the items already.
+    /// The bits of a word at this moment, for a user that knows something of the items already.
     pub fn look_again(&self, seat: &mut UserSeat<T>, page: usize) -> u32
         requires items { seat.old.table_id ≡ items_identity self.now }
         requires in_items { page < (items_identity self.now).words }
@@ -44,7 +44,21 @@ impl<T, K: Clean<T>> Items<T, K> {
         ensures items { seat.new.table_id ≡ seat.old.table_id }
         ensures found { LoadsAgain page seat.old.me result seat.new.me }
     {
-        self.table.shared.load::<LookAgain>(seat, page) as u32
+        low_half(self.table.shared.load::<LookAgain>(seat, page))
+    }
+
+    /// The bits of a further word at this moment, and its count, for the same user.
+    pub fn count(&self, seat: &mut UserSeat<T>, page: usize) -> (u32, u32)
+        requires items { seat.old.table_id ≡ items_identity self.now }
+        requires in_items { page < (items_identity self.now).words }
+        requires counts { items_raise self.now ≡ 1 }
+        requires here { seat.old.me.0.gone ≡ false }
+        ensures items { seat.new.table_id ≡ seat.old.table_id }
+        ensures found { Counts (items_identity self.now).slots page seat.old.me result.0 result.1
+            seat.new.me }
+    {
+        let word = self.table.shared.load::<Count>(seat, page);
+        (low_half(word), count_of(word))
     }
 
     /// Clears one bit. The value of that item, where it was free, and whether no other bit of its word was set then.
@@ -65,24 +79,28 @@ impl<T, K: Clean<T>> Items<T, K> {
             × MovesOut (item_of page bit) taken.0 seat.old.me seat.new.me) }
     {
         let words = &self.table.shared;
-        let word = words.fetch_and::<ClearBit<K>>(seat, page, without_bit(u32::MAX, bit) as u64);
-        if !has_bit(word as u32, bit) {
+        let found = words.fetch_and::<ClearBit<K>>(seat, page, all_but(bit));
+        let word = low_half(found);
+        if !has_bit(word, bit) {
             return None;
         }
         match words.exchange(seat, PAGE_ITEMS * page + bit as usize, None) {
-            Some(value) => Some((value, without_bit(word as u32, bit) == 0)),
+            Some(value) => Some((value, without_bit(word, bit) == 0)),
             None => unreachable!(),
         }
     }
 
-    /// Moves the value home, then sets its bit. Whether no other bit of its word was set then.
+    /// Moves the value home, then sets its bit and raises its word's count in one step. Whether no other bit of its word was
+    /// set then.
     ///
     /// The bit of an item that is out is clear, so to add it sets it: an addition that answers the old word is one locked
     /// instruction, where an or that does is a loop.
-    pub fn give(&self, holding: Holding<T>, value: T) -> (UserSeat<T>, bool)
+    pub fn give(&self, holding: Holding<T>, value: T, raise: u64) -> (UserSeat<T>, bool)
         requires items { holding_page holding ≡ items_identity self.now }
         requires in_items { holding.number < (items_identity self.now).slots }
         requires meets { K.meets value }
+        requires raise { raise ≡ items_raise self.now }
+        requires by_one { raise ≤ 1 }
         ensures items { result.0.table_id ≡ holding_page holding }
         ensures carries_none { result.0.me.1 ≡ [] }
         ensures holds_none { result.0.me.0.held ≡ None }
@@ -97,7 +115,8 @@ impl<T, K: Clean<T>> Items<T, K> {
             Some(_) => unreachable!(),
         }
         let bit = with_bit(0, (number % PAGE_ITEMS) as PageId);
-        let word = words.fetch_add::<SetBit>(&mut seat, number / PAGE_ITEMS, bit as u64);
-        (seat, word == 0)
+        let added = (raise << 32) + bit as u64;
+        let word = words.fetch_add::<SetBit>(&mut seat, number / PAGE_ITEMS, added);
+        (seat, low_half(word) == 0)
     }
 }

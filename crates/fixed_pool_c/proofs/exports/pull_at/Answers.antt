@@ -70,8 +70,8 @@ returns-in-Err c =
           later = _;
           holds_none = kept.2;
           same_pool = refused.same_owner;
-          busy = refused.busy;
-          brief = refused.busy_brief;
+          full = refused.full;
+          brief = refused.full_brief;
         },
       ),
     ))

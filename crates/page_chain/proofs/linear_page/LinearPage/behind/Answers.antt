@@ -13,5 +13,5 @@ returns-clause-known g c =
     (c.new-before.ensures.next (omega (arith, c.ranges.number.fits, one_more))) in
     record {
       is_link = subst (IsLinkTo links c.args.number) (sym of_link) here;
-      knows = c.in_ok-next.ensures.next.known;
+      knows = c.in_ok-next.ensures.next.is_next.known;
     }

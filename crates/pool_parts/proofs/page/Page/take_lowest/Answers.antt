@@ -1,11 +1,12 @@
-use Rattle.std.proofs.Common.{◌∙◌, ◌∷◌, [], sym, subst, arith}
+use Rattle.std.proofs.Common.{◌∙◌, ◌∷◌, [], sym, ap, subst, arith}
+use Rattle.atomic_table.specs.Seated.{TableId}
 use Rattle.pool_parts.specs.Item.{Item, IsItemOf}
 use Rattle.pool_parts.specs.Page.{page_identity}
 use Rattle.pool_parts.specs.PageRule.{GoesOn}
 use Rattle.pool_parts.specs.Holding.{item_known}
 use Rattle.pool_parts.specs.declared.page.history.Operation.TheVariants.{Pull}
 use Rattle.pool_parts.specs.declared.page.user_view.UserView.{UserView}
-use Rattle.pool_parts.proofs.PageAnswers.{was_out_from}
+use Rattle.pool_parts.proofs.PageAnswers.{was_out_from, knows_out}
 use Rattle.pool_parts.proofs.page.Page.take_lowest.Goals as goal
 
 pub returns-in-Some-clause-answer : goal.returns-in-Some-clause-answer
@@ -30,6 +31,16 @@ returns-in-None-clause-answer g c =
       c.take_lowest.ensures.items ∙ c.requires.page,
       missed.goes_on,
       λ id within.
-          was_out_from c.args.seat.me.0 c.take_lowest.new.seat.me.0 id missed.goes_on
+          was_out_from c.args.seat.me.0 c.take_lowest.new.seat.me.0 id missed.goes_on c.requires.sound.since_load
           (missed.each_was_out id (omega arith) (omega arith)),
     )
+
+pub invariant_of-result : goal.invariant_of-result
+invariant_of-result g c =
+    let missed = c.in-None.ensures.outcome in
+    let sized = c.args.self.now.sized in
+    let same = ap (λ (page : TableId). page.slots) (c.take_lowest.ensures.items ∙ c.requires.page) in
+    record {
+      found = ∣ (λ id within. knows_out c.args.seat.me.0 c.take_lowest.new.seat.me.0 id missed.goes_on
+          c.requires.sound.since_load (missed.each_was_out id (omega arith) (omega arith))) ∣₁;
+    }

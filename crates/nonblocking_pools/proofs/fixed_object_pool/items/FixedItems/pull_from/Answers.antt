@@ -1,5 +1,6 @@
-use Rattle.std.proofs.Common.{◌∙◌}
-use Rattle.nonblocking_pools.proofs.FixedAnswers.{item_pulled_with, found_all_out}
+use Rattle.std.proofs.Common.{◌∙◌, ap, arith}
+use Rattle.atomic_table.specs.Seated.{TableId}
+use Rattle.nonblocking_pools.proofs.FixedAnswers.{item_pulled_with, found_all_out, knows_all_out}
 use Rattle.pool_parts.proofs.PageAnswers.{after_known}
 use Rattle.nonblocking_pools.proofs.fixed_object_pool.items.FixedItems.pull_from.Goals as goal
 
@@ -15,7 +16,15 @@ returns-in_default-clause-busy g c =
     record {
       all_out = record {
         of_page = c.take.ensures.pool ∙ c.look_again-word.ensures.items ∙ c.requires;
-        found = found_all_out _ _ _ _ starts.same_opening missed;
+        found = found_all_out _ _ _ _ starts.same_opening c.look_again-word.ensures.found.sound missed;
       };
       after_note = after_known _ _ _ starts missed.goes_on;
+    }
+
+pub invariant_of-result : goal.invariant_of-result
+invariant_of-result g c =
+    let same = ap (λ (pool : TableId). pool.slots) (c.take.ensures.pool ∙ c.look_again-word.ensures.items ∙ c.requires) in
+    record {
+      found = ∣ (λ id within. knows_all_out _ _ _ c.look_again-word.ensures.found.sound c.in_default.ensures.outcome id
+          (omega arith)) ∣₁;
     }

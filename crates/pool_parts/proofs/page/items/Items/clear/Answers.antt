@@ -3,13 +3,13 @@ use Rattle.atomic_table.specs.Table.{rest}
 use Rattle.pool_parts.proofs.PageSteps.{clears}
 use Rattle.pool_parts.proofs.page.items.Items.clear.Goals as goal
 
-pub fetch_and-word-requires : goal.fetch_and-word-requires
-fetch_and-word-requires g c =
+pub fetch_and-found-requires : goal.fetch_and-found-requires
+fetch_and-found-requires g c =
     let items = c.args.self.now in (
       c.requires.items,
       c.requires.in_items,
-      clears _ _ items.table.shared.table_id.slots c.args.page _ _ c.args.bit _ c.requires.in_word
-          (omega (arith, items.covered, c.requires.in_items)) c.without_bit.ensures.bits c.requires.holds_none
+      clears _ _ _ items.table.shared.table_id.slots c.args.page _ _ c.args.bit _ c.requires.in_word
+          (omega (arith, items.covered, c.requires.in_items)) c.all_but.ensures c.requires.holds_none
           c.requires.here,
     )
 
@@ -22,8 +22,8 @@ overflow_add-page g c =
 
 pub exchange-requires : goal.exchange-requires
 exchange-requires g c =
-    let took = (c.fetch_and-word.ensures.2.took c.args.bit c.requires.in_word c.without_bit.ensures.bits
-    (c.has_bit.ensures.bits.0 (search rules))).value in (
+    let took = (c.fetch_and-found.ensures.2.took c.args.bit c.requires.in_word c.all_but.ensures
+    (sym (c.low_half-word.ensures c.args.bit c.requires.in_word) ∙ c.has_bit.ensures.bits.0 (search rules))).value in (
       search rules,
       (
         Some took.0,

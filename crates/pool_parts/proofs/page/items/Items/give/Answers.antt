@@ -6,7 +6,8 @@ pub fetch_add-word-requires : goal.fetch_add-word-requires
 fetch_add-word-requires g c = (
   search rules,
   omega (arith, c.args.self.now.covered, c.requires.in_items),
-  gives_back _ _ _ _ _ c.args.holding.number _ _ c.args.value c.requires.in_items
-      (omega arith) c.with_bit-bit.ensures.bits c.args.holding.holds c.args.holding.here c.args.holding.carries
+  gives_back _ _ _ _ _ c.with_bit-bit.result _ c.args.holding.number _ _ c.args.value c.requires.in_items
+      (omega arith) (omega (arith, c.requires.raise, c.requires.by_one))
+      (omega (arith, c.requires.raise, c.requires.by_one)) c.with_bit-bit.ensures.bits c.args.holding.holds c.args.holding.here c.args.holding.carries
       c.exchange.ensures.3 c.requires.meets,
 )

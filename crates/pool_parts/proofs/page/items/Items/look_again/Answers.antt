@@ -2,4 +2,4 @@ use Rattle.pool_parts.proofs.PageSteps.{loads_again}
 use Rattle.pool_parts.proofs.page.items.Items.look_again.Goals as goal
 
 pub load-requires : goal.load-requires
-load-requires g c = (c.requires.items, c.requires.in_items, loads_again _ _ _ _ _ _ c.requires.here)
+load-requires g c = (c.requires.items, c.requires.in_items, loads_again _ _ _ _ _ _ _ c.requires.here)

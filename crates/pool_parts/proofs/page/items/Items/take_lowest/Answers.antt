@@ -1,7 +1,8 @@
 use Rattle.std.proofs.Common.{◌≡◌, ℕ, ◌<◌, ap, ◌∙◌, ◌∷◌, sym, None, arith}
 use Rattle.std.specs.Int.{bit_at}
 use Rattle.std.proofs.lemmas.Nat.Bits.{bit_at-zero}
-use Rattle.pool_parts.specs.PageRule.{KnowsOut, item_of}
+use Rattle.pool_parts.specs.Ledger.{WasOutBetween}
+use Rattle.pool_parts.specs.PageRule.{item_of}
 use Rattle.pool_parts.proofs.Ledger.{goes_on_further}
 use Rattle.pool_parts.proofs.Taking.{more_tried, out_or_untried, word_missed}
 use Rattle.pool_parts.proofs.page.items.Items.take_lowest.Goals as goal
@@ -24,13 +25,13 @@ pub loop-rest-preserved : goal.loop-rest-preserved
 loop-rest-preserved g c =
     let missed = c.in_default-clear.ensures.outcome in
     let before = c.loop-rest.invariant in
+    let follows = goes_on_further _ _ _ _ before.follows missed.goes_on in
     record {
       same_items = c.clear.ensures.items ∙ before.same_items;
       carries_none = missed.carries_same ∙ before.carries_none;
       holds_none = missed.holds_same ∙ before.holds_none;
-      out_or_untried = out_or_untried _ _ _ _ _ _ c.in-Some.ensures.rest missed before.out_or_untried;
-      follows = goes_on_further _ _ _ _ before.follows
-          missed.goes_on;
+      out_or_untried = out_or_untried _ _ _ _ _ _ _ c.in-Some.ensures.rest missed follows.operations before.out_or_untried;
+      follows = follows;
       loads_same = missed.counts.loads_same ∙ before.loads_same;
       all_tries = let least = c.in-Some.ensures.least in
           omega (arith, before.tries_below c.in-Some.bit least.in_page least.set, missed.counts.one_more);
@@ -43,7 +44,8 @@ returns-clause-outcome g c =
     let at_end = c.loop-rest.invariant in
     let none_left : c.loop-rest.untried ≡ 0 = c.in_default.ensures.none.0 (search) in
     let all : (bit : ℕ) → bit < 32
-    → KnowsOut c.loop-rest.seat.me.0 (item_of c.args.page bit) =
+    → WasOutBetween c.loop-rest.seat.me.0.opening c.args.seat.now.me.0.operations c.loop-rest.seat.me.0.operations
+    (item_of c.args.page bit) =
     λ bit within. at_end.out_or_untried bit within (ap (λ w. bit_at w bit) none_left ∙ bit_at-zero bit) in
     word_missed c.args.page c.args.seat.now.me c.loop-rest.seat.me (at_end.holds_none ∙ sym c.requires.holds_none)
     (at_end.carries_none ∙ sym c.requires.carries_none) at_end.follows all

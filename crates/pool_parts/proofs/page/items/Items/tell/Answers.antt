@@ -8,5 +8,5 @@ join_seat-requires g c = (
   c.requires.other,
   c.args.other.carries_none,
   omega (arith, c.args.self.now.covered, c.args.self.now.some_item),
-  tells _ _ _ _ _ _ c.args.note.now.here,
+  tells _ _ _ _ _ _ _ c.args.note.now.here,
 )

@@ -1,0 +1,13 @@
+use Rattle.std.proofs.Common.{rules}
+use Rattle.nonblocking_pools.proofs.linear_object_pool.LinearObjectPool.try_pull.Goals as goal
+
+pub returns-in-Slot-clause-pulled : goal.returns-in-Slot-clause-pulled
+returns-in-Slot-clause-pulled g c = record {
+  in_page = search rules;
+  on_page = search rules;
+  of_first = search rules;
+  within = search rules;
+  history = search rules;
+  meets_condition = search rules;
+  made_or_reset = search rules;
+}
