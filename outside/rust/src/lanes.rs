@@ -63,7 +63,7 @@ impl Lanes {
         Some(call(unsafe { &mut *lane }))
     }
 
-    /// Pulls a place. `None` if each was out at some time of the call, or memory for a further
+    /// Pulls a place. `None` if all were out at one moment of the call, or memory for a further
     /// handle is refused.
     #[inline(always)]
     pub(crate) fn pull(&self) -> Option<Out> {
@@ -71,7 +71,7 @@ impl Lanes {
         pulled.flatten().unwrap_or_else(|| self.try_pull().ok()?)
     }
 
-    /// Pulls a place by any handle. `None` if each was out at some time of the call.
+    /// Pulls a place by any handle. `None` if all were out at one moment of the call.
     #[cold]
     pub(crate) fn try_pull(&self) -> Result<Option<Out>, NewError> {
         let mut handle = Some(self.further().ok_or(NewError::Memory)?);

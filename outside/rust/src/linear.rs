@@ -56,8 +56,8 @@ impl<T> LinearObjectPool<T> {
         pool
     }
 
-    /// Returns an item that was free, or one of a new chunk if each was out at some time of the
-    /// call.
+    /// Returns an item that was free, or one of a new chunk. That is made only if each chunk before
+    /// it was full at one moment of the call.
     #[inline(always)]
     pub fn pull(&self) -> LinearReusable<'_, T> {
         let hint = self.hint.load(Relaxed);

@@ -60,7 +60,7 @@ impl<T, R: Fn(&mut T)> Pool<T, R> {
         Ok(Pool { store, reset })
     }
 
-    /// Returns an item that was free. `None` if each was out at some time of the call, or memory
+    /// Returns an item that was free. `None` if all were out at one moment of the call, or memory
     /// for one more guard is refused.
     ///
     /// Memory is asked for only if more items are out than ever before.
