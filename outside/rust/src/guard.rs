@@ -1,9 +1,27 @@
-//! An item that is out, which goes back at the end of its scope.
-use crate::handle::Out;
-use crate::store::Store;
+//! Items, the handles by which they are pulled, and an item that is out.
+use crate::cells::Cells;
+use crate::handle::{Handle, NewError, Out, PAGE};
+use crate::lanes::Lanes;
 use std::fmt::{self, Debug, Formatter};
 use std::marker::PhantomData;
 use std::ops::{Deref, DerefMut};
+
+/// A fixed number of items, all made at first.
+pub struct Store<T> {
+    pub(crate) cells: Cells<T>,
+    pub(crate) lanes: Lanes,
+}
+
+impl<T> Store<T> {
+    pub(crate) fn new(items: usize, mut init: impl FnMut() -> T) -> Result<Store<T>, NewError> {
+        let lanes = Lanes::new(Handle::first(items)?, items.div_ceil(PAGE));
+        let cells = Cells::new((0..items).map(|_| init()));
+        Ok(Store {
+            cells: cells.ok_or(NewError::Memory)?,
+            lanes: lanes.ok_or(NewError::Memory)?,
+        })
+    }
+}
 
 /// A pool whose items lie in one store or in several.
 pub trait Source {
@@ -54,8 +72,9 @@ impl<P: Deref<Target: Source>> Guard<P> {
         }
     }
 
-    pub(crate) fn place(&self) -> usize {
-        self.out.as_ref().expect(HELD).place
+    #[inline(always)]
+    pub(crate) fn out(&self) -> &Out {
+        self.out.as_ref().expect(HELD)
     }
 }
 
@@ -64,8 +83,7 @@ impl<P: Deref<Target: Source>> Deref for Guard<P> {
 
     #[inline(always)]
     fn deref(&self) -> &Self::Target {
-        let out = self.out.as_ref().expect(HELD);
-        self.pool.store(self.part).cells.item(out)
+        self.pool.store(self.part).cells.item(self.out())
     }
 }
 

@@ -70,7 +70,7 @@ impl Handle {
 
     /// Pulls a place, first at this page, or else where the handle's last place was.
     ///
-    /// Hands the handle back if each place was out at some time of the call.
+    /// Hands the handle back if all places were out at one moment of the call.
     #[inline(always)]
     pub(crate) fn pull(mut self, page: Option<usize>) -> Result<Out, Handle> {
         let (handle, mut place) = (&mut self.0[0], 0);

@@ -4,22 +4,13 @@
 //! A lane knows the page where its thread's pulls begin. So threads keep to pages of their own,
 //! whichever handles they have.
 use crate::cells::Cells;
-use crate::handle::{Handle, Out, PAGE};
+use crate::handle::{Handle, NewError, Out, PAGE};
 use crate::threads;
 use std::array::from_fn;
 use std::sync::{Mutex, MutexGuard, PoisonError};
 
 /// How many handles move at once between a lane and the shared ones.
 const SOME: usize = 7;
-
-/// Why no place was pulled.
-#[derive(Debug)]
-pub(crate) enum Refused {
-    /// Each was out at some time of the call.
-    AllOut,
-    /// Memory for a further handle was refused.
-    Memory,
-}
 
 /// The idle handles of one thread, on cache lines of their own. The first room has the one that was
 /// kept last, mostly.
@@ -39,18 +30,6 @@ struct Shared {
     first: Handle,
     made: usize,
     idle: Vec<Handle>,
-}
-
-impl Shared {
-    /// Returns an idle handle, or a new one. There is room for it when it comes back.
-    fn take(&mut self) -> Option<Handle> {
-        self.idle.pop().or_else(|| {
-            self.idle.try_reserve(self.made + 1).ok()?;
-            let handle = self.first.share()?;
-            self.made += 1;
-            Some(handle)
-        })
-    }
 }
 
 /// A pool's handles that hold no place.
@@ -84,30 +63,33 @@ impl Lanes {
         Some(call(unsafe { &mut *lane }))
     }
 
-    /// Pulls a place. `None` if each was out at some time of the call, or memory for a further
+    /// Pulls a place. `None` if all were out at one moment of the call, or memory for a further
     /// handle is refused.
     #[inline(always)]
     pub(crate) fn pull(&self) -> Option<Out> {
         let pulled = self.own(|lane| lane.idle[0].take().map(|handle| lane.pull(handle)));
-        pulled.flatten().unwrap_or_else(|| self.try_pull().ok())
+        pulled.flatten().unwrap_or_else(|| self.try_pull().ok()?)
     }
 
-    /// Pulls a place by any handle, and says why if there is none.
+    /// Pulls a place by any handle. `None` if all were out at one moment of the call.
     #[cold]
-    pub(crate) fn try_pull(&self) -> Result<Out, Refused> {
-        let mut handle = Some(self.further().ok_or(Refused::Memory)?);
+    pub(crate) fn try_pull(&self) -> Result<Option<Out>, NewError> {
+        let mut handle = Some(self.further().ok_or(NewError::Memory)?);
         let pulled = self.own(|lane| lane.pull(handle.take()?));
         let shared = |handle| self.shared().idle.push(handle);
-        pulled
-            .unwrap_or_else(|| handle?.pull(None).map_err(shared).ok())
-            .ok_or(Refused::AllOut)
+        Ok(pulled.unwrap_or_else(|| handle?.pull(None).map_err(shared).ok()))
     }
 
     /// Returns an idle handle, or a new one. If the lane has none, it gets some of the shared ones.
     fn further(&self) -> Option<Handle> {
-        self.own(Lane::take).flatten().or_else(|| {
+        let own = self.own(|lane| lane.idle.iter_mut().find_map(Option::take));
+        own.flatten().or_else(|| {
             let shared = &mut *self.shared();
-            let handle = shared.take();
+            let handle = shared.idle.pop().or_else(|| {
+                shared.idle.try_reserve(shared.made + 1).ok()?;
+                shared.made += 1;
+                shared.first.share()
+            });
             self.own(|lane| lane.idle[1..=SOME].fill_with(|| shared.idle.pop()));
             handle
         })
@@ -176,15 +158,8 @@ impl Lane {
     /// apart from them. If it finds nothing there, the lane keeps to the page of its next place.
     #[cold]
     fn go_on(&mut self, page: usize) {
-        self.page = if self.is_apart {
-            page
-        } else {
-            page + self.apart
-        };
+        let apart = if self.is_apart { 0 } else { self.apart };
+        self.page = page + apart;
         self.is_apart = !self.is_apart;
-    }
-
-    fn take(&mut self) -> Option<Handle> {
-        self.idle.iter_mut().find_map(Option::take)
     }
 }

@@ -40,7 +40,6 @@ mod linear;
 mod none;
 mod pool;
 mod stack;
-mod store;
 pub mod sys;
 mod threads;
 

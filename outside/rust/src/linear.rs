@@ -1,9 +1,7 @@
 //! A pool that grows, by the names of lockfree-object-pool 0.1.6.
-use crate::guard::{Guard, Source};
+use crate::guard::{Guard, Source, Store};
 use crate::handle::{Out, PAGE};
-use crate::lanes::Refused;
 use crate::pool::Reset;
-use crate::store::Store;
 use std::alloc::{handle_alloc_error, Layout};
 use std::ops::Deref;
 use std::sync::atomic::{AtomicUsize, Ordering::Relaxed};
@@ -58,8 +56,8 @@ impl<T> LinearObjectPool<T> {
         pool
     }
 
-    /// Returns an item that was free, or one of a new chunk if each was out at some time of the
-    /// call.
+    /// Returns an item that was free, or one of a new chunk. That is made only if each chunk before
+    /// it was full at one moment of the call.
     #[inline(always)]
     pub fn pull(&self) -> LinearReusable<'_, T> {
         let hint = self.hint.load(Relaxed);
@@ -90,12 +88,12 @@ impl<T> LinearObjectPool<T> {
     fn find<P: Deref<Target = Self>>(&self, pool: P) -> Guard<P> {
         for number in 0..CHUNKS {
             match self.chunk(number).lanes.try_pull() {
-                Ok(out) => {
+                Ok(Some(out)) => {
                     self.hint.store(number, Relaxed);
                     return Guard::new(pool, number, out);
                 }
-                Err(Refused::AllOut) => {}
-                Err(Refused::Memory) => break,
+                Ok(None) => {}
+                Err(_) => break,
             }
         }
         handle_alloc_error(Layout::new::<T>())

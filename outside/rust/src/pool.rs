@@ -1,7 +1,6 @@
 //! The pool of a fixed number of items.
-use crate::guard::{Guard, Source};
+use crate::guard::{Guard, Source, Store};
 use crate::handle::NewError;
-use crate::store::Store;
 use std::fmt::{self, Debug, Formatter};
 use std::ops::Deref;
 use std::sync::Arc;
@@ -61,7 +60,7 @@ impl<T, R: Fn(&mut T)> Pool<T, R> {
         Ok(Pool { store, reset })
     }
 
-    /// Returns an item that was free. `None` if each was out at some time of the call, or memory
+    /// Returns an item that was free. `None` if all were out at one moment of the call, or memory
     /// for one more guard is refused.
     ///
     /// Memory is asked for only if more items are out than ever before.
@@ -113,7 +112,7 @@ impl<T, R: Fn(&mut T)> Source for Pool<T, R> {
 impl<T, R: Fn(&mut T), P: Deref<Target = Pool<T, R>>> Guard<P> {
     /// Returns the item's number in its pool, counted from 0.
     pub fn number(&self) -> usize {
-        self.place()
+        self.out().place
     }
 }
 

@@ -299,6 +299,22 @@ mod here {
     }
 
     #[test]
+    fn threads_that_hold_no_more_items_than_there_are_make_no_chunk() {
+        let count = Arc::new(AtomicUsize::new(0));
+        let pool = LinearObjectPool::new(counted(&count), |_| {});
+        thread::scope(|scope| {
+            for _ in 0..8 {
+                scope.spawn(|| {
+                    for turn in 0..10_000 {
+                        let _items: Vec<_> = (0..turn % 5).map(|_| pool.pull()).collect();
+                    }
+                });
+            }
+        });
+        assert_eq!(count.load(SeqCst), 32);
+    }
+
+    #[test]
     fn threads_that_need_a_chunk_at_once_make_it_once() {
         let count = Arc::new(AtomicUsize::new(0));
         let pool = LinearObjectPool::new(counted(&count), |_| {});

@@ -207,6 +207,10 @@ fn where_memory_is_refused_a_pull_and_a_pool_are() {
     held.extend(iter::from_fn(|| pool.pull()));
     drop(for_the_harness);
     assert!(0 < most && most < ITEMS, "{most} items");
-    assert_eq!(held.len(), most);
+    assert!(
+        most <= held.len(),
+        "{} items, and {most} before",
+        held.len()
+    );
     assert_eq!(refused, Some(NewError::Memory));
 }

@@ -116,15 +116,15 @@ fn guards_end_and_are_pulled_at_a_threads_end() {
 }
 
 #[test]
-fn a_pull_is_not_refused_while_most_items_are_free() {
+fn no_pull_is_refused_where_there_are_as_many_items_as_threads_hold() {
     const THREADS: usize = 8;
-    let pool = zeros(THREADS * 64);
+    let pool = zeros(THREADS * 2);
     let refused = AtomicUsize::new(0);
     thread::scope(|scope| {
         for _ in 0..THREADS {
             scope.spawn(|| {
                 for turn in 0..20_000 {
-                    let items: Vec<_> = (0..turn % 8).map(|_| pool.pull()).collect();
+                    let items: Vec<_> = (0..turn % 3).map(|_| pool.pull()).collect();
                     let missing = items.iter().filter(|item| item.is_none()).count();
                     refused.fetch_add(missing, SeqCst);
                 }
@@ -132,7 +132,7 @@ fn a_pull_is_not_refused_while_most_items_are_free() {
         }
     });
     assert_eq!(refused.load(SeqCst), 0);
-    assert_eq!(count_free(&pool), THREADS * 64);
+    assert_eq!(count_free(&pool), THREADS * 2);
 }
 
 /// The pages of two items that each of some threads pulls, one after the other, while all hold
