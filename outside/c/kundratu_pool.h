@@ -46,7 +46,7 @@ typedef uint32_t kdr_answer;
 
 enum {
     KDR_DONE = 0,       /**< It was done. */
-    KDR_ALL_OUT = 1,    /**< Each place was out at some time of the call. */
+    KDR_ALL_OUT = 1,    /**< All places were out at one moment of the call. */
     KDR_HOLDS_ONE = 2,  /**< The handle holds a place already. */
     KDR_HOLDS_NONE = 3, /**< The handle holds no place. */
     KDR_NO_POOL = 4,    /**< The handle has no pool. */
@@ -95,7 +95,7 @@ kdr_answer kdr_pool_share(kdr_handle *handle, kdr_handle *out) KDR_POINTERS_ARE_
  *
  * @param handle a handle that holds no place.
  * @param place  where the number of the place goes, if the answer is KDR_DONE: it is below kdr_pool_items(). It is left alone else.
- * @return KDR_DONE; KDR_ALL_OUT where each place was found out at some time of the call, though maybe not all at one time;
+ * @return KDR_DONE; KDR_ALL_OUT where all places were out at one moment of the call (or 2^32 returns came within it);
  *         KDR_HOLDS_ONE; KDR_NO_POOL.
  */
 kdr_answer kdr_pool_pull(kdr_handle *handle, size_t *place) KDR_POINTERS_ARE_VALID KDR_ANSWER_MATTERS;

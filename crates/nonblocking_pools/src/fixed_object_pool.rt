@@ -234,10 +234,10 @@ impl<T: Drop, I: Init<T, K>, R: Reset<T, K>, K: Clean<T>> FixedObjectPool<T, I, 
         ensures refused { IfErr result (λ error. (error ≡ Memory) ⊎ (error ≡ Limit)) }
     {
         let owner = Arc::try_clone(self)?;
-        match self.items.pull() {
-            Ok(pulled) => Ok(FixedOwnedReusable::new(owner, pulled)),
-            Err(_) => Err(PullError::Limit),
-        }
+        let Ok(pulled) = self.items.pull() else {
+            return Err(PullError::Limit);
+        };
+        Ok(FixedOwnedReusable::new(owner, pulled))
     }
 
     /// As `pull_near`, by an owner of the pool that has a note of it. The reusable takes over both, so the owners stay as many as they

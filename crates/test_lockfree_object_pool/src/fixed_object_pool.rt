@@ -5,6 +5,7 @@ mod messages;
 mod near;
 mod numbers;
 mod owners;
+mod refusals;
 mod sends;
 mod sizes;
 mod threads;

@@ -4,11 +4,14 @@
 //! The argument is how many rounds each thread has. A line for each pool and kind of item tells what was seen that may not
 //! be, which is the same in each schedule: nothing. Else the status is 1.
 //!
+//! Where each of as many threads as a fixed pool has items has one at a time, no pull may be refused: the last line tells.
+//!
 //! Behind the threads each pool is asked for all its items: those that were not forgotten come, and of a pool that has a
 //! limit no more.
 #![tactic(auto)]
 
 mod item;
+mod one_each;
 mod pools;
 mod report;
 mod tally;
@@ -90,7 +93,24 @@ fn use_all<R: Print + AllocGlobal + Threads + Wait + Copy + Send + 'static>(
             status = ExitCode::from(1);
         }
     }
+    if !tell_refused(rt, &one_each::refused(rt, alloc, rounds))? {
+        status = ExitCode::from(1);
+    }
     Ok(status)
+}
+
+/// Prints how many pulls were refused though an item was free. Whether none was.
+fn tell_refused<R: Print>(rt: &R, refused: &Result<u32, PullError>) -> io::Result<bool> {
+    match refused {
+        Ok(refused) => {
+            println!(rt; "fixed, an item for each thread: {refused} pulls refused")?;
+            Ok(*refused == 0)
+        }
+        Err(refusal) => {
+            println!(rt; "fixed, an item for each thread: {refusal}")?;
+            Ok(false)
+        }
+    }
 }
 
 /// Prints what was seen on a pool. Whether it was nothing that may not be.

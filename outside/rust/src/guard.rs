@@ -12,7 +12,7 @@ pub trait Source {
     /// Which store.
     type Part: Copy;
 
-    /// A store from which an item was pulled.
+    /// Returns a store from which an item was pulled.
     #[doc(hidden)]
     fn store(&self, part: Self::Part) -> &Store<Self::Item>;
 
@@ -21,7 +21,8 @@ pub trait Source {
     fn reset(&self, item: &mut Self::Item);
 }
 
-/// An item that is out, of a pool that is held by a borrow or by an owner. Its end resets the item and brings it back.
+/// An item that is out, of a pool that is held by a borrow or by an owner. Its end resets the item
+/// and brings it back.
 ///
 /// Threads share a guard only where they may share its item:
 ///
@@ -42,7 +43,7 @@ pub struct Guard<P: Deref<Target: Source>> {
 const HELD: &str = "an item is out until its guard ends";
 
 impl<P: Deref<Target: Source>> Guard<P> {
-    /// Of an item of this store of the pool that is out.
+    /// Creates the guard of an item of this store of the pool.
     #[inline(always)]
     pub(crate) fn new(pool: P, part: <P::Target as Source>::Part, out: Out) -> Self {
         Guard {
@@ -77,7 +78,7 @@ impl<P: Deref<Target: Source>> DerefMut for Guard<P> {
 }
 
 impl<P: Deref<Target: Source>> Drop for Guard<P> {
-    /// Resets the item and brings it back. Where the reset panics, the item is never pulled again.
+    /// Resets the item and brings it back. If the reset panics, the item is never pulled again.
     #[inline(always)]
     fn drop(&mut self) {
         if let Some(mut out) = self.out.take() {

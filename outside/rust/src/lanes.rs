@@ -1,7 +1,8 @@
-//! The handles that hold no place. A thread has some in a lane, which no other thread reaches while it runs: it takes and keeps them by
-//! plain reads and writes. The others lie behind a lock.
+//! The handles that hold no place. A thread has some in a lane, which no other thread reaches while
+//! it runs: it takes and keeps them by plain reads and writes. The others lie behind a lock.
 //!
-//! A lane knows the page where its thread's pulls begin. So threads keep to pages of their own, whichever handles they have.
+//! A lane knows the page where its thread's pulls begin. So threads keep to pages of their own,
+//! whichever handles they have.
 use crate::cells::Cells;
 use crate::handle::{Handle, Out, PAGE};
 use crate::threads;
@@ -20,7 +21,8 @@ pub(crate) enum Refused {
     Memory,
 }
 
-/// The idle handles of one thread, on cache lines of their own. The first room has the one that was kept last, mostly.
+/// The idle handles of one thread, on cache lines of their own. The first room has the one that was
+/// kept last, mostly.
 #[repr(align(128))]
 struct Lane {
     /// At which page the next pull begins.
@@ -40,7 +42,7 @@ struct Shared {
 }
 
 impl Shared {
-    /// An idle handle, or a new one.
+    /// Returns an idle handle, or a new one. There is room for it when it comes back.
     fn take(&mut self) -> Option<Handle> {
         self.idle.pop().or_else(|| {
             self.idle.try_reserve(self.made + 1).ok()?;
@@ -58,7 +60,7 @@ pub(crate) struct Lanes {
 }
 
 impl Lanes {
-    /// The lanes of a pool of so many pages, or `None` where memory is refused.
+    /// Creates the lanes of a pool of so many pages. `None` if memory is refused.
     pub(crate) fn new(first: Handle, pages: usize) -> Option<Lanes> {
         // Threads begin so far apart that the words of their pages lie on cache lines of their own.
         let apart = if pages % 17 == 0 { 1 } else { 17 };
@@ -74,7 +76,7 @@ impl Lanes {
         Some(Lanes { lanes, shared })
     }
 
-    /// Makes this call with the thread's lane, where it has one. The call makes no other of this function.
+    /// Makes this call with the thread's lane, if it has one. The call doesn't come here again.
     #[inline(always)]
     fn own<A>(&self, call: impl FnOnce(&mut Lane) -> A) -> Option<A> {
         let lane = self.lanes.at(threads::own())?;
@@ -82,14 +84,15 @@ impl Lanes {
         Some(call(unsafe { &mut *lane }))
     }
 
-    /// Pulls a place, or answers `None` where each was out at some time of the call, or memory for a further handle is refused.
+    /// Pulls a place. `None` if each was out at some time of the call, or memory for a further
+    /// handle is refused.
     #[inline(always)]
     pub(crate) fn pull(&self) -> Option<Out> {
         let pulled = self.own(|lane| lane.idle[0].take().map(|handle| lane.pull(handle)));
         pulled.flatten().unwrap_or_else(|| self.try_pull().ok())
     }
 
-    /// As `pull`, by any handle, and says why where it is refused.
+    /// Pulls a place by any handle, and says why if there is none.
     #[cold]
     pub(crate) fn try_pull(&self) -> Result<Out, Refused> {
         let mut handle = Some(self.further().ok_or(Refused::Memory)?);
@@ -100,7 +103,7 @@ impl Lanes {
             .ok_or(Refused::AllOut)
     }
 
-    /// An idle handle, or a new one. Some others come from the shared ones into the lane, which has none.
+    /// Returns an idle handle, or a new one. If the lane has none, it gets some of the shared ones.
     fn further(&self) -> Option<Handle> {
         self.own(Lane::take).flatten().or_else(|| {
             let shared = &mut *self.shared();
@@ -124,7 +127,8 @@ impl Lanes {
         }
     }
 
-    /// Keeps a handle in the lane. Where there is no room, it goes to the shared ones, with some of the lane.
+    /// Keeps a handle in the lane. If there is no room, it goes to the shared ones, with some of
+    /// the lane.
     #[cold]
     fn keep_further(&self, handle: Handle) {
         let mut handle = Some(handle);
@@ -134,20 +138,24 @@ impl Lanes {
             }
         });
         if let Some(handle) = handle {
-            let some: [_; SOME] = from_fn(|_| self.own(Lane::take).flatten());
-            let all = some.into_iter().flatten().chain([handle]);
-            self.shared().idle.extend(all);
+            let shared = &mut *self.shared();
+            shared.idle.push(handle);
+            self.own(|lane| {
+                let some = lane.idle[1..=SOME].iter_mut();
+                shared.idle.extend(some.filter_map(Option::take));
+            });
         }
     }
 
-    /// Nothing panics under this lock, so it isn't poisoned.
+    /// Locks the shared handles. Nothing panics under the lock, so it isn't poisoned.
     fn shared(&self) -> MutexGuard<'_, Shared> {
         self.shared.lock().unwrap_or_else(PoisonError::into_inner)
     }
 }
 
 impl Lane {
-    /// Pulls a place near the lane's page. A handle that gets none goes to the first room, which is empty.
+    /// Pulls a place near the lane's page. A handle that gets none goes to the first room, which is
+    /// empty.
     #[inline(always)]
     fn pull(&mut self, handle: Handle) -> Option<Out> {
         match handle.pull(Some(self.page)) {
@@ -164,8 +172,8 @@ impl Lane {
         }
     }
 
-    /// Goes on from a full page, by way of this one. Others came here too, so the next pull begins apart from them; where it finds
-    /// nothing there either, the lane keeps to the page where it found a place.
+    /// Goes on from a full page, by way of this one. Others come here too, so the next pull begins
+    /// apart from them. If it finds nothing there, the lane keeps to the page of its next place.
     #[cold]
     fn go_on(&mut self, page: usize) {
         self.page = if self.is_apart {

@@ -155,9 +155,9 @@ impl<T, K: Clean<T>> FixedItems<T, K> {
         ensures busy_brief { IfErr result
             (λ busy. IsWithin (fixed_identity self.now).words no_steps (busy_steps busy)) }
     {
-        let start = self.hinted();
-        let (word, mut seat) = self.shared.look(start);
-        let Some(taken) = self.take(&mut seat, start, word) else {
+        let page = self.hinted();
+        let (word, mut seat) = self.shared.look(page);
+        let Some(taken) = self.take(&mut seat, page, word) else {
             return Err(BusySeen { seat, pass });
         };
         self.set_hint(taken.number / PAGE_ITEMS);
