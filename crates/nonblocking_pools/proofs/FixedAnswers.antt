@@ -1,5 +1,5 @@
 -- What a pool answers, told by what the answer shows and no longer by its user's view.
-use Rattle.std.proofs.Common.{◌≡◌, List, Option, [], ◌∷◌, ℕ, ◌+◌, ◌*◌, ◌<◌, ◌≤◌, None, ap, ◌∙◌, sym, subst}
+use Rattle.std.proofs.Common.{◌≡◌, List, Option, [], ◌∷◌, ℕ, ◌+◌, ◌*◌, ◌<◌, ◌≤◌, None, Some, MatchOption, ap, ◌∙◌, sym, subst}
 use Rattle.std.proofs.Common.{arith, inl, inr}
 use Rattle.std.proofs.lemmas.Bool.{cases_lt}
 use Rattle.atomic_table.specs.Seated.{TableId}
@@ -17,6 +17,13 @@ use Rattle.pool_parts.specs.PageRule.{User, StartsFrom, LoadsOn, IsSound, KnowsO
 use Rattle.pool_parts.specs.Taking.{MissesAll, TakesOne}
 use Rattle.pool_parts.proofs.Ledger.{goes_on_further, still_out, out_longer, legal_of}
 use Rattle.pool_parts.proofs.PageAnswers.{pulled_after, found_out, was_out_from, knows_out}
+
+-- an answer that shows this also shows that
+pub match_option : {A : Type 0} (answer : Option A) (none none_then : Type 0) (some some_then : A → Type 0)
+    → (none → none_then) → ((value : A) → some value → some_then value) → MatchOption answer none some
+    → MatchOption answer none_then some_then
+match_option None none none_then some some_then of_none of_some shown = of_none shown
+match_option (Some value) none none_then some some_then of_none of_some shown = of_some value shown
 
 module _ {T : Type 0} where
   -- what a user did in vain, and then a further load
