@@ -1,13 +1,12 @@
-//! A pool of so many items at most, each of which is made when it is first needed. A pull may wait for one that comes back.
+//! A pool of a set number of items, each made when it is first needed. A pull may wait for an item to be returned.
 //!
-//! Its places lie as the items of a fixed pool, and each is empty at first. A pull takes a place, and where that is empty it makes
-//! the value. So one sequential history tells what was pulled and returned of the whole pool, the empty places among it.
+//! The places of the items are the items of a fixed pool. Each place is empty at first. A pull takes a place, and makes the value
+//! if the place is empty. So one sequential history has the pulls and returns of the whole pool, those of empty places too.
 //!
-//! An item of a page is made only where each lower one of the page was observed taken in the same call, and a page is begun behind
-//! those that were begun before. Without a refusal, and while one thread at a time pulls or returns, the pool makes no more
-//! items than were out at once.
+//! A pull makes an item only after it saw each lower item of the page in use, and it begins a new page last. So while one thread
+//! at a time pulls or returns, and `init` never refuses, the pool makes no more items than were in use at once.
 //!
-//! No pull but those with a permission to wait waits for another thread, and no return does. A return reads whether anybody waits.
+//! Only the pulls that take a permission to wait do so. No return waits: it reads whether anybody waits, and wakes one.
 //!
 //! Serving isn't fair: who waits longest needn't come first. An `init` or a `reset` that waits on its own pool can wait for ever.
 ghost use Rattle.std.specs.Prelude.{◌≡◌, ◌+◌, ◌*◌, ◌/◌, ◌<◌, ◌≤◌, ⊤, None, Some, IfOk, IfErr};
@@ -40,18 +39,18 @@ pub(crate) mod lazy_item;
 pub mod lazy_refused;
 mod waiting;
 
-/// What [`LazyObjectPool::try_pull`] answers: an item, or why there is none.
+/// What [`LazyObjectPool::try_pull`] returns: an item, or why there is none.
 pub type LazyPulled<'s, 'p, T, I, R, K = AnyValue> = Result<
     LazyReusable<'s, T, I, R, K>,
     LazyRefused<'p, T>,
 >;
 
-/// A pool of so many items at most, each made when it is first needed.
+/// A pool of a set number of items, each made when it is first needed.
 ///
 /// ```rust
 /// let pool: LazyObjectPool<Vec<u8>, _, _, Empty> = LazyObjectPool::new(alloc, WithCapacity::new(alloc, 4 << 20), Clear, 64)?;
 /// let buffer = pool.pull()?; // 4 MiB are taken here
-/// let other = pool.pull_timeout(&rt, Duration::from_millis(20))?; // and here; were all out, it would wait
+/// let other = pool.pull_timeout(&rt, Duration::from_millis(20))?; // and here; with all in use it would wait
 /// ```
 pub struct LazyObjectPool<T, I: Init<T, K>, R: Reset<T, K>, K: Clean<T> = AnyValue> {
     init: I,
@@ -87,7 +86,7 @@ impl<T: Drop, I: Init<T, K>, R: Reset<T, K>, K: Clean<T>> LazyObjectPool<T, I, R
     ghost use Rattle.pool_parts.specs.Note.{note_page, witness_page, IsNoteOf, HasLearned, IsReturned};
     ghost use Rattle.pool_parts.specs.Refusal.{RefusesMaking, RefusesPull};
 
-    /// A pool of so many places, all empty: it makes no item. A place takes the room of a `T` and two words.
+    /// Creates a pool of `items` empty places. It makes no item. A place takes the room of a `T` and two words.
     ///
     /// # Errors
     ///
@@ -117,30 +116,31 @@ impl<T: Drop, I: Init<T, K>, R: Reset<T, K>, K: Clean<T>> LazyObjectPool<T, I, R
         })
     }
 
-    /// How many items the pool may have.
+    /// Returns the number of items that the pool may have.
     pub fn items(&self) -> usize
         ensures { result ≡ lazy_items self.now }
     {
         self.places.count()
     }
 
-    /// How many items there are at this moment, in use or free. One that was discarded or detached counts no more, and one that is
-    /// being made doesn't count yet.
+    /// Returns the number of items that there are at this moment, in use or free. An item that was discarded or detached no longer
+    /// counts.
     pub fn made(&self) -> usize
         ensures { result ≤ lazy_items self.now }
     {
         self.made.load(SeqCst).min(self.places.count())
     }
 
-    /// An item that is free, which is made now where its place is empty. `init` runs while the item counts as out, and under no lock.
+    /// Pulls a free item, and makes it if its place is empty. `init` runs under no lock, and the item is in use meanwhile.
     ///
-    /// A further pass over the pool's words comes only after another thread returned an item: a pull is lock-free, but for `init`.
+    /// A pull passes over the pool's words again only after another thread returned an item: it is lock-free, but for `init`.
     /// [`LazyObjectPool::try_pull`] makes one pass.
     ///
     /// # Errors
     ///
-    /// `Limit`, where at one moment of the call no item was free (or 2^32 returns and more came within the call, which the counts of
-    /// the words can't tell from none); `Init`, where `init` answered `None`: the place is free again, and empty.
+    /// - `Limit` if no item was free at one moment of the call (or 2^32 returns and more came within it, which the counts of the
+    ///   words can't tell from none).
+    /// - `Init` if `init` returned `None`. The place is free again, and empty.
     pub fn pull(&self) -> Result<LazyReusable<'_, T, I, R, K>, PullError>
         ensures pool { IfOk result (λ item. (lazy_pool item).now ≡ self.now) }
         ensures pulled { IfOk result (λ item.
@@ -163,11 +163,12 @@ impl<T: Drop, I: Init<T, K>, R: Reset<T, K>, K: Clean<T>> LazyObjectPool<T, I, R
         }
     }
 
-    /// As `pull`, by one pass over the pool's words, which shows what it found where no item was free.
+    /// Pulls a free item as `pull` does, by one pass over the pool's words.
     ///
     /// # Errors
     ///
-    /// The evidence that each item was out during this call, or that `init` answered `None`: the place is free again, and empty.
+    /// - `Busy` with the evidence that each item was in use at some moment of the call.
+    /// - `NotMade` if `init` returned `None`. The place is free again, and empty.
     pub fn try_pull<'s, 'p>(&'s self, pass: &'p PullPass) -> LazyPulled<'s, 'p, T, I, R, K>
         ensures pool { IfOk result (λ item. (lazy_pool item).now ≡ self.now) }
         ensures pulled { IfOk result (λ item.
@@ -191,11 +192,11 @@ impl<T: Drop, I: Init<T, K>, R: Reset<T, K>, K: Clean<T>> LazyObjectPool<T, I, R
         }
     }
 
-    /// As `pull`, with a reusable that owns the pool with others. The pool's owners grow by one before an item is taken.
+    /// Pulls a free item as `pull` does. The reusable owns the pool with others, which are one more before an item is taken.
     ///
     /// # Errors
     ///
-    /// As `pull`; `Memory` too, where the pool can have no more owners.
+    /// As `pull`, and `Memory` if the pool can have no more owners.
     pub fn pull_owned(self: &Arc<Self>) -> Result<LazyOwnedReusable<T, I, R, K>, PullError>
         ensures pool { IfOk result (λ item. arc_value (lazy_pool item) ≡ arc_value self.now) }
         ensures pulled { IfOk result (λ item.
@@ -222,11 +223,11 @@ impl<T: Drop, I: Init<T, K>, R: Reset<T, K>, K: Clean<T>> LazyObjectPool<T, I, R
         }
     }
 
-    /// As `pull`. Where each item is out it waits until one comes back, however long. Who waits longest needn't come first.
+    /// Pulls a free item, or waits until one is returned, however long.
     ///
     /// # Errors
     ///
-    /// `Init`, where `init` answered `None`: the place is free again, and empty.
+    /// `Init` if `init` returned `None`. The place is free again, and empty.
     pub fn pull_wait<W: Wait>(&self, rt: &W) -> Result<LazyReusable<'_, T, I, R, K>, PullError>
         ensures pool { IfOk result (λ item. (lazy_pool item).now ≡ self.now) }
         ensures pulled { IfOk result (λ item.
@@ -241,11 +242,12 @@ impl<T: Drop, I: Init<T, K>, R: Reset<T, K>, K: Clean<T>> LazyObjectPool<T, I, R
         Ok(LazyReusable::new(self, item))
     }
 
-    /// As `pull_wait`, which waits for so long at most. At a time of 0 it is `pull`.
+    /// Pulls a free item, or waits for `time` at most until one is returned. With no time it waits for nobody.
     ///
     /// # Errors
     ///
-    /// `Limit` after that time, where its last try found no item free, and where the clock can't be read; `Init` as `pull`.
+    /// - `Limit` if a last try after that time found no item free, or the clock can't be read.
+    /// - `Init` as `pull`.
     pub fn pull_timeout<W: Wait + Clock>(
         &self,
         rt: &W,
@@ -269,11 +271,11 @@ impl<T: Drop, I: Init<T, K>, R: Reset<T, K>, K: Clean<T>> LazyObjectPool<T, I, R
         }
     }
 
-    /// As `pull_wait`, with a reusable that owns the pool with others.
+    /// Pulls an item as `pull_wait` does. The reusable owns the pool with others.
     ///
     /// # Errors
     ///
-    /// As `pull_wait`; `Memory` too, where the pool can have no more owners: it doesn't wait then.
+    /// As `pull_wait`, and at once `Memory` if the pool can have no more owners.
     pub fn pull_owned_wait<W: Wait>(
         self: &Arc<Self>,
         rt: &W,
@@ -293,11 +295,11 @@ impl<T: Drop, I: Init<T, K>, R: Reset<T, K>, K: Clean<T>> LazyObjectPool<T, I, R
         Ok(LazyOwnedReusable::new(owner, item))
     }
 
-    /// As `pull_timeout`, with a reusable that owns the pool with others.
+    /// Pulls an item as `pull_timeout` does. The reusable owns the pool with others.
     ///
     /// # Errors
     ///
-    /// As `pull_timeout`; `Memory` too, where the pool can have no more owners: it doesn't wait then.
+    /// As `pull_timeout`, and at once `Memory` if the pool can have no more owners.
     pub fn pull_owned_timeout<W: Wait + Clock>(
         self: &Arc<Self>,
         rt: &W,
@@ -325,12 +327,12 @@ impl<T: Drop, I: Init<T, K>, R: Reset<T, K>, K: Clean<T>> LazyObjectPool<T, I, R
         }
     }
 
-    /// Makes items until the pool has so many, by number, and brings each back at once. A place that another call has meanwhile is
-    /// passed by, and so is one that has an item.
+    /// Makes items, by number, until the pool has `items` of them. It takes one empty place at a time, and passes over those that
+    /// another call has meanwhile.
     ///
     /// # Errors
     ///
-    /// `Init`, where `init` answered `None`. What was made until then stays.
+    /// `Init` if `init` returned `None`. The items made until then stay.
     pub fn fill(&self, items: usize) -> Result<(), PullError>
         ensures refused { IfErr result (RefusesWaiting (I.answers (lazy_init self.now) None)) }
     {
@@ -357,7 +359,7 @@ impl<T: Drop, I: Init<T, K>, R: Reset<T, K>, K: Clean<T>> LazyObjectPool<T, I, R
         Ok(())
     }
 
-    /// A note of this pool, which knows its history up to now.
+    /// Returns a note of this pool, which knows its history up to now.
     pub fn note(&self) -> PoolNote<Option<T>>
         ensures { IsNoteOf (lazy_identity self.now) (lazy_opening self.now) result }
     {
@@ -373,7 +375,7 @@ impl<T: Drop, I: Init<T, K>, R: Reset<T, K>, K: Clean<T>> LazyObjectPool<T, I, R
         self.places.shared.tell(note, other);
     }
 
-    /// The item of a place that was taken. Where that is empty, its value is made; a refusal brings the empty place back.
+    /// Returns the item of a place that was taken, and makes its value if the place is empty.
     fn item(&self, pulled: PulledItem<Option<T>>) -> Result<LazyItem<T>, PullError>
         requires pulled { IsPulledFrom (lazy_identity self.now) (lazy_opening self.now)
             (pulled_item pulled) }
@@ -393,7 +395,7 @@ impl<T: Drop, I: Init<T, K>, R: Reset<T, K>, K: Clean<T>> LazyObjectPool<T, I, R
         }
     }
 
-    /// Makes the value of an empty place that was taken. A refusal brings the place back.
+    /// Makes the value of an empty place that was taken. If `init` refuses, the place is returned.
     #[cold]
     fn make(&self, holding: Holding<Option<T>>) -> Result<LazyItem<T>, PullError>
         requires pulled { IsPulledFrom (lazy_identity self.now) (lazy_opening self.now)
@@ -418,7 +420,7 @@ impl<T: Drop, I: Init<T, K>, R: Reset<T, K>, K: Clean<T>> LazyObjectPool<T, I, R
         }
     }
 
-    /// Resets the value of an item, brings it back, and wakes one that waits.
+    /// Resets the value of an item, returns it, and wakes one that waits.
     pub(crate) fn give(&self, holding: Holding<Option<T>>, value: T) -> PoolNote<Option<T>>
         requires of_pool { holding_page holding ≡ lazy_identity self.now }
         requires in_pool { holding.number < lazy_items self.now }
@@ -430,8 +432,8 @@ impl<T: Drop, I: Init<T, K>, R: Reset<T, K>, K: Clean<T>> LazyObjectPool<T, I, R
         self.bring_back(holding, Some(left))
     }
 
-    /// Brings an item's place back empty, and wakes one that waits. The item counts as made no more.
-    pub(crate) fn give_up(&self, holding: Holding<Option<T>>) -> PoolNote<Option<T>>
+    /// Returns the place of an item without its value, and wakes one that waits. The item no longer counts as made.
+    pub(crate) fn leave_empty(&self, holding: Holding<Option<T>>) -> PoolNote<Option<T>>
         requires of_pool { holding_page holding ≡ lazy_identity self.now }
         requires in_pool { holding.number < lazy_items self.now }
         ensures { IsReturned (held_item holding None) result }
@@ -440,7 +442,7 @@ impl<T: Drop, I: Init<T, K>, R: Reset<T, K>, K: Clean<T>> LazyObjectPool<T, I, R
         self.bring_back(holding, None)
     }
 
-    /// Brings a place back with what lies there, and wakes one that waits.
+    /// Returns a place with what lies there, and wakes one that waits.
     fn bring_back(&self, holding: Holding<Option<T>>, place: Option<T>) -> PoolNote<Option<T>>
         requires of_pool { holding_page holding ≡ lazy_identity self.now }
         requires in_pool { holding.number < lazy_items self.now }

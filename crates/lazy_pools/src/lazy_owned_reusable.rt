@@ -4,7 +4,7 @@ use crate::lazy_reusable::LazyReusableOf;
 use pool_parts::clean::AnyValue;
 use std::sync::Arc;
 
-/// A pulled value, with an owner of its pool. Its drop resets it and brings it back.
+/// A pulled value, with an owner of its pool. Its drop resets it and returns it.
 pub type LazyOwnedReusable<T, I, R, K = AnyValue> = LazyReusableOf<
     T,
     Arc<LazyObjectPool<T, I, R, K>>,

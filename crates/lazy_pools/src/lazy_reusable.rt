@@ -40,14 +40,14 @@ pub trait SharedLazyPool<T>: Drop {
         ensures same_view { holding_view holding.new ≡ holding_view holding.old }
         ensures same_number { holding.new.number ≡ holding.old.number };
 
-    /// Resets the value of an item and brings it back.
+    /// Resets the value of an item and returns it.
     fn give(&self, holding: Holding<Option<T>>, value: T) -> PoolNote<Option<T>>
         requires of_pool { holding_page holding ≡ identity self.now }
         requires in_pool { holding.number < (identity self.now).slots }
         ensures { IsBroughtBack (leaves self.now) (held_place holding value) value result };
 
-    /// Brings an item's place back empty.
-    fn give_up(&self, holding: Holding<Option<T>>) -> PoolNote<Option<T>>
+    /// Returns the place of an item without its value.
+    fn leave_empty(&self, holding: Holding<Option<T>>) -> PoolNote<Option<T>>
         requires of_pool { holding_page holding ≡ identity self.now }
         requires in_pool { holding.number < (identity self.now).slots }
         ensures { IsReturned (held_item holding None) result };
@@ -75,12 +75,12 @@ impl<T: Drop, I: Init<T, K>, R: Reset<T, K>, K: Clean<T>> SharedLazyPool<T>
         LazyObjectPool::give(*self, holding, value)
     }
 
-    fn give_up(&self, holding: Holding<Option<T>>) -> PoolNote<Option<T>>
+    fn leave_empty(&self, holding: Holding<Option<T>>) -> PoolNote<Option<T>>
         requires of_pool { holding_page holding ≡ lazy_identity self.now.now }
         requires in_pool { holding.number < (lazy_identity self.now.now).slots }
         ensures { IsReturned (held_item holding None) result }
     {
-        LazyObjectPool::give_up(*self, holding)
+        LazyObjectPool::leave_empty(*self, holding)
     }
 }
 
@@ -106,12 +106,12 @@ impl<T: Drop, I: Init<T, K>, R: Reset<T, K>, K: Clean<T>> SharedLazyPool<T>
         (**self).give(holding, value)
     }
 
-    fn give_up(&self, holding: Holding<Option<T>>) -> PoolNote<Option<T>>
+    fn leave_empty(&self, holding: Holding<Option<T>>) -> PoolNote<Option<T>>
         requires of_pool { holding_page holding ≡ lazy_identity (arc_value self.now) }
         requires in_pool { holding.number < (lazy_identity (arc_value self.now)).slots }
         ensures { IsReturned (held_item holding None) result }
     {
-        (**self).give_up(holding)
+        (**self).leave_empty(holding)
     }
 }
 
@@ -136,14 +136,14 @@ impl<T, P: SharedLazyPool<T>> Model for TakenPlace<T, P> {
         × (taken.holding.number < (P.identity taken.pool).slots) };
 }
 
-/// A pulled value, with a shared pool. Its drop resets it and brings it back to the pool.
+/// A pulled value, with a shared pool. Its drop resets it and returns it to the pool.
 pub struct LazyReusableOf<T: Drop, P: SharedLazyPool<T>> {
     lender: Lender,
     taken: TakenPlace<T, P>,
     value: T,
 }
 
-/// A pulled value, under a borrow of its pool. Its drop resets it and brings it back.
+/// A pulled value, under a borrow of its pool. Its drop resets it and returns it.
 pub type LazyReusable<'p, T, I, R, K = AnyValue> = LazyReusableOf<
     T,
     &'p LazyObjectPool<T, I, R, K>,
@@ -175,7 +175,7 @@ impl<T: Drop, P: SharedLazyPool<T>> LazyReusableOf<T, P> {
         }
     }
 
-    /// The number of the item in its pool, counted from 0.
+    /// Returns the number of the item in its pool, counted from 0.
     pub fn number(&self) -> usize
         ensures value { result ≡ (lazy_place self.now).id }
         ensures in_pool { result < (P.identity (lazy_pool self.now)).slots }
@@ -184,14 +184,14 @@ impl<T: Drop, P: SharedLazyPool<T>> LazyReusableOf<T, P> {
         self.taken.holding.number
     }
 
-    /// The number of the item's page in the pool, counted from 0.
+    /// Returns the number of the item's page in the pool, counted from 0.
     pub fn page_number(&self) -> usize
         ensures { result ≡ (lazy_place self.now).id / 32 }
     {
         self.taken.holding.number / PAGE_ITEMS
     }
 
-    /// The number of the item in its page.
+    /// Returns the number of the item in its page.
     pub fn page_id(&self) -> PageId
         ensures value { result ≡ (lazy_place self.now).id % 32 }
         ensures in_page { result < PAGE_ITEMS }
@@ -199,7 +199,7 @@ impl<T: Drop, P: SharedLazyPool<T>> LazyReusableOf<T, P> {
         (self.taken.holding.number % PAGE_ITEMS) as PageId
     }
 
-    /// What the holder knows of the pool, for another to be told. It costs one load.
+    /// Returns a witness of what the holder knows of the pool. It costs one load.
     pub fn witness(&mut self) -> Witness<Option<T>>
         ensures pool { witness_page result ≡ (lazy_place self.old).page }
         ensures history { witness_history result ≡ (lazy_place self.old).history }
@@ -210,7 +210,7 @@ impl<T: Drop, P: SharedLazyPool<T>> LazyReusableOf<T, P> {
         taken.pool.witness(&mut taken.holding)
     }
 
-    /// Resets the value and brings it back, as the end does. The note knows the pool's history up to this return.
+    /// Resets the value and returns it, as the drop does. The note knows the pool's history up to this return.
     pub fn give_back(self) -> PoolNote<Option<T>>
         ensures { IsBroughtBack (P.leaves (lazy_pool self)) (lazy_place self) (lazy_value self) result }
     {
@@ -223,8 +223,8 @@ impl<T: Drop, P: SharedLazyPool<T>> LazyReusableOf<T, P> {
         pool.give(holding, value)
     }
 
-    /// Drops the value, with no reset, and leaves its place empty: a later pull makes an item there. The note knows the pool's
-    /// history up to now.
+    /// Drops the value without a reset. Its place is empty, and a later pull makes an item there. The note knows the pool's history
+    /// up to this return.
     pub fn discard(self) -> PoolNote<Option<T>>
         ensures { IsReturned (item_with (lazy_place self) None) result }
     {
@@ -233,14 +233,14 @@ impl<T: Drop, P: SharedLazyPool<T>> LazyReusableOf<T, P> {
         note
     }
 
-    /// The value, which leaves its pool for good, with no reset. Its place is empty: a later pull makes an item there.
+    /// Takes the value out of its pool without a reset. Its place is empty, and a later pull makes an item there.
     pub fn detach(self) -> T
         ensures { result ≡ lazy_value self }
     {
         self.take_out().0
     }
 
-    /// The value, and the note of its place, which is empty.
+    /// Takes the value out, and returns its place empty.
     fn take_out(self) -> (T, PoolNote<Option<T>>)
         ensures value { result.0 ≡ lazy_value self }
         ensures returned { IsReturned (item_with (lazy_place self) None) result.1 }
@@ -251,7 +251,7 @@ impl<T: Drop, P: SharedLazyPool<T>> LazyReusableOf<T, P> {
             value,
         } = self;
         let TakenPlace { pool, holding } = taken;
-        let note = pool.give_up(holding);
+        let note = pool.leave_empty(holding);
         (value, note)
     }
 }

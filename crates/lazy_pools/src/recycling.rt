@@ -21,7 +21,7 @@ impl<T: Recyclable> LazyPool<T> {
     ghost use Rattle.lazy_pools.specs.LazyPool.{lazy_items};
     ghost use Rattle.pool_parts.specs.Refusal.{RefusesMaking};
 
-    /// A pool of so many places, all empty: it makes no value.
+    /// Creates a pool of `items` empty places. It makes no value.
     ///
     /// # Errors
     ///

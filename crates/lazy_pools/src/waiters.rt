@@ -1,21 +1,22 @@
-//! Threads that wait until an item comes back.
+//! Threads that wait until an item is returned: an event count of two words.
 //!
-//! A waiter announces itself, looks how often a return was told of, tries once more, and only then sleeps, unless a return was told
-//! of since it looked. A return sets its item's bit, and then reads whether anybody waits. Every step is sequentially consistent:
-//! where a waiter's try has missed the item, it tried before the bit was set, so the return finds the waiter announced, and the
-//! waiter finds the return told of. A return to which nobody waits makes one load more, of a word that nobody writes then.
+//! A waiter counts itself, reads how many returns were told, tries once more, and sleeps only if no return was told since. A return
+//! sets the bit of its item, and then reads whether anybody waits. Each step is sequentially consistent. So if a waiter's try missed
+//! the item, the return finds the waiter counted, and the waiter finds the return told. While nobody waits, a return costs one load
+//! more, of a word that nobody writes.
 //!
-//! A waiter that gives up may have been the one that a return woke, so it wakes the next one. No contract says any of this.
+//! A waiter that gives up may have been woken in place of another, so it wakes one. No contract says any of this:
+//! `ci/waiting_model` explores these steps.
 use std::sync::Wait;
 use std::sync::atomic::AtomicU64;
 use std::sync::atomic::Ordering::SeqCst;
 use std::time::Duration;
 
-/// How many threads wait for an item, and how often one was told of a return.
+/// How many threads wait for an item, and how many returns were told.
 #[derive(Drop)]
 pub(crate) struct Waiters {
     waiting: AtomicU64,
-    /// It may wrap: a sleep misses a return only where 2^32 others come between its look and its sleep.
+    /// It may wrap. A sleep misses a return only if 2^32 others come between its look and its sleep.
     told: AtomicU64,
 }
 
@@ -28,28 +29,28 @@ impl Waiters {
         }
     }
 
-    /// One more waits. From now on each return tells.
+    /// Counts one more that waits. From now on each return tells.
     pub(crate) fn enter(&self) {
         self.waiting.fetch_add(1, SeqCst);
     }
 
-    /// One that waited has its item.
+    /// Counts one less, which has its item.
     pub(crate) fn leave(&self) {
         self.waiting.fetch_sub(1, SeqCst);
     }
 
-    /// One that waited goes without an item, and wakes another, since a return may have woken it in place of that one.
+    /// Counts one less, which has no item, and wakes another.
     pub(crate) fn give_up(&self) {
         self.leave();
         self.tell();
     }
 
-    /// What a sleep is to be told, which is looked at before the last try.
+    /// Returns the number of returns told, which a waiter reads before its try and hands to its sleep.
     pub(crate) fn seen(&self) -> u32 {
         (self.told.load(SeqCst) & 0xffff_ffff) as u32
     }
 
-    /// Sleeps until a return is told of, unless one was since the look. It may also end for no reason.
+    /// Sleeps until a return is told, unless one was since `seen`. It may also end for no reason.
     pub(crate) fn sleep<W: Wait>(&self, rt: &W, seen: u32) {
         self.told.park(rt, seen);
     }
@@ -59,7 +60,7 @@ impl Waiters {
         self.told.park_timeout(rt, seen, time);
     }
 
-    /// An item came back: wakes one that waits for it. Its bit is set already.
+    /// Wakes one that waits, after the bit of an item was set.
     #[inline(always)]
     pub(crate) fn tell(&self) {
         if self.waiting.load(SeqCst) != 0 {

@@ -83,7 +83,17 @@ module _ {T : Type 0} where
         (goes_on_further [] one.0 two.0 last.0 behind.goes_on before.goes_on);
   }
 
-  -- the same, where the segment before the first page was seen before the one behind it
+  -- the segment before a page, and then the one behind it
+  pub missed_both : (page pages words : ℕ) (one middle last : User T) → pages ≡ words
+      → MissesAll 0 (32 * page) one middle → MissesAll (32 * (page + 1)) (32 * pages) middle last
+      → MissesBoth page words one last
+  missed_both page pages words one middle last same before behind = record {
+    middle = middle;
+    before = before;
+    behind = subst (λ count. MissesAll (32 * (page + 1)) (32 * count) middle last) same behind;
+  }
+
+  -- what a user has seen out round the whole pool, where the segment before the first page came before the one behind it
   pub missed_low : (page words slots : ℕ) (start one last : User T) → slots ≤ 32 * words
       → MissesAll (32 * page) (32 * page + 32) start one → MissesBoth page words one last
       → MissesAll 0 slots start last

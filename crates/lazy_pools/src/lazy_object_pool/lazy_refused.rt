@@ -4,8 +4,8 @@ use nonblocking_pools::fixed_object_pool::BusySeen;
 /// Why [`super::LazyObjectPool::try_pull`] gave no item.
 #[derive(Drop)]
 pub enum LazyRefused<'p, T> {
-    /// Each item was observed taken.
+    /// Each item was in use at some moment of the call.
     Busy(BusySeen<'p, Option<T>>),
-    /// `init` answered `None`. The place is free again, and empty.
+    /// `init` returned `None`. The place is free again, and empty.
     NotMade,
 }

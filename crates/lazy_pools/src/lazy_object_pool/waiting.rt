@@ -1,4 +1,4 @@
-//! How a pull of a lazy pool waits for a place that comes back.
+//! How a pull of a lazy pool waits for a place to be returned.
 ghost use Rattle.std.specs.Prelude.{IfSome};
 
 use super::LazyObjectPool;
@@ -14,7 +14,7 @@ impl<T: Drop, I: Init<T, K>, R: Reset<T, K>, K: Clean<T>> LazyObjectPool<T, I, R
     ghost use Rattle.nonblocking_pools.specs.FixedAnswer.{IsPulledFrom};
     ghost use Rattle.nonblocking_pools.specs.FixedItem.{pulled_item};
 
-    /// A place that is free, or the first one that comes back.
+    /// Takes a free place, or waits until one is returned.
     pub(super) fn place_waiting<W: Wait>(&self, rt: &W) -> PulledItem<Option<T>>
         ensures pulled { IsPulledFrom (lazy_identity self.now) (lazy_opening self.now)
             (pulled_item result) }
@@ -26,8 +26,8 @@ impl<T: Drop, I: Init<T, K>, R: Reset<T, K>, K: Clean<T>> LazyObjectPool<T, I, R
         }
     }
 
-    /// As `place_waiting`, for so long at most. `None` after the time, where the last try found no place free. A clock that can't
-    /// be read ends the wait.
+    /// Takes a free place, or waits for `time` at most. `None` if the last try found no place free. A clock that can't be read ends
+    /// the wait.
     pub(super) fn place_within<W: Wait + Clock>(
         &self,
         rt: &W,
@@ -44,7 +44,7 @@ impl<T: Drop, I: Init<T, K>, R: Reset<T, K>, K: Clean<T>> LazyObjectPool<T, I, R
         }
     }
 
-    /// A place that is free now.
+    /// Takes a place that is free now.
     #[inline(always)]
     fn place_now(&self) -> Option<PulledItem<Option<T>>>
         ensures pulled { IfSome result (λ pulled.
@@ -55,7 +55,7 @@ impl<T: Drop, I: Init<T, K>, R: Reset<T, K>, K: Clean<T>> LazyObjectPool<T, I, R
         self.places.pull().ok()
     }
 
-    /// The first place that a thread gets which announces itself, and tries again each time that a return wakes it.
+    /// Waits for a place: the thread counts as waiting, and tries again each time that a return wakes it.
     fn place_later<W: Wait>(&self, rt: &W) -> PulledItem<Option<T>>
         ensures pulled { IsPulledFrom (lazy_identity self.now) (lazy_opening self.now)
             (pulled_item result) }
@@ -73,7 +73,7 @@ impl<T: Drop, I: Init<T, K>, R: Reset<T, K>, K: Clean<T>> LazyObjectPool<T, I, R
         unreachable!()
     }
 
-    /// As `place_later`, for so long at most.
+    /// Waits for a place as `place_later` does, for `time` at most.
     fn place_soon<W: Wait + Clock>(&self, rt: &W, time: Duration) -> Option<PulledItem<Option<T>>>
         ensures pulled { IfSome result (λ pulled.
             IsPulledFrom (lazy_identity self.now) (lazy_opening self.now) (pulled_item pulled)) }
@@ -98,7 +98,7 @@ impl<T: Drop, I: Init<T, K>, R: Reset<T, K>, K: Clean<T>> LazyObjectPool<T, I, R
     }
 }
 
-/// What is left of a time since its start: `None` where none is, or where the clock can't be read.
+/// Returns what is left of a time since its start: `None` if nothing is, or if the clock can't be read.
 fn left_of<C: Clock>(clock: &C, start: Option<Instant>, time: Duration) -> Option<Duration> {
     let gone = start?.elapsed(clock).ok()?;
     let left = time.checked_sub(gone)?;

@@ -21,8 +21,7 @@ returns-clause-outcome g c =
 pub returns-in-LowFirst-clause-outcome : goal.returns-in-LowFirst-clause-outcome
 returns-in-LowFirst-clause-outcome g c =
     let items = c.args.self.now in
+    let own = c.in_default.ensures.outcome in
     match_option _ _ _ _ _
-    (missed_low c.args.start items.pages _ _ _ _ (omega (arith, items.counted, items.paged, items.shared.covered))
-    c.in_default.ensures.outcome)
-    (λ taken. takes_after g.K.Clean.meets _ _ _ _ _ _ _ _ c.in_default.ensures.outcome)
-    c.take_low.ensures.outcome
+    (missed_low c.args.start items.shared.table.shared.table_id.words _ _ _ _ (omega (arith, items.shared.covered)) own)
+    (λ taken. takes_after g.K.Clean.meets _ _ _ _ _ _ _ _ own) c.take_low.ensures.outcome
