@@ -8,6 +8,7 @@ FILE is the picture, and TABLE what `in_one_process` prints. It needs matplotlib
 import sys
 from collections.abc import Iterable
 from datetime import date
+from itertools import takewhile
 from pathlib import Path
 from typing import NamedTuple
 
@@ -57,10 +58,10 @@ def cells(line: str) -> list[str]:
 
 
 def read(lines: Iterable[str]) -> tuple[list[int], list[Curve]]:
-    """How many items are held in each column of a table, and a curve for each of its rows. Columns of threads are left out."""
-    header, _, *rows = [cells(line) for line in lines]
-    counts = [name.removesuffix(" held").replace(",", "") for name in header[1:] if "threads" not in name]
-    held = [int(count) for count in counts]
+    """How many items are held in each column of the first table, and a curve for each of its rows. Other columns are left out."""
+    header, _, *rows = [cells(line) for line in takewhile(str.strip, lines)]
+    counts = [name.removesuffix(" held").replace(",", "") for name in header[1:]]
+    held = [int(count) for count in counts if count.isdigit()]
     curves = [Curve(name.replace("`", ""), [float(cell) for cell in row[: len(held)]]) for name, *row in rows]
     return held, curves
 

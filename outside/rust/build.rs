@@ -1,4 +1,5 @@
-//! Links the static library: the one of a package, in its folder `lib`, or the one that `outside/library` builds.
+//! Links the static library: the one of a package, in its folder `lib`, or the one that
+//! `outside/library` builds.
 use std::env;
 use std::path::{Path, PathBuf};
 

@@ -9,6 +9,7 @@
 //! - [`handed_on`]: a function that hands a pulled item on.
 //! - [`stores`]: types that keep a pool.
 //! - [`shared`]: two threads that read one item.
+//! - [`waiting`]: items that are made when they are needed, and a pull that waits.
 
 mod attached;
 mod basket;
@@ -18,4 +19,5 @@ mod scratch;
 mod shared;
 mod stores;
 mod tickets;
+mod waiting;
 mod writers;

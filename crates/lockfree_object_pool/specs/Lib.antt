@@ -36,3 +36,7 @@ pub use Rattle.nonblocking_pools.specs.NoneLends
 pub use Rattle.nonblocking_pools.specs.NonePool
 pub use Rattle.nonblocking_pools.specs.PoolAndHolding
 pub use Rattle.nonblocking_pools.specs.StepCount
+pub use Rattle.lazy_pools.specs.LazyAnswer
+pub use Rattle.lazy_pools.specs.LazyLends
+pub use Rattle.lazy_pools.specs.LazyPool
+pub use Rattle.lazy_pools.specs.LazyReusable

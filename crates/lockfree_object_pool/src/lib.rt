@@ -1,7 +1,7 @@
 //! Object pools with automatic return: a used object is kept and handed out again.
 //!
-//! A port of the Rust crate `lockfree-object-pool` 0.1.6 to Rattle. The pools that never wait stand in `nonblocking_pools`, and what
-//! all are made of below that; each name is here too.
+//! A port of the Rust crate `lockfree-object-pool` 0.1.6 to Rattle. The pools that never wait stand in `nonblocking_pools`, the one
+//! whose items are made when they are needed in `lazy_pools`, and what all are made of below these; each name is here too.
 #![tactic(auto)]
 
 pub mod free_list;
@@ -16,6 +16,10 @@ pub mod spin_lock_reusable;
 pub mod stack_object_pool;
 pub mod stack_reusable;
 
+pub use lazy_pools::{
+    LazyObjectPool, LazyOwnedReusable, LazyReusable, lazy_object_pool, lazy_owned_reusable,
+    lazy_reusable,
+};
 pub use mutex_object_pool::MutexObjectPool;
 pub use mutex_owned_reusable::MutexOwnedReusable;
 pub use mutex_reusable::MutexReusable;

@@ -1,7 +1,7 @@
 //! Values that say themselves how they are made and reset, and the pools of them.
 //!
-//! One impl of [`Recyclable`] is all that a type needs, and [`Pool`], [`FixedPool`], [`MutexPool`] and [`SpinLockPool`] name its
-//! pools.
+//! One impl of [`Recyclable`] is all that a type needs, and [`Pool`], [`FixedPool`], [`LazyPool`], [`MutexPool`] and
+//! [`SpinLockPool`] name its pools.
 ghost use Rattle.std.specs.Prelude.{IfErr};
 
 use crate::mutex_object_pool::MutexObjectPool;
@@ -10,6 +10,7 @@ use crate::mutex_reusable::MutexReusable;
 use crate::spin_lock_object_pool::SpinLockObjectPool;
 use crate::spin_lock_owned_reusable::SpinLockOwnedReusable;
 use crate::spin_lock_reusable::SpinLockReusable;
+pub use lazy_pools::recycling::{LazyPool, LazyPoolOwnedReusable, LazyPoolReusable};
 pub use nonblocking_pools::recycling::{
     FixedPool, FixedPoolOwnedReusable, FixedPoolReusable, OwnedReusable, Pool, Recyclable,
     Recycler, Reusable,

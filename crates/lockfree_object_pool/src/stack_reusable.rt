@@ -146,7 +146,8 @@ impl<T: Drop, P: SharedStackPool<T>, W: ReturnPermission<T, P>> Deref for StackR
     }
 }
 
-impl<T: Drop, P: SharedStackPool<T>, W: ReturnPermission<T, P>> DerefMut for StackReusable<T, P, W> {
+impl<T: Drop, P: SharedStackPool<T>, W: ReturnPermission<T, P>> DerefMut
+    for StackReusable<T, P, W> {
     ghost use Rattle.std.specs.Borrow.{sem};
     ghost use Rattle.lockfree_object_pool.specs.StackLends.{LendsStackValue};
     ghost use Rattle.lockfree_object_pool.specs.StackPool.{stack_value};
@@ -176,7 +177,8 @@ impl<T: Drop, P: SharedStackPool<T>, W: ReturnPermission<T, P>> Drop for StackRe
     }
 }
 
-impl<T: Debug + Drop, P: SharedStackPool<T>, W: ReturnPermission<T, P>> Debug for StackReusable<T, P, W> {
+impl<T: Debug + Drop, P: SharedStackPool<T>, W: ReturnPermission<T, P>> Debug
+    for StackReusable<T, P, W> {
     ghost use Rattle.lockfree_object_pool.specs.StackPool.{stack_value};
 
     ghost debug_output = { λ reusable. T.debug_output (stack_value reusable) };

@@ -1,5 +1,5 @@
 -- What a pool answers, told by what the answer shows and no longer by its user's view.
-use Rattle.std.proofs.Common.{◌≡◌, List, Option, [], ◌∷◌, ℕ, ◌+◌, ◌*◌, ◌<◌, ◌≤◌, None, ap, ◌∙◌, sym, subst}
+use Rattle.std.proofs.Common.{◌≡◌, List, Option, [], ◌∷◌, ℕ, ◌+◌, ◌*◌, ◌<◌, ◌≤◌, None, Some, MatchOption, ap, ◌∙◌, sym, subst}
 use Rattle.std.proofs.Common.{arith, inl, inr}
 use Rattle.std.proofs.lemmas.Bool.{cases_lt}
 use Rattle.atomic_table.specs.Seated.{TableId}
@@ -8,6 +8,7 @@ use Rattle.pool_parts.specs.declared.page.note.PageNote.{PageNote}
 use Rattle.pool_parts.specs.declared.page.user_view.UserView.{UserView}
 use Rattle.nonblocking_pools.specs.FixedAnswer.{IsPulledWith, IsFullSince, FoundFull, returns_between, returns_since}
 use Rattle.nonblocking_pools.specs.FixedCount.{FindsFull}
+use Rattle.nonblocking_pools.specs.LowFirst.{MissesBoth}
 use Rattle.nonblocking_pools.specs.StepCount.{StepCount, IsWithin, steps_of}
 use Rattle.pool_parts.specs.Note.{note_view}
 use Rattle.pool_parts.specs.FullSeen.{FoundAllOut}
@@ -16,6 +17,13 @@ use Rattle.pool_parts.specs.PageRule.{User, StartsFrom, LoadsOn, IsSound, KnowsO
 use Rattle.pool_parts.specs.Taking.{MissesAll, TakesOne}
 use Rattle.pool_parts.proofs.Ledger.{goes_on_further, still_out, out_longer, legal_of}
 use Rattle.pool_parts.proofs.PageAnswers.{pulled_after, found_out, was_out_from, knows_out}
+
+-- an answer that shows this also shows that
+pub match_option : {A : Type 0} (answer : Option A) (none none_then : Type 0) (some some_then : A → Type 0)
+    → (none → none_then) → ((value : A) → some value → some_then value) → MatchOption answer none some
+    → MatchOption answer none_then some_then
+match_option None none none_then some some_then of_none of_some shown = of_none shown
+match_option (Some value) none none_then some some_then of_none of_some shown = of_some value shown
 
 module _ {T : Type 0} where
   -- what a user did in vain, and then a further load
@@ -74,6 +82,33 @@ module _ {T : Type 0} where
     goes_on = goes_on_further [] start.0 one.0 last.0 own.goes_on
         (goes_on_further [] one.0 two.0 last.0 behind.goes_on before.goes_on);
   }
+
+  -- the same, where the segment before the first page was seen before the one behind it
+  pub missed_low : (page words slots : ℕ) (start one last : User T) → slots ≤ 32 * words
+      → MissesAll (32 * page) (32 * page + 32) start one → MissesBoth page words one last
+      → MissesAll 0 slots start last
+  missed_low page words slots start one last covered own others =
+      let middle = others.middle in
+      let before = others.before in
+      let behind = others.behind in
+      record {
+        holds_same = behind.holds_same ∙ before.holds_same ∙ own.holds_same;
+        carries_same = behind.carries_same ∙ before.carries_same ∙ own.carries_same;
+        each_was_out = λ id _ within. elim (cases_lt id (32 * page)) [
+          | inl low ↦ out_longer last.0.opening start.0.operations one.0.operations last.0.operations id
+              own.goes_on.operations
+              (still_out one.0.operations middle.0 last.0 id behind.goes_on (before.each_was_out id (omega arith) low))
+          | inr high ↦ elim (cases_lt id (32 * page + 32)) [
+            | inl here ↦ still_out start.0.operations middle.0 last.0 id behind.goes_on
+                (still_out start.0.operations one.0 middle.0 id before.goes_on (own.each_was_out id (omega arith) here))
+            | inr past ↦ out_longer last.0.opening start.0.operations middle.0.operations last.0.operations id
+                (goes_on_further [] start.0 one.0 middle.0 own.goes_on before.goes_on).operations
+                (behind.each_was_out id (omega arith) (omega arith))
+          ]
+        ];
+        goes_on = goes_on_further [] start.0 one.0 last.0 own.goes_on
+            (goes_on_further [] one.0 middle.0 last.0 before.goes_on behind.goes_on);
+      }
 
   -- the item that a pull by a note took
   pub item_pulled_with : (meets : T → Type 0) (pool : TableId) (note : PageNote T) (start known : User T)

@@ -1,12 +1,13 @@
 -- What a linear pool and its reusables show.
-use Rattle.std.specs.Prelude.{◌≡◌, ℕ, ◌<◌, Option, None, IfSome, IsSome}
+use Rattle.std.specs.Prelude.{◌≡◌, ℕ, ◌<◌, List, Option, None, IfSome, IsSome}
 use Rattle.std.specs.Arc.{arc_value}
 use Rattle.std.specs.Option.{option_map}
 use Rattle.atomic_table.specs.Seated.{TableId}
 use Rattle.pool_parts.specs.Answers.{IsAnswer, IsMadeOrReset}
 use Rattle.pool_parts.specs.Holding.{held_item}
 use Rattle.pool_parts.specs.Item.{Item, HasOrigin}
-use Rattle.page_chain.specs.LinearPage.{first_page}
+use Rattle.page_chain.specs.LinearPage.{first_page, first_opening}
+use Rattle.pool_parts.specs.Note.{IsPulledAfter}
 use Rattle.pool_parts.specs.Refusal.{Causes}
 use Rattle.pool_parts.specs.Slot.{taken_item}
 use Rattle.page_chain.specs.Walk.{Start, start_of, number_of, IsWalkedTo, IsRefusedBy}
@@ -18,6 +19,7 @@ use Rattle.page_chain.specs.declared.linear_page.page_number.PageNumber.{PageNum
 use Rattle.page_chain.specs.declared.linear_page.walk.WalkRefusal.{WalkRefusal}
 use Rattle.nonblocking_pools.specs.declared.linear_reusable.LinearReusable.{LinearReusable}
 use Rattle.pool_parts.specs.declared.made_or_reset.MadeOrReset.{MadeOrReset}
+use Rattle.pool_parts.specs.declared.page.note.PageNote.{PageNote}
 use Rattle.pool_parts.specs.declared.page.TheConstants.{PAGE_ITEMS}
 
 -- how many pages a limit allows
@@ -40,6 +42,10 @@ module _ {T I R K : Type 0} where
   -- which page the pool's first one is
   abbrev pub pool_first_page : LinearObjectPool T I R K → TableId
   pool_first_page pool = first_page pool.chain
+
+  -- the values that the pool's first page opened with, by id
+  abbrev pub pool_first_opening : LinearObjectPool T I R K → List (Option T)
+  pool_first_opening pool = first_opening pool.chain
 
   -- where a pull begins: at the pool's first page, with number 0
   abbrev pub pool_start : LinearObjectPool T I R K → Start
@@ -97,11 +103,25 @@ module _ {T I R K : Type 0} where
     pub in_page : item.id < PAGE_ITEMS
     pub on_page : IsOnPage pool number item
     pub of_first : number_of number ≡ 0 → item.page ≡ pool_first_page pool
+    -- the histories of two items of the first page begin with the same values
+    pub same_opening : number_of number ≡ 0 → item.opening ≡ pool_first_opening pool
     pub within : IfSome (pool_limit pool) (λ pages. number_of number < pages)
     -- the value that lay there by the page's history, which opened with answers of init
     pub history : HasOrigin (IsAnswer answers) item
     pub meets_condition : meets item.value
     pub made_or_reset : IsMadeOrReset answers leaves item.value
+
+  -- what a pull by a note of the first page gives: an item of that page, pulled after all that the note knew; or one of a
+  -- later page, as any pull gives it
+  pub record PullsAfter (meets : T → Type 0) (answers : I → Option T → Type 0) (leaves : R → T → T → Type 0)
+      (pool : LinearObjectPool T I R K) (note : PageNote T) (number : PageNumber T (MadeOrReset I R K) (AnswerOf I K))
+      (item : Item T) : Type 0 where
+    pub in_page : item.id < PAGE_ITEMS
+    pub meets_condition : meets item.value
+    pub made_or_reset : IsMadeOrReset answers leaves item.value
+    pub of_first : number_of number ≡ 0 → item.page ≡ pool_first_page pool
+    pub after_note : number_of number ≡ 0 → IsPulledAfter note item
+    pub further : 0 < number_of number → Pulls meets answers leaves pool number item
 
   -- why a pull has no item, and what it saw: each page up to the pool's limit was found full in it, or no further page
   -- could be made

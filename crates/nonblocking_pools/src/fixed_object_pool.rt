@@ -10,6 +10,7 @@ ghost use Rattle.pool_parts.specs.declared.pull_error.PullError.TheVariants.{Mem
 use crate::fixed_owned_reusable::FixedOwnedReusable;
 use crate::fixed_reusable::FixedReusable;
 use items::FixedItems;
+use items::order::Order;
 use pool_parts::PullError;
 use pool_parts::clean::{AnyValue, Clean};
 use pool_parts::closures::{Init, Reset};
@@ -20,7 +21,7 @@ use std::alloc::Global;
 use std::fmt::{self, Debug, Formatter, Write};
 use std::sync::Arc;
 
-pub(crate) mod items;
+pub mod items;
 
 /// What is known of a fixed pool's history while no item is held. It has no bytes.
 pub type PoolNote<T> = PageNote<T>;
@@ -86,7 +87,7 @@ impl<T: Drop, I: Init<T, K>, R: Reset<T, K>, K: Clean<T>> FixedObjectPool<T, I, 
         ensures refused { IfErr result (RefusesMaking (I.answers init None)) }
     {
         let maker = &init;
-        let items = FixedItems::new(alloc, items, &|| maker.make())?;
+        let items = FixedItems::new(alloc, items, Order::Round, &|| maker.make())?;
         Ok(FixedObjectPool { reset, items })
     }
 

@@ -2,7 +2,7 @@
 //!
 //! A pull takes a free item of the first page, or of a page that a hint names, or of the first page that has one, and makes a
 //! page where each one was full. No pull and no return waits for another thread.
-ghost use Rattle.std.specs.Prelude.{◌≡◌, ◌≤◌, Option, None, Some, IfOk, IfErr};
+ghost use Rattle.std.specs.Prelude.{◌≡◌, ◌≤◌, ◌<◌, Option, None, Some, IfOk, IfErr};
 ghost use Rattle.std.specs.Arc.{arc_value};
 
 use crate::linear_owned_reusable::LinearOwnedReusable;
@@ -14,7 +14,7 @@ use pool_parts::PullError;
 use pool_parts::clean::{AnyValue, Clean};
 use pool_parts::closures::{Init, Reset};
 use pool_parts::made_or_reset::MadeOrReset;
-use pool_parts::page::{Allocated, FullSeen, PullPass};
+use pool_parts::page::{Allocated, FullSeen, PageNote, PullPass};
 use std::alloc::Global;
 use std::fmt::{self, Debug, Formatter, Write};
 use std::sync::Arc;
@@ -68,8 +68,9 @@ impl<T: Drop, I: Init<T, K>, R: Reset<T, K>, K: Clean<T>> LinearObjectPool<T, I,
     ghost use Rattle.pool_parts.specs.FullSeen.{full_page};
     ghost use Rattle.nonblocking_pools.specs.LinearPool.{pool_init, pool_reset, pool_limit, limit_pages, pool_first_page};
     ghost use Rattle.nonblocking_pools.specs.LinearPool.{reusable_pool, reusable_item, reusable_page};
-    ghost use Rattle.nonblocking_pools.specs.LinearPool.{owned_pool, owned_item, owned_page, Pulls, pull_causes, IsLinearRefusal};
-    ghost use Rattle.page_chain.specs.Walk.{cause_of};
+    ghost use Rattle.nonblocking_pools.specs.LinearPool.{owned_pool, owned_item, owned_page, Pulls, PullsAfter, pull_causes, IsLinearRefusal};
+    ghost use Rattle.page_chain.specs.Walk.{number_of, cause_of};
+    ghost use Rattle.pool_parts.specs.Note.{note_page};
     ghost use Rattle.pool_parts.specs.Refusal.{RefusesMaking, RefusesPull};
     ghost use Rattle.pool_parts.specs.Slot.{slot_item};
 
@@ -193,6 +194,41 @@ impl<T: Drop, I: Init<T, K>, R: Reset<T, K>, K: Clean<T>> LinearObjectPool<T, I,
         }
     }
 
+    /// As `try_pull`, by a user that knows something of the first page: where its item is of that page, the pull stands after all
+    /// that the note knew.
+    ///
+    /// # Errors
+    ///
+    /// As `try_pull`.
+    pub fn try_pull_from<'s, 'p>(
+        &'s self,
+        pass: &'p PullPass,
+        note: PageNote<T>,
+    ) -> LinearPulled<'s, 'p, T, I, R, K>
+        requires { note_page note ≡ pool_first_page self.now }
+        ensures pool { IfOk result (λ item. reusable_pool item ≡ self.now) }
+        ensures pulled { IfOk result (λ item. PullsAfter K.meets I.answers R.leaves self.now note
+            (reusable_page item) (reusable_item item)) }
+        ensures refused { IfErr result (IsLinearRefusal I.answers self.now) }
+    {
+        match self.chain.ask_first_from(pass, note) {
+            Allocated::Slot(slot) => {
+                let number = self.chain.first_number();
+                Ok(LinearReusable::new(self, slot, number))
+            }
+            Allocated::Full(seen) => match self.pull_further(seen) {
+                Ok(
+                    WalkEnd {
+                        slot,
+                        number,
+                        page: _,
+                    },
+                ) => Ok(LinearReusable::new(self, slot, number)),
+                Err(refusal) => Err(refusal),
+            },
+        }
+    }
+
     /// As `pull`, with a reusable that owns the pool with others. The pool's owners grow by one before an item is taken.
     ///
     /// # Errors
@@ -227,6 +263,7 @@ impl<T: Drop, I: Init<T, K>, R: Reset<T, K>, K: Clean<T>> LinearObjectPool<T, I,
         requires { full_page seen ≡ pool_first_page self.now }
         ensures pulled { IfOk result (λ reached.
             Pulls K.meets I.answers R.leaves self.now reached.number (slot_item reached.slot)) }
+        ensures past_first { IfOk result (λ reached. 0 < number_of reached.number) }
         ensures evidence { IfErr result (IsLinearRefusal I.answers self.now) }
         ensures refused { IfErr result (λ refusal.
             RefusesPull (pull_causes I.answers self.now) (cause_of refusal)) }

@@ -11,7 +11,7 @@ use pool_parts::clean::{AnyValue, Clean};
 use pool_parts::closures::{Init, Reset};
 use pool_parts::made_or_reset::MadeOrReset;
 use pool_parts::page::holding::Holding;
-use pool_parts::page::{PageId, PageSlot};
+use pool_parts::page::{PageId, PageNote, PageSlot, Witness};
 use std::fmt::{self, Debug, Formatter, Write};
 use std::ops::{Deref, DerefMut};
 use std::sync::Arc;
@@ -34,7 +34,9 @@ pub struct LinearOwnedReusable<T: Drop, I: Init<T, K>, R: Reset<T, K>, K: Clean<
 }
 
 impl<T: Drop, I: Init<T, K>, R: Reset<T, K>, K: Clean<T>> LinearOwnedReusable<T, I, R, K> {
-    ghost use Rattle.nonblocking_pools.specs.LinearPool.{owned_pool, owned_item, owned_page, owned_number, IsOnPage};
+    ghost use Rattle.nonblocking_pools.specs.FixedAnswer.{IsGivenBack};
+    ghost use Rattle.nonblocking_pools.specs.LinearPool.{pool_reset, owned_pool, owned_item, owned_page, owned_number, IsOnPage};
+    ghost use Rattle.pool_parts.specs.Note.{note_page, note_opening, witness_page, witness_history, IsNoteOf, HasLearned};
     ghost use Rattle.pool_parts.specs.Slot.{slot_item};
 
     pub(crate) fn new(
@@ -63,6 +65,62 @@ impl<T: Drop, I: Init<T, K>, R: Reset<T, K>, K: Clean<T>> LinearOwnedReusable<T,
         ensures { result ≡ owned_number self.now }
     {
         self.taken.number.get()
+    }
+
+    /// What the holder knows of the item's page, for another to be told. It costs one load.
+    pub fn witness(&mut self) -> Witness<T>
+        ensures page { witness_page result ≡ (owned_item self.old).page }
+        ensures history { witness_history result ≡ (owned_item self.old).history }
+        ensures same_item { owned_item self.new ≡ owned_item self.old }
+        ensures same_pool { owned_pool self.new ≡ owned_pool self.old }
+        ensures same_page { owned_page self.new ≡ owned_page self.old }
+    {
+        let taken = &mut self.taken;
+        let page = taken.pool.chain.page_at(&mut taken.number, &taken.holding);
+        taken.holding.witness_of(page)
+    }
+
+    /// A note of the item's page, by a user that did nothing. It costs one load.
+    ///
+    /// It knows some prefix of the page's history; which one, no contract can say.
+    pub fn note(&mut self) -> PageNote<T>
+        ensures note { IsNoteOf (owned_item self.old).page (note_opening result) result }
+        ensures same_item { owned_item self.new ≡ owned_item self.old }
+        ensures same_pool { owned_pool self.new ≡ owned_pool self.old }
+        ensures same_page { owned_page self.new ≡ owned_page self.old }
+    {
+        let taken = &mut self.taken;
+        let page = taken.pool.chain.page_at(&mut taken.number, &taken.holding);
+        page.note()
+    }
+
+    /// Adds what a witness knows of the item's page to what a note knows. Afterwards the note's history has both histories as prefixes.
+    pub fn tell(&mut self, note: &mut PageNote<T>, other: Witness<T>)
+        requires note { note_page note.old ≡ (owned_item self.old).page }
+        requires other { witness_page other ≡ (owned_item self.old).page }
+        ensures learned { HasLearned note.old other note.new }
+        ensures same_item { owned_item self.new ≡ owned_item self.old }
+        ensures same_pool { owned_pool self.new ≡ owned_pool self.old }
+        ensures same_page { owned_page self.new ≡ owned_page self.old }
+    {
+        let taken = &mut self.taken;
+        let page = taken.pool.chain.page_at(&mut taken.number, &taken.holding);
+        page.tell(note, other);
+    }
+
+    /// Resets the value and brings it back, as the drop does. The note knows the page's history up to this return.
+    #[inline(always)]
+    pub fn give_back(self) -> PageNote<T>
+        ensures { IsGivenBack (R.leaves (pool_reset (owned_pool self))) (owned_item self) result }
+    {
+        let LinearOwnedReusable { taken, mut value } = self;
+        let OwnedTakenItem {
+            pool,
+            holding,
+            number,
+        } = taken;
+        pool.reset(&mut value);
+        pool.chain.free(number, holding, value)
     }
 
     /// The number of the item in its page.
@@ -109,14 +167,7 @@ impl<T: Drop, I: Init<T, K>, R: Reset<T, K>, K: Clean<T>> Drop for LinearOwnedRe
     // Inlined, so that the item isn't handed on through memory.
     #[inline(always)]
     fn drop(self) {
-        let LinearOwnedReusable { taken, mut value } = self;
-        let OwnedTakenItem {
-            pool,
-            holding,
-            number,
-        } = taken;
-        pool.reset(&mut value);
-        pool.chain.free(number, holding, value);
+        self.give_back();
     }
 }
 

@@ -1,5 +1,5 @@
 -- Where a walk along the links of a chain came to.
-use Rattle.std.specs.Prelude.{◌≡◌, ◌⊎◌, ℕ, ◌+◌, ◌-◌, ◌<◌, ◌≤◌, Option, Some, IfSome}
+use Rattle.std.specs.Prelude.{◌≡◌, ◌⊎◌, ℕ, ◌+◌, ◌-◌, ◌<◌, ◌≤◌, List, Option, Some, IfSome, ⊤}
 use Rattle.std.specs.Arc.{arc_value}
 use Rattle.std.specs.Option.{option_map}
 use Rattle.atomic_table.specs.Seated.{TableId}
@@ -61,6 +61,11 @@ module _ {T K : Type 0} where
   IsAnsweredBy meets may_open page (Slot slot) =
       IsItemOf meets page (slot_item slot) × HasOrigin may_open (slot_item slot)
   IsAnsweredBy meets may_open page (Full seen) = full_page seen ≡ page
+
+  -- an item that a page gives has the values in its history that the page opened with
+  abbrev pub IsOpenedWith : List (Option T) → Allocated T K → Type 0
+  IsOpenedWith opening (Slot slot) = (slot_item slot).opening ≡ opening
+  IsOpenedWith opening (Full seen) = ⊤
 
 module _ {T K O : Type 0} {opens : Ghosts O T} where
   -- the start of a walk that begins at this page

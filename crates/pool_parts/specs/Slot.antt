@@ -1,15 +1,20 @@
 -- What an item that is out of its page shows, under a borrow of the page.
 use Rattle.std.specs.Prelude.{ℕ}
+use Rattle.atomic_table.specs.Seated.{TableId}
 use Rattle.pool_parts.specs.declared.page.user_view.UserView.{UserView}
 use Rattle.pool_parts.specs.declared.page.slot.TakenId.{TakenId}
 use Rattle.pool_parts.specs.declared.page.slot.PageSlot.{PageSlot}
-use Rattle.pool_parts.specs.Holding.{holding_view, held_item}
+use Rattle.pool_parts.specs.Holding.{holding_page, holding_view, held_item}
 use Rattle.pool_parts.specs.Item.{Item}
 
 module _ {T K : Type 0} where
   -- the id that was taken
   abbrev pub taken_id : TakenId T K → ℕ
   taken_id taken = taken.holding.number
+
+  -- which page it was taken from
+  abbrev pub taken_page : TakenId T K → TableId
+  taken_page taken = holding_page taken.holding
 
   -- what the holder of the id knows of the page
   abbrev pub taken_view : TakenId T K → UserView T

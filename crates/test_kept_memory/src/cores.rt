@@ -1,5 +1,5 @@
 //! Turns on pools of one owner, and on players of commands on them.
-use crate::observer::Observer;
+use crate::observer::{Observer, Turns};
 use crate::supply::{Buffer, Supply};
 use anyhow::Result;
 use lockfree_object_pool::PullError;
@@ -23,25 +23,41 @@ pub fn observe<R: Files + AllocGlobal + Print>(
     observer: &mut Observer<R>,
 ) -> Result<()> {
     observer.observe(
+        alloc,
         "refused pulls of a linear core",
-        &|turns| linear_refuses(alloc, turns),
+        &Kind::LinearRefuses,
     )?;
+    observer.observe(alloc, "refused pulls of a stack core", &Kind::StackRefuses)?;
+    observer.observe(alloc, "players on linear cores", &Kind::LinearPlayerEnds)?;
+    observer.observe(alloc, "players on stack cores", &Kind::StackPlayerEnds)?;
     observer.observe(
-        "refused pulls of a stack core",
-        &|turns| stack_refuses(alloc, turns),
-    )?;
-    observer.observe(
-        "players on linear cores",
-        &|turns| linear_player_ends(alloc, turns),
-    )?;
-    observer.observe(
-        "players on stack cores",
-        &|turns| stack_player_ends(alloc, turns),
-    )?;
-    observer.observe(
+        alloc,
         "players on cores that keep nothing",
-        &|turns| fresh_player_ends(alloc, turns),
-    )
+        &Kind::FreshPlayerEnds,
+    )?;
+    Ok(())
+}
+
+/// What is done in a turn.
+#[derive(Clone, Copy)]
+enum Kind {
+    LinearRefuses,
+    StackRefuses,
+    LinearPlayerEnds,
+    StackPlayerEnds,
+    FreshPlayerEnds,
+}
+
+impl Turns for Kind {
+    fn take(&self, alloc: Global, turns: usize) -> Option<()> {
+        match self {
+            Kind::LinearRefuses => linear_refuses(alloc, turns),
+            Kind::StackRefuses => stack_refuses(alloc, turns),
+            Kind::LinearPlayerEnds => linear_player_ends(alloc, turns),
+            Kind::StackPlayerEnds => stack_player_ends(alloc, turns),
+            Kind::FreshPlayerEnds => fresh_player_ends(alloc, turns),
+        }
+    }
 }
 
 /// A linear core whose page is full refuses each pull, after it has made any number of a page's items.

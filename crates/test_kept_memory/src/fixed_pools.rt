@@ -1,7 +1,7 @@
 //! Turns on fixed pools.
 ghost use Rattle.std.specs.Prelude.{◌≤◌};
 
-use crate::observer::Observer;
+use crate::observer::{Observer, Turns};
 use crate::supply::{Buffer, Supply};
 use anyhow::Result;
 use lockfree_object_pool::closures::Keep;
@@ -19,20 +19,34 @@ pub fn observe<R: Files + AllocGlobal + Print>(
     alloc: Global,
     observer: &mut Observer<R>,
 ) -> Result<()> {
-    observer.observe(
-        "fixed pools that are refused",
-        &|turns| refused_pools(alloc, turns),
-    )?;
-    observer.observe(
-        "refused pulls of a fixed pool",
-        &|turns| refused_pulls(alloc, turns),
-    )?;
-    observer.observe("items of a fixed pool", &|turns| returns(alloc, turns))?;
-    observer.observe(
-        "owners of a fixed pool",
-        &|turns| owner_returns(alloc, turns),
-    )?;
-    observer.observe("fixed pools", &|turns| ends(alloc, turns))
+    observer.observe(alloc, "fixed pools that are refused", &Kind::RefusedPools)?;
+    observer.observe(alloc, "refused pulls of a fixed pool", &Kind::RefusedPulls)?;
+    observer.observe(alloc, "items of a fixed pool", &Kind::Returns)?;
+    observer.observe(alloc, "owners of a fixed pool", &Kind::OwnerReturns)?;
+    observer.observe(alloc, "fixed pools", &Kind::Ends)?;
+    Ok(())
+}
+
+/// What is done in a turn.
+#[derive(Clone, Copy)]
+enum Kind {
+    RefusedPools,
+    RefusedPulls,
+    Returns,
+    OwnerReturns,
+    Ends,
+}
+
+impl Turns for Kind {
+    fn take(&self, alloc: Global, turns: usize) -> Option<()> {
+        match self {
+            Kind::RefusedPools => refused_pools(alloc, turns),
+            Kind::RefusedPulls => refused_pulls(alloc, turns),
+            Kind::Returns => returns(alloc, turns),
+            Kind::OwnerReturns => owner_returns(alloc, turns),
+            Kind::Ends => ends(alloc, turns),
+        }
+    }
 }
 
 fn new_pool(alloc: Global, supply: &Supply, items: usize) -> Option<Arc<Pool>>

@@ -1,5 +1,5 @@
 //! Turns on linear pools, their buffer pools and their chains.
-use crate::observer::Observer;
+use crate::observer::{Observer, Turns};
 use crate::supply::{Buffer, Supply};
 use anyhow::Result;
 use lockfree_object_pool::clean::AnyValue;
@@ -18,18 +18,37 @@ pub fn observe<R: Files + AllocGlobal + Print>(
     alloc: Global,
     observer: &mut Observer<R>,
 ) -> Result<()> {
-    observer.observe(
-        "linear pools that are refused",
-        &|turns| refused_pools(alloc, turns),
-    )?;
-    observer.observe(
-        "refused pulls of a linear pool",
-        &|turns| refused_pulls(alloc, turns),
-    )?;
-    observer.observe("items of a linear pool", &|turns| returns(alloc, turns))?;
-    observer.observe("linear pools", &|turns| ends(alloc, turns))?;
-    observer.observe("chains", &|turns| chain_ends(alloc, turns))?;
-    observer.observe("buffer pools", &|turns| buffer_pool_ends(alloc, turns))
+    observer.observe(alloc, "linear pools that are refused", &Kind::RefusedPools)?;
+    observer.observe(alloc, "refused pulls of a linear pool", &Kind::RefusedPulls)?;
+    observer.observe(alloc, "items of a linear pool", &Kind::Returns)?;
+    observer.observe(alloc, "linear pools", &Kind::Ends)?;
+    observer.observe(alloc, "chains", &Kind::ChainEnds)?;
+    observer.observe(alloc, "buffer pools", &Kind::BufferPoolEnds)?;
+    Ok(())
+}
+
+/// What is done in a turn.
+#[derive(Clone, Copy)]
+enum Kind {
+    RefusedPools,
+    RefusedPulls,
+    Returns,
+    Ends,
+    ChainEnds,
+    BufferPoolEnds,
+}
+
+impl Turns for Kind {
+    fn take(&self, alloc: Global, turns: usize) -> Option<()> {
+        match self {
+            Kind::RefusedPools => refused_pools(alloc, turns),
+            Kind::RefusedPulls => refused_pulls(alloc, turns),
+            Kind::Returns => returns(alloc, turns),
+            Kind::Ends => ends(alloc, turns),
+            Kind::ChainEnds => chain_ends(alloc, turns),
+            Kind::BufferPoolEnds => buffer_pool_ends(alloc, turns),
+        }
+    }
 }
 
 fn new_pool(alloc: Global, supply: &Supply) -> Option<Arc<Pool>> {

@@ -18,12 +18,22 @@ mod stack_pools;
 mod supply;
 mod worlds;
 
-use anyhow::Result;
+use anyhow::{Context, Result};
 use observer::Observer;
+use std::env;
 use std::process::ExitCode;
+use std::rt::Env;
+
+/// How many turns of each kind are observed: the argument.
+fn turns<R: Env + AllocGlobal>(rt: &R) -> Option<usize> {
+    let mut arguments = env::args(rt).ok()?;
+    let _name = arguments.next();
+    arguments.next()?.parse().ok()
+}
 
 fn main(rt: HostRuntime) -> Result<ExitCode> {
-    let mut observer = Observer::new(rt);
+    let turns = turns(&rt).context("the argument is how many turns are observed")?;
+    let mut observer = Observer::new(rt, turns);
     openings::observe(rt.alloc(), &mut observer)?;
     pages::observe(rt.alloc(), &mut observer)?;
     linear_pools::observe(rt.alloc(), &mut observer)?;

@@ -1,10 +1,8 @@
 //! Whether turns of some kind keep memory, and whether work of some kind takes much.
 use anyhow::Result;
+use std::alloc::Global;
 use std::rt::Files;
 use test_peak_memory::{peak_kilobytes, peak_virtual_kilobytes};
-
-/// How many turns are observed.
-const TURNS: usize = 200_000;
 
 /// How many are taken before, so that what is taken once is there.
 const FIRST_TURNS: usize = 1_000;
@@ -12,17 +10,26 @@ const FIRST_TURNS: usize = 1_000;
 /// What the process may take beside. A box of 16 bytes a turn is more than three times as much.
 const KILOBYTES_BESIDE: u64 = 1_024;
 
+/// A kind of turns.
+pub trait Turns {
+    /// Takes so many turns. `None` where a call answered what it should not.
+    fn take(&self, alloc: Global, turns: usize) -> Option<()>;
+}
+
 /// One who looks at the process's memory, and tells what was seen.
 #[derive(Debug, Drop)]
 pub struct Observer<R> {
     rt: R,
+    turns: usize,
     saw_nothing_kept: bool,
 }
 
 impl<R: Files + AllocGlobal + Print> Observer<R> {
-    pub fn new(rt: R) -> Observer<R> {
+    /// One who observes so many turns of each kind.
+    pub fn new(rt: R, turns: usize) -> Observer<R> {
         Observer {
             rt,
+            turns,
             saw_nothing_kept: true,
         }
     }
@@ -32,14 +39,11 @@ impl<R: Files + AllocGlobal + Print> Observer<R> {
         self.saw_nothing_kept
     }
 
-    /// Takes turns, and prints whether the process has more memory then. The turns answer `None` where a call answered
-    /// what it should not.
-    pub fn observe<F: Fn(usize) -> Option<()>>(&mut self, name: &str, take_turns: &F) -> Result<()>
-        requires { F.IsAlwaysCallable take_turns.now }
-    {
-        let first = take_turns(FIRST_TURNS);
+    /// Takes turns, and prints whether the process has more memory then.
+    pub fn observe<T: Turns>(&mut self, alloc: Global, name: &str, turns: &T) -> Result<()> {
+        let first = turns.take(alloc, FIRST_TURNS);
         let before = peak_kilobytes(&self.rt)?;
-        let observed = take_turns(TURNS);
+        let observed = turns.take(alloc, self.turns);
         let kept = peak_kilobytes(&self.rt)?.saturating_sub(before);
         if first.is_none() || observed.is_none() {
             self.saw_nothing_kept = false;
@@ -53,20 +57,22 @@ impl<R: Files + AllocGlobal + Print> Observer<R> {
         Ok(())
     }
 
-    /// Does some work once, and prints whether the process ever had so many kilobytes more for it, or for what it made.
-    /// The work answers `None` where a call answered what it should not.
-    pub fn observe_growth<X: Drop, F: FnOnce() -> Option<X> + Drop>(
+    /// How many kilobytes the process ever had, before some work is done once.
+    pub fn before(&self) -> Result<u64> {
+        peak_virtual_kilobytes(&self.rt)
+    }
+
+    /// Prints whether the process ever had so many kilobytes more for such work, or for what it made, which is there yet. Whether it
+    /// is: it isn't where a call answered what it should not.
+    pub fn observe_growth(
         &mut self,
         name: &str,
         kilobytes: u64,
-        work: F,
-    ) -> Result<()>
-        requires { F.pre work }
-    {
-        let before = peak_virtual_kilobytes(&self.rt)?;
-        let made = work();
+        before: u64,
+        is_made: bool,
+    ) -> Result<()> {
         let taken = peak_virtual_kilobytes(&self.rt)?.saturating_sub(before);
-        if made.is_none() {
+        if !is_made {
             self.saw_nothing_kept = false;
             println!(self.rt; "{name}: a call answered what it should not")?;
         } else if taken >= kilobytes {

@@ -36,60 +36,84 @@ pub fn observe<R: Files + AllocGlobal + Print>(
     alloc: Global,
     observer: &mut Observer<R>,
 ) -> Result<()> {
-    observer.observe_growth(
-        "opening 100 linear cores",
-        KILOBYTES,
-        || all_open(alloc, &|| new_core(alloc)),
-    )?;
-    observer.observe_growth(
-        "opening 100 stack cores",
-        KILOBYTES,
-        || all_open(alloc, &|| Some(new_stack(alloc))),
-    )?;
-    observer.observe_growth(
-        "opening 100 players",
-        KILOBYTES,
-        || all_open(alloc, &|| Some(Player::new(alloc, new_stack(alloc)))),
-    )?;
-    observer.observe_growth(
-        "opening 100 worlds",
-        KILOBYTES,
-        || all_open(alloc, &|| new_world(alloc)),
-    )?;
-    observer.observe_growth(
-        "opening 100 linear pools",
-        KILOBYTES,
-        || all_open(alloc, &|| new_pool(alloc)),
-    )?;
-    observer.observe_growth(
-        "opening 100 fixed pools",
-        KILOBYTES,
-        || all_open(alloc, &|| new_fixed_pool(alloc)),
-    )?;
-    observer.observe_growth(
-        "opening 100 buffer pools",
-        KILOBYTES,
-        || all_open(alloc, &|| new_buffer_pool(alloc)),
-    )
+    observe_openings::<Core, R>(alloc, observer, "opening 100 linear cores")?;
+    observe_openings::<Stack, R>(alloc, observer, "opening 100 stack cores")?;
+    observe_openings::<Player<u32, Stack>, R>(alloc, observer, "opening 100 players")?;
+    observe_openings::<Agents, R>(alloc, observer, "opening 100 worlds")?;
+    observe_openings::<Pool, R>(alloc, observer, "opening 100 linear pools")?;
+    observe_openings::<Fixed, R>(alloc, observer, "opening 100 fixed pools")?;
+    observe_openings::<Buffers, R>(alloc, observer, "opening 100 buffer pools")
+}
+
+/// What opens.
+trait Opens: Drop {
+    fn open(alloc: Global) -> Option<Self>;
+}
+
+impl Opens for Core {
+    fn open(alloc: Global) -> Option<Core> {
+        new_core(alloc)
+    }
+}
+
+impl Opens for Stack {
+    fn open(alloc: Global) -> Option<Stack> {
+        Some(StackCore::new(alloc, Copied::new(0), Keep))
+    }
+}
+
+impl Opens for Player<u32, Stack> {
+    fn open(alloc: Global) -> Option<Player<u32, Stack>> {
+        Some(Player::new(alloc, Stack::open(alloc)?))
+    }
+}
+
+impl Opens for Agents {
+    fn open(alloc: Global) -> Option<Agents> {
+        new_world(alloc)
+    }
+}
+
+impl Opens for Pool {
+    fn open(alloc: Global) -> Option<Pool> {
+        new_pool(alloc)
+    }
+}
+
+impl Opens for Fixed {
+    fn open(alloc: Global) -> Option<Fixed> {
+        FixedObjectPool::new(alloc, Copied::new(0), Keep, PAGE_ITEMS).ok()
+    }
+}
+
+impl Opens for Buffers {
+    fn open(alloc: Global) -> Option<Buffers> {
+        BufferPool::new(alloc, WithCapacity::new(alloc, 0), Clear, 1).ok()
+    }
+}
+
+/// Opens many of a kind, and prints whether they take much.
+fn observe_openings<X: Opens, R: Files + AllocGlobal + Print>(
+    alloc: Global,
+    observer: &mut Observer<R>,
+    name: &str,
+) -> Result<()> {
+    let before = observer.before()?;
+    let opened = all_open::<X>(alloc);
+    observer.observe_growth(name, KILOBYTES, before, opened.is_some())
 }
 
 /// Many of a kind, all open at once.
-fn all_open<X: Drop, F: Fn() -> Option<X>>(alloc: Global, open: &F) -> Option<Vec<X>>
-    requires { F.pre open.now }
-{
+fn all_open<X: Opens>(alloc: Global) -> Option<Vec<X>> {
     let mut opened = Vec::with_capacity(alloc, OPENINGS).ok()?;
     for _ in 0..OPENINGS {
-        opened.push(open()?).ok()?;
+        opened.push(X::open(alloc)?).ok()?;
     }
     Some(opened)
 }
 
 pub fn new_core(alloc: Global) -> Option<Core> {
     LinearCore::new(alloc, Copied::new(0), Keep).ok()
-}
-
-fn new_stack(alloc: Global) -> Stack {
-    StackCore::new(alloc, Copied::new(0), Keep)
 }
 
 pub fn new_world(alloc: Global) -> Option<Agents> {
@@ -103,12 +127,4 @@ pub fn zeros(alloc: Global) -> Option<Prepared<u32>> {
 
 pub fn new_pool(alloc: Global) -> Option<Pool> {
     LinearObjectPool::new(alloc, Copied::new(0), Keep).ok()
-}
-
-fn new_fixed_pool(alloc: Global) -> Option<Fixed> {
-    FixedObjectPool::new(alloc, Copied::new(0), Keep, PAGE_ITEMS).ok()
-}
-
-fn new_buffer_pool(alloc: Global) -> Option<Buffers> {
-    BufferPool::new(alloc, WithCapacity::new(alloc, 0), Clear, 1).ok()
 }

@@ -1,5 +1,5 @@
 //! Turns on the pool that keeps nothing, and on spin locks.
-use crate::observer::Observer;
+use crate::observer::{Observer, Turns};
 use crate::supply::Supply;
 use anyhow::Result;
 use lockfree_object_pool::spin_lock::SpinLock;
@@ -8,16 +8,51 @@ use std::alloc::Global;
 use std::rt::Files;
 use std::sync::{Arc, Wait};
 
-pub fn observe<R: Files + AllocGlobal + Print, W: Wait>(
+pub fn observe<R: Files + AllocGlobal + Print, W: Wait + Copy>(
     rt: &W,
     alloc: Global,
     observer: &mut Observer<R>,
 ) -> Result<()> {
     observer.observe(
+        alloc,
         "items of the none pool",
-        &|turns| none_pool_pulls(alloc, turns),
+        &On {
+            rt: *rt,
+            kind: Kind::NonePoolPulls,
+        },
     )?;
-    observer.observe("spin locks", &|turns| locks(rt, alloc, turns))
+    observer.observe(
+        alloc,
+        "spin locks",
+        &On {
+            rt: *rt,
+            kind: Kind::Locks,
+        },
+    )?;
+    Ok(())
+}
+
+/// What is done in a turn.
+#[derive(Clone, Copy)]
+enum Kind {
+    NonePoolPulls,
+    Locks,
+}
+
+/// Turns of a kind, with what they wait by.
+#[derive(Clone, Copy)]
+struct On<W> {
+    rt: W,
+    kind: Kind,
+}
+
+impl<W: Wait + Copy> Turns for On<W> {
+    fn take(&self, alloc: Global, turns: usize) -> Option<()> {
+        match self.kind {
+            Kind::NonePoolPulls => none_pool_pulls(alloc, turns),
+            Kind::Locks => locks(&self.rt, alloc, turns),
+        }
+    }
 }
 
 /// Items are pulled and dropped, and a pull is refused.

@@ -24,22 +24,39 @@ pub fn observe<R: Files + AllocGlobal + Print>(
     alloc: Global,
     observer: &mut Observer<R>,
 ) -> Result<()> {
+    let before = observer.before()?;
+    let core = core_grows(alloc);
     observer.observe_growth(
         "1000 pages of a linear core",
         KILOBYTES,
-        || core_grows(alloc),
+        before,
+        core.is_some(),
     )?;
+    drop(core);
+    let before = observer.before()?;
+    let pool = pool_grows(alloc);
     observer.observe_growth(
         "1000 pages of a linear pool",
         KILOBYTES,
-        || pool_grows(alloc),
+        before,
+        pool.is_some(),
     )?;
+    drop(pool);
+    observe_world(alloc, observer)
+}
+
+/// A world whose agents have begun before its pages are made.
+fn observe_world<R: Files + AllocGlobal + Print>(
+    alloc: Global,
+    observer: &mut Observer<R>,
+) -> Result<()> {
     let world = agents_begin(alloc);
-    observer.observe_growth(
-        "1000 pages of a world",
-        KILOBYTES,
-        move || world_grows(alloc, world?),
-    )
+    let before = observer.before()?;
+    let grown = match world {
+        Some(world) => world_grows(alloc, world),
+        None => None,
+    };
+    observer.observe_growth("1000 pages of a world", KILOBYTES, before, grown.is_some())
 }
 
 /// A core of which each item was pulled and never returned.

@@ -1,5 +1,5 @@
 //! Turns on the mutex pool and the spin lock pool, which are one pool over two kinds of list.
-use crate::observer::Observer;
+use crate::observer::{Observer, Turns};
 use crate::supply::{Buffer, Supply};
 use anyhow::Result;
 use lockfree_object_pool::clean::AnyValue;
@@ -51,26 +51,85 @@ pub fn observe<R: Files + AllocGlobal + Print, W: Wait + Copy>(
     observer: &mut Observer<R>,
 ) -> Result<()> {
     observer.observe(
+        alloc,
         "refused pulls of a mutex pool",
-        &|turns| refused_pulls::<Mutexed, W>(rt, alloc, turns),
+        &On {
+            rt: *rt,
+            kind: Kind::MutexRefuses,
+        },
     )?;
     observer.observe(
+        alloc,
         "items of a mutex pool",
-        &|turns| returns::<Mutexed, W>(rt, alloc, turns),
+        &On {
+            rt: *rt,
+            kind: Kind::MutexReturns,
+        },
     )?;
-    observer.observe("mutex pools", &|turns| ends::<Mutexed, W>(rt, alloc, turns))?;
     observer.observe(
+        alloc,
+        "mutex pools",
+        &On {
+            rt: *rt,
+            kind: Kind::MutexEnds,
+        },
+    )?;
+    observer.observe(
+        alloc,
         "refused pulls of a spin lock pool",
-        &|turns| refused_pulls::<SpinLocked, W>(rt, alloc, turns),
+        &On {
+            rt: *rt,
+            kind: Kind::SpinLockRefuses,
+        },
     )?;
     observer.observe(
+        alloc,
         "items of a spin lock pool",
-        &|turns| returns::<SpinLocked, W>(rt, alloc, turns),
+        &On {
+            rt: *rt,
+            kind: Kind::SpinLockReturns,
+        },
     )?;
     observer.observe(
+        alloc,
         "spin lock pools",
-        &|turns| ends::<SpinLocked, W>(rt, alloc, turns),
-    )
+        &On {
+            rt: *rt,
+            kind: Kind::SpinLockEnds,
+        },
+    )?;
+    Ok(())
+}
+
+/// What is done in a turn.
+#[derive(Clone, Copy)]
+enum Kind {
+    MutexRefuses,
+    MutexReturns,
+    MutexEnds,
+    SpinLockRefuses,
+    SpinLockReturns,
+    SpinLockEnds,
+}
+
+/// Turns of a kind, with what they wait by.
+#[derive(Clone, Copy)]
+struct On<W> {
+    rt: W,
+    kind: Kind,
+}
+
+impl<W: Wait + Copy> Turns for On<W> {
+    fn take(&self, alloc: Global, turns: usize) -> Option<()> {
+        match self.kind {
+            Kind::MutexRefuses => refused_pulls::<Mutexed, W>(&self.rt, alloc, turns),
+            Kind::MutexReturns => returns::<Mutexed, W>(&self.rt, alloc, turns),
+            Kind::MutexEnds => ends::<Mutexed, W>(&self.rt, alloc, turns),
+            Kind::SpinLockRefuses => refused_pulls::<SpinLocked, W>(&self.rt, alloc, turns),
+            Kind::SpinLockReturns => returns::<SpinLocked, W>(&self.rt, alloc, turns),
+            Kind::SpinLockEnds => ends::<SpinLocked, W>(&self.rt, alloc, turns),
+        }
+    }
 }
 
 /// Pulls are refused by `init`, each after it has made a room.

@@ -1,5 +1,5 @@
 //! Turns on worlds of agents.
-use crate::observer::Observer;
+use crate::observer::{Observer, Turns};
 use crate::supply::{Buffer, Supply};
 use anyhow::Result;
 use lockfree_object_pool::closures::Keep;
@@ -12,7 +12,16 @@ pub fn observe<R: Files + AllocGlobal + Print>(
     alloc: Global,
     observer: &mut Observer<R>,
 ) -> Result<()> {
-    observer.observe("worlds", &|turns| ends(alloc, turns))
+    observer.observe(alloc, "worlds", &WorldEnds)
+}
+
+/// Worlds that end.
+struct WorldEnds;
+
+impl Turns for WorldEnds {
+    fn take(&self, alloc: Global, turns: usize) -> Option<()> {
+        ends(alloc, turns)
+    }
 }
 
 /// A world ends with values that are home, out and written, with a page that is linked and one that isn't yet, after

@@ -12,4 +12,8 @@ mod fixed_object_pool;
 #[cfg(test)]
 mod linear_object_pool;
 #[cfg(test)]
+mod made;
+#[cfg(test)]
 mod recycling;
+#[cfg(test)]
+mod threads;

@@ -17,6 +17,7 @@ use test_values::zeros::{CountedZeros, ToZero, Zero, new_calls};
 
 mod callers;
 mod closures;
+mod histories;
 mod late_links;
 mod limits;
 mod makers;

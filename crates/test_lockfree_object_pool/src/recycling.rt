@@ -7,7 +7,7 @@ use lockfree_object_pool::recycling::{
 };
 use lockfree_object_pool::{LinearObjectPool, PullError};
 use std::alloc::Global;
-use std::sync::Arc;
+use std::sync::{Arc, Wait};
 
 mod resets;
 
@@ -96,26 +96,69 @@ fn an_owned_value_and_its_pool_are_shown(rt: HostRuntime) {
     assert_equal(&rt, shown.as_str(), "Scratch { words: [7], sum: 7 }");
 }
 
+/// A vector or a text, which has a length and room.
+trait Roomy: Recyclable + Drop {
+    fn length(&self) -> usize;
+
+    fn room(&self) -> usize;
+
+    /// Makes room for so many bytes more, and writes one.
+    fn fill(&mut self, room: usize) -> Option<()>;
+}
+
+impl Roomy for Vec<u8> {
+    fn length(&self) -> usize {
+        self.len()
+    }
+
+    fn room(&self) -> usize {
+        self.capacity()
+    }
+
+    fn fill(&mut self, room: usize) -> Option<()> {
+        self.reserve(room).ok()?;
+        self.push(7).ok()
+    }
+}
+
+impl Roomy for String {
+    fn length(&self) -> usize {
+        self.len()
+    }
+
+    fn room(&self) -> usize {
+        self.capacity()
+    }
+
+    fn fill(&mut self, room: usize) -> Option<()> {
+        self.reserve(room).ok()?;
+        self.push_str("a").ok()
+    }
+}
+
+/// The room of a pool's first item as it is made; then its id, its length and its room once it was given so much room, was written
+/// to, and came back.
+fn made_and_again<T: Roomy>(alloc: Global, room: usize) -> Option<(usize, (u8, usize, usize))> {
+    let pool = Pool::<T>::with_recycler(alloc).ok()?;
+    let mut item = pool.pull().ok()?;
+    let made = item.room();
+    item.fill(room)?;
+    drop(item);
+    let again = pool.pull().ok()?;
+    Some((made, (again.page_id(), again.length(), again.room())))
+}
+
+/// Whether the item came back empty, with so much room at least.
+fn came_empty<T: Roomy>(alloc: Global, room: usize) -> bool {
+    match made_and_again::<T>(alloc, room) {
+        Some((_, (0, 0, left))) => left >= room,
+        _ => false,
+    }
+}
+
 #[test]
 fn vectors_and_texts_come_empty_with_their_room(rt: HostRuntime) {
-    let vectors = Pool::<Vec<u8>>::with_recycler(rt.alloc()).expect(&rt, "a pool is made");
-    vectors
-        .pull()
-        .expect(&rt, "an item is free")
-        .extend_from_slice(b"hello")
-        .expect(&rt, "memory is left");
-    let vector = vectors.pull().expect(&rt, "an item is free");
-    assert_equal(&rt, (vector.page_id(), vector.len()), (0, 0));
-    assert!(rt; vector.capacity() >= 5);
-    let texts = Pool::<String>::with_recycler(rt.alloc()).expect(&rt, "a pool is made");
-    texts
-        .pull()
-        .expect(&rt, "an item is free")
-        .push_str("hello")
-        .expect(&rt, "memory is left");
-    let text = texts.pull().expect(&rt, "an item is free");
-    assert_equal(&rt, (text.page_id(), text.len()), (0, 0));
-    assert!(rt; text.capacity() >= 5);
+    assert!(rt; came_empty::<Vec<u8>>(rt.alloc(), 5) && came_empty::<String>(rt.alloc(), 5));
 }
 
 /// What a value of a fixed pool holds as it is pulled, which is then written.
@@ -157,49 +200,37 @@ fn a_recyclable_type_that_refuses_has_no_pool(rt: HostRuntime) {
     assert_equal(&rt, refused, Some(PullError::Init));
 }
 
+/// How pulls of stack pools are answered whose values are never made.
+fn refusals_of_stacks<W: Wait + Copy>(
+    rt: &W,
+    alloc: Global,
+) -> Result<(Option<PullError>, Option<PullError>), PullError> {
+    let mutex = MutexPool::<Never>::with_recycler(alloc).pull(rt).err();
+    let spin_lock = SpinLockPool::<Never>::with_recycler(alloc)?;
+    Ok((mutex, spin_lock.pull(rt).err()))
+}
+
 #[test]
 fn each_kind_of_pool_tells_that_a_recyclable_type_refused(rt: HostRuntime) {
     let init = Some(PullError::Init);
     let bounded = Pool::<Never>::with_recycler_within(rt.alloc(), 2).err();
     let fixed = FixedPool::<Never>::with_recycler(rt.alloc(), 3).err();
     assert_equal(&rt, (bounded, fixed), (init, init));
-    let mutex = MutexPool::<Never>::with_recycler(rt.alloc());
-    assert_equal(&rt, mutex.pull(&rt).err(), init);
-    let spin_lock = SpinLockPool::<Never>::with_recycler(rt.alloc()).expect(&rt, "a pool is made");
-    assert_equal(&rt, spin_lock.pull(&rt).err(), init);
+    assert_equal(&rt, refusals_of_stacks(&rt, rt.alloc()), Ok((init, init)));
 }
 
 /// So they take no memory before they are used.
 #[test]
 fn vectors_and_texts_are_made_without_room(rt: HostRuntime) {
-    let vectors = Pool::<Vec<u8>>::with_recycler(rt.alloc()).expect(&rt, "a pool is made");
-    let texts = Pool::<String>::with_recycler(rt.alloc()).expect(&rt, "a pool is made");
-    let room = (
-        vectors.pull().expect(&rt, "an item is free").capacity(),
-        texts.pull().expect(&rt, "an item is free").capacity(),
-    );
-    assert_equal(&rt, room, (0, 0));
+    let vector = made_and_again::<Vec<u8>>(rt.alloc(), 5).expect(&rt, "nothing is refused");
+    let text = made_and_again::<String>(rt.alloc(), 5).expect(&rt, "nothing is refused");
+    assert_equal(&rt, (vector.0, text.0), (0, 0));
 }
 
 #[test]
 fn vectors_and_texts_keep_much_room(rt: HostRuntime) {
-    let vectors = Pool::<Vec<u8>>::with_recycler(rt.alloc()).expect(&rt, "a pool is made");
-    vectors
-        .pull()
-        .expect(&rt, "an item is free")
-        .reserve(100_000)
-        .expect(&rt, "memory is left");
-    let texts = Pool::<String>::with_recycler(rt.alloc()).expect(&rt, "a pool is made");
-    texts
-        .pull()
-        .expect(&rt, "an item is free")
-        .reserve(100_000)
-        .expect(&rt, "memory is left");
-    let (vector, text) = (
-        vectors.pull().expect(&rt, "an item is free"),
-        texts.pull().expect(&rt, "an item is free"),
-    );
-    assert!(rt; vector.capacity() >= 100_000 && text.capacity() >= 100_000);
+    assert!(rt; came_empty::<Vec<u8>>(rt.alloc(), 100_000));
+    assert!(rt; came_empty::<String>(rt.alloc(), 100_000));
 }
 
 #[test]

@@ -4,9 +4,9 @@ ghost use Rattle.std.specs.Global.{Vec};
 ghost use Rattle.object_pool_cores.specs.Buffers.{bytes_of};
 
 use crate::assert_equal::assert_equal;
+use object_pool_cores::buffers::*;
 use pool_parts::PullError;
 use pool_parts::closures::{Init, InitBy, Makes, ResetBy, Resets};
-use object_pool_cores::buffers::*;
 use std::alloc::Global;
 use std::sync::Arc;
 use std::thread;

@@ -1,7 +1,7 @@
 //! Whole inputs with their outputs, and devices that fail.
 use crate::assert_equal::assert_equal;
 use object_pool_cores::engine::*;
-use std::alloc::Global;
+use std::alloc::{AllocError, Global};
 use std::io::{Read, Write};
 use std::process::Abort;
 use std::sync::Wait;
@@ -44,6 +44,23 @@ fn output_of<H: Abort + Wait>(
     output
 }
 
+/// Plays an input, whose output has to be the one that is expected.
+fn answers<H: Abort + Wait>(
+    rt: &H,
+    alloc: Global,
+    kind: Kind,
+    reset: Reset,
+    input: &str,
+    expected: &str,
+) {
+    let output = output_of(rt, alloc, kind, reset, input);
+    assert_eq!(*rt;
+        output.as_slice(),
+        expected.as_bytes(),
+        "{kind:?}, {input:?}"
+    );
+}
+
 /// Whether bytes are this reply, so many times.
 fn is_repeated(bytes: &[u8], reply: &[u8], times: usize) -> bool {
     let length = reply.len().max(1);
@@ -52,7 +69,7 @@ fn is_repeated(bytes: &[u8], reply: &[u8], times: usize) -> bool {
 
 #[test]
 fn answers_each_line(rt: HostRuntime) {
-    let rows = [
+    const ROWS: [(Reset, &str, &str); 8] = [
         (
             Reset::Keep,
             "pull\nwrite 0 5\nreturn 0\npull\n",
@@ -86,9 +103,8 @@ fn answers_each_line(rt: HostRuntime) {
             "pulled 0 number 0 value 0\nforgotten 0\nno such holder\npulled 1 number 1 value 0\n",
         ),
     ];
-    for (reset, input, expected) in rows {
-        let output = output_of(&rt, rt.alloc(), Kind::Linear, reset, input);
-        assert_eq!(rt; output.as_slice(), expected.as_bytes(), "{input:?}");
+    for (reset, input, expected) in &ROWS {
+        answers(&rt, rt.alloc(), Kind::Linear, *reset, input, expected);
     }
 }
 
@@ -98,8 +114,7 @@ fn a_reset_to_zero_and_bad_lines(rt: HostRuntime) {
         "return 3\npull\nPULL\nwrite 0 4294967296\nwrite 0 4294967295\nreturn 0\nreturn 0\npull\n\n";
     let expected =
         "no such holder\npulled 0 number 0 value 0\nbad line\nbad line\nwritten 0\nreturned 0\nno such holder\npulled 1 number 0 value 0\nbad line\n";
-    let output = output_of(&rt, rt.alloc(), Kind::Linear, Reset::Zero, input);
-    assert_equal(&rt, output.as_slice(), expected.as_bytes());
+    answers(&rt, rt.alloc(), Kind::Linear, Reset::Zero, input, expected);
 }
 
 #[test]
@@ -107,43 +122,47 @@ fn a_line_of_more_than_64_bytes_is_bad(rt: HostRuntime) {
     let letters = "aaaaaaaaaaaaaaaaaaaaaaaaaaaaaaaaaaaaaaaaaaaaaaaaaaaaaaaaaaaaaaaa";
     assert_equal(&rt, letters.len(), 64);
     let input = format!(in rt.alloc(); "{letters}pull\npull\n").expect(&rt, "memory is left");
-    let output = output_of(&rt, rt.alloc(), Kind::Linear, Reset::Keep, input.as_str());
-    assert_equal(
+    let expected = "bad line\npulled 0 number 0 value 0\n";
+    answers(
         &rt,
-        output.as_slice(),
-        b"bad line\npulled 0 number 0 value 0\n".as_slice(),
+        rt.alloc(),
+        Kind::Linear,
+        Reset::Keep,
+        input.as_str(),
+        expected,
     );
+}
+
+/// 33 pulls, a return and a pull, with the replies of a pool that may have one page.
+fn past_a_page(alloc: Global) -> Result<(String, String), AllocError> {
+    let mut input = String::new(alloc);
+    let mut expected = String::new(alloc);
+    for pulled in 0..32u8 {
+        input.push_str("pull\n")?;
+        write!(expected, "pulled {pulled} number {pulled} value 0\n")?;
+    }
+    input.push_str("pull\nreturn 7\npull\n")?;
+    expected.push_str("refused limit\nreturned 7\npulled 32 number 7 value 0\n")?;
+    Ok((input, expected))
 }
 
 #[test]
 fn a_bounded_pool_refuses_at_its_limit(rt: HostRuntime) {
-    let mut input = String::new(rt.alloc());
-    let mut expected = String::new(rt.alloc());
-    for i in 0..33u8 {
-        input.push_str("pull\n").expect(&rt, "memory is left");
-        if i < 32 {
-            write!(expected, "pulled {i} number {i} value 0\n").expect(&rt, "memory is left");
-        }
-    }
-    input
-        .push_str("return 7\npull\n")
-        .expect(&rt, "memory is left");
-    expected
-        .push_str("refused limit\nreturned 7\npulled 32 number 7 value 0\n")
-        .expect(&rt, "memory is left");
-    let output = output_of(
+    let (input, expected) = past_a_page(rt.alloc()).expect(&rt, "memory is left");
+    let kind = Kind::Bounded(1);
+    answers(
         &rt,
         rt.alloc(),
-        Kind::Bounded(1),
+        kind,
         Reset::Keep,
         input.as_str(),
+        expected.as_str(),
     );
-    assert_equal(&rt, output.as_slice(), expected.as_bytes());
 }
 
 #[test]
 fn plays_a_stack_and_fresh_items(rt: HostRuntime) {
-    let rows = [
+    const ROWS: [(Kind, &str, &str); 2] = [
         (
             Kind::Stack,
             "attach 9\nreturn 0\npull\nforget 1\npull\n",
@@ -155,17 +174,16 @@ fn plays_a_stack_and_fresh_items(rt: HostRuntime) {
             "pulled 0 value 0\nwritten 0\nreturned 0\npulled 1 value 0\nnot offered\n",
         ),
     ];
-    for (kind, input, expected) in rows {
-        let output = output_of(&rt, rt.alloc(), kind, Reset::Keep, input);
-        assert_eq!(rt; output.as_slice(), expected.as_bytes(), "{input:?}");
+    for (kind, input, expected) in &ROWS {
+        answers(&rt, rt.alloc(), *kind, Reset::Keep, input, expected);
     }
 }
 
 #[test]
 fn no_line_has_no_reply(rt: HostRuntime) {
-    for kind in [Kind::Linear, Kind::Bounded(1), Kind::Stack, Kind::None] {
-        let output = output_of(&rt, rt.alloc(), kind, Reset::Zero, "");
-        assert_eq!(rt; output.len(), 0, "{kind:?}");
+    const KINDS: [Kind; 4] = [Kind::Linear, Kind::Bounded(1), Kind::Stack, Kind::None];
+    for kind in &KINDS {
+        answers(&rt, rt.alloc(), *kind, Reset::Zero, "", "");
     }
 }
 

@@ -1,9 +1,9 @@
 //! Worked rows, each a list of events with the answers that they have to give.
 use crate::assert_equal::assert_equal;
+use object_pool_cores::interleave::*;
 use pool_parts::PullError;
 use pool_parts::clean::AnyValue;
 use pool_parts::closures::{Copied, Keep, Reset, ResetBy, Resets};
-use object_pool_cores::interleave::*;
 use std::alloc::{AllocError, Global};
 use std::cell::Cell;
 use std::process::Abort;
@@ -29,17 +29,78 @@ fn unbounded(alloc: Global) -> Result<World<u32, Keep>, PullError> {
     World::new(alloc, zeros(alloc)?, Keep)
 }
 
-/// Steps the world through the events, each of which has to give its answer.
-fn play<const N: usize, T: Drop, R: Reset<T, AnyValue>>(
+/// An event as it stands in a table of steps. The values of a page come from what the table is played with.
+#[derive(Clone, Copy)]
+enum Act {
+    Begin,
+    ReadMask(usize),
+    ReadHinted(usize, usize),
+    ClearBit(usize),
+    ReadNext(usize),
+    MakePage(usize),
+    /// The agent's page is refused.
+    Refuse(usize, PullError),
+    ExchangeNext(usize),
+    MoveOut(usize),
+    MoveHome(usize),
+    OrMask(usize),
+}
+
+/// What makes the values of the pages of a table's steps.
+trait Pages<T> {
+    fn page(&self, alloc: Global) -> Result<Prepared<T>, PullError>;
+}
+
+/// Pages of zeros.
+struct ZeroPages;
+
+impl Pages<u32> for ZeroPages {
+    fn page(&self, alloc: Global) -> Result<Prepared<u32>, PullError> {
+        zeros(alloc)
+    }
+}
+
+/// Pages whose values are counted.
+#[derive(Drop)]
+struct CountedPages<'c> {
+    tally: &'c Tally,
+}
+
+impl<'c> Pages<Counted<'c>> for CountedPages<'c> {
+    fn page(&self, alloc: Global) -> Result<Prepared<Counted<'c>>, PullError> {
+        make_counted(alloc, self.tally)
+    }
+}
+
+/// The event that stands for an act.
+fn event_of<T, P: Pages<T>>(alloc: Global, pages: &P, act: Act) -> Result<Event<T>, PullError> {
+    Ok(match act {
+        Act::Begin => Event::Begin,
+        Act::ReadMask(agent) => Event::ReadMask(agent),
+        Act::ReadHinted(agent, page) => Event::ReadHinted(agent, page),
+        Act::ClearBit(agent) => Event::ClearBit(agent),
+        Act::ReadNext(agent) => Event::ReadNext(agent),
+        Act::MakePage(agent) => Event::MakePage(agent, Ok(pages.page(alloc)?)),
+        Act::Refuse(agent, error) => Event::MakePage(agent, Err(error)),
+        Act::ExchangeNext(agent) => Event::ExchangeNext(agent),
+        Act::MoveOut(agent) => Event::MoveOut(agent),
+        Act::MoveHome(agent) => Event::MoveHome(agent),
+        Act::OrMask(agent) => Event::OrMask(agent),
+    })
+}
+
+/// Steps the world through a table of events, each of which has to give its answer.
+fn play<T: Drop, R: Reset<T, AnyValue>, P: Pages<T>>(
     rt: &impl Abort,
     alloc: Global,
+    pages: &P,
     world: &mut World<T, R>,
-    steps: [(Event<T>, Seen); N],
+    steps: &[(Act, Seen)],
 ) {
-    let steps = Vec::from_array(alloc, steps).expect(rt, "memory is left");
-    for (event, answer) in steps {
-        let seen = world.step(event);
-        assert_equal(rt, seen, answer);
+    for step in steps {
+        let (act, answer) = *step;
+        let event = event_of(alloc, pages, act).expect(rt, "values are made");
+        assert_equal(rt, world.step(event), answer);
     }
 }
 
@@ -72,20 +133,16 @@ fn owners(alloc: Global, shared: &Rc<u32>) -> Result<Prepared<Rc<u32>>, PullErro
 #[test]
 fn a_lost_clearing_tries_the_next_bit(rt: HostRuntime) {
     let mut world = unbounded(rt.alloc()).expect(&rt, "a world is made");
-    play(
-        &rt,
-        rt.alloc(),
-        &mut world,
-        [
-            (Event::Begin, Seen::Began(0)),
-            (Event::Begin, Seen::Began(1)),
-            (Event::ReadMask(0), Seen::Word(0, FULL)),
-            (Event::ReadMask(1), Seen::Word(1, FULL)),
-            (Event::ClearBit(0), Seen::Pulled(0, 0)),
-            (Event::ClearBit(1), Seen::Found(1, 4294967294)),
-            (Event::ClearBit(1), Seen::Pulled(1, 1)),
-        ],
-    );
+    const STEPS: [(Act, Seen); 7] = [
+        (Act::Begin, Seen::Began(0)),
+        (Act::Begin, Seen::Began(1)),
+        (Act::ReadMask(0), Seen::Word(0, FULL)),
+        (Act::ReadMask(1), Seen::Word(1, FULL)),
+        (Act::ClearBit(0), Seen::Pulled(0, 0)),
+        (Act::ClearBit(1), Seen::Found(1, 4294967294)),
+        (Act::ClearBit(1), Seen::Pulled(1, 1)),
+    ];
+    play(&rt, rt.alloc(), &ZeroPages, &mut world, &STEPS);
     assert_equal(&rt, world.word(0), Some(4294967292));
 }
 
@@ -102,31 +159,24 @@ fn a_lost_link_takes_from_the_linked_page(rt: HostRuntime) {
             None => World::new(rt.alloc(), first, Keep).expect(&rt, "a world is made"),
         };
         hold(&mut world, 32);
-        let (a, b) = (
-            make_counted(rt.alloc(), &tally).expect(&rt, "values are made"),
-            make_counted(rt.alloc(), &tally).expect(&rt, "values are made"),
-        );
-        play(
-            &rt,
-            rt.alloc(),
-            &mut world,
-            [
-                (Event::Begin, Seen::Began(32)),
-                (Event::Begin, Seen::Began(33)),
-                (Event::ReadMask(32), Seen::Word(32, 0)),
-                (Event::ReadMask(33), Seen::Word(33, 0)),
-                (Event::ReadNext(32), Seen::Next(32, false)),
-                (Event::ReadNext(33), Seen::Next(33, false)),
-                (Event::MakePage(32, Ok(a)), Seen::Made(32)),
-                (Event::MakePage(33, Ok(b)), Seen::Made(33)),
-                (Event::ExchangeNext(32), Seen::Linked(32)),
-                (Event::ExchangeNext(33), Seen::Lost(33)),
-                (Event::ReadMask(32), Seen::Word(32, FULL)),
-                (Event::ClearBit(32), Seen::Pulled(32, 32)),
-                (Event::ReadMask(33), Seen::Word(33, 4294967294)),
-                (Event::ClearBit(33), Seen::Pulled(33, 33)),
-            ],
-        );
+        const STEPS: [(Act, Seen); 14] = [
+            (Act::Begin, Seen::Began(32)),
+            (Act::Begin, Seen::Began(33)),
+            (Act::ReadMask(32), Seen::Word(32, 0)),
+            (Act::ReadMask(33), Seen::Word(33, 0)),
+            (Act::ReadNext(32), Seen::Next(32, false)),
+            (Act::ReadNext(33), Seen::Next(33, false)),
+            (Act::MakePage(32), Seen::Made(32)),
+            (Act::MakePage(33), Seen::Made(33)),
+            (Act::ExchangeNext(32), Seen::Linked(32)),
+            (Act::ExchangeNext(33), Seen::Lost(33)),
+            (Act::ReadMask(32), Seen::Word(32, FULL)),
+            (Act::ClearBit(32), Seen::Pulled(32, 32)),
+            (Act::ReadMask(33), Seen::Word(33, 4294967294)),
+            (Act::ClearBit(33), Seen::Pulled(33, 33)),
+        ];
+        let pages = CountedPages { tally: &tally };
+        play(&rt, rt.alloc(), &pages, &mut world, &STEPS);
         assert_equal(&rt, tally.now(), (96, 32));
         assert_equal(&rt, (world.pages(), world.limit()), (2, limit));
     }
@@ -138,54 +188,42 @@ fn a_bit_that_was_taken_is_passed_over(rt: HostRuntime) {
     hold(&mut world, 32);
     give_back(&mut world, 0);
     give_back(&mut world, 2);
-    play(
-        &rt,
-        rt.alloc(),
-        &mut world,
-        [
-            (Event::Begin, Seen::Began(32)),
-            (Event::Begin, Seen::Began(33)),
-            (Event::ReadMask(32), Seen::Word(32, 5)),
-            (Event::ReadMask(33), Seen::Word(33, 5)),
-            (Event::ClearBit(33), Seen::Pulled(33, 0)),
-            (Event::ClearBit(32), Seen::Found(32, 4)),
-            (Event::ClearBit(32), Seen::Pulled(32, 2)),
-        ],
-    );
+    const STEPS: [(Act, Seen); 7] = [
+        (Act::Begin, Seen::Began(32)),
+        (Act::Begin, Seen::Began(33)),
+        (Act::ReadMask(32), Seen::Word(32, 5)),
+        (Act::ReadMask(33), Seen::Word(33, 5)),
+        (Act::ClearBit(33), Seen::Pulled(33, 0)),
+        (Act::ClearBit(32), Seen::Found(32, 4)),
+        (Act::ClearBit(32), Seen::Pulled(32, 2)),
+    ];
+    play(&rt, rt.alloc(), &ZeroPages, &mut world, &STEPS);
     assert_equal(&rt, world.word(0), Some(0));
 }
 
 #[test]
 fn an_event_that_is_not_enabled_changes_nothing(rt: HostRuntime) {
     let mut world = unbounded(rt.alloc()).expect(&rt, "a world is made");
-    play(
-        &rt,
-        rt.alloc(),
-        &mut world,
-        [
-            (Event::Begin, Seen::Began(0)),
-            (Event::MoveOut(0), Seen::NotEnabled),
-            (Event::ReadMask(1), Seen::NotEnabled),
-        ],
-    );
+    const STEPS: [(Act, Seen); 3] = [
+        (Act::Begin, Seen::Began(0)),
+        (Act::MoveOut(0), Seen::NotEnabled),
+        (Act::ReadMask(1), Seen::NotEnabled),
+    ];
+    play(&rt, rt.alloc(), &ZeroPages, &mut world, &STEPS);
     assert_equal(&rt, (world.pages(), world.word(0)), (1, Some(FULL)));
 }
 
 #[test]
 fn an_agent_alone_holds_after_three_events(rt: HostRuntime) {
     let mut world = unbounded(rt.alloc()).expect(&rt, "a world is made");
-    play(
-        &rt,
-        rt.alloc(),
-        &mut world,
-        [
-            (Event::Begin, Seen::Began(0)),
-            (Event::ReadMask(0), Seen::Word(0, FULL)),
-            (Event::ClearBit(0), Seen::Pulled(0, 0)),
-            (Event::MoveOut(0), Seen::MovedOut(0)),
-            (Event::Write(0, 5), Seen::Wrote(0)),
-        ],
-    );
+    const STEPS: [(Act, Seen); 4] = [
+        (Act::Begin, Seen::Began(0)),
+        (Act::ReadMask(0), Seen::Word(0, FULL)),
+        (Act::ClearBit(0), Seen::Pulled(0, 0)),
+        (Act::MoveOut(0), Seen::MovedOut(0)),
+    ];
+    play(&rt, rt.alloc(), &ZeroPages, &mut world, &STEPS);
+    assert_equal(&rt, world.step(Event::Write(0, 5)), Seen::Wrote(0));
     assert_equal(&rt, (world.held(0), world.place(0, 0)), (Some(&5), None));
     give_back(&mut world, 0);
     assert_equal(&rt, (world.held(0), world.place(0, 0)), (None, Some(&5)));
@@ -195,45 +233,36 @@ fn an_agent_alone_holds_after_three_events(rt: HostRuntime) {
 fn an_agent_alone_links_a_page_after_a_full_one(rt: HostRuntime) {
     let mut world = unbounded(rt.alloc()).expect(&rt, "a world is made");
     hold(&mut world, 32);
-    let made = zeros(rt.alloc()).expect(&rt, "values are made");
-    play(
-        &rt,
-        rt.alloc(),
-        &mut world,
-        [
-            (Event::Begin, Seen::Began(32)),
-            (Event::ReadMask(32), Seen::Word(32, 0)),
-            (Event::ReadNext(32), Seen::Next(32, false)),
-            (Event::MakePage(32, Ok(made)), Seen::Made(32)),
-            (Event::ExchangeNext(32), Seen::Linked(32)),
-            (Event::ReadMask(32), Seen::Word(32, FULL)),
-            (Event::ClearBit(32), Seen::Pulled(32, 32)),
-            (Event::MoveOut(32), Seen::MovedOut(32)),
-        ],
-    );
+    const STEPS: [(Act, Seen); 8] = [
+        (Act::Begin, Seen::Began(32)),
+        (Act::ReadMask(32), Seen::Word(32, 0)),
+        (Act::ReadNext(32), Seen::Next(32, false)),
+        (Act::MakePage(32), Seen::Made(32)),
+        (Act::ExchangeNext(32), Seen::Linked(32)),
+        (Act::ReadMask(32), Seen::Word(32, FULL)),
+        (Act::ClearBit(32), Seen::Pulled(32, 32)),
+        (Act::MoveOut(32), Seen::MovedOut(32)),
+    ];
+    play(&rt, rt.alloc(), &ZeroPages, &mut world, &STEPS);
 }
 
 #[test]
 fn a_refusal_leaves_the_pages_alone(rt: HostRuntime) {
     let mut world = unbounded(rt.alloc()).expect(&rt, "a world is made");
     hold(&mut world, 32);
-    play(
-        &rt,
-        rt.alloc(),
-        &mut world,
-        [
-            (Event::Begin, Seen::Began(32)),
-            (Event::ReadMask(32), Seen::Word(32, 0)),
-            (Event::ReadNext(32), Seen::Next(32, false)),
-            (Event::MoveHome(7), Seen::MovedHome(7)),
-            (Event::OrMask(7), Seen::Returned(7, 7)),
-            (Event::MakePage(32, Err(PullError::Limit)), Seen::NotEnabled),
-            (
-                Event::MakePage(32, Err(PullError::Init)),
-                Seen::Refused(32, PullError::Init),
-            ),
-        ],
-    );
+    const STEPS: [(Act, Seen); 7] = [
+        (Act::Begin, Seen::Began(32)),
+        (Act::ReadMask(32), Seen::Word(32, 0)),
+        (Act::ReadNext(32), Seen::Next(32, false)),
+        (Act::MoveHome(7), Seen::MovedHome(7)),
+        (Act::OrMask(7), Seen::Returned(7, 7)),
+        (Act::Refuse(32, PullError::Limit), Seen::NotEnabled),
+        (
+            Act::Refuse(32, PullError::Init),
+            Seen::Refused(32, PullError::Init),
+        ),
+    ];
+    play(&rt, rt.alloc(), &ZeroPages, &mut world, &STEPS);
     assert_equal(&rt, (world.pages(), world.word(0)), (1, Some(128)));
 }
 
@@ -242,27 +271,22 @@ fn a_page_may_be_linked_although_a_number_came_back(rt: HostRuntime) {
     let mut world = unbounded(rt.alloc()).expect(&rt, "a world is made");
     hold(&mut world, 32);
     give_back(&mut world, 0);
-    let made = zeros(rt.alloc()).expect(&rt, "values are made");
-    play(
-        &rt,
-        rt.alloc(),
-        &mut world,
-        [
-            (Event::Begin, Seen::Began(32)),
-            (Event::ReadMask(32), Seen::Word(32, 1)),
-            (Event::Begin, Seen::Began(33)),
-            (Event::ReadMask(33), Seen::Word(33, 1)),
-            (Event::ClearBit(33), Seen::Pulled(33, 0)),
-            (Event::MoveHome(5), Seen::MovedHome(5)),
-            (Event::OrMask(5), Seen::Returned(5, 5)),
-            (Event::ClearBit(32), Seen::Found(32, 32)),
-            (Event::ReadNext(32), Seen::Next(32, false)),
-            (Event::MakePage(32, Ok(made)), Seen::Made(32)),
-            (Event::ExchangeNext(32), Seen::Linked(32)),
-            (Event::ReadMask(32), Seen::Word(32, FULL)),
-            (Event::ClearBit(32), Seen::Pulled(32, 32)),
-        ],
-    );
+    const STEPS: [(Act, Seen); 13] = [
+        (Act::Begin, Seen::Began(32)),
+        (Act::ReadMask(32), Seen::Word(32, 1)),
+        (Act::Begin, Seen::Began(33)),
+        (Act::ReadMask(33), Seen::Word(33, 1)),
+        (Act::ClearBit(33), Seen::Pulled(33, 0)),
+        (Act::MoveHome(5), Seen::MovedHome(5)),
+        (Act::OrMask(5), Seen::Returned(5, 5)),
+        (Act::ClearBit(32), Seen::Found(32, 32)),
+        (Act::ReadNext(32), Seen::Next(32, false)),
+        (Act::MakePage(32), Seen::Made(32)),
+        (Act::ExchangeNext(32), Seen::Linked(32)),
+        (Act::ReadMask(32), Seen::Word(32, FULL)),
+        (Act::ClearBit(32), Seen::Pulled(32, 32)),
+    ];
+    play(&rt, rt.alloc(), &ZeroPages, &mut world, &STEPS);
     assert_equal(&rt, (world.pages(), world.word(0)), (2, Some(32)));
 }
 
@@ -277,23 +301,20 @@ fn a_full_world_at_its_limit_refuses(rt: HostRuntime) {
         )
         .expect(&rt, "a world is made");
         hold(&mut world, 32);
-        play(
-            &rt,
-            rt.alloc(),
-            &mut world,
-            [
-                (Event::Begin, Seen::Began(32)),
-                (Event::ReadMask(32), Seen::Word(32, 0)),
-            ],
-        );
+        let began = world.step(Event::Begin);
+        let read = world.step(Event::ReadMask(32));
         if returns_between {
             give_back(&mut world, 7);
         }
-        play(
+        let next = world.step(Event::ReadNext(32));
+        assert_equal(
             &rt,
-            rt.alloc(),
-            &mut world,
-            [(Event::ReadNext(32), Seen::Refused(32, PullError::Limit))],
+            (began, read, next),
+            (
+                Seen::Began(32),
+                Seen::Word(32, 0),
+                Seen::Refused(32, PullError::Limit),
+            ),
         );
         let word = if returns_between { 128 } else { 0 };
         assert_equal(&rt, (world.pages(), world.word(0)), (1, Some(word)));
@@ -310,19 +331,14 @@ fn an_agent_alone_is_refused_after_two_events_a_page(rt: HostRuntime) {
     )
     .expect(&rt, "a world is made");
     hold(&mut world, 32);
-    let made = zeros(rt.alloc()).expect(&rt, "values are made");
-    play(
-        &rt,
-        rt.alloc(),
-        &mut world,
-        [
-            (Event::Begin, Seen::Began(32)),
-            (Event::ReadMask(32), Seen::Word(32, 0)),
-            (Event::ReadNext(32), Seen::Next(32, false)),
-            (Event::MakePage(32, Ok(made)), Seen::Made(32)),
-            (Event::ExchangeNext(32), Seen::Linked(32)),
-        ],
-    );
+    const STEPS: [(Act, Seen); 5] = [
+        (Act::Begin, Seen::Began(32)),
+        (Act::ReadMask(32), Seen::Word(32, 0)),
+        (Act::ReadNext(32), Seen::Next(32, false)),
+        (Act::MakePage(32), Seen::Made(32)),
+        (Act::ExchangeNext(32), Seen::Linked(32)),
+    ];
+    play(&rt, rt.alloc(), &ZeroPages, &mut world, &STEPS);
     for agent in 33..64 {
         let _ = world.step(Event::Begin);
         let _ = world.step(Event::ReadMask(agent));
@@ -333,18 +349,14 @@ fn an_agent_alone_is_refused_after_two_events_a_page(rt: HostRuntime) {
         let _ = world.step(Event::ClearBit(agent));
         let _ = world.step(Event::MoveOut(agent));
     }
-    play(
-        &rt,
-        rt.alloc(),
-        &mut world,
-        [
-            (Event::Begin, Seen::Began(64)),
-            (Event::ReadMask(64), Seen::Word(64, 0)),
-            (Event::ReadNext(64), Seen::Next(64, true)),
-            (Event::ReadMask(64), Seen::Word(64, 0)),
-            (Event::ReadNext(64), Seen::Refused(64, PullError::Limit)),
-        ],
-    );
+    const LAST: [(Act, Seen); 5] = [
+        (Act::Begin, Seen::Began(64)),
+        (Act::ReadMask(64), Seen::Word(64, 0)),
+        (Act::ReadNext(64), Seen::Next(64, true)),
+        (Act::ReadMask(64), Seen::Word(64, 0)),
+        (Act::ReadNext(64), Seen::Refused(64, PullError::Limit)),
+    ];
+    play(&rt, rt.alloc(), &ZeroPages, &mut world, &LAST);
 }
 
 #[test]

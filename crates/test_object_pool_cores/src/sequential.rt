@@ -1,12 +1,15 @@
 //! Worked cases of the linear core and the player.
 use crate::assert_equal::assert_equal;
+use object_pool_cores::sequential::*;
 use pool_parts::PullError;
 use pool_parts::clean::AnyValue;
-use pool_parts::closures::{Copied, Init, Keep};
-use object_pool_cores::sequential::*;
+use pool_parts::closures::{Copied, Keep};
 use std::alloc::Global;
-use std::cell::Cell;
 use std::process::Abort;
+use std::sync::Arc;
+use test_values::counted::NEVER;
+use test_values::tallied::{Tallied, TalliedValues};
+use test_values::tally::{Tally, new_tally};
 
 mod core_page;
 mod held_and_kept;
@@ -16,50 +19,47 @@ mod many;
 mod runs;
 mod values;
 
-/// Makes zeros, counts its calls, and may refuse one of them.
-#[derive(Drop)]
-struct Zeros<'a> {
-    calls: &'a Cell<u32>,
-    refused: u32,
-}
+/// A linear core of values that are counted.
+type Tracked = LinearCore<Tallied, TalliedValues, Keep, AnyValue>;
 
-impl Init<u32, AnyValue> for Zeros<'_> {
-    fn make(&self) -> Option<u32> {
-        let call = self.calls.get().saturating_add(1);
-        self.calls.set(call);
-        if call == self.refused { None } else { Some(0) }
+/// A stack core of such values.
+type TrackedStack = StackCore<Tallied, TalliedValues, Keep, AnyValue>;
+
+/// Such a linear core, of at most so many pages where there is a limit, whose `init` refuses at one call, counted from 0.
+fn tracked(
+    alloc: Global,
+    tally: &Arc<Tally>,
+    refused: usize,
+    limit: Option<usize>,
+) -> Result<Tracked, PullError> {
+    let init = TalliedValues::new_but(tally, refused)?;
+    match limit {
+        Some(pages) if pages > 0 => LinearCore::with_limit(alloc, init, Keep, pages),
+        _ => LinearCore::new(alloc, init, Keep),
     }
 }
 
-/// A value that counts its end.
-pub(super) struct Mortal<'a> {
-    pub(super) ends: &'a Cell<u32>,
+/// Such a stack core.
+fn tracked_stack(
+    alloc: Global,
+    tally: &Arc<Tally>,
+    refused: usize,
+) -> Result<TrackedStack, PullError> {
+    let init = TalliedValues::new_but(tally, refused)?;
+    Ok(StackCore::new(alloc, init, Keep))
 }
 
-impl Drop for Mortal<'_> {
-    fn drop(self) {
-        let Mortal { ends } = self;
-        ends.set(ends.get().saturating_add(1));
+/// So many items, held together.
+fn hold<T: Drop, P: SequentialPool<T>>(
+    alloc: Global,
+    core: &mut P,
+    count: usize,
+) -> Result<Vec<Item<T>>, PullError> {
+    let mut items = Vec::with_capacity(alloc, count)?;
+    for _ in 0..count {
+        items.push(core.pull()?)?;
     }
-}
-
-/// Makes values that count their ends, and may refuse one call.
-#[derive(Drop)]
-struct Mortals<'a> {
-    calls: &'a Cell<u32>,
-    ends: &'a Cell<u32>,
-    refused: u32,
-}
-
-impl<'a> Init<Mortal<'a>, AnyValue> for Mortals<'a> {
-    fn make(&self) -> Option<Mortal<'a>> {
-        let call = self.calls.get().saturating_add(1);
-        self.calls.set(call);
-        if call == self.refused {
-            return None;
-        }
-        Some(Mortal { ends: self.ends })
-    }
+    Ok(items)
 }
 
 /// Whether each item is the pool's own.
@@ -72,44 +72,68 @@ fn are_mine<T: Drop, P: SequentialPool<T>>(pool: &P, items: &[Item<T>]) -> bool 
     true
 }
 
-/// Plays the commands on a linear pool that keeps values, of at most so many pages where there is a limit.
-fn played(
+/// A command as it stands in a table.
+#[derive(Clone, Copy)]
+enum Do {
+    Pull,
+    Write(usize, u32),
+    Return(usize),
+    Forget(usize),
+    Attach(u32),
+}
+
+/// The command that stands for it.
+fn command_of(what: Do) -> Command<u32> {
+    match what {
+        Do::Pull => Command::Pull,
+        Do::Write(holder, value) => Command::Write(holder, value),
+        Do::Return(holder) => Command::Return(holder),
+        Do::Forget(holder) => Command::Forget(holder),
+        Do::Attach(value) => Command::Attach(value),
+    }
+}
+
+/// What a player replies to a table of commands, in one run.
+fn replies_of<P: SequentialPool<u32>>(
     rt: &impl Abort,
     alloc: Global,
-    limit: Option<usize>,
-    commands: Vec<Command<u32>>,
+    player: &mut Player<u32, P>,
+    table: &[Do],
 ) -> Vec<Reply<u32>> {
-    let init = Copied::<u32, AnyValue>::new(0);
-    let core = match limit {
-        Some(pages) if pages > 0 => LinearCore::with_limit(alloc, init, Keep, pages).expect(
-            rt,
-            "a pool is made",
-        ),
-        _ => LinearCore::new(alloc, init, Keep).expect(rt, "a pool is made"),
-    };
-    let mut player = Player::new(alloc, core);
+    let mut commands = Vec::new(alloc);
+    for what in table {
+        commands
+            .push(command_of(*what))
+            .expect(rt, "memory is left");
+    }
     let mut replies = Vec::new(alloc);
-    player
-        .run(commands, &mut replies)
-        .expect(rt, "memory is left");
+    let ran = player.run(commands, &mut replies);
+    ran.expect(rt, "memory is left");
     replies
 }
 
+/// The same on a new linear pool of zeros that keeps values.
+fn replies_of_linear(rt: &impl Abort, alloc: Global, table: &[Do]) -> Vec<Reply<u32>> {
+    let init = Copied::<u32, AnyValue>::new(0);
+    let core = LinearCore::new(alloc, init, Keep).expect(rt, "a pool is made");
+    replies_of(rt, alloc, &mut Player::new(alloc, core), table)
+}
+
+/// 1 and 2 are written to two items, which come back, and two are pulled again.
+const WRITTEN_AND_PULLED: [Do; 8] = [
+    Do::Pull,
+    Do::Pull,
+    Do::Write(0, 1),
+    Do::Write(1, 2),
+    Do::Return(0),
+    Do::Return(1),
+    Do::Pull,
+    Do::Pull,
+];
+
 #[test]
 fn values_that_reset_keeps_come_again_with_their_numbers(rt: HostRuntime) {
-    let commands = vec![in rt.alloc();
-        Command::Pull,
-        Command::Pull,
-        Command::Write(0, 1),
-        Command::Write(1, 2),
-        Command::Return(0),
-        Command::Return(1),
-        Command::Pull,
-        Command::Pull,
-    ]
-    .expect(&rt, "memory is left");
-    let replies = played(&rt, rt.alloc(), None, commands);
-    let expected = [
+    const EXPECTED: [Reply<u32>; 8] = [
         Reply::Pulled(0, Some(0)),
         Reply::Pulled(1, Some(1)),
         Reply::Written,
@@ -119,40 +143,38 @@ fn values_that_reset_keeps_come_again_with_their_numbers(rt: HostRuntime) {
         Reply::Pulled(2, Some(0)),
         Reply::Pulled(3, Some(1)),
     ];
-    assert_equal(&rt, replies.as_slice(), expected.as_slice());
+    let replies = replies_of_linear(&rt, rt.alloc(), &WRITTEN_AND_PULLED);
+    assert_equal(&rt, replies.as_slice(), EXPECTED.as_slice());
 }
 
 #[test]
 fn the_least_number_comes_first(rt: HostRuntime) {
-    let commands = vec![in rt.alloc();
-        Command::Pull,
-        Command::Pull,
-        Command::Pull,
-        Command::Return(2),
-        Command::Return(0),
-        Command::Pull,
-        Command::Pull,
-    ]
-    .expect(&rt, "memory is left");
-    let replies = played(&rt, rt.alloc(), None, commands);
-    let last = [Reply::Pulled(3, Some(0)), Reply::Pulled(4, Some(2))];
-    assert_equal(&rt, replies.as_slice().get(5..), Some(last.as_slice()));
+    const TABLE: [Do; 7] = [
+        Do::Pull,
+        Do::Pull,
+        Do::Pull,
+        Do::Return(2),
+        Do::Return(0),
+        Do::Pull,
+        Do::Pull,
+    ];
+    const LAST: [Reply<u32>; 2] = [Reply::Pulled(3, Some(0)), Reply::Pulled(4, Some(2))];
+    let replies = replies_of_linear(&rt, rt.alloc(), &TABLE);
+    assert_equal(&rt, replies.as_slice().get(5..), Some(LAST.as_slice()));
 }
 
 #[test]
 fn a_forgotten_number_stays_out(rt: HostRuntime) {
-    let commands = vec![in rt.alloc();
-        Command::Pull,
-        Command::Forget(0),
-        Command::Pull,
-        Command::Return(1),
-        Command::Pull,
-        Command::Return(0),
-        Command::Attach(9),
-    ]
-    .expect(&rt, "memory is left");
-    let replies = played(&rt, rt.alloc(), None, commands);
-    let expected = [
+    const TABLE: [Do; 7] = [
+        Do::Pull,
+        Do::Forget(0),
+        Do::Pull,
+        Do::Return(1),
+        Do::Pull,
+        Do::Return(0),
+        Do::Attach(9),
+    ];
+    const EXPECTED: [Reply<u32>; 7] = [
         Reply::Pulled(0, Some(0)),
         Reply::Forgotten,
         Reply::Pulled(1, Some(1)),
@@ -161,107 +183,87 @@ fn a_forgotten_number_stays_out(rt: HostRuntime) {
         Reply::NoSuchHolder,
         Reply::AttachRefused(AttachError::NotOffered(9)),
     ];
-    assert_equal(&rt, replies.as_slice(), expected.as_slice());
+    let replies = replies_of_linear(&rt, rt.alloc(), &TABLE);
+    assert_equal(&rt, replies.as_slice(), EXPECTED.as_slice());
 }
 
 #[test]
 fn a_limit_of_one_page_holds(rt: HostRuntime) {
-    let mut commands = Vec::new(rt.alloc());
-    for _ in 0..33 {
-        commands.push(Command::Pull).expect(&rt, "memory is left");
-    }
-    commands
-        .push(Command::Return(7))
-        .expect(&rt, "memory is left");
-    commands.push(Command::Pull).expect(&rt, "memory is left");
-    let replies = played(&rt, rt.alloc(), Some(1), commands);
-    let last = [
+    const LAST: [Reply<u32>; 4] = [
         Reply::Pulled(31, Some(31)),
         Reply::Refused(PullError::Limit),
         Reply::Returned,
         Reply::Pulled(32, Some(7)),
     ];
-    assert_equal(&rt, replies.as_slice().get(31..), Some(last.as_slice()));
+    let mut table = [Do::Pull; 35];
+    table[33] = Do::Return(7);
+    let init = Copied::<u32, AnyValue>::new(0);
+    let core = LinearCore::with_limit(rt.alloc(), init, Keep, 1).expect(&rt, "a pool is made");
+    let mut player = Player::new(rt.alloc(), core);
+    let replies = replies_of(&rt, rt.alloc(), &mut player, &table);
+    assert_equal(&rt, replies.as_slice().get(31..), Some(LAST.as_slice()));
 }
 
 #[test]
 fn a_page_is_made_where_none_is_free(rt: HostRuntime) {
-    let calls = Cell::new(0u32);
-    let init = Zeros {
-        calls: &calls,
-        refused: 0,
-    };
-    let mut core: LinearCore<u32, _, _, AnyValue> = LinearCore::new(rt.alloc(), init, Keep).expect(
-        &rt,
-        "a pool is made",
-    );
+    let tally = new_tally(rt.alloc()).expect(&rt, "memory is left");
+    let mut core = tracked(rt.alloc(), &tally, NEVER, None).expect(&rt, "a pool is made");
     assert_equal(
         &rt,
-        (calls.get(), core.pages(), core.limit()),
+        (tally.calls(), core.pages(), core.limit()),
         (32, 1, None),
     );
-    let mut held = Vec::new(rt.alloc());
-    for _ in 0..33 {
-        held.push(core.pull().expect(&rt, "an item is free"))
-            .expect(&rt, "memory is left");
-    }
-    assert_equal(&rt, held.last().and_then(|item| item.number()), Some(32));
-    assert_equal(&rt, (calls.get(), core.pages()), (64, 2));
+    let held = hold(rt.alloc(), &mut core, 33).expect(&rt, "items are free");
+    assert_equal(
+        &rt,
+        (
+            held.last().and_then(|item| item.number()),
+            tally.calls(),
+            core.pages(),
+        ),
+        (Some(32), 64, 2),
+    );
+}
+
+/// With a page held, the pull that is refused by this call of `init` for the next page, counted from 0, drops what it made, and
+/// changes nothing else: the next pull makes that page. How many values were made, and how many are dropped once all ended.
+fn second_page_refused(rt: &impl Abort, alloc: Global, made: usize) -> (usize, usize) {
+    let tally = new_tally(alloc).expect(rt, "memory is left");
+    let calls = made.saturating_add(33);
+    let mut core = tracked(alloc, &tally, calls - 1, None).expect(rt, "a pool is made");
+    let held = hold(alloc, &mut core, 32).expect(rt, "items are free");
+    let refusal = core.pull().err();
+    assert_equal(
+        rt,
+        (refusal, tally.now(), core.pages()),
+        (Some(PullError::Init), (calls, made), 1),
+    );
+    assert!(rt; are_mine(&core, &held));
+    let next = core.pull().expect(rt, "an item is free");
+    assert_equal(
+        rt,
+        (next.number(), tally.now(), core.pages()),
+        (Some(32), (calls.saturating_add(32), made), 2),
+    );
+    drop((next, held, core));
+    (tally.made(), tally.drops())
 }
 
 #[test]
 fn a_refusal_by_init_drops_what_was_made_and_changes_nothing(rt: HostRuntime) {
-    let calls = Cell::new(0u32);
-    let ends = Cell::new(0u32);
-    let init = Mortals {
-        calls: &calls,
-        ends: &ends,
-        refused: 40,
-    };
-    let mut core: LinearCore<Mortal<'_>, _, _, AnyValue> = LinearCore::new(
-        rt.alloc(),
-        init,
-        Keep,
-    ).expect(&rt, "a pool is made");
-    let mut held = Vec::new(rt.alloc());
-    for _ in 0..32 {
-        held.push(core.pull().expect(&rt, "an item is free"))
-            .expect(&rt, "memory is left");
-    }
-    let refused = core.pull();
-    assert!(rt; matches!(&refused, Err(PullError::Init)));
-    assert_equal(&rt, (calls.get(), ends.get(), core.pages()), (40, 7, 1));
-    assert!(rt; are_mine(&core, &held));
-    let next = core.pull().expect(&rt, "an item is free");
-    assert_equal(
-        &rt,
-        (next.number(), calls.get(), core.pages()),
-        (Some(32), 72, 2),
-    );
-    drop(next);
-    drop(held);
-    drop(core);
-    assert_equal(&rt, ends.get(), 71);
+    assert_equal(&rt, second_page_refused(&rt, rt.alloc(), 7), (71, 71));
 }
 
 #[test]
 fn each_call_of_init_may_refuse_the_first_page(rt: HostRuntime) {
-    for refused in 1..33 {
-        let calls = Cell::new(0u32);
-        let ends = Cell::new(0u32);
-        let init = Mortals {
-            calls: &calls,
-            ends: &ends,
-            refused,
-        };
-        let core: Result<LinearCore<Mortal<'_>, _, _, AnyValue>, PullError> = LinearCore::new(
-            rt.alloc(),
-            init,
-            Keep,
+    for made in 0..32usize {
+        let tally = new_tally(rt.alloc()).expect(&rt, "memory is left");
+        let refusal = tracked(rt.alloc(), &tally, made, None).err();
+        assert_equal(
+            &rt,
+            (refusal, tally.now()),
+            (Some(PullError::Init), (made.saturating_add(1), made)),
         );
-        assert!(rt; matches!(&core, Err(PullError::Init)), "at call {refused}");
-        assert_equal(&rt, calls.get(), refused);
-        assert_equal(&rt, ends.get().saturating_add(1), refused);
     }
 }
 

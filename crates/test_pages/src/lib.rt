@@ -7,3 +7,5 @@ mod assert_equal;
 mod linear_page;
 #[cfg(test)]
 mod page;
+#[cfg(test)]
+mod zero;

@@ -1,8 +1,8 @@
 //! Chains in use. Here stands how the tests hold a page as a whole and come to the page behind it.
-use page_chain::PullError;
-use page_chain::clean::{AnyValue, Clean};
 use page_chain::linear_page::{Chain, LinearPage};
-use page_chain::page::{Allocated, Page, PageSlot, PullPass};
+use pool_parts::PullError;
+use pool_parts::clean::{AnyValue, Clean};
+use pool_parts::page::{Allocated, Page, PageSlot, PullPass};
 use std::alloc::Global;
 use std::mem;
 use std::sync::Arc;

@@ -1,6 +1,6 @@
 //! One page in use. Here stands how its tests come to an item.
-use page_chain::clean::Clean;
-use page_chain::page::{OwnedSlot, Page, PageSlot};
+use pool_parts::clean::Clean;
+use pool_parts::page::{OwnedSlot, Page, PageSlot};
 use std::sync::Arc;
 
 mod histories;

@@ -7,9 +7,9 @@
 //! than there are pages.
 use crate::adds::Adds;
 use crate::step::Step;
+use object_pool_cores::interleave::{Seen, World};
 use pool_parts::PullError;
 use pool_parts::page::PageId;
-use object_pool_cores::interleave::{Seen, World};
 use std::alloc::{AllocError, Global};
 use thiserror::Error;
 

@@ -1,4 +1,5 @@
-//! How long a pull and its return take. `KUNDRATU_BENCH_TURNS` says how many turns a thread makes, where it isn't 1,000,000.
+//! How long a pull and its return take. `KUNDRATU_BENCH_TURNS` says how many turns a thread makes,
+//! where it isn't 1,000,000.
 use kundratu_pool::Pool;
 use std::env;
 use std::hint::black_box;
@@ -9,7 +10,8 @@ use std::time::Instant;
 const ITEMS: usize = 65_536;
 const ROUNDS: usize = 5;
 
-/// Nanoseconds a pull and return, of the best of some rounds, while so many items are held and so many threads pull.
+/// Nanoseconds a pull and return, of the best of some rounds, while so many items are held and so
+/// many threads pull.
 fn measure(pool: &Pool<u64>, held: usize, threads: usize, turns: u32) -> f64 {
     let guards: Vec<_> = (0..held)
         .map(|_| pool.pull().expect("one is free"))

@@ -1,5 +1,5 @@
-//! Messages that writers fill and readers read, whose buffers go back to their pool where they are read.
-//! With lockfree-object-pool 0.1.6 it is the same but for the next line.
+//! Messages that writers fill and readers read, whose buffers go back to their pool where they are
+//! read. With lockfree-object-pool 0.1.6 it is the same but for the next line.
 use kundratu_pool::{LinearObjectPool, LinearOwnedReusable};
 use std::sync::{mpsc, Arc, Mutex};
 use std::thread;

@@ -1,4 +1,5 @@
-//! One thread, one item at a time. With lockfree-object-pool 0.1.6 it is the same but for the next line.
+//! One thread, one item at a time. With lockfree-object-pool 0.1.6 it is the same but for the next
+//! line.
 use kundratu_pool::LinearObjectPool;
 
 fn main() {

@@ -1,4 +1,5 @@
-//! Threads that share a pool, each with items of its own. With lockfree-object-pool 0.1.6 it is the same but for the next line.
+//! Threads that share a pool, each with items of its own. With lockfree-object-pool 0.1.6 it is the
+//! same but for the next line.
 use kundratu_pool::LinearObjectPool;
 use std::sync::Arc;
 use std::thread;

@@ -4,12 +4,12 @@ use std::cell::UnsafeCell;
 
 pub(crate) struct Cells<T>(Box<[UnsafeCell<T>]>);
 
-// SAFETY: a value is reached only by the holder of its place, of whom there is one at a time. So to share the cells is to send values
-// from holder to holder.
+// SAFETY: a value is reached only by the holder of its place, of whom there is one at a time. So to
+// share the cells is to send values from holder to holder.
 unsafe impl<T: Send> Sync for Cells<T> {}
 
 impl<T> Cells<T> {
-    /// The values in their order, or `None` where memory is refused.
+    /// Creates the cells of these values, in their order. `None` if memory is refused.
     pub(crate) fn new(values: impl ExactSizeIterator<Item = T>) -> Option<Cells<T>> {
         let mut cells = Vec::new();
         cells.try_reserve_exact(values.len()).ok()?;
@@ -21,23 +21,24 @@ impl<T> Cells<T> {
         self.0.len()
     }
 
-    /// Where the value of a place lies, or `None` where there is no such place.
+    /// Returns where the value of a place lies, or `None` if there is no such place.
     #[inline(always)]
     pub(crate) fn at(&self, place: usize) -> Option<*mut T> {
         self.0.get(place).map(UnsafeCell::get)
     }
 
-    /// The value at a place of this very pool.
+    /// Borrows the value at a place, which is of this very pool.
     #[inline(always)]
     pub(crate) fn item<'c>(&'c self, out: &'c Out) -> &'c T {
         // SAFETY: `out` holds the place, and who writes there borrows it to write.
         unsafe { &*self.0[out.place].get() }
     }
 
-    /// The value at a place of this very pool, to write.
+    /// Borrows the value at a place, which is of this very pool, to write.
     #[inline(always)]
     pub(crate) fn item_mut<'c>(&'c self, out: &'c mut Out) -> &'c mut T {
-        // SAFETY: `out` holds the place, and is borrowed to write, so nobody else reaches the value.
+        // SAFETY: `out` holds the place, and is borrowed to write, so nobody else reaches the
+        // value.
         unsafe { &mut *self.0[out.place].get() }
     }
 }

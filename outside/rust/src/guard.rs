@@ -1,9 +1,27 @@
-//! An item that is out, which goes back at the end of its scope.
-use crate::handle::Out;
-use crate::store::Store;
+//! Items, the handles by which they are pulled, and an item that is out.
+use crate::cells::Cells;
+use crate::handle::{Handle, NewError, Out, PAGE};
+use crate::lanes::Lanes;
 use std::fmt::{self, Debug, Formatter};
 use std::marker::PhantomData;
 use std::ops::{Deref, DerefMut};
+
+/// A fixed number of items, all made at first.
+pub struct Store<T> {
+    pub(crate) cells: Cells<T>,
+    pub(crate) lanes: Lanes,
+}
+
+impl<T> Store<T> {
+    pub(crate) fn new(items: usize, mut init: impl FnMut() -> T) -> Result<Store<T>, NewError> {
+        let lanes = Lanes::new(Handle::first(items)?, items.div_ceil(PAGE));
+        let cells = Cells::new((0..items).map(|_| init()));
+        Ok(Store {
+            cells: cells.ok_or(NewError::Memory)?,
+            lanes: lanes.ok_or(NewError::Memory)?,
+        })
+    }
+}
 
 /// A pool whose items lie in one store or in several.
 pub trait Source {
@@ -12,7 +30,7 @@ pub trait Source {
     /// Which store.
     type Part: Copy;
 
-    /// A store from which an item was pulled.
+    /// Returns a store from which an item was pulled.
     #[doc(hidden)]
     fn store(&self, part: Self::Part) -> &Store<Self::Item>;
 
@@ -21,7 +39,8 @@ pub trait Source {
     fn reset(&self, item: &mut Self::Item);
 }
 
-/// An item that is out, of a pool that is held by a borrow or by an owner. Its end resets the item and brings it back.
+/// An item that is out, of a pool that is held by a borrow or by an owner. Its end resets the item
+/// and brings it back.
 ///
 /// Threads share a guard only where they may share its item:
 ///
@@ -42,7 +61,7 @@ pub struct Guard<P: Deref<Target: Source>> {
 const HELD: &str = "an item is out until its guard ends";
 
 impl<P: Deref<Target: Source>> Guard<P> {
-    /// Of an item of this store of the pool that is out.
+    /// Creates the guard of an item of this store of the pool.
     #[inline(always)]
     pub(crate) fn new(pool: P, part: <P::Target as Source>::Part, out: Out) -> Self {
         Guard {
@@ -53,8 +72,9 @@ impl<P: Deref<Target: Source>> Guard<P> {
         }
     }
 
-    pub(crate) fn place(&self) -> usize {
-        self.out.as_ref().expect(HELD).place
+    #[inline(always)]
+    pub(crate) fn out(&self) -> &Out {
+        self.out.as_ref().expect(HELD)
     }
 }
 
@@ -63,8 +83,7 @@ impl<P: Deref<Target: Source>> Deref for Guard<P> {
 
     #[inline(always)]
     fn deref(&self) -> &Self::Target {
-        let out = self.out.as_ref().expect(HELD);
-        self.pool.store(self.part).cells.item(out)
+        self.pool.store(self.part).cells.item(self.out())
     }
 }
 
@@ -77,7 +96,7 @@ impl<P: Deref<Target: Source>> DerefMut for Guard<P> {
 }
 
 impl<P: Deref<Target: Source>> Drop for Guard<P> {
-    /// Resets the item and brings it back. Where the reset panics, the item is never pulled again.
+    /// Resets the item and brings it back. If the reset panics, the item is never pulled again.
     #[inline(always)]
     fn drop(&mut self) {
         if let Some(mut out) = self.out.take() {

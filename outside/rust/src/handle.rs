@@ -33,17 +33,17 @@ impl Display for NewError {
 
 impl Error for NewError {}
 
-/// A handle of a pool, which holds no place. It keeps to one place in memory, whoever has it.
+/// A handle of a pool that holds no place. It stays where it is in memory, whoever has it.
 pub(crate) struct Handle(Box<[RawHandle; 1]>);
 
-/// A place that is out, with the handle that holds it. Where it is dropped, the place stays out.
+/// A place that is out, with the handle that holds it. If this is dropped, the place stays out.
 pub(crate) struct Out {
     handle: ManuallyDrop<Handle>,
     pub(crate) place: usize,
 }
 
 impl Handle {
-    /// An empty handle, or `None` where memory is refused.
+    /// Creates an empty handle. `None` if memory is refused.
     fn empty() -> Option<Handle> {
         let mut one = Vec::new();
         one.try_reserve_exact(1).ok()?;
@@ -51,7 +51,7 @@ impl Handle {
         one.into_boxed_slice().try_into().ok().map(Handle)
     }
 
-    /// Makes a pool of so many places, and its first handle.
+    /// Creates a pool of so many places, and its first handle.
     pub(crate) fn first(items: usize) -> Result<Handle, NewError> {
         let mut handle = Handle::empty().ok_or(NewError::Memory)?;
         match kdr_pool_new(items, &mut handle.0[0]) {
@@ -61,15 +61,16 @@ impl Handle {
         }
     }
 
-    /// Makes a further handle of the same pool, or `None` where memory is refused.
+    /// Creates a further handle of the same pool. `None` if memory is refused.
     pub(crate) fn share(&mut self) -> Option<Handle> {
         let mut other = Handle::empty()?;
         let answer = kdr_pool_share(&mut self.0[0], &mut other.0[0]);
         (answer == DONE).then_some(other)
     }
 
-    /// Pulls a place, or hands the handle back where each was out at some time of the call. It looks first at this page, or where the
-    /// handle's last place was.
+    /// Pulls a place, first at this page, or else where the handle's last place was.
+    ///
+    /// Hands the handle back if all places were out at one moment of the call.
     #[inline(always)]
     pub(crate) fn pull(mut self, page: Option<usize>) -> Result<Out, Handle> {
         let (handle, mut place) = (&mut self.0[0], 0);

@@ -1,9 +1,10 @@
-//! The handles that hold no place. A thread has some in a lane, which no other thread reaches while it runs: it takes and keeps them by
-//! plain reads and writes. The others lie behind a lock.
+//! The handles that hold no place. A thread has some in a lane, which no other thread reaches while
+//! it runs: it takes and keeps them by plain reads and writes. The others lie behind a lock.
 //!
-//! A lane knows the page where its thread's pulls begin. So threads keep to pages of their own, whichever handles they have.
+//! A lane knows the page where its thread's pulls begin. So threads keep to pages of their own,
+//! whichever handles they have.
 use crate::cells::Cells;
-use crate::handle::{Handle, Out, PAGE};
+use crate::handle::{Handle, NewError, Out, PAGE};
 use crate::threads;
 use std::array::from_fn;
 use std::sync::{Mutex, MutexGuard, PoisonError};
@@ -11,16 +12,8 @@ use std::sync::{Mutex, MutexGuard, PoisonError};
 /// How many handles move at once between a lane and the shared ones.
 const SOME: usize = 7;
 
-/// Why no place was pulled.
-#[derive(Debug)]
-pub(crate) enum Refused {
-    /// Each was out at some time of the call.
-    AllOut,
-    /// Memory for a further handle was refused.
-    Memory,
-}
-
-/// The idle handles of one thread, on cache lines of their own. The first room has the one that was kept last, mostly.
+/// The idle handles of one thread, on cache lines of their own. The first room has the one that was
+/// kept last, mostly.
 #[repr(align(128))]
 struct Lane {
     /// At which page the next pull begins.
@@ -39,18 +32,6 @@ struct Shared {
     idle: Vec<Handle>,
 }
 
-impl Shared {
-    /// An idle handle, or a new one.
-    fn take(&mut self) -> Option<Handle> {
-        self.idle.pop().or_else(|| {
-            self.idle.try_reserve(self.made + 1).ok()?;
-            let handle = self.first.share()?;
-            self.made += 1;
-            Some(handle)
-        })
-    }
-}
-
 /// A pool's handles that hold no place.
 pub(crate) struct Lanes {
     lanes: Cells<Lane>,
@@ -58,7 +39,7 @@ pub(crate) struct Lanes {
 }
 
 impl Lanes {
-    /// The lanes of a pool of so many pages, or `None` where memory is refused.
+    /// Creates the lanes of a pool of so many pages. `None` if memory is refused.
     pub(crate) fn new(first: Handle, pages: usize) -> Option<Lanes> {
         // Threads begin so far apart that the words of their pages lie on cache lines of their own.
         let apart = if pages % 17 == 0 { 1 } else { 17 };
@@ -74,7 +55,7 @@ impl Lanes {
         Some(Lanes { lanes, shared })
     }
 
-    /// Makes this call with the thread's lane, where it has one. The call makes no other of this function.
+    /// Makes this call with the thread's lane, if it has one. The call doesn't come here again.
     #[inline(always)]
     fn own<A>(&self, call: impl FnOnce(&mut Lane) -> A) -> Option<A> {
         let lane = self.lanes.at(threads::own())?;
@@ -82,29 +63,33 @@ impl Lanes {
         Some(call(unsafe { &mut *lane }))
     }
 
-    /// Pulls a place, or answers `None` where each was out at some time of the call, or memory for a further handle is refused.
+    /// Pulls a place. `None` if all were out at one moment of the call, or memory for a further
+    /// handle is refused.
     #[inline(always)]
     pub(crate) fn pull(&self) -> Option<Out> {
         let pulled = self.own(|lane| lane.idle[0].take().map(|handle| lane.pull(handle)));
-        pulled.flatten().unwrap_or_else(|| self.try_pull().ok())
+        pulled.flatten().unwrap_or_else(|| self.try_pull().ok()?)
     }
 
-    /// As `pull`, by any handle, and says why where it is refused.
+    /// Pulls a place by any handle. `None` if all were out at one moment of the call.
     #[cold]
-    pub(crate) fn try_pull(&self) -> Result<Out, Refused> {
-        let mut handle = Some(self.further().ok_or(Refused::Memory)?);
+    pub(crate) fn try_pull(&self) -> Result<Option<Out>, NewError> {
+        let mut handle = Some(self.further().ok_or(NewError::Memory)?);
         let pulled = self.own(|lane| lane.pull(handle.take()?));
         let shared = |handle| self.shared().idle.push(handle);
-        pulled
-            .unwrap_or_else(|| handle?.pull(None).map_err(shared).ok())
-            .ok_or(Refused::AllOut)
+        Ok(pulled.unwrap_or_else(|| handle?.pull(None).map_err(shared).ok()))
     }
 
-    /// An idle handle, or a new one. Some others come from the shared ones into the lane, which has none.
+    /// Returns an idle handle, or a new one. If the lane has none, it gets some of the shared ones.
     fn further(&self) -> Option<Handle> {
-        self.own(Lane::take).flatten().or_else(|| {
+        let own = self.own(|lane| lane.idle.iter_mut().find_map(Option::take));
+        own.flatten().or_else(|| {
             let shared = &mut *self.shared();
-            let handle = shared.take();
+            let handle = shared.idle.pop().or_else(|| {
+                shared.idle.try_reserve(shared.made + 1).ok()?;
+                shared.made += 1;
+                shared.first.share()
+            });
             self.own(|lane| lane.idle[1..=SOME].fill_with(|| shared.idle.pop()));
             handle
         })
@@ -124,7 +109,8 @@ impl Lanes {
         }
     }
 
-    /// Keeps a handle in the lane. Where there is no room, it goes to the shared ones, with some of the lane.
+    /// Keeps a handle in the lane. If there is no room, it goes to the shared ones, with some of
+    /// the lane.
     #[cold]
     fn keep_further(&self, handle: Handle) {
         let mut handle = Some(handle);
@@ -134,20 +120,24 @@ impl Lanes {
             }
         });
         if let Some(handle) = handle {
-            let some: [_; SOME] = from_fn(|_| self.own(Lane::take).flatten());
-            let all = some.into_iter().flatten().chain([handle]);
-            self.shared().idle.extend(all);
+            let shared = &mut *self.shared();
+            shared.idle.push(handle);
+            self.own(|lane| {
+                let some = lane.idle[1..=SOME].iter_mut();
+                shared.idle.extend(some.filter_map(Option::take));
+            });
         }
     }
 
-    /// Nothing panics under this lock, so it isn't poisoned.
+    /// Locks the shared handles. Nothing panics under the lock, so it isn't poisoned.
     fn shared(&self) -> MutexGuard<'_, Shared> {
         self.shared.lock().unwrap_or_else(PoisonError::into_inner)
     }
 }
 
 impl Lane {
-    /// Pulls a place near the lane's page. A handle that gets none goes to the first room, which is empty.
+    /// Pulls a place near the lane's page. A handle that gets none goes to the first room, which is
+    /// empty.
     #[inline(always)]
     fn pull(&mut self, handle: Handle) -> Option<Out> {
         match handle.pull(Some(self.page)) {
@@ -164,19 +154,12 @@ impl Lane {
         }
     }
 
-    /// Goes on from a full page, by way of this one. Others came here too, so the next pull begins apart from them; where it finds
-    /// nothing there either, the lane keeps to the page where it found a place.
+    /// Goes on from a full page, by way of this one. Others come here too, so the next pull begins
+    /// apart from them. If it finds nothing there, the lane keeps to the page of its next place.
     #[cold]
     fn go_on(&mut self, page: usize) {
-        self.page = if self.is_apart {
-            page
-        } else {
-            page + self.apart
-        };
+        let apart = if self.is_apart { 0 } else { self.apart };
+        self.page = page + apart;
         self.is_apart = !self.is_apart;
-    }
-
-    fn take(&mut self) -> Option<Handle> {
-        self.idle.iter_mut().find_map(Option::take)
     }
 }

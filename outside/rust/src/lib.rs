@@ -1,7 +1,9 @@
-//! An object pool of a fixed number of items, which go back by themselves and are reset before they are pulled again.
+//! An object pool of a fixed number of items, which go back by themselves and are reset before they
+//! are pulled again.
 //!
-//! Who holds which item is decided by a library that is proved (`crates/fixed_pool_c` of this repository). This crate puts the
-//! items beside it, and its own code isn't proved: see "From outside Rattle" in `docs/PROMISES.md`.
+//! Who holds which item is decided by a library that is proved (`crates/fixed_pool_c` of this
+//! repository). This crate puts the items beside it, and its own code isn't proved: see "From
+//! outside Rattle" in `docs/PROMISES.md`.
 //!
 //! ```
 //! use kundratu_pool::Pool;
@@ -14,7 +16,8 @@
 //! # Ok::<(), kundratu_pool::NewError>(())
 //! ```
 //!
-//! Threads share a pool by reference or in an [`Arc`](std::sync::Arc), and a guard may go to another thread:
+//! Threads share a pool by reference or in an [`Arc`](std::sync::Arc), and a guard may go to
+//! another thread:
 //!
 //! ```
 //! use kundratu_pool::Pool;
@@ -37,7 +40,6 @@ mod linear;
 mod none;
 mod pool;
 mod stack;
-mod store;
 pub mod sys;
 mod threads;
 

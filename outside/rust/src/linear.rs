@@ -1,16 +1,14 @@
 //! A pool that grows, by the names of lockfree-object-pool 0.1.6.
-use crate::guard::{Guard, Source};
+use crate::guard::{Guard, Source, Store};
 use crate::handle::{Out, PAGE};
-use crate::lanes::Refused;
 use crate::pool::Reset;
-use crate::store::Store;
 use std::alloc::{handle_alloc_error, Layout};
 use std::ops::Deref;
 use std::sync::atomic::{AtomicUsize, Ordering::Relaxed};
 use std::sync::{Arc, OnceLock};
 
-/// How many chunks a pool may have. The last would have more items than there are addresses.
-const CHUNKS: usize = 48;
+/// How many chunks a pool may have. The last would have 2^36 items, past the memory of any machine.
+const CHUNKS: usize = 32;
 
 /// An item that was pulled under a borrow of its [`LinearObjectPool`].
 pub type LinearReusable<'a, T> = Guard<&'a LinearObjectPool<T>>;
@@ -20,8 +18,9 @@ pub type LinearOwnedReusable<T> = Guard<Arc<LinearObjectPool<T>>>;
 
 /// A pool whose pulls are never refused. It has 32 items at first.
 ///
-/// Its items lie in chunks, each a fixed pool of twice as many items as the one before. Who holds which item of a chunk is decided by the
-/// proved library; that a chunk is made only after each earlier one answered that all its items were out is this module's part.
+/// Its items lie in chunks, each a fixed pool of twice as many items as the one before. Who holds
+/// which item of a chunk is decided by the proved library; that a chunk is made only after each
+/// earlier one answered that all its items were out is this module's part.
 ///
 /// ```
 /// use kundratu_pool::LinearObjectPool;
@@ -57,7 +56,8 @@ impl<T> LinearObjectPool<T> {
         pool
     }
 
-    /// Returns an item that was free, or one of a new chunk where each was out at some time of the call.
+    /// Returns an item that was free, or one of a new chunk. That is made only if each chunk before
+    /// it was full at one moment of the call.
     #[inline(always)]
     pub fn pull(&self) -> LinearReusable<'_, T> {
         let hint = self.hint.load(Relaxed);
@@ -82,23 +82,24 @@ impl<T> LinearObjectPool<T> {
         self.chunks[hint].get()?.lanes.pull()
     }
 
-    /// Asks each chunk from the first one on. Where all are out in each that there is, it makes the next.
+    /// Asks each chunk from the first one on. If all items of each are out, it creates the next
+    /// chunk.
     #[cold]
     fn find<P: Deref<Target = Self>>(&self, pool: P) -> Guard<P> {
         for number in 0..CHUNKS {
             match self.chunk(number).lanes.try_pull() {
-                Ok(out) => {
+                Ok(Some(out)) => {
                     self.hint.store(number, Relaxed);
                     return Guard::new(pool, number, out);
                 }
-                Err(Refused::AllOut) => {}
-                Err(Refused::Memory) => break,
+                Ok(None) => {}
+                Err(_) => break,
             }
         }
         handle_alloc_error(Layout::new::<T>())
     }
 
-    /// The chunk of this number, which is made where it isn't there.
+    /// Returns the chunk of this number, which is created if it isn't there.
     fn chunk(&self, number: usize) -> &Store<T> {
         self.chunks[number].get_or_init(|| {
             let made = Store::new(PAGE << number, &self.init);

@@ -1,7 +1,6 @@
 //! The pool of a fixed number of items.
-use crate::guard::{Guard, Source};
+use crate::guard::{Guard, Source, Store};
 use crate::handle::NewError;
-use crate::store::Store;
 use std::fmt::{self, Debug, Formatter};
 use std::ops::Deref;
 use std::sync::Arc;
@@ -17,20 +16,22 @@ pub type OwnedReusable<T, R = Reset<T>> = Guard<Arc<Pool<T, R>>>;
 
 /// A pool of a fixed number of items, all made at first.
 ///
-/// A pull waits for no other pull: it is answered by an item that was free, or by `None`. A thread has handles of its own, which it
-/// takes and keeps by plain reads and writes; where these are too few or too many, it moves some under a short lock. So do threads that
-/// come while 64 others have numbers, at each pull and return.
+/// A pull waits for no other pull: it returns an item that was free, or `None`. A thread has
+/// handles of its own, which it takes and keeps by plain reads and writes. If these are too few or
+/// too many, it moves some under a short lock. A thread that comes while 64 others use pools takes
+/// that lock at each pull and return.
 pub struct Pool<T, R = Reset<T>> {
     store: Store<T>,
     reset: R,
 }
 
 impl<T> Pool<T> {
-    /// Creates a pool of so many items, each made by `init`. `reset` is called on each item as it comes back.
+    /// Creates a pool of so many items, each made by `init`. `reset` is called on each item as it
+    /// comes back.
     ///
     /// # Errors
     ///
-    /// `NoItems` where `items` is 0, or `Memory`.
+    /// `NoItems` if `items` is 0, or `Memory`.
     pub fn new(
         items: usize,
         init: impl FnMut() -> T,
@@ -59,9 +60,10 @@ impl<T, R: Fn(&mut T)> Pool<T, R> {
         Ok(Pool { store, reset })
     }
 
-    /// Returns an item that was free, or `None` where each was out at some time of the call, or memory for one more guard is refused.
+    /// Returns an item that was free. `None` if all were out at one moment of the call, or memory
+    /// for one more guard is refused.
     ///
-    /// Memory is asked for only where more items are out than ever before.
+    /// Memory is asked for only if more items are out than ever before.
     ///
     /// ```
     /// # use kundratu_pool::Pool;
@@ -110,7 +112,7 @@ impl<T, R: Fn(&mut T)> Source for Pool<T, R> {
 impl<T, R: Fn(&mut T), P: Deref<Target = Pool<T, R>>> Guard<P> {
     /// Returns the item's number in its pool, counted from 0.
     pub fn number(&self) -> usize {
-        self.place()
+        self.out().place
     }
 }
 

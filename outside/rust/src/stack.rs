@@ -1,6 +1,7 @@
-//! The pools that keep what comes back in a list behind a lock, by the names of lockfree-object-pool 0.1.6.
+//! The pools that keep what comes back in a list behind a lock, by the names of
+//! lockfree-object-pool 0.1.6.
 //!
-//! Nothing here is proved, and nothing needs it much: a list behind a lock is safe Rust. In Rattle these pools are proved
+//! Nothing here is proved. It is safe Rust, and tested. In Rattle these pools are proved
 //! (`crates/lockfree_object_pool` of this repository).
 use crate::pool::Reset;
 use std::hint::spin_loop;
@@ -90,7 +91,7 @@ impl<T, S: Stack<T> + Default> StackObjectPool<T, S> {
 }
 
 impl<T, S: Stack<T>> StackObjectPool<T, S> {
-    /// Returns the item that came back last, or a new one where none is kept.
+    /// Returns the item that came back last, or a new one if none is kept.
     #[inline]
     pub fn pull(&self) -> StackGuard<T, S, &Self> {
         StackGuard::new(self, self.item())

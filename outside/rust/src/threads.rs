@@ -1,6 +1,7 @@
 //! Numbers of threads: while a thread runs, no other one has its number.
 //!
-//! A number is a place of one pool of the proved library. A thread holds it from its first pull to its end.
+//! A number is a place of one pool of the proved library. A thread holds it from its first pull to
+//! its end.
 use crate::handle::{Handle, Out};
 use std::cell::Cell;
 use std::sync::{LazyLock, Mutex, PoisonError};
@@ -34,7 +35,7 @@ fn pull() -> Option<Out> {
     handle.pull(None).ok()
 }
 
-/// This thread's number, or a greater one than any where it has none.
+/// Returns this thread's number, or a greater one than any if it has none.
 #[inline(always)]
 pub(crate) fn own() -> usize {
     match NUMBER.get() {

@@ -1,5 +1,6 @@
-//! The pools by the names of lockfree-object-pool 0.1.6: what its own tests show, in other words, and what a program meets that
-//! changes to this crate. But for its first line, and for the module `here` at its end, this file passes with that crate too.
+//! The pools by the names of lockfree-object-pool 0.1.6: what its own tests show, in other words,
+//! and what a program meets that changes to this crate. But for its first line, and for the module
+//! `here` at its end, this file passes with that crate too.
 use kundratu_pool as pools;
 
 use pools::{
@@ -73,6 +74,10 @@ macro_rules! keeping_pool {
                 thread::spawn(move || assert_eq!(*item, 7)).join().unwrap();
                 assert_eq!(Arc::strong_count(&pool), 1);
                 assert_eq!(*pool.pull_owned(), 0);
+                let items: Vec<_> = (0..100).map(|_| pool.pull_owned()).collect();
+                assert_eq!(Arc::strong_count(&pool), 101);
+                drop(items);
+                assert_eq!(Arc::strong_count(&pool), 1);
             }
 
             #[test]
@@ -291,6 +296,22 @@ mod here {
             items.push(pool.pull());
             assert_eq!(count.load(SeqCst), made);
         }
+    }
+
+    #[test]
+    fn threads_that_hold_no_more_items_than_there_are_make_no_chunk() {
+        let count = Arc::new(AtomicUsize::new(0));
+        let pool = LinearObjectPool::new(counted(&count), |_| {});
+        thread::scope(|scope| {
+            for _ in 0..8 {
+                scope.spawn(|| {
+                    for turn in 0..10_000 {
+                        let _items: Vec<_> = (0..turn % 5).map(|_| pool.pull()).collect();
+                    }
+                });
+            }
+        });
+        assert_eq!(count.load(SeqCst), 32);
     }
 
     #[test]

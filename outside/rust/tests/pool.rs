@@ -262,7 +262,8 @@ fn a_forgotten_item_stays_out() {
     assert!(one.is_some() && pool.pull().is_none());
 }
 
-/// Eight threads, one item fewer than they want: what each wrote is there as long as it holds the item, and all come back.
+/// Eight threads, one item fewer than they want: what each wrote is there as long as it holds the
+/// item, and all come back.
 #[test]
 fn nobody_else_is_at_an_item_that_is_held() {
     const THREADS: u32 = 8;

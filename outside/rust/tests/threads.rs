@@ -4,10 +4,11 @@ use std::cell::{Cell, RefCell};
 use std::collections::HashSet;
 use std::rc::Rc;
 use std::sync::atomic::{AtomicUsize, Ordering::SeqCst};
-use std::sync::{Arc, Barrier};
+use std::sync::{Arc, Barrier, Mutex, PoisonError};
 use std::thread;
 
-/// It compiles only where the type isn't of the trait: else it couldn't be decided which of two functions is meant.
+/// It compiles only where the type isn't of the trait: else it couldn't be decided which of two
+/// functions is meant.
 macro_rules! is_not {
     ($type:ty: $trait:path) => {
         const _: fn() = || {
@@ -53,8 +54,12 @@ fn threads_read_by_one_guard() {
     });
 }
 
+/// One test at a time may use up the numbers of threads.
+static NUMBERS: Mutex<()> = Mutex::new(());
+
 #[test]
 fn two_hundred_threads_hold_different_items_at_once() {
+    let _alone = NUMBERS.lock().unwrap_or_else(PoisonError::into_inner);
     const THREADS: usize = 200;
     let pool = zeros(THREADS * 2);
     let all_hold = Barrier::new(THREADS);
@@ -111,15 +116,15 @@ fn guards_end_and_are_pulled_at_a_threads_end() {
 }
 
 #[test]
-fn a_pull_is_not_refused_while_most_items_are_free() {
+fn no_pull_is_refused_where_there_are_as_many_items_as_threads_hold() {
     const THREADS: usize = 8;
-    let pool = zeros(THREADS * 64);
+    let pool = zeros(THREADS * 2);
     let refused = AtomicUsize::new(0);
     thread::scope(|scope| {
         for _ in 0..THREADS {
             scope.spawn(|| {
                 for turn in 0..20_000 {
-                    let items: Vec<_> = (0..turn % 8).map(|_| pool.pull()).collect();
+                    let items: Vec<_> = (0..turn % 3).map(|_| pool.pull()).collect();
                     let missing = items.iter().filter(|item| item.is_none()).count();
                     refused.fetch_add(missing, SeqCst);
                 }
@@ -127,5 +132,49 @@ fn a_pull_is_not_refused_while_most_items_are_free() {
         }
     });
     assert_eq!(refused.load(SeqCst), 0);
-    assert_eq!(count_free(&pool), THREADS * 64);
+    assert_eq!(count_free(&pool), THREADS * 2);
+}
+
+/// The pages of two items that each of some threads pulls, one after the other, while all hold
+/// theirs.
+fn pages_of_threads(pool: &Pool<u32>) -> [HashSet<usize>; 2] {
+    let all_hold = Barrier::new(THREADS_WITH_PAGES);
+    let hold = || {
+        let items = [pool.pull(), pool.pull()];
+        all_hold.wait();
+        items.map(|item| item.expect("one is free").number() / 32)
+    };
+    thread::scope(|scope| {
+        let threads: Vec<_> = (0..THREADS_WITH_PAGES).map(|_| scope.spawn(hold)).collect();
+        let pages = threads
+            .into_iter()
+            .map(|thread| thread.join().expect("it ends"));
+        let mut all = [HashSet::new(), HashSet::new()];
+        for pages in pages {
+            all[0].insert(pages[0]);
+            all[1].insert(pages[1]);
+        }
+        all
+    })
+}
+
+const THREADS_WITH_PAGES: usize = 16;
+
+#[test]
+fn threads_keep_to_pages_of_their_own() {
+    let _alone = NUMBERS.lock().unwrap_or_else(PoisonError::into_inner);
+    let pages = pages_of_threads(&zeros(131_072));
+    assert_eq!(pages.map(|pages| pages.len()), [THREADS_WITH_PAGES; 2]);
+}
+
+/// Where the first half of the items is out, all come to the first page of the other half, and go
+/// on from there.
+#[test]
+fn threads_whose_pages_are_full_come_to_pages_of_their_own() {
+    let _alone = NUMBERS.lock().unwrap_or_else(PoisonError::into_inner);
+    let pool = zeros(131_072);
+    let mut held: Vec<_> = std::iter::from_fn(|| pool.pull()).collect();
+    held.retain(|item| item.number() < pool.items() / 2);
+    let pages = pages_of_threads(&pool);
+    assert_eq!(pages[1].len(), THREADS_WITH_PAGES);
 }

@@ -55,7 +55,8 @@ thread_local! {
     static LATE: RefCell<Option<Teller>> = const { RefCell::new(None) };
 }
 
-/// Of the two tellers one ends after the thread's number was given back, in whichever order a thread's values end.
+/// Of the two tellers one ends after the thread's number was given back, in whichever order a
+/// thread's values end.
 #[test]
 fn a_thread_has_no_number_once_it_was_given_back() {
     let _alone = TESTED.lock().unwrap_or_else(PoisonError::into_inner);

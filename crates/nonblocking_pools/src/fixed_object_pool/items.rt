@@ -5,6 +5,7 @@ ghost use Rattle.pool_parts.specs.Items.{items_identity, items_raise};
 ghost use Rattle.pool_parts.specs.Word.{IsAllFree};
 
 use crate::fixed_object_pool::{BusySeen, PoolNote};
+use order::Order;
 use pool_parts::PullError;
 use pool_parts::clean::Clean;
 use pool_parts::page::holding::Holding;
@@ -16,8 +17,11 @@ use std::alloc::{AllocError, Global};
 use std::sync::atomic::AtomicU64;
 use std::sync::atomic::Ordering::SeqCst;
 
+mod at;
 mod full;
-pub(crate) mod pulled_item;
+mod low;
+pub mod order;
+pub mod pulled_item;
 
 /// The word of one page of which so many items are free, and no other.
 fn low_bits(count: usize) -> u64
@@ -41,10 +45,11 @@ fn free_words(alloc: Global, count: usize) -> Result<Vec<u64>, AllocError>
 
 /// The items of a fixed pool. A page is one word, and the words lie side by side.
 #[derive(Drop)]
-pub(crate) struct FixedItems<T, K: Clean<T>> {
-    pub(crate) shared: Items<T, K>,
+pub struct FixedItems<T, K: Clean<T>> {
+    pub shared: Items<T, K>,
     count: usize,
     pages: usize,
+    order: Order,
     /// At which page the next pull starts. It promises nothing.
     hint: AtomicU64,
     ghost counted: { count ≡ (items_identity shared).slots },
@@ -69,9 +74,10 @@ impl<T, K: Clean<T>> FixedItems<T, K> {
     /// So many free items: item `i` is the answer of call `i` of `init`, counted from 0.
     ///
     /// It stops at the first `None`. Where it is refused, the items that were made are dropped.
-    pub(super) fn new<I: Fn() -> Option<T>>(
+    pub fn new<I: Fn() -> Option<T>>(
         alloc: Global,
         count: usize,
+        order: Order,
         init: &I,
     ) -> Result<FixedItems<T, K>, PullError>
     where
@@ -93,12 +99,13 @@ impl<T, K: Clean<T>> FixedItems<T, K> {
             shared,
             count,
             pages: words.len(),
+            order,
             hint: AtomicU64::new(0),
         })
     }
 
     /// How many items there are.
-    pub(super) fn count(&self) -> usize
+    pub fn count(&self) -> usize
         ensures { result ≡ (fixed_identity self.now).slots }
     {
         self.count
@@ -134,9 +141,9 @@ impl<T, K: Clean<T>> FixedItems<T, K> {
 
     /// An item, or what the pull has seen where it observed each one taken. It makes one pass.
     ///
-    /// It begins at the hinted page, goes on to the last and then from page 0 on. Each word is read once at most, and each
-    /// bit that was set in it is cleared, lowest first, until one was still set. It hints at the page of its item.
-    pub(super) fn try_pull<'p>(&self, pass: &'p PullPass) -> Result<PulledItem<T>, BusySeen<'p, T>>
+    /// It begins at the hinted page, and goes on in the pool's order. Each word is read once at most, and each bit that was set
+    /// in it is cleared, lowest first, until one was still set. It hints at the page of its item.
+    pub fn try_pull<'p>(&self, pass: &'p PullPass) -> Result<PulledItem<T>, BusySeen<'p, T>>
         ensures pulled { IfOk result
             (λ pulled. IsPulledFrom (fixed_identity self.now) (fixed_opening self.now)
             (pulled_item pulled)) }
@@ -195,7 +202,7 @@ impl<T, K: Clean<T>> FixedItems<T, K> {
     }
 
     /// As `pull_near`, which begins at the hinted page and hints at the page of its item.
-    pub(super) fn pull(&self) -> Result<PulledItem<T>, PoolNote<T>>
+    pub fn pull(&self) -> Result<PulledItem<T>, PoolNote<T>>
         ensures pulled { IfOk result
             (λ pulled. IsPulledFrom (fixed_identity self.now) (fixed_opening self.now)
             (pulled_item pulled)) }
@@ -286,7 +293,7 @@ impl<T, K: Clean<T>> FixedItems<T, K> {
     }
 
     /// Moves the value home and sets its bit, by the user that has the item. It hints at a page that was full.
-    pub(crate) fn give(&self, holding: Holding<T>, value: T) -> UserSeat<T>
+    pub fn give(&self, holding: Holding<T>, value: T) -> UserSeat<T>
         requires pool { holding_page holding ≡ fixed_identity self.now }
         requires in_pool { holding.number < (fixed_identity self.now).slots }
         requires meets { K.meets value }
@@ -327,6 +334,9 @@ impl<T, K: Clean<T>> FixedItems<T, K> {
     {
         if let Some(taken) = self.shared.take_lowest(seat, start, word) {
             return Some(taken);
+        }
+        if let Order::LowFirst = self.order {
+            return self.take_low(seat, start);
         }
         if let Some(taken) = self.scan(seat, start + 1, self.pages) {
             return Some(taken);

@@ -10,25 +10,42 @@
 ghost use Rattle.std.specs.Prelude.{◌≡◌, ◌≤◌, ◌<◌, None, IfSome, IsSome, IfOk, IfErr};
 ghost use Rattle.std.specs.Arc.{arc_value};
 ghost use Rattle.pool_parts.specs.Answers.{MayOpen};
-ghost use Rattle.pool_parts.specs.FullSeen.{full_page};
-ghost use Rattle.page_chain.specs.LinearPage.{first_page};
+ghost use Rattle.pool_parts.specs.FullSeen.{full_page, IsAnswerAfter};
+ghost use Rattle.pool_parts.specs.Note.{note_page};
+ghost use Rattle.page_chain.specs.LinearPage.{first_page, first_opening};
 ghost use Rattle.pool_parts.specs.Page.{page_identity};
 ghost use Rattle.pool_parts.specs.Refusal.{RefusesPull};
 ghost use Rattle.pool_parts.specs.Slot.{slot_item};
-ghost use Rattle.page_chain.specs.Walk.{start_of, number_of, IsAnsweredBy, IsKnownAt, IsTaken, IsRefusedBy, cause_of};
+ghost use Rattle.page_chain.specs.Walk.{start_of, number_of, IsAnsweredBy, IsOpenedWith, IsKnownAt, IsTaken, IsRefusedBy, cause_of};
 
 use super::opened_page::OpenedPage;
 use super::walk::{KnownFull, WalkEnd, WalkRefusal};
 use super::{Chain, LinkNote, PageNumber};
 use pool_parts::clean::Clean;
-use pool_parts::page::{Allocated, FullSeen, Page, PullPass};
+use pool_parts::page::{Allocated, FullSeen, Page, PageNote, PullPass};
 
 impl<T: Drop, K: Clean<T>, O: Clean<T>> Chain<T, K, O> {
     /// What the first page answers to a pull.
     pub fn ask_first<'s, 'p>(&'s self, pass: &'p PullPass) -> Allocated<'s, 'p, T, K>
-        ensures { IsAnsweredBy K.meets O.meets (first_page self.now) result }
+        ensures answer { IsAnsweredBy K.meets O.meets (first_page self.now) result }
+        ensures opening { IsOpenedWith (first_opening self.now) result }
     {
         self.first.take(pass).answer
+    }
+
+    /// The same, by a user that knows something of the first page: its pull stands after all that the note knew.
+    pub fn ask_first_from<'s, 'p>(
+        &'s self,
+        pass: &'p PullPass,
+        note: PageNote<T>,
+    ) -> Allocated<'s, 'p, T, K>
+        requires { note_page note ≡ first_page self.now }
+        ensures { IsAnswerAfter K.meets (first_page self.now) note result }
+    {
+        let Ok(answer) = self.first.owner().try_alloc_from(pass, note) else {
+            unreachable!()
+        };
+        answer
     }
 
     /// The number of the first page.
@@ -51,6 +68,7 @@ impl<T: Drop, K: Clean<T>, O: Clean<T>> Chain<T, K, O> {
         requires opens { MayOpen I.pre I.post K.meets O.meets init.now }
         ensures taken { IfOk result (λ reached.
             IsTaken K.meets O.meets (start_of self.now) limit reached.number (slot_item reached.slot)) }
+        ensures past_first { IfOk result (λ reached. 0 < number_of reached.number) }
         ensures evidence { IfErr result
             (IsRefusedBy (start_of self.now) limit (I.post init.now None)) }
         ensures refused { IfErr result (λ refusal. RefusesPull (record {

@@ -1,8 +1,8 @@
 //! A page of a chain, which opened with values of one kind.
 ghost use Rattle.std.specs.Prelude.{◌≡◌};
 ghost use Rattle.std.specs.Arc.{arc_value};
-ghost use Rattle.pool_parts.specs.Page.{page_identity, OpensWith};
-ghost use Rattle.page_chain.specs.Walk.{IsAnsweredBy};
+ghost use Rattle.pool_parts.specs.Page.{page_identity, page_opening, OpensWith};
+ghost use Rattle.page_chain.specs.Walk.{IsAnsweredBy, IsOpenedWith};
 
 use atomic_table::Badge;
 use pool_parts::clean::Clean;
@@ -54,7 +54,8 @@ impl<T, K: Clean<T>, O: Clean<T>> OpenedPage<T, K, O> {
 
     /// What the page answers to a pull.
     pub(super) fn take<'s, 'p>(&'s self, pass: &'p PullPass) -> Taken<'s, 'p, T, K>
-        ensures { IsAnsweredBy K.meets O.meets (page_identity (arc_value self.now)) result.answer }
+        ensures answer { IsAnsweredBy K.meets O.meets (page_identity (arc_value self.now)) result.answer }
+        ensures opening { IsOpenedWith (page_opening (arc_value self.now)) result.answer }
     {
         self.owner().take(pass)
     }

@@ -73,6 +73,18 @@ impl<T: Drop, K: Clean<T>, O: Clean<T>> PageNumber<T, K, O> {
         }
     }
 
+    /// A second one of the same page.
+    pub(super) fn again(&mut self) -> PageNumber<T, K, O>
+        ensures same { self.new ≡ self.old }
+        ensures again { result ≡ self.old }
+    {
+        PageNumber {
+            number: self.number,
+            row: self.row.again(),
+            link: self.link.again(),
+        }
+    }
+
     /// How many links the page lies behind its chain's first one.
     pub fn get(&self) -> usize
         ensures { result ≡ number_of self.now }

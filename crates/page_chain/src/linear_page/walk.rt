@@ -4,12 +4,12 @@ ghost use Rattle.std.specs.Arc.{arc_value};
 ghost use Rattle.pool_parts.specs.Answers.{MayOpen};
 ghost use Rattle.pool_parts.specs.FullSeen.{full_page};
 ghost use Rattle.pool_parts.specs.Item.{HasOrigin};
-ghost use Rattle.page_chain.specs.LinearPage.{shown_page, IsItemFrom};
+ghost use Rattle.page_chain.specs.LinearPage.{shown_page, page_number, IsItemFrom};
 ghost use Rattle.pool_parts.specs.OwnedSlot.{owned_slot_item};
 ghost use Rattle.pool_parts.specs.Page.{page_identity};
 ghost use Rattle.pool_parts.specs.Refusal.{RefusesMaking, RefusesPull};
 ghost use Rattle.pool_parts.specs.Slot.{slot_item};
-ghost use Rattle.page_chain.specs.Walk.{start_at, IsAnsweredBy, IsFullAt, IsKnownAt, IsTaken, IsRefusedBy, cause_of};
+ghost use Rattle.page_chain.specs.Walk.{start_at, number_of, IsAnsweredBy, IsFullAt, IsKnownAt, IsTaken, IsRefusedBy, cause_of};
 ghost use Rattle.page_chain.specs.declared.linear_page.walk.WalkRefusal.TheVariants.{Making};
 
 use super::opened_page::OpenedPage;
@@ -228,6 +228,7 @@ impl<'c, T: Drop, K: Clean<T>, O: Clean<T>> LinearPage<'c, T, K, O> {
             IsTaken K.meets O.meets (start_at self.now) limit reached.number (slot_item reached.slot)) }
         ensures page { IfOk result (λ reached.
             (slot_item reached.slot).page ≡ page_identity (arc_value reached.page.now)) }
+        ensures further { IfOk result (λ reached. page_number self.now < number_of reached.number) }
         ensures evidence { IfErr result (IsRefusedBy (start_at self.now) limit (I.post init.now None)) }
         ensures refused { IfErr result (λ refusal. RefusesPull (record {
           limited = IsSome limit;

@@ -2,9 +2,9 @@
 ghost use Rattle.std.specs.Prelude.{◌≡◌, [], ◌∷◌, Some, None, false};
 ghost use Rattle.pool_parts.specs.OneProof.{same_holding, same_carrying};
 
-use super::Witness;
 use super::items::Items;
 use super::user_view::UserSeat;
+use super::{Page, Witness};
 use crate::clean::Clean;
 
 /// The number of an item that was taken, and the seat of the user that has it.
@@ -22,6 +22,7 @@ impl<T> Holding<T> {
     ghost use Rattle.pool_parts.specs.Holding.{holding_page, holding_view};
     ghost use Rattle.pool_parts.specs.Items.{items_identity};
     ghost use Rattle.pool_parts.specs.Note.{witness_page, witness_history};
+    ghost use Rattle.pool_parts.specs.Page.{page_identity};
 
     /// A witness of what the holder knows.
     pub fn witness<K: Clean<T>>(&mut self, items: &Items<T, K>) -> Witness<T>
@@ -33,5 +34,17 @@ impl<T> Holding<T> {
         ensures same_number { self.new.number ≡ self.old.number }
     {
         items.witness(&mut self.seat)
+    }
+
+    /// The same, of an item of this page.
+    pub fn witness_of<K: Clean<T>>(&mut self, page: &Page<T, K>) -> Witness<T>
+        requires { holding_page self.old ≡ page_identity page.now }
+        ensures page { witness_page result ≡ holding_page self.old }
+        ensures history { witness_history result ≡ (holding_view self.old).operations }
+        ensures same_page { holding_page self.new ≡ holding_page self.old }
+        ensures same_view { holding_view self.new ≡ holding_view self.old }
+        ensures same_number { self.new.number ≡ self.old.number }
+    {
+        self.witness(&page.items)
     }
 }

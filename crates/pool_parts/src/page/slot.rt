@@ -8,7 +8,7 @@ ghost use Rattle.pool_parts.specs.declared.page.TheConstants.{PAGE_ITEMS};
 
 use super::holding::Holding;
 use super::owned_slot::OwnedTakenId;
-use super::{OwnedSlot, Page, PageId, Returned, Witness};
+use super::{OwnedSlot, Page, PageId, PageNote, Returned, Witness};
 use crate::clean::Clean;
 use crate::lender::Lender;
 use std::ops::{Deref, DerefMut};
@@ -24,14 +24,42 @@ pub struct TakenId<'s, T, K: Clean<T>> {
 }
 
 impl<'s, T, K: Clean<T>> TakenId<'s, T, K> {
-    ghost use Rattle.pool_parts.specs.Slot.{taken_id, taken_item};
-    ghost use Rattle.pool_parts.specs.Note.{IsReturned};
+    ghost use Rattle.pool_parts.specs.Slot.{taken_id, taken_page, taken_view, taken_item};
+    ghost use Rattle.pool_parts.specs.Note.{note_page, note_opening, witness_page, witness_history, IsNoteOf, IsReturned, HasLearned};
 
     pub fn id(&self) -> PageId
         ensures value { result ≡ taken_id self.now }
         ensures in_page { result < PAGE_ITEMS }
     {
         self.holding.number as PageId
+    }
+
+    /// What the holder knows of the page, for another to be told. It costs one load.
+    pub fn witness(&mut self) -> Witness<T>
+        ensures page { witness_page result ≡ taken_page self.old }
+        ensures history { witness_history result ≡ (taken_view self.old).operations }
+        ensures same_page { taken_page self.new ≡ taken_page self.old }
+        ensures same_view { taken_view self.new ≡ taken_view self.old }
+        ensures same_id { taken_id self.new ≡ taken_id self.old }
+    {
+        let page = self.page;
+        self.holding.witness(&page.items)
+    }
+
+    /// A note of the page, by a user that did nothing. It costs one load.
+    pub fn note(&self) -> PageNote<T>
+        ensures { IsNoteOf (taken_page self.now) (note_opening result) result }
+    {
+        self.page.note()
+    }
+
+    /// As [`Page::tell`], of the page that the id was taken from.
+    pub fn tell(&self, note: &mut PageNote<T>, other: Witness<T>)
+        requires note { note_page note.old ≡ taken_page self.now }
+        requires other { witness_page other ≡ taken_page self.now }
+        ensures { HasLearned note.old other note.new }
+    {
+        self.page.tell(note, other);
     }
 
     /// The value goes home, and the id is free again.
@@ -85,9 +113,7 @@ impl<'s, T, K: Clean<T>> PageSlot<'s, T, K> {
         ensures history { witness_history result ≡ (slot_item self.old).history }
         ensures same_item { slot_item self.new ≡ slot_item self.old }
     {
-        let taken = &mut self.taken;
-        let page = taken.page;
-        taken.holding.witness(&page.items)
+        self.taken.witness()
     }
 
     /// The id and the value by themselves.

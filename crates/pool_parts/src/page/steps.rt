@@ -62,12 +62,7 @@ impl<T, K: Clean<T>> Items<T, K> {
     }
 
     /// Clears one bit. The value of that item, where it was free, and whether no other bit of its word was set then.
-    pub(super) fn clear(
-        &self,
-        seat: &mut UserSeat<T>,
-        page: usize,
-        bit: PageId,
-    ) -> Option<(T, bool)>
+    pub fn clear(&self, seat: &mut UserSeat<T>, page: usize, bit: PageId) -> Option<(T, bool)>
         requires items { seat.old.table_id ≡ items_identity self.now }
         requires in_items { page < (items_identity self.now).words }
         requires in_word { bit < 32 }

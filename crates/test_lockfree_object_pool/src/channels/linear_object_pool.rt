@@ -1,6 +1,7 @@
 //! Items of a linear pool that go from thread to thread over a channel.
 use super::{drop_elsewhere, five_numbers, write_and_send};
 use crate::assert_equal::assert_equal;
+use crate::made::count_of_calls;
 use crossbeam_channel::{Sender, unbounded};
 use lockfree_object_pool::clean::AnyValue;
 use lockfree_object_pool::closures::Copied;
@@ -10,7 +11,7 @@ use std::sync::atomic::AtomicUsize;
 use std::sync::atomic::Ordering::SeqCst;
 use std::sync::{Arc, Wait};
 use std::{mem, thread};
-use test_values::zeros::{CountedZeros, new_calls};
+use test_values::zeros::CountedZeros;
 
 /// A pool of zeros that resets to 0.
 type Zeros = LinearObjectPool<u32, CountedZeros, Copied<u32, AnyValue>, AnyValue>;
@@ -23,7 +24,7 @@ fn zeros(alloc: Global, calls: &Arc<AtomicUsize>) -> Result<Arc<Zeros>, PullErro
 
 #[test]
 fn owned_items_are_sent_and_come_home(rt: HostRuntime) {
-    let calls = new_calls(rt.alloc()).expect(&rt, "memory is left");
+    let calls = count_of_calls(&rt, rt.alloc());
     let pool = zeros(rt.alloc(), &calls).expect(&rt, "a pool is made");
     let (sender, receiver) = unbounded(rt.alloc()).expect(&rt, "a channel is made");
     let dropper = drop_elsewhere(&rt, receiver).expect(&rt, "a thread is made");
@@ -51,11 +52,7 @@ fn pull_and_send<W: Wait>(rt: &W, pool: &Zeros, number: u32, to: &Sender<u32>) -
 
 #[test]
 fn five_threads_send_what_they_wrote(rt: HostRuntime) {
-    let pool = zeros(
-        rt.alloc(),
-        &new_calls(rt.alloc()).expect(&rt, "memory is left"),
-    )
-    .expect(&rt, "a pool is made");
+    let pool = zeros(rt.alloc(), &count_of_calls(&rt, rt.alloc())).expect(&rt, "a pool is made");
     let (sender, receiver) = unbounded(rt.alloc()).expect(&rt, "a channel is made");
     let mut threads = Vec::with_capacity(rt.alloc(), 5).expect(&rt, "memory is left");
     for number in 0..5u32 {

@@ -1,6 +1,7 @@
 //! Items of a mutex pool and of a spin lock pool that go from thread to thread over a channel.
 use super::{drop_elsewhere, five_numbers, write_and_send};
 use crate::assert_equal::assert_equal;
+use crate::made::count_of_calls;
 use crossbeam_channel::{Sender, unbounded};
 use lockfree_object_pool::clean::AnyValue;
 use lockfree_object_pool::closures::Copied;
@@ -15,7 +16,7 @@ use std::sync::atomic::Ordering::SeqCst;
 use std::sync::{Arc, Wait};
 use std::thread::Threads;
 use std::{mem, thread};
-use test_values::zeros::{CountedZeros, new_calls};
+use test_values::zeros::CountedZeros;
 
 /// What these pools keep.
 type ZeroValues = MadeOrReset<CountedZeros, Copied<u32, AnyValue>, AnyValue>;
@@ -65,14 +66,14 @@ fn come_home<
 
 #[test]
 fn owned_items_are_sent_and_come_home(rt: HostRuntime) {
-    let calls = new_calls(rt.alloc()).expect(&rt, "memory is left");
+    let calls = count_of_calls(&rt, rt.alloc());
     come_home(
         &rt,
         rt.alloc(),
         &mutex_zeros(rt.alloc(), &calls).expect(&rt, "a pool is made"),
         &calls,
     );
-    let calls = new_calls(rt.alloc()).expect(&rt, "memory is left");
+    let calls = count_of_calls(&rt, rt.alloc());
     come_home(
         &rt,
         rt.alloc(),
@@ -121,7 +122,7 @@ fn five_send<
 
 #[test]
 fn five_threads_send_what_they_wrote(rt: HostRuntime) {
-    let calls = new_calls(rt.alloc()).expect(&rt, "memory is left");
+    let calls = count_of_calls(&rt, rt.alloc());
     five_send(
         &rt,
         rt.alloc(),
@@ -138,7 +139,7 @@ fn five_threads_send_what_they_wrote(rt: HostRuntime) {
 /// code that is generic in the free list.
 #[test]
 fn an_owned_item_is_dropped_elsewhere(rt: HostRuntime) {
-    let calls = new_calls(rt.alloc()).expect(&rt, "memory is left");
+    let calls = count_of_calls(&rt, rt.alloc());
     let item = mutex_zeros(rt.alloc(), &calls)
         .expect(&rt, "a pool is made")
         .pull_owned(&rt)

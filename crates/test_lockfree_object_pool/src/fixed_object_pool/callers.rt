@@ -9,7 +9,7 @@ ghost use Rattle.pool_parts.specs.declared.page.history.Operation.TheVariants.{R
 ghost use Rattle.pool_parts.specs.declared.pull_error.PullError.TheVariants.{Limit};
 ghost use Rattle.test_lockfree_object_pool.specs.Returned.{EndsWithReturn, EndsWithReturnOf, WasReturnedBefore, WasUsedSince};
 
-use super::numbers::{NumberItem, NumberPool, held, new_pool};
+use super::numbers::{NumberItem, NumberPool, hold, opened, opened_shared};
 use crate::assert_equal::assert_equal;
 use lockfree_object_pool::PullError;
 use lockfree_object_pool::fixed_object_pool::{BusySeen, PoolNote};
@@ -154,18 +154,18 @@ pub fn pulled_after_both<'p>(
 
 #[test]
 fn a_pull_stands_after_returns_of_two_threads(rt: HostRuntime) {
-    let pool = new_pool(rt.alloc(), 70).expect(&rt, "a pool is made");
+    let pool = opened(&rt, rt.alloc(), 70);
     let Some(item) = handed_on(&rt, &pool) else {
         panic!(rt; "an item is free")
     };
     assert_equal(&rt, (item.number(), *item), (0, 5));
     drop(item);
-    held(rt.alloc(), &pool, 70).expect(&rt, "nothing is refused");
+    hold(&rt, rt.alloc(), &pool, 70);
 }
 
 #[test]
 fn a_value_that_was_returned_is_pulled_again(rt: HostRuntime) {
-    let pool = new_pool(rt.alloc(), 1).expect(&rt, "a pool is made");
+    let pool = opened(&rt, rt.alloc(), 1);
     let Some(note) = returned_alone(&pool, 8) else {
         panic!(rt; "an item is free")
     };
@@ -177,7 +177,7 @@ fn a_value_that_was_returned_is_pulled_again(rt: HostRuntime) {
 
 #[test]
 fn another_value_comes_where_the_item_was_used_in_between(rt: HostRuntime) {
-    let pool = new_pool(rt.alloc(), 1).expect(&rt, "a pool is made");
+    let pool = opened(&rt, rt.alloc(), 1);
     let Some(note) = returned_alone(&pool, 8) else {
         panic!(rt; "an item is free")
     };
@@ -190,8 +190,8 @@ fn another_value_comes_where_the_item_was_used_in_between(rt: HostRuntime) {
 
 #[test]
 fn a_refusal_shows_that_each_item_was_out(rt: HostRuntime) {
-    let pool = new_pool(rt.alloc(), 33).expect(&rt, "a pool is made");
-    let mut all = held(rt.alloc(), &pool, 33).expect(&rt, "nothing is refused");
+    let pool = opened(&rt, rt.alloc(), 33);
+    let mut all = hold(&rt, rt.alloc(), &pool, 33);
     let pass = PullPass::new();
     assert!(rt; refused_while_out(&pool, &pass, 32).is_some());
     drop(all.pop());
@@ -200,9 +200,9 @@ fn a_refusal_shows_that_each_item_was_out(rt: HostRuntime) {
 
 #[test]
 fn work_meets_no_refusal_but_the_limit(rt: HostRuntime) {
-    let pool = new_pool(rt.alloc(), 33).expect(&rt, "a pool is made");
+    let pool = opened(&rt, rt.alloc(), 33);
     assert_equal(&rt, work(&pool, 1_000), Ok(0));
-    let all = held(rt.alloc(), &pool, 33).expect(&rt, "nothing is refused");
+    let all = hold(&rt, rt.alloc(), &pool, 33);
     assert_equal(&rt, work(&pool, 1_000), Err(PullError::Limit));
     drop(all);
     assert_equal(&rt, work(&pool, 0), Ok(0));
@@ -210,11 +210,7 @@ fn work_meets_no_refusal_but_the_limit(rt: HostRuntime) {
 
 #[test]
 fn a_holder_tells_what_it_knows(rt: HostRuntime) {
-    let pool = Arc::new(
-        rt.alloc(),
-        new_pool(rt.alloc(), 33).expect(&rt, "a pool is made"),
-    )
-    .expect(&rt, "memory is left");
+    let pool = opened_shared(&rt, rt.alloc(), 33);
     let mut owned = pool.pull_owned().expect(&rt, "an item is free");
     let mut item = pool.pull().expect(&rt, "an item is free");
     assert_equal(&rt, (owned.number(), item.number()), (0, 1));

@@ -7,7 +7,7 @@ ghost use Rattle.lockfree_object_pool.specs.OneProof.{same_page};
 ghost use Rattle.lockfree_object_pool.specs.Ledger.{IsPrefixOf};
 
 use super::callers::{pulled_after, returned_near};
-use super::numbers::{NumberPool, new_pool};
+use super::numbers::{NumberPool, opened_shared};
 use crate::assert_equal::assert_equal;
 use crossbeam_channel::{Receiver, Sender, unbounded};
 use lockfree_object_pool::fixed_object_pool::PoolNote;
@@ -64,11 +64,7 @@ fn answer_once<W: Wait>(rt: &W, from: &Receiver<Message>, to: &Sender<Message>) 
 
 #[test]
 fn a_pull_stands_after_what_messages_told(rt: HostRuntime) {
-    let pool = Arc::new(
-        rt.alloc(),
-        new_pool(rt.alloc(), 70).expect(&rt, "a pool is made"),
-    )
-    .expect(&rt, "memory is left");
+    let pool = opened_shared(&rt, rt.alloc(), 70);
     let (to_other, from_main) = unbounded(rt.alloc()).expect(&rt, "a channel is made");
     let (to_main, from_other) = unbounded(rt.alloc()).expect(&rt, "a channel is made");
     let other = thread::spawn(&rt, move || answer_once(&rt, &from_main, &to_main)).expect(

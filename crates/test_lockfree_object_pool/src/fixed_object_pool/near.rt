@@ -2,12 +2,17 @@
 ghost use Rattle.std.specs.Prelude.{◌≤◌};
 
 use super::callers::pulled_after;
-use super::numbers::{NumberPool, held, new_pool};
+use super::numbers::{NumberPool, held, hold, new_pool, opened, opened_shared};
 use crate::assert_equal::assert_equal;
 use lockfree_object_pool::PullError;
 use std::alloc::Global;
 use std::mem;
 use std::sync::Arc;
+
+/// The number of the item that a pull gives. It comes back at once.
+fn next_number(pool: &NumberPool) -> Option<usize> {
+    Some(pool.pull().ok()?.number())
+}
 
 /// The number of an item that was pulled near a page, and is never returned.
 fn number_near(pool: &NumberPool, page: usize) -> Option<usize> {
@@ -19,37 +24,42 @@ fn number_near(pool: &NumberPool, page: usize) -> Option<usize> {
 
 #[test]
 fn a_pull_begins_near_its_page_and_goes_round(rt: HostRuntime) {
-    let pool = new_pool(rt.alloc(), 97).expect(&rt, "a pool is made");
+    let pool = opened(&rt, rt.alloc(), 97);
     assert_equal(&rt, number_near(&pool, 2), Some(64));
     assert_equal(&rt, number_near(&pool, 6), Some(65));
     assert_equal(&rt, number_near(&pool, 3), Some(96));
     assert_equal(&rt, number_near(&pool, 3), Some(0));
     assert_equal(&rt, number_near(&pool, usize::MAX), Some(1));
-    assert_equal(&rt, pool.pull().expect(&rt, "an item is free").number(), 2);
+    assert_equal(&rt, next_number(&pool), Some(2));
 }
 
 #[test]
 fn a_pull_near_a_page_finds_the_last_item(rt: HostRuntime) {
-    let pool = new_pool(rt.alloc(), 97).expect(&rt, "a pool is made");
-    let mut all = held(rt.alloc(), &pool, 97).expect(&rt, "nothing is refused");
+    let pool = opened(&rt, rt.alloc(), 97);
+    let mut all = hold(&rt, rt.alloc(), &pool, 97);
     assert_equal(&rt, pool.pull_near(1).err(), Some(PullError::Limit));
     drop(all.pop());
     assert_equal(&rt, number_near(&pool, 0), Some(96));
     assert_equal(&rt, number_near(&pool, 3), None);
 }
 
+/// With the first two pages held but item 63, which came back: the numbers of two pulls that are held together, and of one once the
+/// first of these came back.
+fn numbers_at_a_full_page(alloc: Global, pool: &NumberPool) -> Result<[usize; 3], PullError> {
+    let mut first_pages = held(alloc, pool, 64)?;
+    drop(first_pages.pop());
+    let item = pool.pull()?;
+    let next = pool.pull()?;
+    let numbers = (item.number(), next.number());
+    drop(item);
+    Ok([numbers.0, numbers.1, pool.pull()?.number()])
+}
+
 #[test]
 fn a_pull_begins_where_an_item_came_back_to_a_full_page(rt: HostRuntime) {
-    let pool = new_pool(rt.alloc(), 97).expect(&rt, "a pool is made");
-    let mut first_pages = held(rt.alloc(), &pool, 64).expect(&rt, "nothing is refused");
-    drop(first_pages.pop());
-    let item = pool.pull().expect(&rt, "an item is free");
-    assert_equal(&rt, item.number(), 63);
-    let next = pool.pull().expect(&rt, "an item is free");
-    assert_equal(&rt, next.number(), 64);
-    drop(item);
-    let back = pool.pull().expect(&rt, "an item is free");
-    assert_equal(&rt, back.number(), 63);
+    let pool = opened(&rt, rt.alloc(), 97);
+    let numbers = numbers_at_a_full_page(rt.alloc(), &pool);
+    assert_equal(&rt, numbers, Ok([63, 64, 63]));
 }
 
 /// Whether pulls near pages of any number begin at the page that has this number, counted round and round.
@@ -84,9 +94,9 @@ fn any_number_names_a_page(rt: HostRuntime) {
 /// A pull near page 2 sets no hint, so the next pull begins at page 0 as before.
 #[test]
 fn a_pull_near_a_page_leaves_the_hint(rt: HostRuntime) {
-    let pool = new_pool(rt.alloc(), 97).expect(&rt, "a pool is made");
+    let pool = opened(&rt, rt.alloc(), 97);
     assert_equal(&rt, number_near(&pool, 2), Some(64));
-    assert_equal(&rt, pool.pull().expect(&rt, "an item is free").number(), 0);
+    assert_equal(&rt, next_number(&pool), Some(0));
 }
 
 /// The number of an item that an owner pulled near a page, and the number of one that was pulled then.
@@ -101,15 +111,14 @@ fn numbers_by_owner(pool: &Arc<NumberPool>, page: usize) -> Result<(usize, usize
 
 #[test]
 fn a_pull_by_an_owner_leaves_the_hint(rt: HostRuntime) {
-    let pool = new_pool(rt.alloc(), 97).expect(&rt, "a pool is made");
-    let pool = Arc::new(rt.alloc(), pool).expect(&rt, "memory is left");
+    let pool = opened_shared(&rt, rt.alloc(), 97);
     assert_equal(&rt, numbers_by_owner(&pool, 2), Ok((64, 0)));
 }
 
 /// Pages 0, 2 and 3 are free, and a pull near page 1 finds the first item behind that page.
 #[test]
 fn a_pull_looks_behind_its_page_before_it_goes_round(rt: HostRuntime) {
-    let pool = new_pool(rt.alloc(), 97).expect(&rt, "a pool is made");
+    let pool = opened(&rt, rt.alloc(), 97);
     for item in 32..64 {
         assert_equal(&rt, number_near(&pool, 1), Some(item));
     }
@@ -124,36 +133,42 @@ fn keep_out(pool: &NumberPool, items: usize) -> Result<(), PullError> {
     Ok(())
 }
 
+/// The numbers of two items, which come back in turn. So many are taken out for good before the first, between them, and behind
+/// the second.
+fn two_came_back(
+    pool: &NumberPool,
+    before: usize,
+    between: usize,
+    behind: usize,
+) -> Result<(usize, usize), PullError> {
+    keep_out(pool, before)?;
+    let lower = pool.pull()?;
+    keep_out(pool, between)?;
+    let higher = pool.pull()?;
+    keep_out(pool, behind)?;
+    let numbers = (lower.number(), higher.number());
+    drop(lower);
+    drop(higher);
+    Ok(numbers)
+}
+
 /// Items 160 and 64,000 come back to full pages, in this order. The next pull begins at the page of the latter.
 #[test]
 fn a_pull_begins_at_page_2000_where_an_item_came_back(rt: HostRuntime) {
-    let pool = new_pool(rt.alloc(), 70_000).expect(&rt, "a pool is made");
-    keep_out(&pool, 160).expect(&rt, "nothing is refused");
-    let lower = pool.pull().expect(&rt, "an item is free");
-    keep_out(&pool, 63_839).expect(&rt, "nothing is refused");
-    let higher = pool.pull().expect(&rt, "an item is free");
-    keep_out(&pool, 5_999).expect(&rt, "nothing is refused");
-    assert_equal(&rt, (lower.number(), higher.number()), (160, 64_000));
-    drop(lower);
-    drop(higher);
+    let pool = opened(&rt, rt.alloc(), 70_000);
+    let numbers = two_came_back(&pool, 160, 63_839, 5_999);
     assert_equal(
         &rt,
-        pool.pull().expect(&rt, "an item is free").number(),
-        64_000,
+        (numbers, next_number(&pool)),
+        (Ok((160, 64_000)), Some(64_000)),
     );
 }
 
 /// As that of a pull: item 40 came back to a full page after item 3 did.
 #[test]
 fn a_pull_by_a_note_begins_where_a_hint_says(rt: HostRuntime) {
-    let pool = new_pool(rt.alloc(), 97).expect(&rt, "a pool is made");
-    keep_out(&pool, 3).expect(&rt, "nothing is refused");
-    let lower = pool.pull().expect(&rt, "an item is free");
-    keep_out(&pool, 36).expect(&rt, "nothing is refused");
-    let higher = pool.pull().expect(&rt, "an item is free");
-    keep_out(&pool, 56).expect(&rt, "nothing is refused");
-    drop(lower);
-    drop(higher);
-    let item = pulled_after(&pool, pool.note()).expect(&rt, "an item came back");
-    assert_equal(&rt, item.number(), 40);
+    let pool = opened(&rt, rt.alloc(), 97);
+    let numbers = two_came_back(&pool, 3, 36, 56);
+    let number = pulled_after(&pool, pool.note()).map(|item| item.number());
+    assert_equal(&rt, (numbers, number), (Ok((3, 40)), Some(40)));
 }

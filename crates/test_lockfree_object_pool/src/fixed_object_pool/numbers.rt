@@ -6,6 +6,7 @@ use lockfree_object_pool::clean::AnyValue;
 use lockfree_object_pool::closures::{Init, Keep};
 use lockfree_object_pool::{FixedObjectPool, FixedOwnedReusable, FixedReusable, PullError};
 use std::alloc::Global;
+use std::process::Abort;
 use std::sync::Arc;
 use std::sync::atomic::AtomicUsize;
 use std::sync::atomic::Ordering::SeqCst;
@@ -51,6 +52,31 @@ pub fn counted_pool(
 {
     let calls = Arc::try_clone(calls)?;
     FixedObjectPool::new(alloc, Numbers { calls }, Keep, items)
+}
+
+/// Such a pool. The test ends where memory isn't there.
+pub fn opened(rt: &impl Abort, alloc: Global, items: usize) -> NumberPool
+    requires { 1 ≤ items }
+    ensures { pool_items result ≡ items }
+{
+    new_pool(alloc, items).expect(rt, "a pool is made")
+}
+
+/// The same, in an `Arc`.
+pub fn opened_shared(rt: &impl Abort, alloc: Global, items: usize) -> Arc<NumberPool>
+    requires { 1 ≤ items }
+{
+    Arc::new(alloc, opened(rt, alloc, items)).expect(rt, "memory is left")
+}
+
+/// So many items, in the order of their pulls. The test ends where one is refused.
+pub fn hold<'p>(
+    rt: &impl Abort,
+    alloc: Global,
+    pool: &'p NumberPool,
+    items: usize,
+) -> Vec<NumberItem<'p>> {
+    held(alloc, pool, items).expect(rt, "nothing is refused")
 }
 
 /// As many items as a list has room for, in the order of their pulls.

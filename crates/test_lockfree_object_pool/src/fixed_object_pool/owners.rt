@@ -4,7 +4,7 @@ ghost use Rattle.std.specs.Arc.{arc_value};
 ghost use Rattle.lockfree_object_pool.specs.FixedPool.{pool_identity};
 ghost use Rattle.lockfree_object_pool.specs.Note.{note_page};
 
-use super::numbers::{NumberOwnedItem, NumberPool, held, new_pool};
+use super::numbers::{NumberOwnedItem, NumberPool, hold, opened_shared};
 use crate::assert_equal::assert_equal;
 use lockfree_object_pool::fixed_object_pool::PoolNote;
 use std::sync::Arc;
@@ -35,11 +35,7 @@ fn pulled_twice(owner: Arc<NumberPool>, page: usize) -> Option<(usize, usize)> {
 
 #[test]
 fn an_owner_goes_into_its_item_and_comes_back(rt: HostRuntime) {
-    let pool = Arc::new(
-        rt.alloc(),
-        new_pool(rt.alloc(), 33).expect(&rt, "a pool is made"),
-    )
-    .expect(&rt, "memory is left");
+    let pool = opened_shared(&rt, rt.alloc(), 33);
     let owner = Arc::try_clone(&pool).expect(&rt, "memory is left");
     assert_equal(&rt, pulled_twice(owner, 1), Some((32, 32)));
     assert_equal(&rt, Arc::strong_count(&pool), 1);
@@ -49,13 +45,9 @@ fn an_owner_goes_into_its_item_and_comes_back(rt: HostRuntime) {
 
 #[test]
 fn a_refused_owner_comes_back_with_its_note(rt: HostRuntime) {
-    let pool = Arc::new(
-        rt.alloc(),
-        new_pool(rt.alloc(), 33).expect(&rt, "a pool is made"),
-    )
-    .expect(&rt, "memory is left");
+    let pool = opened_shared(&rt, rt.alloc(), 33);
     let owner = Arc::try_clone(&pool).expect(&rt, "memory is left");
-    let mut all = held(rt.alloc(), &pool, 33).expect(&rt, "nothing is refused");
+    let mut all = hold(&rt, rt.alloc(), &pool, 33);
     let Err((owner, note)) = pulled_by(owner, 1) else {
         panic!(rt; "an item was free");
     };

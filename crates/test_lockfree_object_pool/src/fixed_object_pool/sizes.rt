@@ -1,7 +1,7 @@
 //! Pools of many sizes: each item is pulled once, then none, and then what came back.
 ghost use Rattle.std.specs.Prelude.{◌≤◌};
 
-use super::numbers::{NumberItem, counted_pool, held};
+use super::numbers::{NumberItem, NumberPool, counted_pool, held};
 use crate::assert_equal::assert_equal;
 use lockfree_object_pool::PullError;
 use std::alloc::Global;
@@ -20,6 +20,17 @@ fn are_in_order(items: &[NumberItem<'_>]) -> bool {
     true
 }
 
+/// Whether what was returned last is what a pull of a pool gives all of whose items are held, and no other.
+fn comes_back_alone(pool: &NumberPool, last: NumberItem<'_>) -> Result<bool, PullError> {
+    let mut last = last;
+    let number = last.number();
+    *last = 1_000_000;
+    drop(last);
+    let again = pool.pull()?;
+    let none_left = pool.pull().err() == Some(PullError::Limit);
+    Ok(none_left && again.number() == number && *again == 1_000_000)
+}
+
 /// Whether a pool of so many items makes and hands out each once, and then what was returned last.
 fn hands_out_each_once(alloc: Global, items: usize) -> Result<bool, PullError>
     requires { 1 ≤ items }
@@ -31,15 +42,10 @@ fn hands_out_each_once(alloc: Global, items: usize) -> Result<bool, PullError>
     if !complete || !are_in_order(&all) || pool.pull().err() != Some(PullError::Limit) {
         return Ok(false);
     }
-    let Some(mut last) = all.pop() else {
-        return Ok(false);
-    };
-    let number = last.number();
-    *last = 1_000_000;
-    drop(last);
-    let again = pool.pull()?;
-    let none_left = pool.pull().err() == Some(PullError::Limit);
-    Ok(none_left && again.number() == number && *again == 1_000_000)
+    match all.pop() {
+        Some(last) => comes_back_alone(&pool, last),
+        None => Ok(false),
+    }
 }
 
 #[test]

@@ -5,6 +5,7 @@ ghost use Rattle.pool_parts.specs.declared.pull_error.PullError.TheVariants.{Mem
 
 use super::*;
 use crate::assert_equal::assert_equal;
+use crate::made::count_of_calls;
 use lockfree_object_pool::closures::{InitBy, Makes, ResetBy, Resets};
 
 /// Whatever other threads do, a pulled value meets the condition.
@@ -156,7 +157,7 @@ fn closures_make_and_reset(rt: HostRuntime) {
 
 #[test]
 fn a_limit_of_one_page(rt: HostRuntime) {
-    let calls = new_calls(rt.alloc()).expect(&rt, "memory is left");
+    let calls = count_of_calls(&rt, rt.alloc());
     let pool = cleared(rt.alloc(), &calls).expect(&rt, "a pool is made");
     assert_equal(&rt, refusal(&pool), None);
     assert_equal(&rt, page_of_one(rt.alloc(), calls), Ok(0));

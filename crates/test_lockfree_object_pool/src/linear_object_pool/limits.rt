@@ -1,6 +1,6 @@
 //! Pools that may have so many pages and no more.
 ghost use Rattle.std.specs.Prelude.{◌≡◌, ℕ, ◌+◌, ◌≤◌, Some, IfSome};
-ghost use Rattle.lockfree_object_pool.specs.LinearPool.{pool_start};
+ghost use Rattle.lockfree_object_pool.specs.LinearPool.{pool_limit, pool_start};
 ghost use Rattle.lockfree_object_pool.specs.Walk.{WasFull};
 ghost use Rattle.pool_parts.specs.declared.made_or_reset.MadeOrReset.{MadeOrReset};
 ghost use Rattle.nonblocking_pools.specs.declared.linear_object_pool.answer_of.AnswerOf.{AnswerOf};

@@ -2,6 +2,7 @@
 //! drops each value.
 use super::*;
 use crate::assert_equal::assert_equal;
+use crate::made::empty_tally;
 
 /// The refusal of an owned pull while a page of items is held. The pool's last owner but these lets it go.
 fn refusal_past_a_page(alloc: Global, pool: Arc<Tracked>) -> Result<Option<PullError>, PullError> {
@@ -14,7 +15,7 @@ fn refusal_past_a_page(alloc: Global, pool: Arc<Tracked>) -> Result<Option<PullE
 
 #[test]
 fn refused_pulls_let_their_pool_end(rt: HostRuntime) {
-    let counts = new_tally(rt.alloc()).expect(&rt, "memory is left");
+    let counts = empty_tally(&rt, rt.alloc());
     let pool = shared(rt.alloc(), &counts, 32).expect(&rt, "a pool is made");
     let refusal = refusal_past_a_page(rt.alloc(), pool);
     assert_equal(
@@ -26,7 +27,7 @@ fn refused_pulls_let_their_pool_end(rt: HostRuntime) {
 
 #[test]
 fn a_pool_ends_with_its_last_owned_item(rt: HostRuntime) {
-    let counts = new_tally(rt.alloc()).expect(&rt, "memory is left");
+    let counts = empty_tally(&rt, rt.alloc());
     let pool = shared(rt.alloc(), &counts, NEVER).expect(&rt, "a pool is made");
     let item = pool.pull_owned().expect(&rt, "an item is free");
     drop(pool);
@@ -43,7 +44,7 @@ fn shared_of_one(alloc: Global, counts: &Arc<Tally>) -> Result<Arc<Tracked>, Pul
 
 #[test]
 fn pulls_refused_at_the_limit_let_their_pool_end(rt: HostRuntime) {
-    let counts = new_tally(rt.alloc()).expect(&rt, "memory is left");
+    let counts = empty_tally(&rt, rt.alloc());
     let pool = shared_of_one(rt.alloc(), &counts).expect(&rt, "a pool is made");
     let refusal = refusal_past_a_page(rt.alloc(), pool);
     assert_equal(

@@ -1,40 +1,79 @@
 //! Pools that are refused values or memory: nothing is lost, and what was refused can be asked for again.
 use super::*;
 use crate::assert_equal::assert_equal;
+use std::process::Abort;
 use test_values::refused::again;
 
 /// What is seen of an item: its place, the number of its value, and how many values live while it is out.
 type Seen = ((usize, u8), usize, usize);
 
-fn seen(pool: &Tracked, counts: &Tally) -> Option<Seen> {
-    let item = pool.pull().ok()?;
-    let place = (item.page_number(), item.page_id());
-    Some((place, item.number, counts.living()))
+/// A reference to a pool, which pulls borrowed items, or an owner of one, which pulls owned items.
+trait Pulls {
+    /// Why a pull is refused. An item that it gives comes back at once.
+    fn refusal(&self) -> Option<PullError>;
+
+    fn seen(&self, tally: &Tally) -> Option<Seen>;
 }
 
-fn owned_seen(pool: &Arc<Tracked>, counts: &Tally) -> Option<Seen> {
-    let item = pool.pull_owned().ok()?;
-    let place = (item.page_number(), item.page_id());
-    Some((place, item.number, counts.living()))
+impl Pulls for &Tracked {
+    fn refusal(&self) -> Option<PullError> {
+        self.pull().err()
+    }
+
+    fn seen(&self, tally: &Tally) -> Option<Seen> {
+        let item = self.pull().ok()?;
+        let place = (item.page_number(), item.page_id());
+        Some((place, item.number, tally.living()))
+    }
+}
+
+impl Pulls for Arc<Tracked> {
+    fn refusal(&self) -> Option<PullError> {
+        self.pull_owned().err()
+    }
+
+    fn seen(&self, tally: &Tally) -> Option<Seen> {
+        let item = self.pull_owned().ok()?;
+        let place = (item.page_number(), item.page_id());
+        Some((place, item.number, tally.living()))
+    }
+}
+
+/// Past a page of items that stay out, a pull is met or refused for memory. Behind it the second page's first item is there, twice
+/// the same.
+fn goes_on<P: Pulls>(rt: &impl Abort, pool: &P, tally: &Tally) {
+    let refusal = pool.refusal();
+    let expected = match refusal {
+        None => 64,
+        Some(error) => {
+            assert_equal(rt, error, PullError::Memory);
+            32
+        }
+    };
+    assert_equal(rt, tally.living(), expected);
+    let first = pool.seen(tally).expect(rt, "an item is free");
+    assert_equal(rt, (first.0, first.2), ((1, 0), 64));
+    assert_equal(rt, pool.seen(tally), Some(first));
+}
+
+/// A tally. Where memory was refused, it comes by a second try.
+fn tally_again(rt: &impl Abort, alloc: Global) -> Arc<Tally> {
+    again(&|| new_tally(alloc)).expect(rt, "memory is left")
+}
+
+/// Takes a new pool's 32 items out for good.
+fn use_up(rt: &impl Abort, pool: &Tracked, tally: &Tally) {
+    assert_equal(rt, tally.living(), 32);
+    keep_out(pool, 32).expect(rt, "32 items are free");
 }
 
 /// Holds with each request for memory refused in turn too.
 #[test]
 fn a_pool_goes_on_where_memory_was_refused(rt: HostRuntime) {
-    let counts = again(&|| new_tally(rt.alloc())).expect(&rt, "memory is left");
-    let pool = again(&|| shared(rt.alloc(), &counts, NEVER)).expect(&rt, "a pool is made");
-    let before = counts.living();
-    keep_out(&pool, 32).expect(&rt, "32 items are free");
-    let refusal = pool.pull().err();
-    assert!(rt; matches!(refusal, None | Some(PullError::Memory)));
-    let kept = if refusal.is_none() { 64 } else { 32 };
-    assert_equal(&rt, (before, counts.living()), (32, kept));
-    let first = seen(&pool, &counts).expect(&rt, "an item is free");
-    assert_equal(
-        &rt,
-        (first.0, first.2, seen(&pool, &counts)),
-        ((1, 0), 64, Some(first)),
-    );
+    let tally = tally_again(&rt, rt.alloc());
+    let pool = again(&|| shared(rt.alloc(), &tally, NEVER)).expect(&rt, "a pool is made");
+    use_up(&rt, &pool, &tally);
+    goes_on(&rt, &&*pool, &tally);
 }
 
 /// A pool that may have two pages, in an `Arc`.
@@ -46,18 +85,8 @@ fn shared_of_two(alloc: Global, counts: &Arc<Tally>) -> Result<Arc<Tracked>, Pul
 /// Holds with each request for memory refused in turn too.
 #[test]
 fn owned_pulls_go_on_where_memory_was_refused(rt: HostRuntime) {
-    let counts = again(&|| new_tally(rt.alloc())).expect(&rt, "memory is left");
-    let pool = again(&|| shared_of_two(rt.alloc(), &counts)).expect(&rt, "a pool is made");
-    let before = counts.living();
-    keep_out(&pool, 32).expect(&rt, "32 items are free");
-    let refusal = pool.pull_owned().err();
-    assert!(rt; matches!(refusal, None | Some(PullError::Memory)));
-    let kept = if refusal.is_none() { 64 } else { 32 };
-    assert_equal(&rt, (before, counts.living()), (32, kept));
-    let first = owned_seen(&pool, &counts).expect(&rt, "an item is free");
-    assert_equal(
-        &rt,
-        (first.0, first.2, owned_seen(&pool, &counts)),
-        ((1, 0), 64, Some(first)),
-    );
+    let tally = tally_again(&rt, rt.alloc());
+    let pool = again(&|| shared_of_two(rt.alloc(), &tally)).expect(&rt, "a pool is made");
+    use_up(&rt, &pool, &tally);
+    goes_on(&rt, &pool, &tally);
 }

@@ -60,7 +60,7 @@ const GREATEST: &str =
 
 #[test]
 fn the_greatest_numbers_are_answered_in_each_command(rt: HostRuntime) {
-    let rows = [
+    const ROWS: [(Kind, &str); 2] = [
         (
             Kind::Linear,
             "not offered\nno such holder\nno such holder\nno such holder\npulled 0 number 0 value 0\nwritten 0\nreturned 0\npulled 1 number 0 value 4294967295\n",
@@ -70,26 +70,26 @@ fn the_greatest_numbers_are_answered_in_each_command(rt: HostRuntime) {
             "attached 0\nno such holder\nno such holder\nno such holder\npulled 1 value 0\nwritten 0\nreturned 0\npulled 2 value 4294967295\n",
         ),
     ];
-    for (kind, expected) in rows {
-        let output = output_of(&rt, rt.alloc(), kind, Reset::Keep, GREATEST);
-        assert_eq!(rt; output.as_slice(), expected.as_bytes(), "{kind:?}");
+    for (kind, expected) in &ROWS {
+        answers(&rt, rt.alloc(), *kind, Reset::Keep, GREATEST, expected);
     }
 }
 
 #[test]
 fn each_kind_of_pool_is_reset_to_zero(rt: HostRuntime) {
-    let input = "pull\nwrite 0 5\nreturn 0\npull\n";
-    let numbered = "pulled 0 number 0 value 0\nwritten 0\nreturned 0\npulled 1 number 0 value 0\n";
-    let plain = "pulled 0 value 0\nwritten 0\nreturned 0\npulled 1 value 0\n";
-    for (kind, expected) in [
-        (Kind::Linear, numbered),
-        (Kind::Bounded(1), numbered),
-        (Kind::Bounded(2), numbered),
-        (Kind::Bounded(100), numbered),
-        (Kind::Stack, plain),
-        (Kind::None, plain),
-    ] {
-        let output = output_of(&rt, rt.alloc(), kind, Reset::Zero, input);
-        assert_eq!(rt; output.as_slice(), expected.as_bytes(), "{kind:?}");
+    const INPUT: &str = "pull\nwrite 0 5\nreturn 0\npull\n";
+    const NUMBERED: &str =
+        "pulled 0 number 0 value 0\nwritten 0\nreturned 0\npulled 1 number 0 value 0\n";
+    const PLAIN: &str = "pulled 0 value 0\nwritten 0\nreturned 0\npulled 1 value 0\n";
+    const ROWS: [(Kind, &str); 6] = [
+        (Kind::Linear, NUMBERED),
+        (Kind::Bounded(1), NUMBERED),
+        (Kind::Bounded(2), NUMBERED),
+        (Kind::Bounded(100), NUMBERED),
+        (Kind::Stack, PLAIN),
+        (Kind::None, PLAIN),
+    ];
+    for (kind, expected) in &ROWS {
+        answers(&rt, rt.alloc(), *kind, Reset::Zero, INPUT, expected);
     }
 }

@@ -33,112 +33,89 @@ fn take(alloc: Global, world: &mut World<u32, Keep>, agent: usize) -> Result<(),
 fn a_hint_leads_past_full_pages_to_a_free_number(rt: HostRuntime) {
     let mut world = all_held(rt.alloc(), 128).expect(&rt, "nothing is refused");
     give_back(&mut world, 101);
-    play(
-        &rt,
-        rt.alloc(),
-        &mut world,
-        [
-            (Event::Begin, Seen::Began(128)),
-            (Event::ReadMask(128), Seen::Word(128, 0)),
-            (Event::ReadHinted(128, 3), Seen::Word(128, 32)),
-            (Event::ClearBit(128), Seen::Pulled(128, 101)),
-            (Event::MoveOut(128), Seen::MovedOut(128)),
-        ],
-    );
+    const STEPS: [(Act, Seen); 5] = [
+        (Act::Begin, Seen::Began(128)),
+        (Act::ReadMask(128), Seen::Word(128, 0)),
+        (Act::ReadHinted(128, 3), Seen::Word(128, 32)),
+        (Act::ClearBit(128), Seen::Pulled(128, 101)),
+        (Act::MoveOut(128), Seen::MovedOut(128)),
+    ];
+    play(&rt, rt.alloc(), &ZeroPages, &mut world, &STEPS);
     assert_equal(&rt, (world.word(3), world.held(128)), (Some(0), Some(&0)));
 }
 
 #[test]
 fn a_page_that_a_hint_found_full_is_not_asked_again(rt: HostRuntime) {
     let mut world = all_held(rt.alloc(), 128).expect(&rt, "nothing is refused");
-    play(
-        &rt,
-        rt.alloc(),
-        &mut world,
-        [
-            (Event::Begin, Seen::Began(128)),
-            (Event::ReadMask(128), Seen::Word(128, 0)),
-            (Event::ReadHinted(128, 2), Seen::Word(128, 0)),
-            (Event::ReadNext(128), Seen::Next(128, true)),
-            (Event::ReadMask(128), Seen::Word(128, 0)),
-            (Event::ReadNext(128), Seen::Next(128, true)),
-            (Event::ReadMask(128), Seen::NotEnabled),
-            (Event::ReadNext(128), Seen::Next(128, true)),
-            (Event::ReadMask(128), Seen::Word(128, 0)),
-            (Event::ReadNext(128), Seen::Next(128, false)),
-        ],
-    );
+    const STEPS: [(Act, Seen); 10] = [
+        (Act::Begin, Seen::Began(128)),
+        (Act::ReadMask(128), Seen::Word(128, 0)),
+        (Act::ReadHinted(128, 2), Seen::Word(128, 0)),
+        (Act::ReadNext(128), Seen::Next(128, true)),
+        (Act::ReadMask(128), Seen::Word(128, 0)),
+        (Act::ReadNext(128), Seen::Next(128, true)),
+        (Act::ReadMask(128), Seen::NotEnabled),
+        (Act::ReadNext(128), Seen::Next(128, true)),
+        (Act::ReadMask(128), Seen::Word(128, 0)),
+        (Act::ReadNext(128), Seen::Next(128, false)),
+    ];
+    play(&rt, rt.alloc(), &ZeroPages, &mut world, &STEPS);
 }
 
 #[test]
 fn a_number_that_comes_home_behind_a_hint_is_passed(rt: HostRuntime) {
     let mut world = all_held(rt.alloc(), 64).expect(&rt, "nothing is refused");
-    play(
-        &rt,
-        rt.alloc(),
-        &mut world,
-        [
-            (Event::Begin, Seen::Began(64)),
-            (Event::ReadMask(64), Seen::Word(64, 0)),
-            (Event::ReadHinted(64, 1), Seen::Word(64, 0)),
-            (Event::MoveHome(40), Seen::MovedHome(40)),
-            (Event::OrMask(40), Seen::Returned(40, 40)),
-            (Event::ReadNext(64), Seen::Next(64, true)),
-            (Event::ReadNext(64), Seen::Next(64, false)),
-            (
-                Event::MakePage(64, Ok(zeros(rt.alloc()).expect(&rt, "values are made"))),
-                Seen::Made(64),
-            ),
-            (Event::ExchangeNext(64), Seen::Linked(64)),
-            (Event::ReadMask(64), Seen::Word(64, FULL)),
-            (Event::ClearBit(64), Seen::Pulled(64, 64)),
-        ],
-    );
+    const STEPS: [(Act, Seen); 11] = [
+        (Act::Begin, Seen::Began(64)),
+        (Act::ReadMask(64), Seen::Word(64, 0)),
+        (Act::ReadHinted(64, 1), Seen::Word(64, 0)),
+        (Act::MoveHome(40), Seen::MovedHome(40)),
+        (Act::OrMask(40), Seen::Returned(40, 40)),
+        (Act::ReadNext(64), Seen::Next(64, true)),
+        (Act::ReadNext(64), Seen::Next(64, false)),
+        (Act::MakePage(64), Seen::Made(64)),
+        (Act::ExchangeNext(64), Seen::Linked(64)),
+        (Act::ReadMask(64), Seen::Word(64, FULL)),
+        (Act::ClearBit(64), Seen::Pulled(64, 64)),
+    ];
+    play(&rt, rt.alloc(), &ZeroPages, &mut world, &STEPS);
     assert_equal(&rt, (world.pages(), world.word(1)), (3, Some(256)));
 }
 
 #[test]
 fn a_hint_may_name_any_linked_page_but_the_first(rt: HostRuntime) {
     let mut world = all_held(rt.alloc(), 64).expect(&rt, "nothing is refused");
-    play(
-        &rt,
-        rt.alloc(),
-        &mut world,
-        [
-            (Event::ReadHinted(64, 1), Seen::NotEnabled),
-            (Event::Begin, Seen::Began(64)),
-            (Event::ReadHinted(64, 1), Seen::NotEnabled),
-            (Event::ReadMask(64), Seen::Word(64, 0)),
-            (Event::ReadHinted(64, 0), Seen::NotEnabled),
-            (Event::ReadHinted(64, 2), Seen::NotEnabled),
-            (Event::ReadHinted(64, usize::MAX), Seen::NotEnabled),
-            (Event::ReadHinted(64, 1), Seen::Word(64, 0)),
-        ],
-    );
+    const STEPS: [(Act, Seen); 8] = [
+        (Act::ReadHinted(64, 1), Seen::NotEnabled),
+        (Act::Begin, Seen::Began(64)),
+        (Act::ReadHinted(64, 1), Seen::NotEnabled),
+        (Act::ReadMask(64), Seen::Word(64, 0)),
+        (Act::ReadHinted(64, 0), Seen::NotEnabled),
+        (Act::ReadHinted(64, 2), Seen::NotEnabled),
+        (Act::ReadHinted(64, usize::MAX), Seen::NotEnabled),
+        (Act::ReadHinted(64, 1), Seen::Word(64, 0)),
+    ];
+    play(&rt, rt.alloc(), &ZeroPages, &mut world, &STEPS);
 }
 
 #[test]
 fn an_agent_goes_by_one_hint_from_the_first_link(rt: HostRuntime) {
     let mut world = all_held(rt.alloc(), 128).expect(&rt, "nothing is refused");
-    play(
-        &rt,
-        rt.alloc(),
-        &mut world,
-        [
-            (Event::Begin, Seen::Began(128)),
-            (Event::ReadMask(128), Seen::Word(128, 0)),
-            (Event::ReadHinted(128, 3), Seen::Word(128, 0)),
-            (Event::ReadHinted(128, 3), Seen::NotEnabled),
-            (Event::ReadHinted(128, 2), Seen::NotEnabled),
-            (Event::Begin, Seen::Began(129)),
-            (Event::ReadMask(129), Seen::Word(129, 0)),
-            (Event::ReadNext(129), Seen::Next(129, true)),
-            (Event::ReadMask(129), Seen::Word(129, 0)),
-            (Event::ReadHinted(129, 2), Seen::NotEnabled),
-            (Event::ReadNext(129), Seen::Next(129, true)),
-            (Event::ReadHinted(129, 3), Seen::NotEnabled),
-        ],
-    );
+    const STEPS: [(Act, Seen); 12] = [
+        (Act::Begin, Seen::Began(128)),
+        (Act::ReadMask(128), Seen::Word(128, 0)),
+        (Act::ReadHinted(128, 3), Seen::Word(128, 0)),
+        (Act::ReadHinted(128, 3), Seen::NotEnabled),
+        (Act::ReadHinted(128, 2), Seen::NotEnabled),
+        (Act::Begin, Seen::Began(129)),
+        (Act::ReadMask(129), Seen::Word(129, 0)),
+        (Act::ReadNext(129), Seen::Next(129, true)),
+        (Act::ReadMask(129), Seen::Word(129, 0)),
+        (Act::ReadHinted(129, 2), Seen::NotEnabled),
+        (Act::ReadNext(129), Seen::Next(129, true)),
+        (Act::ReadHinted(129, 3), Seen::NotEnabled),
+    ];
+    play(&rt, rt.alloc(), &ZeroPages, &mut world, &STEPS);
 }
 
 #[test]
@@ -146,23 +123,19 @@ fn a_clearing_that_is_lost_behind_a_hint_tries_the_next_bit(rt: HostRuntime) {
     let mut world = all_held(rt.alloc(), 64).expect(&rt, "nothing is refused");
     give_back(&mut world, 32);
     give_back(&mut world, 34);
-    play(
-        &rt,
-        rt.alloc(),
-        &mut world,
-        [
-            (Event::Begin, Seen::Began(64)),
-            (Event::Begin, Seen::Began(65)),
-            (Event::ReadMask(64), Seen::Word(64, 0)),
-            (Event::ReadMask(65), Seen::Word(65, 0)),
-            (Event::ReadHinted(64, 1), Seen::Word(64, 5)),
-            (Event::ReadHinted(65, 1), Seen::Word(65, 5)),
-            (Event::ClearBit(65), Seen::Pulled(65, 32)),
-            (Event::ClearBit(64), Seen::Found(64, 4)),
-            (Event::ReadHinted(64, 1), Seen::NotEnabled),
-            (Event::ClearBit(64), Seen::Pulled(64, 34)),
-        ],
-    );
+    const STEPS: [(Act, Seen); 10] = [
+        (Act::Begin, Seen::Began(64)),
+        (Act::Begin, Seen::Began(65)),
+        (Act::ReadMask(64), Seen::Word(64, 0)),
+        (Act::ReadMask(65), Seen::Word(65, 0)),
+        (Act::ReadHinted(64, 1), Seen::Word(64, 5)),
+        (Act::ReadHinted(65, 1), Seen::Word(65, 5)),
+        (Act::ClearBit(65), Seen::Pulled(65, 32)),
+        (Act::ClearBit(64), Seen::Found(64, 4)),
+        (Act::ReadHinted(64, 1), Seen::NotEnabled),
+        (Act::ClearBit(64), Seen::Pulled(64, 34)),
+    ];
+    play(&rt, rt.alloc(), &ZeroPages, &mut world, &STEPS);
     assert_equal(&rt, world.word(1), Some(0));
 }
 
@@ -171,31 +144,27 @@ fn clearings_that_are_all_lost_behind_a_hint_lead_to_the_first_link(rt: HostRunt
     let mut world = all_held(rt.alloc(), 64).expect(&rt, "nothing is refused");
     give_back(&mut world, 33);
     give_back(&mut world, 63);
-    play(
-        &rt,
-        rt.alloc(),
-        &mut world,
-        [
-            (Event::Begin, Seen::Began(64)),
-            (Event::Begin, Seen::Began(65)),
-            (Event::Begin, Seen::Began(66)),
-            (Event::ReadMask(64), Seen::Word(64, 0)),
-            (Event::ReadMask(65), Seen::Word(65, 0)),
-            (Event::ReadMask(66), Seen::Word(66, 0)),
-            (Event::ReadHinted(64, 1), Seen::Word(64, 2147483650)),
-            (Event::ReadHinted(65, 1), Seen::Word(65, 2147483650)),
-            (Event::ClearBit(65), Seen::Pulled(65, 33)),
-            (Event::ReadHinted(66, 1), Seen::Word(66, 2147483648)),
-            (Event::ClearBit(66), Seen::Pulled(66, 63)),
-            (Event::ClearBit(64), Seen::Found(64, 0)),
-            (Event::ClearBit(64), Seen::Found(64, 0)),
-            (Event::ClearBit(64), Seen::NotEnabled),
-            (Event::ReadHinted(64, 1), Seen::NotEnabled),
-            (Event::ReadNext(64), Seen::Next(64, true)),
-            (Event::ReadMask(64), Seen::NotEnabled),
-            (Event::ReadNext(64), Seen::Next(64, false)),
-        ],
-    );
+    const STEPS: [(Act, Seen); 18] = [
+        (Act::Begin, Seen::Began(64)),
+        (Act::Begin, Seen::Began(65)),
+        (Act::Begin, Seen::Began(66)),
+        (Act::ReadMask(64), Seen::Word(64, 0)),
+        (Act::ReadMask(65), Seen::Word(65, 0)),
+        (Act::ReadMask(66), Seen::Word(66, 0)),
+        (Act::ReadHinted(64, 1), Seen::Word(64, 2147483650)),
+        (Act::ReadHinted(65, 1), Seen::Word(65, 2147483650)),
+        (Act::ClearBit(65), Seen::Pulled(65, 33)),
+        (Act::ReadHinted(66, 1), Seen::Word(66, 2147483648)),
+        (Act::ClearBit(66), Seen::Pulled(66, 63)),
+        (Act::ClearBit(64), Seen::Found(64, 0)),
+        (Act::ClearBit(64), Seen::Found(64, 0)),
+        (Act::ClearBit(64), Seen::NotEnabled),
+        (Act::ReadHinted(64, 1), Seen::NotEnabled),
+        (Act::ReadNext(64), Seen::Next(64, true)),
+        (Act::ReadMask(64), Seen::NotEnabled),
+        (Act::ReadNext(64), Seen::Next(64, false)),
+    ];
+    play(&rt, rt.alloc(), &ZeroPages, &mut world, &STEPS);
 }
 
 #[test]
@@ -210,18 +179,14 @@ fn a_limit_is_told_past_a_hint(rt: HostRuntime) {
     for agent in 0..64 {
         take(rt.alloc(), &mut world, agent).expect(&rt, "an item is free");
     }
-    play(
-        &rt,
-        rt.alloc(),
-        &mut world,
-        [
-            (Event::Begin, Seen::Began(64)),
-            (Event::ReadMask(64), Seen::Word(64, 0)),
-            (Event::ReadHinted(64, 1), Seen::Word(64, 0)),
-            (Event::ReadNext(64), Seen::Next(64, true)),
-            (Event::ReadNext(64), Seen::Refused(64, PullError::Limit)),
-        ],
-    );
+    const STEPS: [(Act, Seen); 5] = [
+        (Act::Begin, Seen::Began(64)),
+        (Act::ReadMask(64), Seen::Word(64, 0)),
+        (Act::ReadHinted(64, 1), Seen::Word(64, 0)),
+        (Act::ReadNext(64), Seen::Next(64, true)),
+        (Act::ReadNext(64), Seen::Refused(64, PullError::Limit)),
+    ];
+    play(&rt, rt.alloc(), &ZeroPages, &mut world, &STEPS);
 }
 
 #[test]
@@ -263,28 +228,24 @@ fn a_hint_in_vain_costs_an_agent_alone_one_step_at_most(rt: HostRuntime) {
     let mut world = all_held(rt.alloc(), 128).expect(&rt, "nothing is refused");
     give_back(&mut world, 70);
     give_back(&mut world, 71);
-    play(
-        &rt,
-        rt.alloc(),
-        &mut world,
-        [
-            (Event::Begin, Seen::Began(128)),
-            (Event::ReadMask(128), Seen::Word(128, 0)),
-            (Event::ReadHinted(128, 1), Seen::Word(128, 0)),
-            (Event::ReadNext(128), Seen::Next(128, true)),
-            (Event::ReadNext(128), Seen::Next(128, true)),
-            (Event::ReadMask(128), Seen::Word(128, 192)),
-            (Event::ClearBit(128), Seen::Pulled(128, 70)),
-            (Event::MoveOut(128), Seen::MovedOut(128)),
-            (Event::Begin, Seen::Began(129)),
-            (Event::ReadMask(129), Seen::Word(129, 0)),
-            (Event::ReadHinted(129, 3), Seen::Word(129, 0)),
-            (Event::ReadNext(129), Seen::Next(129, true)),
-            (Event::ReadMask(129), Seen::Word(129, 0)),
-            (Event::ReadNext(129), Seen::Next(129, true)),
-            (Event::ReadMask(129), Seen::Word(129, 128)),
-            (Event::ClearBit(129), Seen::Pulled(129, 71)),
-            (Event::MoveOut(129), Seen::MovedOut(129)),
-        ],
-    );
+    const STEPS: [(Act, Seen); 17] = [
+        (Act::Begin, Seen::Began(128)),
+        (Act::ReadMask(128), Seen::Word(128, 0)),
+        (Act::ReadHinted(128, 1), Seen::Word(128, 0)),
+        (Act::ReadNext(128), Seen::Next(128, true)),
+        (Act::ReadNext(128), Seen::Next(128, true)),
+        (Act::ReadMask(128), Seen::Word(128, 192)),
+        (Act::ClearBit(128), Seen::Pulled(128, 70)),
+        (Act::MoveOut(128), Seen::MovedOut(128)),
+        (Act::Begin, Seen::Began(129)),
+        (Act::ReadMask(129), Seen::Word(129, 0)),
+        (Act::ReadHinted(129, 3), Seen::Word(129, 0)),
+        (Act::ReadNext(129), Seen::Next(129, true)),
+        (Act::ReadMask(129), Seen::Word(129, 0)),
+        (Act::ReadNext(129), Seen::Next(129, true)),
+        (Act::ReadMask(129), Seen::Word(129, 128)),
+        (Act::ClearBit(129), Seen::Pulled(129, 71)),
+        (Act::MoveOut(129), Seen::MovedOut(129)),
+    ];
+    play(&rt, rt.alloc(), &ZeroPages, &mut world, &STEPS);
 }

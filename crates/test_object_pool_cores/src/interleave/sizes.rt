@@ -31,50 +31,46 @@ fn takes(alloc: Global, agent: usize) -> Result<Vec<Event<u32>>, PullError> {
     Ok(events)
 }
 
+/// Lets an agent take an item alone, as the next one, in one run. Whether its number is the agent's, and it holds the item.
+fn takes_its_number(
+    alloc: Global,
+    world: &mut World<u32, Keep>,
+    agent: usize,
+) -> Result<bool, PullError> {
+    let mut seen = Vec::new(alloc);
+    if world.run(takes(alloc, agent)?, &mut seen).is_err() {
+        return Ok(false);
+    }
+    let last = [Seen::Pulled(agent, agent as u128), Seen::MovedOut(agent)];
+    let began = seen.first() == Some(&Seen::Began(agent));
+    Ok(began && seen.as_slice().ends_with(last.as_slice()) && world.held(agent) == Some(&0))
+}
+
+/// Links forty pages, all of whose items are held, and answers what one more agent sees at last.
+fn links_forty(rt: &impl Abort, alloc: Global, world: &mut World<u32, Keep>) -> Option<Seen> {
+    for agent in 0..PAGES * PAGE_ITEMS {
+        assert_equal(rt, takes_its_number(alloc, world, agent), Ok(true));
+    }
+    assert_equal(rt, (world.pages(), world.word(PAGES - 1)), (PAGES, Some(0)));
+    let mut seen = Vec::new(alloc);
+    let events = passes(alloc, PAGES * PAGE_ITEMS, PAGES).expect(rt, "memory is left");
+    world.run(events, &mut seen).expect(rt, "memory is left");
+    seen.last().copied()
+}
+
 #[test]
 fn agents_alone_link_forty_pages_and_hold_each_number(rt: HostRuntime) {
-    for limit in [None, Some(PAGES)] {
-        let first = zeros(rt.alloc()).expect(&rt, "values are made");
-        let mut world = match limit {
-            Some(pages) => World::with_limit(rt.alloc(), first, Keep, pages).expect(
-                &rt,
-                "a world is made",
-            ),
-            None => World::new(rt.alloc(), first, Keep).expect(&rt, "a world is made"),
-        };
-        for agent in 0..PAGES * PAGE_ITEMS {
-            let mut seen = Vec::new(rt.alloc());
-            world
-                .run(
-                    takes(rt.alloc(), agent).expect(&rt, "memory is left"),
-                    &mut seen,
-                )
-                .expect(&rt, "memory is left");
-            let number = agent as u128;
-            assert_equal(&rt, seen.first(), Some(&Seen::Began(agent)));
-            let last = [Seen::Pulled(agent, number), Seen::MovedOut(agent)];
-            assert!(rt; seen.as_slice().ends_with(last.as_slice()));
-            assert_equal(&rt, world.held(agent), Some(&0));
-        }
-        assert_equal(
-            &rt,
-            (world.pages(), world.word(PAGES - 1)),
-            (PAGES, Some(0)),
-        );
-        let last = PAGES * PAGE_ITEMS;
-        let mut seen = Vec::new(rt.alloc());
-        world
-            .run(
-                passes(rt.alloc(), last, PAGES).expect(&rt, "memory is left"),
-                &mut seen,
-            )
-            .expect(&rt, "memory is left");
-        let answer = match limit {
-            Some(_) => Seen::Refused(last, PullError::Limit),
-            None => Seen::Next(last, false),
-        };
-        assert_equal(&rt, seen.last(), Some(&answer));
-    }
+    let last = PAGES * PAGE_ITEMS;
+    let mut world = unbounded(rt.alloc()).expect(&rt, "a world is made");
+    let seen = links_forty(&rt, rt.alloc(), &mut world);
+    assert_equal(&rt, seen, Some(Seen::Next(last, false)));
+    let first = zeros(rt.alloc()).expect(&rt, "values are made");
+    let mut world = World::with_limit(rt.alloc(), first, Keep, PAGES).expect(
+        &rt,
+        "a world is made",
+    );
+    let seen = links_forty(&rt, rt.alloc(), &mut world);
+    assert_equal(&rt, seen, Some(Seen::Refused(last, PullError::Limit)));
 }
 
 #[test]

@@ -2,34 +2,45 @@
 use super::*;
 use crate::assert_equal::assert_equal;
 
+/// Pages whose values count the calls before them.
+#[derive(Drop)]
+struct NumberPages {
+    calls: Cell<u32>,
+}
+
+impl Pages<u32> for NumberPages {
+    fn page(&self, alloc: Global) -> Result<Prepared<u32>, PullError> {
+        Prepared::make(
+            alloc,
+            &|| {
+                let call = self.calls.get();
+                self.calls.set(call.saturating_add(1));
+                Some(call)
+            },
+        )
+    }
+}
+
 #[test]
 fn each_place_has_the_answer_that_init_gave_at_its_turn(rt: HostRuntime) {
-    let calls = Cell::new(0u32);
-    let init = || {
-        let call = calls.get();
-        calls.set(call.saturating_add(1));
-        Some(call)
+    let pages = NumberPages {
+        calls: Cell::new(0),
     };
-    let first = Prepared::make(rt.alloc(), &init).expect(&rt, "memory is left");
-    let second = Prepared::make(rt.alloc(), &init).expect(&rt, "memory is left");
-    assert_equal(&rt, calls.get(), 64);
+    let first = pages.page(rt.alloc()).expect(&rt, "memory is left");
     let mut world = World::new(rt.alloc(), first, Keep).expect(&rt, "a world is made");
     hold(&mut world, 32);
     for agent in 0..32usize {
         assert_equal(&rt, world.held(agent).copied(), Some(agent as u32));
     }
-    play(
-        &rt,
-        rt.alloc(),
-        &mut world,
-        [
-            (Event::Begin, Seen::Began(32)),
-            (Event::ReadMask(32), Seen::Word(32, 0)),
-            (Event::ReadNext(32), Seen::Next(32, false)),
-            (Event::MakePage(32, Ok(second)), Seen::Made(32)),
-            (Event::ExchangeNext(32), Seen::Linked(32)),
-        ],
-    );
+    const STEPS: [(Act, Seen); 5] = [
+        (Act::Begin, Seen::Began(32)),
+        (Act::ReadMask(32), Seen::Word(32, 0)),
+        (Act::ReadNext(32), Seen::Next(32, false)),
+        (Act::MakePage(32), Seen::Made(32)),
+        (Act::ExchangeNext(32), Seen::Linked(32)),
+    ];
+    play(&rt, rt.alloc(), &pages, &mut world, &STEPS);
+    assert_equal(&rt, pages.calls.get(), 64);
     for id in 0..32u8 {
         assert_equal(&rt, world.place(1, id).copied(), Some(32 + u32::from(id)));
     }

@@ -1,12 +1,14 @@
 //! Worked cases of a page of one owner.
-use super::Mortal;
 use crate::assert_equal::assert_equal;
+use object_pool_cores::sequential::CorePage;
 use pool_parts::PullError;
 use pool_parts::clean::AnyValue;
 use pool_parts::page::PageId;
-use object_pool_cores::sequential::CorePage;
 use std::alloc::Global;
 use std::cell::Cell;
+use std::sync::Arc;
+use test_values::tallied::Tallied;
+use test_values::tally::{Tally, new_tally};
 
 /// A page of the values 100 to 131.
 fn numbered_page(alloc: Global) -> Result<CorePage<u32, AnyValue>, PullError> {
@@ -67,28 +69,24 @@ fn each_id_is_taken_in_order_until_the_page_is_full(rt: HostRuntime) {
     );
 }
 
+/// A page of values that are counted, whose `init` refuses at one call, counted from 0.
+fn tallied_page(
+    alloc: Global,
+    tally: &Arc<Tally>,
+    refused: usize,
+) -> Result<CorePage<Tallied, AnyValue>, PullError> {
+    CorePage::new(alloc, &|| Tallied::new_but(tally, refused))
+}
+
 #[test]
 fn a_page_that_init_refuses_isnt_made(rt: HostRuntime) {
-    for last in 0..32u32 {
-        let calls = Cell::new(0u32);
-        let ends = Cell::new(0u32);
-        let page = CorePage::<Mortal<'_>, AnyValue>::new(
-            rt.alloc(),
-            &|| {
-                let call = calls.get();
-                calls.set(call.saturating_add(1));
-                if call == last {
-                    None
-                } else {
-                    Some(Mortal { ends: &ends })
-                }
-            },
-        );
-        assert!(rt; matches!(&page, Err(PullError::Init)), "at call {last}");
+    for made in 0..32usize {
+        let tally = new_tally(rt.alloc()).expect(&rt, "memory is left");
+        let refusal = tallied_page(rt.alloc(), &tally, made).err();
         assert_equal(
             &rt,
-            (calls.get(), ends.get()),
-            (last.saturating_add(1), last),
+            (refusal, tally.now()),
+            (Some(PullError::Init), (made.saturating_add(1), made)),
         );
     }
 }

@@ -1,12 +1,14 @@
 //! Stack cores that keep many items, and players that hold many and let many go.
-use super::{Mortals, Zeros};
+use super::{hold, tracked_stack};
 use crate::assert_equal::assert_equal;
+use object_pool_cores::sequential::*;
 use pool_parts::PullError;
 use pool_parts::clean::AnyValue;
 use pool_parts::closures::{Copied, Keep};
-use object_pool_cores::sequential::*;
 use std::alloc::{AllocError, Global};
-use std::cell::Cell;
+use test_values::counted::NEVER;
+use test_values::tallied::Tallied;
+use test_values::tally::new_tally;
 
 /// How many items are kept.
 const KEPT: usize = 100;
@@ -17,11 +19,7 @@ fn pull_and_give<T: Drop, P: SequentialPool<T>>(
     core: &mut P,
     count: usize,
 ) -> Result<(), PullError> {
-    let mut items = Vec::with_capacity(alloc, count)?;
-    for _ in 0..count {
-        items.push(core.pull()?)?;
-    }
-    for item in items {
+    for item in hold(alloc, core, count)? {
         if core.is_mine(&item) {
             core.give(item);
         }
@@ -32,35 +30,27 @@ fn pull_and_give<T: Drop, P: SequentialPool<T>>(
 /// Each pull that finds an item kept leaves `init` alone, and a value is attached beside those that are kept.
 #[test]
 fn a_hundred_kept_items_are_pulled_before_init_is_asked(rt: HostRuntime) {
-    let calls = Cell::new(0u32);
-    let init = Zeros {
-        calls: &calls,
-        refused: 0,
-    };
-    let mut core = StackCore::<u32, _, _, AnyValue>::new(rt.alloc(), init, Keep);
+    let tally = new_tally(rt.alloc()).expect(&rt, "memory is left");
+    let mut core = tracked_stack(rt.alloc(), &tally, NEVER).expect(&rt, "memory is left");
+    let more = new_tally(rt.alloc()).expect(&rt, "memory is left");
     for _ in 0..3 {
         pull_and_give(rt.alloc(), &mut core, KEPT).expect(&rt, "nothing is refused");
-        let attached = core.attach(9).ok().map(|item| *item);
-        assert_equal(&rt, (calls.get(), attached), (100, Some(9)));
+        let value = Tallied::new(&more).expect(&rt, "a value is made");
+        let attached = core.attach(value).is_ok();
+        assert_equal(&rt, (tally.calls(), attached), (100, true));
     }
     pull_and_give(rt.alloc(), &mut core, KEPT + 1).expect(&rt, "nothing is refused");
-    assert_equal(&rt, calls.get(), 101);
+    assert_equal(&rt, tally.calls(), 101);
 }
 
 #[test]
 fn a_stack_core_that_ends_drops_each_value_that_it_keeps(rt: HostRuntime) {
-    let calls = Cell::new(0u32);
-    let ends = Cell::new(0u32);
-    let init = Mortals {
-        calls: &calls,
-        ends: &ends,
-        refused: 0,
-    };
-    let mut core = StackCore::<_, _, _, AnyValue>::new(rt.alloc(), init, Keep);
+    let tally = new_tally(rt.alloc()).expect(&rt, "memory is left");
+    let mut core = tracked_stack(rt.alloc(), &tally, NEVER).expect(&rt, "memory is left");
     pull_and_give(rt.alloc(), &mut core, KEPT).expect(&rt, "nothing is refused");
-    assert_equal(&rt, (calls.get(), ends.get()), (100, 0));
+    assert_equal(&rt, tally.now(), (100, 0));
     drop(core);
-    assert_equal(&rt, (calls.get(), ends.get()), (100, 100));
+    assert_equal(&rt, tally.now(), (100, 100));
 }
 
 /// 200 pulls, and the returns of the last hundred.

@@ -1,42 +1,32 @@
 //! Worked cases of the stack core and the none core, by values.
-use super::{Mortals, Zeros};
+use super::{Tracked, WRITTEN_AND_PULLED, replies_of, tracked, tracked_stack};
 use crate::assert_equal::assert_equal;
+use object_pool_cores::sequential::*;
 use pool_parts::PullError;
 use pool_parts::clean::AnyValue;
 use pool_parts::closures::{Copied, Keep};
-use object_pool_cores::sequential::*;
-use std::cell::Cell;
+use std::sync::Arc;
+use std::sync::atomic::Ordering::SeqCst;
+use test_values::counted::NEVER;
+use test_values::tallied::{Tallied, TalliedValues};
+use test_values::tally::{Tally, new_tally};
+use test_values::zeros::{CountedZeros, new_calls};
 
 #[test]
 fn the_value_that_was_returned_last_comes_first(rt: HostRuntime) {
-    let calls = Cell::new(0u32);
-    let init = Zeros {
-        calls: &calls,
-        refused: 0,
+    let calls = new_calls(rt.alloc()).expect(&rt, "memory is left");
+    let init = CountedZeros {
+        calls: Arc::try_clone(&calls).expect(&rt, "memory is left"),
     };
     let core = StackCore::<u32, _, _, AnyValue>::new(rt.alloc(), init, Keep);
     let mut player = Player::new(rt.alloc(), core);
-    let mut replies = Vec::new(rt.alloc());
-    let commands = vec![in rt.alloc();
-        Command::Pull,
-        Command::Pull,
-        Command::Write(0, 1),
-        Command::Write(1, 2),
-        Command::Return(0),
-        Command::Return(1),
-        Command::Pull,
-        Command::Pull,
-    ]
-    .expect(&rt, "memory is left");
-    player
-        .run(commands, &mut replies)
-        .expect(&rt, "memory is left");
-    let last = [Reply::Pulled(2, None), Reply::Pulled(3, None)];
-    assert_equal(&rt, replies.as_slice().get(6..), Some(last.as_slice()));
+    let replies = replies_of(&rt, rt.alloc(), &mut player, &WRITTEN_AND_PULLED);
+    const LAST: [Reply<u32>; 2] = [Reply::Pulled(2, None), Reply::Pulled(3, None)];
+    assert_equal(&rt, replies.as_slice().get(6..), Some(LAST.as_slice()));
     assert_equal(&rt, (player.held(2), player.held(3)), (Some(&2), Some(&1)));
     assert_equal(
         &rt,
-        (player.held(0), player.held(4), calls.get()),
+        (player.held(0), player.held(4), calls.load(SeqCst)),
         (None, None, 2),
     );
 }
@@ -72,65 +62,77 @@ fn an_attached_value_is_reset_when_it_returns(rt: HostRuntime) {
 
 #[test]
 fn a_fresh_item_is_dropped_at_its_return(rt: HostRuntime) {
-    let calls = Cell::new(0u32);
-    let ends = Cell::new(0u32);
-    let init = Mortals {
-        calls: &calls,
-        ends: &ends,
-        refused: 2,
-    };
+    let tally = new_tally(rt.alloc()).expect(&rt, "memory is left");
+    let init = TalliedValues::new_but(&tally, 1).expect(&rt, "memory is left");
     let mut core = NoneCore::new(init);
     let item = core.pull().expect(&rt, "an item is free");
     assert_equal(&rt, (item.number(), core.is_mine(&item)), (None, true));
     core.give(item);
-    assert_equal(&rt, (calls.get(), ends.get()), (1, 1));
-    assert!(rt; matches!(core.pull(), Err(PullError::Init)));
-    assert!(rt; core.pull().is_ok());
+    assert_equal(&rt, tally.now(), (1, 1));
+    let refusal = core.pull().err();
+    assert_equal(
+        &rt,
+        (refusal, core.pull().is_ok()),
+        (Some(PullError::Init), true),
+    );
 }
 
 #[test]
 fn a_stack_that_init_refuses_once_gives_an_item_then(rt: HostRuntime) {
-    let calls = Cell::new(0u32);
-    let init = Zeros {
-        calls: &calls,
-        refused: 1,
-    };
-    let mut core = StackCore::<u32, _, _, AnyValue>::new(rt.alloc(), init, Keep);
-    assert!(rt; matches!(core.pull(), Err(PullError::Init)));
+    let tally = new_tally(rt.alloc()).expect(&rt, "memory is left");
+    let mut core = tracked_stack(rt.alloc(), &tally, 0).expect(&rt, "memory is left");
+    let refusal = core.pull().err();
+    let number = core.pull().expect(&rt, "an item is free").number;
     assert_equal(
         &rt,
-        (*core.pull().expect(&rt, "an item is free"), calls.get()),
-        (0, 2),
+        (refusal, number, tally.calls()),
+        (Some(PullError::Init), 1, 2),
     );
+}
+
+/// How many values are dropped once a player has answered a command.
+fn drops_after(
+    player: &mut Player<Tallied, Tracked>,
+    command: Command<Tallied>,
+    tally: &Tally,
+) -> Option<usize> {
+    drop(player.play(command).ok()?);
+    Some(tally.drops())
 }
 
 #[test]
 fn what_is_forgotten_or_replaced_is_dropped_at_once(rt: HostRuntime) {
-    let calls = Cell::new(0u32);
-    let ends = Cell::new(0u32);
-    let init = Mortals {
-        calls: &calls,
-        ends: &ends,
-        refused: 0,
-    };
-    let more = Cell::new(0u32);
-    let core = LinearCore::<_, _, _, AnyValue>::new(rt.alloc(), init, Keep).expect(
-        &rt,
-        "a pool is made",
-    );
+    let tally = new_tally(rt.alloc()).expect(&rt, "memory is left");
+    let more = new_tally(rt.alloc()).expect(&rt, "memory is left");
+    let core = tracked(rt.alloc(), &tally, NEVER, None).expect(&rt, "a pool is made");
     let mut player = Player::new(rt.alloc(), core);
-    let _ = player.play(Command::Pull).expect(&rt, "memory is left");
-    let _ = player.play(Command::Pull).expect(&rt, "memory is left");
-    let _ = player
-        .play(Command::Forget(0))
-        .expect(&rt, "memory is left");
-    assert_equal(&rt, ends.get(), 1);
-    let _ = player
-        .play(Command::Write(1, super::Mortal { ends: &more }))
-        .expect(&rt, "memory is left");
-    assert_equal(&rt, (ends.get(), more.get()), (2, 0));
-    let _ = player
-        .play(Command::Write(0, super::Mortal { ends: &more }))
-        .expect(&rt, "memory is left");
-    assert_equal(&rt, (ends.get(), more.get()), (2, 1));
+    assert_equal(
+        &rt,
+        drops_after(&mut player, Command::Pull, &tally),
+        Some(0),
+    );
+    assert_equal(
+        &rt,
+        drops_after(&mut player, Command::Pull, &tally),
+        Some(0),
+    );
+    assert_equal(
+        &rt,
+        drops_after(&mut player, Command::Forget(0), &tally),
+        Some(1),
+    );
+    let value = Tallied::new(&more).expect(&rt, "a value is made");
+    assert_equal(
+        &rt,
+        drops_after(&mut player, Command::Write(1, value), &tally),
+        Some(2),
+    );
+    assert_equal(&rt, more.drops(), 0);
+    let value = Tallied::new(&more).expect(&rt, "a value is made");
+    assert_equal(
+        &rt,
+        drops_after(&mut player, Command::Write(0, value), &tally),
+        Some(2),
+    );
+    assert_equal(&rt, more.drops(), 1);
 }

@@ -1,12 +1,13 @@
 //! What a linear core makes at its opening, how many pages it looks at, and what it holds past the first few pages.
-use super::Zeros;
+use super::tracked;
 use crate::assert_equal::assert_equal;
+use object_pool_cores::sequential::{Item, LinearCore, SequentialPool};
 use pool_parts::PullError;
 use pool_parts::clean::AnyValue;
 use pool_parts::closures::{Copied, Keep};
-use object_pool_cores::sequential::{Item, LinearCore, SequentialPool};
 use std::alloc::Global;
-use std::cell::Cell;
+use test_values::counted::NEVER;
+use test_values::tally::new_tally;
 
 /// A core of zeros with so many items of it held.
 #[derive(Drop)]
@@ -118,16 +119,9 @@ fn a_pull_counts_each_page_that_it_looks_at(rt: HostRuntime) {
 
 #[test]
 fn a_core_with_a_limit_makes_one_page_at_its_opening(rt: HostRuntime) {
-    let calls = Cell::new(0u32);
-    let init = Zeros {
-        calls: &calls,
-        refused: 0,
-    };
-    let core = LinearCore::<u32, _, _, AnyValue>::with_limit(rt.alloc(), init, Keep, 3).expect(
-        &rt,
-        "a pool is made",
-    );
-    assert_equal(&rt, (calls.get(), core.pages()), (32, 1));
+    let tally = new_tally(rt.alloc()).expect(&rt, "memory is left");
+    let core = tracked(rt.alloc(), &tally, NEVER, Some(3)).expect(&rt, "a pool is made");
+    assert_equal(&rt, (tally.calls(), core.pages()), (32, 1));
 }
 
 /// How often `init` was called, and how many pages there are, once each item of ten pages was pulled and none came back, and
@@ -135,20 +129,13 @@ fn a_core_with_a_limit_makes_one_page_at_its_opening(rt: HostRuntime) {
 fn ten_pages(
     alloc: Global,
     limit: Option<usize>,
-) -> Result<(u32, usize, Option<PullError>), PullError> {
-    let calls = Cell::new(0u32);
-    let init = Zeros {
-        calls: &calls,
-        refused: 0,
-    };
-    let mut core: LinearCore<u32, _, _, AnyValue> = match limit {
-        Some(pages) if pages > 0 => LinearCore::with_limit(alloc, init, Keep, pages)?,
-        _ => LinearCore::new(alloc, init, Keep)?,
-    };
+) -> Result<(usize, usize, Option<PullError>), PullError> {
+    let tally = new_tally(alloc)?;
+    let mut core = tracked(alloc, &tally, NEVER, limit)?;
     for _ in 0..320 {
         drop(core.pull()?);
     }
-    let made = (calls.get(), core.pages());
+    let made = (tally.calls(), core.pages());
     let next = core.pull().err();
     Ok((made.0, made.1, next))
 }
@@ -177,21 +164,14 @@ fn each_of_ten_pages_takes_32_calls_of_init(rt: HostRuntime) {
 fn refused_once(
     alloc: Global,
     limit: Option<usize>,
-) -> Result<(Option<PullError>, u32, usize), PullError> {
-    let calls = Cell::new(0u32);
-    let init = Zeros {
-        calls: &calls,
-        refused: 40,
-    };
-    let mut core: LinearCore<u32, _, _, AnyValue> = match limit {
-        Some(pages) if pages > 0 => LinearCore::with_limit(alloc, init, Keep, pages)?,
-        _ => LinearCore::new(alloc, init, Keep)?,
-    };
+) -> Result<(Option<PullError>, usize, usize), PullError> {
+    let tally = new_tally(alloc)?;
+    let mut core = tracked(alloc, &tally, 39, limit)?;
     for _ in 0..32 {
         drop(core.pull()?);
     }
     let refused = core.pull().err();
-    Ok((refused, calls.get(), core.pages()))
+    Ok((refused, tally.calls(), core.pages()))
 }
 
 #[test]

@@ -1,8 +1,8 @@
 //! Cores and players that outgrow a byte and two bytes, the greatest limit, and what a pull looks at after a return.
 use crate::assert_equal::assert_equal;
+use object_pool_cores::sequential::*;
 use pool_parts::clean::AnyValue;
 use pool_parts::closures::{Copied, Keep};
-use object_pool_cores::sequential::*;
 use std::alloc::{AllocError, Global};
 
 /// How many items are pulled, by one run.

@@ -1,9 +1,9 @@
 //! Runs of no commands, and of more than a million.
 use crate::assert_equal::assert_equal;
+use object_pool_cores::sequential::{Command, LinearCore, Player, Reply};
 use pool_parts::PullError;
 use pool_parts::clean::AnyValue;
 use pool_parts::closures::{Copied, Keep};
-use object_pool_cores::sequential::{Command, LinearCore, Player, Reply};
 use std::alloc::{AllocError, Global};
 
 /// How often an item is pulled and returned in one run.

@@ -1,12 +1,10 @@
 //! The values that holders have, where replies tell the numbers alone.
-use super::{Mortal, Mortals, are_mine};
+use super::{Do, WRITTEN_AND_PULLED, replies_of, second_page_refused};
 use crate::assert_equal::assert_equal;
-use pool_parts::PullError;
+use object_pool_cores::sequential::*;
 use pool_parts::clean::AnyValue;
 use pool_parts::closures::{Copied, Keep, Reset};
-use object_pool_cores::sequential::*;
 use std::alloc::Global;
-use std::cell::Cell;
 use std::process::Abort;
 
 #[test]
@@ -17,23 +15,9 @@ fn a_value_that_reset_keeps_comes_again_with_its_own_number(rt: HostRuntime) {
         "a pool is made",
     );
     let mut player = Player::new(rt.alloc(), core);
-    let mut replies = Vec::new(rt.alloc());
-    let commands = vec![in rt.alloc();
-        Command::Pull,
-        Command::Pull,
-        Command::Write(0, 1),
-        Command::Write(1, 2),
-        Command::Return(0),
-        Command::Return(1),
-        Command::Pull,
-        Command::Pull,
-    ]
-    .expect(&rt, "memory is left");
-    player
-        .run(commands, &mut replies)
-        .expect(&rt, "memory is left");
-    let last = [Reply::Pulled(2, Some(0)), Reply::Pulled(3, Some(1))];
-    assert_equal(&rt, replies.as_slice().get(6..), Some(last.as_slice()));
+    let replies = replies_of(&rt, rt.alloc(), &mut player, &WRITTEN_AND_PULLED);
+    const LAST: [Reply<u32>; 2] = [Reply::Pulled(2, Some(0)), Reply::Pulled(3, Some(1))];
+    assert_equal(&rt, replies.as_slice().get(6..), Some(LAST.as_slice()));
     assert_equal(&rt, (player.held(2), player.held(3)), (Some(&1), Some(&2)));
     assert_equal(&rt, (player.held(0), player.held(1)), (None, None));
 }
@@ -43,14 +27,12 @@ fn nine_again<R: Reset<u32, AnyValue>>(rt: &impl Abort, alloc: Global, reset: R)
     let seven = Copied::<u32, AnyValue>::new(7);
     let core = StackCore::<u32, _, _, AnyValue>::new(alloc, seven, reset);
     let mut player = Player::new(alloc, core);
-    let mut replies = Vec::new(alloc);
-    let commands = vec![in alloc; Command::Attach(9), Command::Return(0), Command::Pull].expect(
+    drop(replies_of(
         rt,
-        "memory is left",
-    );
-    player
-        .run(commands, &mut replies)
-        .expect(rt, "memory is left");
+        alloc,
+        &mut player,
+        &[Do::Attach(9), Do::Return(0), Do::Pull],
+    ));
     player.held(1).copied()
 }
 
@@ -61,40 +43,14 @@ fn an_attached_value_comes_again_as_reset_left_it(rt: HostRuntime) {
     assert_equal(&rt, nine_again(&rt, rt.alloc(), zero), Some(0));
 }
 
-/// With a page held, the pull that is refused by this call of `init` for the next page drops what it
-/// made.
-fn second_page_refused(rt: &impl Abort, alloc: Global, refused: u32) {
-    let calls = Cell::new(0u32);
-    let ends = Cell::new(0u32);
-    let init = Mortals {
-        calls: &calls,
-        ends: &ends,
-        refused: refused.saturating_add(32),
-    };
-    let mut core = LinearCore::<Mortal<'_>, _, _, AnyValue>::new(alloc, init, Keep).expect(
-        rt,
-        "a pool is made",
-    );
-    let mut held = Vec::new(alloc);
-    for _ in 0..32 {
-        held.push(core.pull().expect(rt, "an item is free"))
-            .expect(rt, "memory is left");
-    }
-    assert!(rt;
-        matches!(core.pull(), Err(PullError::Init)),
-        "at call {refused}"
-    );
-    assert_equal(rt, ends.get().saturating_add(1), refused);
-    assert_equal(rt, calls.get(), refused.saturating_add(32));
-    assert!(rt; are_mine(&core, &held));
-    let next = core.pull().expect(rt, "an item is free");
-    assert_equal(rt, (next.number(), core.pages()), (Some(32), 2));
-    assert_equal(rt, calls.get(), refused.saturating_add(64));
-}
-
 #[test]
 fn each_call_of_init_may_refuse_the_second_page(rt: HostRuntime) {
-    for refused in 1..33 {
-        second_page_refused(&rt, rt.alloc(), refused);
+    for made in 0..32usize {
+        let values = made.saturating_add(64);
+        assert_equal(
+            &rt,
+            second_page_refused(&rt, rt.alloc(), made),
+            (values, values),
+        );
     }
 }

@@ -4,6 +4,7 @@ ghost use Rattle.page_chain.specs.LinearPage.{shown_page};
 
 use super::*;
 use crate::assert_equal::assert_equal;
+use crate::zero::zero;
 use std::sync::atomic::AtomicUsize;
 use std::sync::atomic::Ordering::SeqCst;
 use std::thread;
@@ -64,11 +65,11 @@ fn ids_of_linked_and_found(page: &ZeroPage<'_>) -> Option<(Option<u8>, Option<u8
 
 #[test]
 fn a_link_is_set_once(rt: HostRuntime) {
-    let chain = Zeros::new(rt.alloc(), &|| Some(0)).expect(&rt, "a chain is made");
+    let chain = Zeros::new(rt.alloc(), &zero).expect(&rt, "a chain is made");
     let first = chain.first();
     assert!(rt; first.next().is_none());
     forget_all(&first).expect(&rt, "32 items are free");
-    let linked = place_behind(&first, &|| Some(0));
+    let linked = place_behind(&first, &zero);
     let again = place_behind(&first, &|| None);
     assert_equal(
         &rt,
@@ -86,14 +87,14 @@ fn a_link_is_set_once(rt: HostRuntime) {
 fn race<R: Threads + Sync>(rt: &R, page: &ZeroPage<'_>) -> (Option<u8>, Option<u8>) {
     thread::join(
         rt,
-        || first_id(&behind_full(page, &|| Some(0))?),
-        || first_id(&behind_full(page, &|| Some(0))?),
+        || first_id(&behind_full(page, &zero)?),
+        || first_id(&behind_full(page, &zero)?),
     )
 }
 
 #[test]
 fn two_threads_come_to_one_page(rt: HostRuntime) {
-    let chain = Zeros::new(rt.alloc(), &|| Some(0)).expect(&rt, "a chain is made");
+    let chain = Zeros::new(rt.alloc(), &zero).expect(&rt, "a chain is made");
     let first = chain.first();
     forget_all(&first).expect(&rt, "32 items are free");
     let ids = race(&rt, &first);
@@ -116,14 +117,14 @@ pub fn grow_by<'c>(
 
 /// The place of an item of a chain's first page.
 fn first_place(chain: &Zeros) -> Option<(u8, usize)> {
-    let (slot, number) = chain.first().alloc_within(1, &|| Some(0)).ok()?;
+    let (slot, number) = chain.first().alloc_within(1, &zero).ok()?;
     Some((slot.id(), number))
 }
 
 #[test]
 fn sixteen_hundred_pages_are_linked_and_dropped(rt: HostRuntime) {
     let calls = AtomicUsize::new(0);
-    let chain = Zeros::new(rt.alloc(), &|| Some(0)).expect(&rt, "a chain is made");
+    let chain = Zeros::new(rt.alloc(), &zero).expect(&rt, "a chain is made");
     let last = grow_by(rt.alloc(), &chain, 1_599, &calls).expect(&rt, "pages are linked");
     assert_equal(
         &rt,

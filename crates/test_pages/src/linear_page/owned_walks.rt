@@ -1,7 +1,7 @@
 //! Owners of pages: the slots that walks found let them go.
 use super::*;
 use crate::assert_equal::assert_equal;
-use page_chain::page::OwnedSlot;
+use pool_parts::page::OwnedSlot;
 use test_values::tallied::Tallied;
 use test_values::tally::{Tally, new_tally};
 

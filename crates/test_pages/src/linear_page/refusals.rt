@@ -1,6 +1,7 @@
 //! Chains that are refused values or memory: nothing is linked in part, and what was refused can be asked for again.
 use super::*;
 use crate::assert_equal::assert_equal;
+use crate::zero::zero;
 use std::mem;
 use test_values::refused::again;
 use test_values::tallied::Tallied;
@@ -26,13 +27,13 @@ fn a_refused_page_is_not_linked(rt: HostRuntime) {
 /// Holds with each request for memory refused in turn too: what was refused is asked for again.
 #[test]
 fn a_chain_goes_on_where_memory_was_refused(rt: HostRuntime) {
-    let made = again(&|| Zeros::new(rt.alloc(), &|| Some(0)));
+    let made = again(&|| Zeros::new(rt.alloc(), &zero));
     let chain = made.expect(&rt, "a chain is made");
     let first = chain.first();
     forget_all(&first).expect(&rt, "32 items are free");
-    let linked = behind_full(&first, &|| Some(0)).is_some();
+    let linked = behind_full(&first, &zero).is_some();
     let led_on = first.next().is_some();
-    let place = place_behind(&first, &|| Some(0));
+    let place = place_behind(&first, &zero);
     assert_equal(&rt, (led_on, place), (linked, Some((1, Some(0)))));
 }
 
@@ -47,9 +48,9 @@ fn refusal_behind(first: ZeroPage<'_>) -> Option<PullError> {
 
 #[test]
 fn a_link_tells_that_init_refused(rt: HostRuntime) {
-    let chain = Zeros::new(rt.alloc(), &|| Some(0)).expect(&rt, "a chain is made");
+    let chain = Zeros::new(rt.alloc(), &zero).expect(&rt, "a chain is made");
     for _ in 0..32 {
-        mem::forget(chain.first().alloc(&|| Some(0)));
+        mem::forget(chain.first().alloc(&zero));
     }
     let refusal = refusal_behind(chain.first());
     assert_equal(

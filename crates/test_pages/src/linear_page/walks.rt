@@ -2,6 +2,7 @@
 use super::links::grow_by;
 use super::*;
 use crate::assert_equal::assert_equal;
+use crate::zero::zero;
 use std::sync::atomic::AtomicUsize;
 
 /// The page behind so many links.
@@ -16,7 +17,7 @@ fn behind<'c>(chain: &'c Zeros, links: usize) -> Option<ZeroPage<'c>> {
 
 #[test]
 fn links_lead_to_two_thousand_one_hundred_pages_and_no_further(rt: HostRuntime) {
-    let chain = Zeros::new(rt.alloc(), &|| Some(0)).expect(&rt, "a chain is made");
+    let chain = Zeros::new(rt.alloc(), &zero).expect(&rt, "a chain is made");
     let calls = AtomicUsize::new(0);
     let page = grow_by(rt.alloc(), &chain, 2_100, &calls).expect(&rt, "pages are linked");
     let last = behind(&chain, 2_100).expect(&rt, "2100 links lead on");

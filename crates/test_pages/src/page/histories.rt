@@ -9,10 +9,8 @@ ghost use Rattle.pool_parts.specs.declared.page.history.Operation.TheVariants.{R
 
 use super::{item, owned_item};
 use crate::assert_equal::assert_equal;
-use page_chain::clean::{AnyValue, Clean};
-use page_chain::page::{
-    Allocated, OwnedSlot, Page, PageNote, PageSlot, PullPass, Witness,
-};
+use pool_parts::clean::{AnyValue, Clean};
+use pool_parts::page::{Allocated, OwnedSlot, Page, PageNote, PageSlot, PullPass, Witness};
 use std::mem::size_of;
 use std::sync::Arc;
 use std::thread;

@@ -1,9 +1,10 @@
 //! Pages in use: words, ids and values, on one thread and on two.
 use super::item;
 use crate::assert_equal::assert_equal;
-use page_chain::PullError;
-use page_chain::clean::AnyValue;
-use page_chain::page::{Allocated, Page, PageSlot, PullPass, with_bit};
+use crate::zero::zero;
+use pool_parts::PullError;
+use pool_parts::clean::AnyValue;
+use pool_parts::page::{Allocated, Page, PageSlot, PullPass, with_bit};
 use std::alloc::{AllocError, Global};
 use std::sync::atomic::{AtomicUsize, Ordering};
 use std::thread::Threads;
@@ -17,7 +18,7 @@ type Zeros = Page<u32, AnyValue>;
 type ZeroSlot<'s> = PageSlot<'s, u32, AnyValue>;
 
 fn zeros(alloc: Global) -> Result<Zeros, PullError> {
-    Page::new(alloc, &|| Some(0))
+    Page::new(alloc, &zero)
 }
 
 /// The id of the item that a page gives, 32 where it gives none.

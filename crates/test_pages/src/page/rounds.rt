@@ -1,7 +1,8 @@
 //! Many rounds of two threads that hold one item of a page each, and lose clearings to each other.
 use crate::assert_equal::assert_equal;
-use page_chain::clean::AnyValue;
-use page_chain::page::Page;
+use crate::zero::zero;
+use pool_parts::clean::AnyValue;
+use pool_parts::page::Page;
 use std::thread;
 
 /// How many rounds each thread makes.
@@ -21,7 +22,7 @@ fn rounds_with_an_item(page: &Page<u32, AnyValue>) -> u32 {
 
 #[test]
 fn two_of_thirty_two_items_leave_one_for_each_round(rt: HostRuntime) {
-    let page = Page::new(rt.alloc(), &|| Some(0)).expect(&rt, "a page is made");
+    let page = Page::new(rt.alloc(), &zero).expect(&rt, "a page is made");
     let taken = thread::join(
         &rt,
         || rounds_with_an_item(&page),

@@ -1,9 +1,9 @@
 //! What may be sent to another thread, and what may be shared with one.
 use super::{item, owned_item};
 use crate::assert_equal::assert_equal;
-use page_chain::PullError;
-use page_chain::clean::{AnyValue, Clean};
-use page_chain::page::{FullSeen, OwnedSlot, Page, PageSlot};
+use pool_parts::PullError;
+use pool_parts::clean::{AnyValue, Clean};
+use pool_parts::page::{FullSeen, OwnedSlot, Page, PageSlot};
 use std::alloc::Global;
 use std::sync::Arc;
 use std::thread;

@@ -7,8 +7,9 @@ ghost use Rattle.page_chain.specs.Slot.{slot_item, slot_with};
 
 use super::{item, owned_item};
 use crate::assert_equal::assert_equal;
-use page_chain::clean::{AnyValue, Clean};
-use page_chain::page::{Allocated, FullSeen, OwnedSlot, Page, PageSlot, PullPass};
+use crate::zero::zero;
+use pool_parts::clean::{AnyValue, Clean};
+use pool_parts::page::{Allocated, FullSeen, OwnedSlot, Page, PageSlot, PullPass};
 use std::sync::Arc;
 
 /// The value is 0.
@@ -88,7 +89,7 @@ fn full_of<'p>(page: &Page<u32, Zero>, pass: &'p PullPass) -> Option<FullSeen<'p
 
 #[test]
 fn a_written_value_comes_back(rt: HostRuntime) {
-    let page = Page::<u32, AnyValue>::new(rt.alloc(), &|| Some(0)).expect(&rt, "a page is made");
+    let page = Page::<u32, AnyValue>::new(rt.alloc(), &zero).expect(&rt, "a page is made");
     let mut slot = item(&page).expect(&rt, "an item is free");
     write(&mut slot, 5);
     Page::free(slot);
@@ -98,7 +99,7 @@ fn a_written_value_comes_back(rt: HostRuntime) {
 
 #[test]
 fn a_condition_is_kept(rt: HostRuntime) {
-    let page = Page::<u32, Zero>::new(rt.alloc(), &|| Some(0)).expect(&rt, "a page is made");
+    let page = Page::<u32, Zero>::new(rt.alloc(), &zero).expect(&rt, "a page is made");
     let page = Arc::new(rt.alloc(), page).expect(&rt, "memory is left");
     give_zero(item(&page).expect(&rt, "an item is free"), 7);
     let mut owned = owned_item(&page).expect(&rt, "an item is free");

@@ -1,9 +1,9 @@
 //! Values that count how often they are made and dropped.
 use super::owned_item;
 use crate::assert_equal::assert_equal;
-use page_chain::PullError;
-use page_chain::clean::AnyValue;
-use page_chain::page::Page;
+use pool_parts::PullError;
+use pool_parts::clean::AnyValue;
+use pool_parts::page::Page;
 use std::alloc::Global;
 use std::mem;
 use std::sync::Arc;

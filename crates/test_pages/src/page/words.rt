@@ -1,6 +1,6 @@
 //! The steps of a page's word: its lowest free item, and one bit that is set or cleared.
 use crate::assert_equal::assert_equal;
-use page_chain::page::{take_least, with_bit, without_bit};
+use pool_parts::page::{take_least, with_bit, without_bit};
 
 #[test]
 fn takes_the_least_set_bit(rt: HostRuntime) {

@@ -1,11 +1,13 @@
 //! The pools that are measured.
-use crate::use_item;
+use crate::{reset_item, use_item, write_item};
 use crossbeam_queue::ArrayQueue;
 use kundratu_pool::sys::{
     kdr_pool_drop, kdr_pool_new, kdr_pool_pull, kdr_pool_return, kdr_pool_share, RawHandle,
 };
-use kundratu_pool::Pool;
-use lockfree_object_pool::LinearObjectPool;
+use kundratu_pool::{LinearObjectPool as Growing, LinearReusable as GrowingReusable};
+use kundratu_pool::{Pool, Reusable};
+use lockfree_object_pool::{LinearObjectPool, LinearReusable};
+use sharded_slab::{Clear, Pool as Slab};
 use std::sync::atomic::AtomicU64;
 use std::sync::Mutex;
 
@@ -17,6 +19,10 @@ pub trait Contender: Sync {
     type Held<'p>
     where
         Self: 'p;
+    /// An item that goes to another thread.
+    type Sent<'p>: Send
+    where
+        Self: 'p;
     /// Whether a pull passes by what is held.
     const SCANS: bool = false;
 
@@ -24,6 +30,10 @@ pub trait Contender: Sync {
     /// Pulls an item, adds one to it, sets it to 0 and returns it.
     fn turn(&self, user: &mut Self::User);
     fn hold(&self) -> Self::Held<'_>;
+    /// Pulls an item and adds one to it, for another thread.
+    fn lend(&self) -> Self::Sent<'_>;
+    /// Sets an item of another thread to 0 and returns it.
+    fn take_back(&self, sent: Self::Sent<'_>);
 }
 
 /// A handle of the C library, as a C program has it.
@@ -35,9 +45,10 @@ impl Drop for OwnHandle {
     }
 }
 
-/// The C calls, with a handle a thread.
+/// The C calls, with a handle a thread. Items that go to another thread go with handles of a list.
 pub struct Handles {
     first: Mutex<OwnHandle>,
+    idle: Mutex<Vec<OwnHandle>>,
     cells: Box<[AtomicU64]>,
 }
 
@@ -47,6 +58,7 @@ impl Handles {
         assert_eq!(kdr_pool_new(items, &mut first.0), 0);
         Handles {
             first: Mutex::new(first),
+            idle: Mutex::default(),
             cells,
         }
     }
@@ -55,6 +67,7 @@ impl Handles {
 impl Contender for Handles {
     type User = OwnHandle;
     type Held<'p> = OwnHandle;
+    type Sent<'p> = (OwnHandle, usize);
 
     fn user(&self) -> OwnHandle {
         let mut first = self.first.lock().expect("no panic");
@@ -75,6 +88,53 @@ impl Contender for Handles {
         assert_eq!(kdr_pool_pull(&mut own.0, &mut 0), 0);
         own
     }
+
+    fn lend(&self) -> (OwnHandle, usize) {
+        let idle = self.idle.lock().expect("no panic").pop();
+        let mut handle = idle.unwrap_or_else(|| self.user());
+        let mut place = 0;
+        assert_eq!(kdr_pool_pull(&mut handle.0, &mut place), 0);
+        write_item(&self.cells, place);
+        (handle, place)
+    }
+
+    fn take_back(&self, (mut handle, place): (OwnHandle, usize)) {
+        reset_item(&self.cells, place);
+        kdr_pool_return(&mut handle.0);
+        self.idle.lock().expect("no panic").push(handle);
+    }
+}
+
+/// A pool whose guards go to another thread as they are.
+macro_rules! guarding {
+    ($contender:ident, $guard:ident, $scans:expr, $pull:path) => {
+        impl Contender for $contender {
+            type User = ();
+            type Held<'p> = $guard<'p, u64>;
+            type Sent<'p> = $guard<'p, u64>;
+            const SCANS: bool = $scans;
+
+            fn user(&self) {}
+
+            fn turn(&self, _: &mut ()) {
+                *$pull(&self.0) += 1;
+            }
+
+            fn hold(&self) -> $guard<'_, u64> {
+                $pull(&self.0)
+            }
+
+            fn lend(&self) -> $guard<'_, u64> {
+                let mut guard = $pull(&self.0);
+                *guard += 1;
+                guard
+            }
+
+            fn take_back(&self, guard: $guard<'_, u64>) {
+                drop(guard);
+            }
+        }
+    };
 }
 
 /// The Rust crate over the C calls.
@@ -86,20 +146,23 @@ impl Wrapped {
     }
 }
 
-impl Contender for Wrapped {
-    type User = ();
-    type Held<'p> = kundratu_pool::Reusable<'p, u64>;
+#[inline(always)]
+fn pull_one(pool: &Pool<u64>) -> Reusable<'_, u64> {
+    pool.pull().expect("one is free")
+}
 
-    fn user(&self) {}
+guarding!(Wrapped, Reusable, false, pull_one);
 
-    fn turn(&self, _: &mut ()) {
-        *self.0.pull().expect("one is free") += 1;
-    }
+/// Its pool that grows.
+pub struct Grows(Growing<u64>);
 
-    fn hold(&self) -> kundratu_pool::Reusable<'_, u64> {
-        self.0.pull().expect("one is free")
+impl Grows {
+    pub fn new() -> Grows {
+        Grows(Growing::new(|| 0, |number| *number = 0))
     }
 }
+
+guarding!(Grows, GrowingReusable, false, Growing::pull);
 
 /// The crate that this repository ports, whose pool grows.
 pub struct Original(LinearObjectPool<u64>);
@@ -110,21 +173,7 @@ impl Original {
     }
 }
 
-impl Contender for Original {
-    type User = ();
-    type Held<'p> = lockfree_object_pool::LinearReusable<'p, u64>;
-    const SCANS: bool = true;
-
-    fn user(&self) {}
-
-    fn turn(&self, _: &mut ()) {
-        *self.0.pull() += 1;
-    }
-
-    fn hold(&self) -> lockfree_object_pool::LinearReusable<'_, u64> {
-        self.0.pull()
-    }
-}
+guarding!(Original, LinearReusable, true, LinearObjectPool::pull);
 
 /// Where free indices lie.
 pub trait FreeIndices: Sync {
@@ -199,6 +248,10 @@ impl<F: FreeIndices> Contender for Indices<F> {
         = HeldIndex<'p, F>
     where
         F: 'p;
+    type Sent<'p>
+        = HeldIndex<'p, F>
+    where
+        F: 'p;
 
     fn user(&self) {}
 
@@ -210,5 +263,70 @@ impl<F: FreeIndices> Contender for Indices<F> {
 
     fn hold(&self) -> HeldIndex<'_, F> {
         HeldIndex(&self.free, self.free.take())
+    }
+
+    fn lend(&self) -> HeldIndex<'_, F> {
+        let held = self.hold();
+        write_item(&self.cells, held.1);
+        held
+    }
+
+    fn take_back(&self, held: HeldIndex<'_, F>) {
+        reset_item(&self.cells, held.1);
+    }
+}
+
+/// What the slab clears.
+#[derive(Default)]
+pub struct Number(u64);
+
+impl Clear for Number {
+    fn clear(&mut self) {
+        self.0 = 0;
+    }
+}
+
+/// Sharded-slab's pool, whose items are found by keys and cleared by them.
+pub struct Sharded(Slab<Number>);
+
+impl Sharded {
+    pub fn new() -> Sharded {
+        Sharded(Slab::new())
+    }
+}
+
+/// A key of it whose item is held.
+pub struct HeldKey<'p>(&'p Slab<Number>, usize);
+
+impl Drop for HeldKey<'_> {
+    fn drop(&mut self) {
+        self.0.clear(self.1);
+    }
+}
+
+impl Contender for Sharded {
+    type User = ();
+    type Held<'p> = HeldKey<'p>;
+    type Sent<'p> = HeldKey<'p>;
+
+    fn user(&self) {}
+
+    fn turn(&self, _: &mut ()) {
+        drop(self.lend());
+    }
+
+    fn hold(&self) -> HeldKey<'_> {
+        let item = self.0.create().expect("there is room");
+        HeldKey(&self.0, item.key())
+    }
+
+    fn lend(&self) -> HeldKey<'_> {
+        let mut item = self.0.create().expect("there is room");
+        item.0 += 1;
+        HeldKey(&self.0, item.key())
+    }
+
+    fn take_back(&self, held: HeldKey<'_>) {
+        drop(held);
     }
 }

@@ -1,20 +1,25 @@
-//! How long a pull and its return take, of the proved pool by its C calls, of the Rust crate over it, of the original, of an
-//! `ArrayQueue` of indices, and of a mutex round a vector of indices: all in one process, and each with the same work between.
+//! How long a pull and its return take, of the proved pool by its C calls, of the two pools of the
+//! Rust crate over it, of the original, of sharded-slab's pool, of an `ArrayQueue` of indices, and
+//! of a mutex round a vector of indices: all in one process, and each with the same work between.
 use std::env;
 use std::hint::black_box;
+use std::iter;
 use std::sync::atomic::{AtomicU64, Ordering};
-use std::sync::Barrier;
+use std::sync::{mpsc, Barrier};
 use std::thread;
 use std::time::Instant;
 
 mod contenders;
 
-use contenders::{Contender, Handles, Indices, Original, Queue, Stack, Wrapped};
+use contenders::{Contender, Grows, Handles, Indices, Original, Queue, Sharded, Stack, Wrapped};
 
 /// How many items each pool has.
 const ITEMS: usize = 65_536;
-/// Of so many rounds the middle one counts: in the quickest of several threads, they may not have run beside each other.
+/// Of so many rounds the middle one and the least are told: in the quickest of several threads,
+/// they may not have run beside each other.
 const ROUNDS: usize = 7;
+/// How many items may be under way between two threads.
+const UNDER_WAY: usize = 256;
 
 /// How many items are held, and how many threads pull and return.
 #[derive(Clone, Copy)]
@@ -69,7 +74,38 @@ fn one_round<C: Contender>(pool: &C, threads: usize, turns: u64) -> f64 {
     })
 }
 
-fn measure<C: Contender>(pool: &C, task: Task, turns: u64) -> f64 {
+/// Nanoseconds an item that one thread pulls and another one returns.
+fn one_crossing<C: Contender>(pool: &C, turns: u64) -> f64 {
+    let (sender, receiver) = mpsc::sync_channel(UNDER_WAY);
+    let begun = Instant::now();
+    thread::scope(|scope| {
+        scope.spawn(move || {
+            for _ in 0..turns {
+                sender.send(pool.lend()).expect("somebody reads");
+            }
+        });
+        receiver.iter().for_each(|sent| pool.take_back(sent));
+    });
+    begun.elapsed().as_nanos() as f64 / turns as f64
+}
+
+/// The middle one and the least of some rounds.
+#[derive(Clone, Copy)]
+struct Times {
+    middle: f64,
+    least: f64,
+}
+
+fn rounds(round: impl FnMut() -> f64) -> Times {
+    let mut times: Vec<f64> = iter::repeat_with(round).take(ROUNDS).collect();
+    times.sort_by(f64::total_cmp);
+    Times {
+        middle: times[ROUNDS / 2],
+        least: times[0],
+    }
+}
+
+fn measure<C: Contender>(pool: &C, task: Task, turns: u64) -> Times {
     let held: Vec<C::Held<'_>> = (0..task.held).map(|_| pool.hold()).collect();
     // The original passes by each full page, so it has fewer turns where many items are held.
     let turns = if C::SCANS {
@@ -77,20 +113,36 @@ fn measure<C: Contender>(pool: &C, task: Task, turns: u64) -> f64 {
     } else {
         turns
     };
-    let mut times: Vec<f64> = (0..ROUNDS)
-        .map(|_| one_round(pool, task.threads, turns.max(1)))
-        .collect();
-    times.sort_by(f64::total_cmp);
+    let times = rounds(|| one_round(pool, task.threads, turns.max(1)));
     drop(held);
-    times[ROUNDS / 2]
+    times
 }
 
-fn row<C: Contender>(name: &str, pool: &C, turns: u64) {
-    print!("| {name} |");
-    for task in TASKS {
-        print!(" {:.0} |", measure(pool, task, turns));
+/// A pool's name, and its times at each task, the crossing last.
+struct Row {
+    name: &'static str,
+    times: Vec<Times>,
+}
+
+/// Each task has a new pool.
+fn row<C: Contender>(name: &'static str, make: impl Fn() -> C, turns: u64) -> Row {
+    let mut times: Vec<Times> = TASKS.map(|task| measure(&make(), task, turns)).into();
+    let pool = make();
+    times.push(rounds(|| one_crossing(&pool, turns)));
+    Row { name, times }
+}
+
+fn print(title: &str, rows: &[Row], time: impl Fn(&Times) -> f64) {
+    println!("| {title} | 0 held | 32 | 1,024 | 32,768 | 2 threads | 4 threads | over a channel |");
+    println!("|---|---:|---:|---:|---:|---:|---:|---:|");
+    for row in rows {
+        let times: Vec<String> = row
+            .times
+            .iter()
+            .map(|one| format!("{:.0}", time(one)))
+            .collect();
+        println!("| {} | {} |", row.name, times.join(" | "));
     }
-    println!();
 }
 
 /// The items of the contenders that pull indices.
@@ -98,36 +150,39 @@ fn cells() -> Box<[AtomicU64]> {
     (0..ITEMS).map(|_| AtomicU64::new(0)).collect()
 }
 
-/// What is done with an item of theirs between the pull and the return, which is what the others do with theirs.
+/// What is done with an item of theirs between the pull and the return, which is what the others do
+/// with theirs.
 fn use_item(cells: &[AtomicU64], index: usize) {
+    write_item(cells, index);
+    reset_item(cells, index);
+}
+
+fn write_item(cells: &[AtomicU64], index: usize) {
     let cell = &cells[index];
     cell.store(cell.load(Ordering::Relaxed) + 1, Ordering::Relaxed);
-    cell.store(0, Ordering::Relaxed);
+}
+
+fn reset_item(cells: &[AtomicU64], index: usize) {
+    cells[index].store(0, Ordering::Relaxed);
 }
 
 fn main() {
     let turns = env::args().nth(1).map_or(1_000_000, |turns| {
         turns.parse().expect("the number of turns")
     });
-    println!(
-        "| Nanoseconds a pull and return | 0 held | 32 | 1,024 | 32,768 | 2 threads | 4 threads |"
-    );
-    println!("|---|---:|---:|---:|---:|---:|---:|");
-    row(
-        "the proved pool, by its C calls",
-        &Handles::new(ITEMS, cells()),
-        turns,
-    );
-    row("the Rust crate over it", &Wrapped::new(ITEMS), turns);
-    row("the original's `LinearObjectPool`", &Original::new(), turns);
-    row(
-        "crossbeam's `ArrayQueue` of indices",
-        &Indices::new(Queue::new(ITEMS), cells()),
-        turns,
-    );
-    row(
-        "a mutex round a vector of indices",
-        &Indices::new(Stack::new(ITEMS), cells()),
-        turns,
-    );
+    let queue = || Indices::new(Queue::new(ITEMS), cells());
+    let stack = || Indices::new(Stack::new(ITEMS), cells());
+    let handles = || Handles::new(ITEMS, cells());
+    let rows = [
+        row("the proved pool, by its C calls", handles, turns),
+        row("the Rust crate's `Pool`", || Wrapped::new(ITEMS), turns),
+        row("its `LinearObjectPool`", Grows::new, turns),
+        row("the original's `LinearObjectPool`", Original::new, turns),
+        row("sharded-slab's `Pool`", Sharded::new, turns),
+        row("crossbeam's `ArrayQueue` of indices", queue, turns),
+        row("a mutex round a vector of indices", stack, turns),
+    ];
+    print("Nanoseconds, the middle one", &rows, |times| times.middle);
+    println!();
+    print("Nanoseconds, the least", &rows, |times| times.least);
 }

@@ -3,7 +3,7 @@ use pool_parts::page::holding::Holding;
 
 /// An item that was taken, with its value.
 #[derive(Drop)]
-pub(crate) struct PulledItem<T> {
-    pub(crate) holding: Holding<T>,
-    pub(crate) value: T,
+pub struct PulledItem<T> {
+    pub holding: Holding<T>,
+    pub value: T,
 }

@@ -6,6 +6,7 @@ returns-in-Slot-clause-pulled g c = record {
   in_page = search rules;
   on_page = search rules;
   of_first = search rules;
+  same_opening = search rules;
   within = search rules;
   history = search rules;
   meets_condition = search rules;

@@ -1,0 +1,4 @@
+pub mod LazyAnswer
+pub mod LazyLends
+pub mod LazyPool
+pub mod LazyReusable

@@ -1,0 +1,106 @@
+//! How a pull of a lazy pool waits for a place that comes back.
+ghost use Rattle.std.specs.Prelude.{IfSome};
+
+use super::LazyObjectPool;
+use nonblocking_pools::fixed_object_pool::items::pulled_item::PulledItem;
+use pool_parts::clean::Clean;
+use pool_parts::closures::{Init, Reset};
+use std::sync::Wait;
+use std::time::{Clock, Duration, Instant};
+
+impl<T: Drop, I: Init<T, K>, R: Reset<T, K>, K: Clean<T>> LazyObjectPool<T, I, R, K> {
+    ghost use Rattle.lazy_pools.specs.LazyAnswer.{IsKeptPlace};
+    ghost use Rattle.lazy_pools.specs.LazyPool.{lazy_identity, lazy_opening};
+    ghost use Rattle.nonblocking_pools.specs.FixedAnswer.{IsPulledFrom};
+    ghost use Rattle.nonblocking_pools.specs.FixedItem.{pulled_item};
+
+    /// A place that is free, or the first one that comes back.
+    pub(super) fn place_waiting<W: Wait>(&self, rt: &W) -> PulledItem<Option<T>>
+        ensures pulled { IsPulledFrom (lazy_identity self.now) (lazy_opening self.now)
+            (pulled_item result) }
+        ensures kept { IsKeptPlace K.meets I.answers R.leaves result.value }
+    {
+        match self.place_now() {
+            Some(pulled) => pulled,
+            None => self.place_later(rt),
+        }
+    }
+
+    /// As `place_waiting`, for so long at most. `None` after the time, where the last try found no place free. A clock that can't
+    /// be read ends the wait.
+    pub(super) fn place_within<W: Wait + Clock>(
+        &self,
+        rt: &W,
+        time: Duration,
+    ) -> Option<PulledItem<Option<T>>>
+        ensures pulled { IfSome result (λ pulled.
+            IsPulledFrom (lazy_identity self.now) (lazy_opening self.now) (pulled_item pulled)) }
+        ensures kept { IfSome result (λ pulled.
+            IsKeptPlace K.meets I.answers R.leaves pulled.value) }
+    {
+        match self.place_now() {
+            Some(pulled) => Some(pulled),
+            None => self.place_soon(rt, time),
+        }
+    }
+
+    /// A place that is free now.
+    #[inline(always)]
+    fn place_now(&self) -> Option<PulledItem<Option<T>>>
+        ensures pulled { IfSome result (λ pulled.
+            IsPulledFrom (lazy_identity self.now) (lazy_opening self.now) (pulled_item pulled)) }
+        ensures kept { IfSome result (λ pulled.
+            IsKeptPlace K.meets I.answers R.leaves pulled.value) }
+    {
+        self.places.pull().ok()
+    }
+
+    /// The first place that a thread gets which announces itself, and tries again each time that a return wakes it.
+    fn place_later<W: Wait>(&self, rt: &W) -> PulledItem<Option<T>>
+        ensures pulled { IsPulledFrom (lazy_identity self.now) (lazy_opening self.now)
+            (pulled_item result) }
+        ensures kept { IsKeptPlace K.meets I.answers R.leaves result.value }
+    {
+        self.waiters.enter();
+        for _ in rt.forever() {
+            let seen = self.waiters.seen();
+            if let Some(pulled) = self.place_now() {
+                self.waiters.leave();
+                return pulled;
+            }
+            self.waiters.sleep(rt, seen);
+        }
+        unreachable!()
+    }
+
+    /// As `place_later`, for so long at most.
+    fn place_soon<W: Wait + Clock>(&self, rt: &W, time: Duration) -> Option<PulledItem<Option<T>>>
+        ensures pulled { IfSome result (λ pulled.
+            IsPulledFrom (lazy_identity self.now) (lazy_opening self.now) (pulled_item pulled)) }
+        ensures kept { IfSome result (λ pulled.
+            IsKeptPlace K.meets I.answers R.leaves pulled.value) }
+    {
+        let start = Instant::now(rt).ok();
+        self.waiters.enter();
+        for _ in rt.forever() {
+            let seen = self.waiters.seen();
+            if let Some(pulled) = self.place_now() {
+                self.waiters.leave();
+                return Some(pulled);
+            }
+            let Some(left) = left_of(rt, start, time) else {
+                self.waiters.give_up();
+                return None;
+            };
+            self.waiters.sleep_for(rt, seen, left);
+        }
+        unreachable!()
+    }
+}
+
+/// What is left of a time since its start: `None` where none is, or where the clock can't be read.
+fn left_of<C: Clock>(clock: &C, start: Option<Instant>, time: Duration) -> Option<Duration> {
+    let gone = start?.elapsed(clock).ok()?;
+    let left = time.checked_sub(gone)?;
+    if left.is_zero() { None } else { Some(left) }
+}

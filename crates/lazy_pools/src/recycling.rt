@@ -1,0 +1,37 @@
+//! The lazy pool of values that say themselves how they are made and reset.
+ghost use Rattle.std.specs.Prelude.{◌≡◌, ◌≤◌, ⊥, IfOk, IfErr};
+
+use crate::lazy_object_pool::LazyObjectPool;
+use crate::lazy_owned_reusable::LazyOwnedReusable;
+use crate::lazy_reusable::LazyReusable;
+pub use nonblocking_pools::recycling::{Recyclable, Recycler};
+use pool_parts::PullError;
+use std::alloc::Global;
+
+/// The lazy pool of a [`Recyclable`] type: each of its values is made when it is first needed.
+pub type LazyPool<T> = LazyObjectPool<T, Recycler, Recycler, Recycler>;
+
+/// A value that was pulled from a [`LazyPool`], under a borrow of it.
+pub type LazyPoolReusable<'p, T> = LazyReusable<'p, T, Recycler, Recycler, Recycler>;
+
+/// A value that was pulled from a [`LazyPool`], with an owner of it.
+pub type LazyPoolOwnedReusable<T> = LazyOwnedReusable<T, Recycler, Recycler, Recycler>;
+
+impl<T: Recyclable> LazyPool<T> {
+    ghost use Rattle.lazy_pools.specs.LazyPool.{lazy_items};
+    ghost use Rattle.pool_parts.specs.Refusal.{RefusesMaking};
+
+    /// A pool of so many places, all empty: it makes no value.
+    ///
+    /// # Errors
+    ///
+    /// `Memory`.
+    pub fn with_recycler(alloc: Global, items: usize) -> Result<LazyPool<T>, PullError>
+        requires { 1 ≤ items }
+        ensures items { IfOk result (λ pool. lazy_items pool ≡ items) }
+        ensures refused { IfErr result (RefusesMaking ⊥) }
+    {
+        let recycler = Recycler::new(alloc);
+        LazyObjectPool::new(alloc, recycler, recycler, items)
+    }
+}

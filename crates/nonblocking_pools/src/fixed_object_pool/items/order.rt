@@ -1,0 +1,10 @@
+//! In which order a pull goes through the words of a pool.
+
+/// Which words a pull reads after the one at which it begins.
+#[derive(Clone, Copy)]
+pub enum Order {
+    /// Those behind it, and then those before it.
+    Round,
+    /// Those before it, and then those behind it: a page of which nobody has had an item is asked last.
+    LowFirst,
+}

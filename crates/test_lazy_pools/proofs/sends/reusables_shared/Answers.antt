@@ -1,0 +1,21 @@
+use mir.Syntax.{named}
+use denote.Param.{param}
+use Rattle.lazy_pools.proofs.LazyShared.{borrowed_reusable_sync, owned_reusable_sync}
+use Rattle.test_lazy_pools.proofs.sends.reusables_shared.Goals as goal
+
+pub shared-requires-sync-X : goal.shared-requires-sync-X
+shared-requires-sync-X g c κs within =
+    let bounds = c.type_bounds in
+    record {
+      shared = (borrowed_reusable_sync (param 0 g.row.T) (param 1 g.row.I) (param 2 g.row.R) (param 3 g.row.K)
+          g.I.Init g.R.Reset g.K.Clean (named 0) _ bounds.send-T bounds.sync-T bounds.sync-I bounds.sync-R).shared;
+    }
+
+pub shared-requires-2-sync-X : goal.shared-requires-2-sync-X
+shared-requires-2-sync-X g c κs within =
+    let bounds = c.type_bounds in
+    record {
+      shared = (owned_reusable_sync (param 0 g.row.T) (param 1 g.row.I) (param 2 g.row.R) (param 3 g.row.K)
+          g.I.Init g.R.Reset g.K.Clean bounds.send-T bounds.sync-T bounds.send-I bounds.sync-I bounds.send-R
+          bounds.sync-R).shared;
+    }

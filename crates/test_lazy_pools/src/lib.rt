@@ -1,0 +1,21 @@
+//! Tests of pools whose items are made when they are first needed, and of pulls that wait.
+#![tactic(auto)]
+
+#[cfg(test)]
+mod assert_equal;
+#[cfg(test)]
+mod gone;
+#[cfg(test)]
+mod makings;
+#[cfg(test)]
+mod memory;
+#[cfg(test)]
+mod owners;
+#[cfg(test)]
+mod refusals;
+#[cfg(test)]
+mod sends;
+#[cfg(test)]
+mod times;
+#[cfg(test)]
+mod waits;

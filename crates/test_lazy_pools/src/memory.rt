@@ -1,0 +1,50 @@
+//! Pools that are made where memory is refused, and calls that take none.
+use crate::assert_equal::assert_equal;
+use lazy_pools::clean::AnyValue;
+use lazy_pools::closures::Copied;
+use lazy_pools::{LazyObjectPool, PullError};
+use std::alloc::Global;
+use std::sync::Arc;
+use std::time::Duration;
+use test_values::refused::again;
+
+type Numbers = LazyObjectPool<u32, Copied<u32, AnyValue>, Copied<u32, AnyValue>>;
+
+/// A pool of so many sevens, which are reset to 3.
+fn numbers(alloc: Global, items: usize) -> Result<Numbers, PullError>
+    requires { 1 ≤ items }
+{
+    LazyObjectPool::new(alloc, Copied::new(7), Copied::new(3), items)
+}
+
+/// The same, with an owner.
+fn owned_numbers(alloc: Global) -> Result<Arc<Numbers>, PullError> {
+    Ok(Arc::new(alloc, numbers(alloc, 2)?)?)
+}
+
+#[test]
+fn a_pool_is_made_again_where_memory_was_refused(rt: HostRuntime) {
+    let pool = again(&|| numbers(rt.alloc(), 70)).expect(&rt, "one request alone is refused");
+    let first = pool.pull().expect(&rt, "an item is free");
+    let second = pool.pull().expect(&rt, "an item is free");
+    assert_equal(
+        &rt,
+        (*first, *second, pool.items(), pool.made()),
+        (7, 7, 70, 2),
+    );
+}
+
+#[test]
+fn an_item_takes_no_memory(rt: HostRuntime) {
+    let pool = again(&|| owned_numbers(rt.alloc())).expect(&rt, "one request alone is refused");
+    for _ in 0..3 {
+        let first = pool.pull_owned().expect(&rt, "an item is free");
+        let second = pool.pull_wait(&rt).expect(&rt, "an item is free");
+        let other = pool.pull_owned_timeout(&rt, Duration::from_millis(1)).err();
+        assert_equal(&rt, other, Some(PullError::Limit));
+        drop(first);
+        drop(second);
+    }
+    assert_equal(&rt, pool.pull().map(|item| *item), Ok(3));
+    assert_equal(&rt, pool.made(), 2);
+}

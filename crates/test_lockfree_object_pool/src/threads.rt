@@ -1,0 +1,88 @@
+//! Threads that work on one thing that they share. What they do stands in one method, so that a test starts and joins them by one
+//! call.
+use std::alloc::{AllocError, Global};
+use std::sync::Arc;
+use std::sync::atomic::AtomicUsize;
+use std::sync::atomic::Ordering::SeqCst;
+use std::thread;
+use std::thread::{JoinHandle, Threads};
+
+/// A thread that still waits after so many turns gives up, and its test fails.
+const MOST_TURNS: u32 = 10_000_000;
+
+/// What threads share, and what each of them does.
+pub trait Work: Send + Sync + Drop {
+    /// What the thread with this index has to tell, or `None` where something was wrong.
+    fn work(&self, index: usize) -> Option<usize>;
+}
+
+/// A place where threads wait until so many have come.
+#[derive(Drop)]
+pub struct Meeting {
+    came: AtomicUsize,
+}
+
+impl Meeting {
+    pub fn new() -> Meeting {
+        Meeting {
+            came: AtomicUsize::new(0),
+        }
+    }
+
+    /// Whether so many threads came.
+    pub fn wait_for(&self, threads: usize) -> bool {
+        self.came.fetch_add(1, SeqCst);
+        for _ in 0..MOST_TURNS {
+            if self.came.load(SeqCst) == threads {
+                return true;
+            }
+            thread::yield_now();
+        }
+        false
+    }
+}
+
+/// Starts so many threads. `None` where one wasn't started.
+fn start<X: Work + 'static, R: Threads>(
+    rt: &R,
+    alloc: Global,
+    shared: &Arc<X>,
+    threads: usize,
+) -> Option<Vec<JoinHandle<Option<usize>>>> {
+    let mut started = Vec::with_capacity(alloc, threads).ok()?;
+    for index in 0..threads {
+        let own = Arc::try_clone(shared).ok()?;
+        let thread = thread::spawn(rt, move || own.work(index)).ok()?;
+        started.push(thread).ok()?;
+    }
+    Some(started)
+}
+
+/// What they have to tell, in turn. All are joined.
+fn join<R: Threads>(
+    rt: &R,
+    alloc: Global,
+    threads: Vec<JoinHandle<Option<usize>>>,
+) -> Result<Vec<Option<usize>>, AllocError> {
+    let mut told = Vec::with_capacity(alloc, threads.len())?;
+    for thread in threads {
+        told.push(thread.join(rt))?;
+    }
+    Ok(told)
+}
+
+/// What so many threads have to tell, least first. `None` where something was wrong with one of them.
+pub fn told_by<X: Work + 'static, R: Threads>(
+    rt: &R,
+    alloc: Global,
+    shared: &Arc<X>,
+    threads: usize,
+) -> Option<Vec<usize>> {
+    let started = start(rt, alloc, shared, threads)?;
+    let mut told = Vec::with_capacity(alloc, threads).ok()?;
+    for number in join(rt, alloc, started).ok()? {
+        told.push(number?).ok()?;
+    }
+    told.sort().ok()?;
+    Some(told)
+}
