@@ -1,5 +1,5 @@
 //! The lazy pool of values that say themselves how they are made and reset.
-ghost use Rattle.std.specs.Prelude.{◌≡◌, ◌≤◌, ⊥, IfOk, IfErr};
+ghost use Rattle.std.specs.Prelude.{◌≡◌, ◌≤◌, IfOk, IfErr};
 
 use crate::lazy_object_pool::LazyObjectPool;
 use crate::lazy_owned_reusable::LazyOwnedReusable;
