@@ -7,7 +7,8 @@ use denote.Param.Send.{IsSend, IsSync, shr_sync, view_sync, sendable}
 use denote.Param.SendFields.{as_row_sync, declared_sync}
 use denote.Struct.Field.{row_field}
 use Rattle.std.specs.Arc.{arc_value}
-use Rattle.std.proofs.Crossing.{Arc-sync}
+use Rattle.std.proofs.Crossing.{crosses, Arc-sync}
+use Rattle.std.specs.contracts.option.Option as OptionRow
 use Rattle.std.specs.contracts.sync.Arc as Arc
 use Rattle.std.specs.contracts.alloc.Global as Global
 use Rattle.std.specs.contracts.impls.GlobalAllocator.TheImpl as GlobalAllocator
@@ -27,9 +28,11 @@ use Rattle.pool_parts.proofs.SlotShared.{holding_sync}
 module _ (T P : RattleType) (pool : Ghosts P.Denot T.Denot) where
   taken_sync : IsSend T → IsSync P → IsSync (TakenPlace.the_row T P pool)
   taken_sync sent pool_shared =
+      let place = OptionRow.the_row T in
+      let place_sent : IsSend place = search (sendable, crosses) depth 20 in
       view_sync (TakenInside.the_row T P pool) _ _ _ _
       (declared_sync (TakenInside.the_type T P pool)
-      (as_row_sync (row_field P) pool_shared, (as_row_sync (Holding.the_field _) (holding_sync _ (search sendable)), tt)))
+      (as_row_sync (row_field P) pool_shared, (as_row_sync (Holding.the_field place) (holding_sync place place_sent), tt)))
 
   pub reusable_sync : IsSend T → IsSync T → IsSync P → IsSync (LazyReusableOf.the_row T P pool)
   reusable_sync sent shared pool_shared = declared_sync (LazyReusableOf.the_type T P pool)
