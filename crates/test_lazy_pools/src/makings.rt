@@ -75,8 +75,11 @@ fn no_more_are_made_than_were_out_at_once(rt: HostRuntime) {
     let pool = counted(rt.alloc(), &counts, NEVER, 200).expect(&rt, "a pool is made");
     let mut items = held(rt.alloc(), &pool, 70).expect(&rt, "nothing is refused");
     assert_equal(&rt, (pool.made(), counts.now()), (70, (70, 0)));
-    drop(items.swap_remove(3));
-    drop(items.swap_remove(40));
+    for index in [3, 40] {
+        if index < items.len() {
+            drop(items.swap_remove(index));
+        }
+    }
     let one = pool.pull().expect(&rt, "an item is free");
     let other = pool.pull().expect(&rt, "an item is free");
     assert_equal(&rt, (one.number(), other.number()), (40, 3));

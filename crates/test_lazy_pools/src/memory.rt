@@ -1,4 +1,6 @@
 //! Pools that are made where memory is refused, and calls that take none.
+ghost use Rattle.std.specs.Prelude.{◌≤◌};
+
 use crate::assert_equal::assert_equal;
 use lazy_pools::clean::AnyValue;
 use lazy_pools::closures::Copied;
