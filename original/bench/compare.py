@@ -1,10 +1,12 @@
 #!/usr/bin/env python3
-"""Measures these pools and the original's at the same work, prints a table of ratios, and draws `docs/speed.svg`.
+"""Measures these pools and the original's at the same work, and prints tables of their times and memory.
 
 usage: compare.py ORIGINAL [ROUNDS]
 
 ORIGINAL is the folder of the sources of lockfree-object-pool 0.1.6. Each round does each task once with the one program and
 once with the other, in turns; a task's time is the least of its rounds (7, unless ROUNDS says another number).
+
+The last table is the one that `pictures.py` draws `docs/speed.svg` from, where it stands in README.md.
 """
 
 import os
@@ -14,16 +16,14 @@ import sys
 from pathlib import Path
 from typing import NamedTuple, Optional
 
-import picture
-
 HERE = Path(__file__).resolve().parent
 ROOT = HERE.parent.parent
 OURS = ROOT / "crates" / "test_original_times"
-PICTURE = ROOT / "docs" / "speed.svg"
 LINE = re.compile(r"(.*): (\d+) in (\d+) ns, (\d+) kB\n")
 
-# The original has no fixed pool: its linear pool does the same work beside both.
-KINDS = ["linear", "spin_lock", "mutex", "fixed", "fixed_near"]
+# The original has no fixed and no lazy pool: its linear pool does the same work beside both. Beside the lazy pool's pulls that wait
+# stands a vector behind a mutex, with a condition variable.
+KINDS = ["linear", "spin_lock", "mutex", "fixed", "fixed_near", "lazy", "lazy_wait"]
 
 
 class Work(NamedTuple):
@@ -36,7 +36,7 @@ class Work(NamedTuple):
     threads: int = 1
 
     def turns(self, kind: str) -> int:
-        return self.other_turns if kind in ("spin_lock", "mutex") else self.linear_turns
+        return self.other_turns if kind in ("spin_lock", "mutex", "lazy_wait") else self.linear_turns
 
     def task(self, kind: str) -> str:
         return f"{kind} {self.words} {self.turns(kind)}"
@@ -58,6 +58,11 @@ HOLD = Work("262,144 pulled and held", "hold", 262_144, 262_144)
 HOLD_NOTHING = Work("nothing held", "hold", 0, 0)
 # What the picture shows: a pull and drop while so many items are held.
 HELD = [0, 1, 8, 32, 128, 1_024, 8_192, 32_768]
+# Threads that wait for few items: of the lazy pool, and of the vector behind a mutex.
+WAITS = [
+    Work("1 item, 8 threads", "wait 8 1", 50_000, 50_000, threads=8),
+    Work("3 items, 8 threads", "wait 8 3", 50_000, 50_000, threads=8),
+]
 # What the original can't do: a pull that is refused, of a fixed pool whose 65,536 items are all held.
 REFUSE = Work("refused pull of 65,536 items", "refuse", 10_000, 10_000)
 
@@ -138,20 +143,6 @@ def drawn(held: int) -> Work:
     return Work(f"{held:,} held", f"pull {held}", 10_000 if held > 2_000 else 200_000, 1_000_000)
 
 
-def curves(bests: dict[str, list[Best]]) -> list[picture.Curve]:
-    """What is drawn: the linear and the fixed pool, and the original's linear pool, measured in the same rounds."""
-    works = [drawn(held) for held in HELD]
-
-    def of(kind: str, program: int) -> list[float]:
-        return [bests[work.task(kind)][program].nanoseconds / work.turns(kind) for work in works]
-
-    return [
-        picture.Curve("the Rust crate's linear pool", of("linear", 1)),
-        picture.Curve("linear pool", of("linear", 0)),
-        picture.Curve("fixed pool", of("fixed", 0)),
-    ]
-
-
 def row(cells: list[str]) -> None:
     print(f"| {' | '.join(cells)} |")
 
@@ -173,6 +164,17 @@ def refusals(program: Path, rounds: int) -> None:
     print(f"\n{REFUSE.name}: {best / REFUSE.turns('fixed'):,.1f} ns")
 
 
+def waits(bests: dict[str, list[Best]]) -> None:
+    """Prints how many turns a second all threads together have that wait for few items."""
+    print()
+    row(["Turns a second", "Lazy pool", "Mutex and condition variable", "Ratio"])
+    row(["---"] * 4)
+    for work in WAITS:
+        turns = work.threads * work.turns("lazy_wait")
+        here, there = [turns * 1e9 / best.nanoseconds for best in bests[work.task("lazy_wait")]]
+        row([work.name, f"{here:,.0f}", f"{there:,.0f}", f"{here / there:.2f}"])
+
+
 def memory(bests: dict[str, list[Best]]) -> None:
     """Prints bytes an item that is held, its reusable with it, and their ratio."""
     print()
@@ -185,6 +187,21 @@ def memory(bests: dict[str, list[Best]]) -> None:
         row([kind, f"{here:.1f}", f"{there:.1f}", f"{here / there:.2f}"])
 
 
+def curves(bests: dict[str, list[Best]]) -> None:
+    """Prints what is drawn: the fixed and the linear pool, and the original's linear pool, measured in the same rounds."""
+    works = [drawn(held) for held in HELD]
+    print()
+    row(["Nanoseconds by items held", *[f"{held:,}" for held in HELD]])
+    row(["---", *["---:"] * len(HELD)])
+    for name, kind, program in [
+        ("fixed pool", "fixed", 0),
+        ("linear pool", "linear", 0),
+        ("lockfree-object-pool, linear", "linear", 1),
+    ]:
+        figures = [bests[work.task(kind)][program].nanoseconds / work.turns(kind) for work in works]
+        row([name, *[f"{figure:,.1f}" for figure in figures]])
+
+
 def main() -> None:
     if len(sys.argv) not in (2, 3):
         raise SystemExit(__doc__)
@@ -193,13 +210,15 @@ def main() -> None:
         raise SystemExit(__doc__)
     works = [*WORKS, HOLD, HOLD_NOTHING]
     tasks = {work.task(kind): work.threads for work in works for kind in KINDS}
+    tasks |= {work.task("lazy_wait"): work.threads for work in WAITS}
     tasks |= {drawn(held).task(kind): 1 for held in HELD for kind in ("linear", "fixed")}
     programs = build(Path(sys.argv[1]))
     bests = measure(programs, tasks, rounds)
     times(bests)
+    waits(bests)
     memory(bests)
     refusals(programs[0], rounds)
-    picture.draw(PICTURE, HELD, curves(bests))
+    curves(bests)
 
 
 if __name__ == "__main__":

@@ -2,6 +2,7 @@
 //!
 //! - [`scratch`]: a type that makes and resets itself.
 //! - [`basket`]: closures that fill a pool.
+//! - [`connections`]: items that several threads wait for, some made beforehand, and a fallback.
 //! - [`emptied`]: closures whose values meet a condition.
 //! - [`tickets`]: a condition of one's own, and a maker that refuses.
 //! - [`writers`]: a limit, and owned items in threads.
@@ -9,12 +10,17 @@
 //! - [`handed_on`]: a function that hands a pulled item on.
 //! - [`stores`]: types that keep a pool.
 //! - [`shared`]: two threads that read one item.
+//! - [`defaults`]: values that are made by default, and a refusal as an `io::Error`.
+//! - [`rows`]: two items that are held, as two rows of a table.
 //! - [`waiting`]: items that are made when they are needed, and a pull that waits.
 
 mod attached;
 mod basket;
+mod connections;
+mod defaults;
 mod emptied;
 mod handed_on;
+mod rows;
 mod scratch;
 mod shared;
 mod stores;

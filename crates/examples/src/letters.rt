@@ -1,4 +1,5 @@
-//! Letters from one thread to another. The reader drops a letter, and its sheet is written on again.
+//! Letters from one thread to another. The reader drops a letter, and its sheet is written on
+//! again.
 ghost use Rattle.std.specs.Prelude.{◌≡◌, Err, IsSome, IfOk, vec_len, length};
 ghost use Rattle.std.specs.Arc.{arc_value};
 ghost use Rattle.lockfree_object_pool.specs.LinearPool.{owned_item, pool_limit};
@@ -14,7 +15,7 @@ pub type SheetPool = LinearObjectPool<Vec<u8>, WithCapacity, Clear, Empty>;
 /// A sheet of the pool, which comes home by itself.
 type Sheet = LinearOwnedReusable<Vec<u8>, WithCapacity, Clear, Empty>;
 
-/// A letter, wherever it is: as long as its writer says.
+/// A letter, as long as its writer says, in whichever thread it is.
 #[derive(Drop)]
 pub struct Letter {
     sheet: Sheet,
@@ -25,11 +26,11 @@ pub struct Letter {
 impl Letter {
     ghost use Rattle.examples.specs.Letters.{text_of, len_of};
 
-    /// A letter with this text, and nothing of what stood on its sheet before.
+    /// Writes a letter with this text, and nothing of what stood on its sheet before.
     ///
     /// # Errors
     ///
-    /// As the pool's `pull_owned`; `Memory` too where the sheet can't grow.
+    /// As the pool's `pull_owned`, and `Memory` too if the sheet can't grow.
     pub fn new(pool: &Arc<SheetPool>, text: &[u8]) -> Result<Letter, PullError>
         ensures text { IfOk result (λ letter. text_of letter ≡ text.now) }
         ensures limited { result ≡ Err PullError.Limit → IsSome (pool_limit (arc_value pool.now)) }
@@ -42,14 +43,14 @@ impl Letter {
         })
     }
 
-    /// What the writer said of its length.
+    /// Returns what the writer said of its length.
     pub fn len(&self) -> usize
         ensures { result ≡ len_of self.now }
     {
         self.len
     }
 
-    /// The text. It is as long as the writer said, in whichever thread it is read.
+    /// Returns the text. It is as long as the writer said, in whichever thread it is read.
     pub fn text(&self) -> &[u8]
         ensures text { result.now ≡ text_of self.now }
         ensures whole { length result.now ≡ len_of self.now }

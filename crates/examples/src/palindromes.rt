@@ -12,11 +12,11 @@ use std::thread::Threads;
 /// A pool of empty vectors of bytes.
 pub type ScratchPool = LinearObjectPool<Vec<u8>, WithCapacity, Clear, Empty>;
 
-/// Whether a text reads the same from its end.
+/// Returns whether a text reads the same from its end.
 ///
 /// # Errors
 ///
-/// Where the scratch has less room than the text, and no memory is there.
+/// If the scratch has less room than the text, and memory is refused.
 pub fn is_palindrome(text: &[u8], scratch: &mut Vec<u8>) -> Result<bool, AllocError>
     requires { scratch.old.items ≡ [] }
     ensures answer { IfOk result (λ answer. IsTrue answer ↔ IsPalindrome text.now) }
@@ -27,7 +27,8 @@ pub fn is_palindrome(text: &[u8], scratch: &mut Vec<u8>) -> Result<bool, AllocEr
     Ok(scratch.as_slice() == text)
 }
 
-/// The same with a scratch of the pool. There is no answer where memory is refused, but a short text needs none.
+/// Returns the same by a scratch of the pool, or `None` if memory is refused. A short text needs
+/// none.
 fn answered(pool: &ScratchPool, text: &[u8]) -> Option<bool>
     ensures answer { IfSome result (λ answer. IsTrue answer ↔ IsPalindrome text.now) }
     ensures short { length text.now < 2 → IsSome result }
@@ -39,11 +40,12 @@ fn answered(pool: &ScratchPool, text: &[u8]) -> Option<bool>
     is_palindrome(text, &mut scratch).ok()
 }
 
-/// The answers to all texts, in their order: `None` where memory was refused. Each text has a thread of its own.
+/// Returns the answers to all texts, in their order: `None` if memory was refused. Each text has a
+/// thread of its own.
 ///
 /// # Errors
 ///
-/// Where there is no memory for the answers or the threads.
+/// If there is no memory for the answers or the threads.
 pub fn palindromes<R: Threads + Sync>(
     rt: &R,
     alloc: Global,

@@ -1,4 +1,5 @@
-//! Replies that are put together in a buffer of a pool. The pool has one page, so 32 replies may be under way at once.
+//! Replies that are put together in a buffer of a pool. The pool has one page, so 32 replies may be
+//! under way at once.
 ghost use Rattle.std.specs.Prelude.{◌≡◌, ◌≢◌, [], Some, Err, IfOk, IfErr};
 ghost use Rattle.pool_parts.specs.declared.pull_error.PullError.TheVariants.{Memory};
 ghost use Rattle.object_pool_cores.specs.Buffers.{bytes_of, limit_of_pages, maker_of};
@@ -11,11 +12,11 @@ use std::alloc::Global;
 /// A pool of one page of buffers.
 pub type Replies = BufferPool<WithCapacity, Clear>;
 
-/// A pool whose buffers have room for `capacity` bytes at first.
+/// Creates a pool whose buffers have room for `capacity` bytes at first.
 ///
 /// # Errors
 ///
-/// `Memory`; `Init`, where there is no memory for the room of a buffer.
+/// `Memory`, and `Init` if there is no memory for the room of a buffer.
 pub fn new_replies(alloc: Global, capacity: usize) -> Result<Replies, PullError>
     ensures room { IfOk result (λ replies. (maker_of replies).capacity ≡ capacity) }
     ensures one_page { IfOk result (λ replies. limit_of_pages replies ≡ Some 1) }
@@ -35,11 +36,11 @@ fn greet(buffer: &mut Buffer<'_, WithCapacity, Clear>, name: &[u8]) -> Result<()
     buffer.append(b"\n")
 }
 
-/// A greeting by name, with no byte of another one.
+/// Returns a greeting by name, with no byte of another one.
 ///
 /// # Errors
 ///
-/// `Limit`, while 32 replies are under way; `Memory`, where the buffer or the answer can't grow.
+/// `Limit` while 32 replies are under way, and `Memory` if the buffer or the answer can't grow.
 pub fn greeting(alloc: Global, replies: &Replies, name: &[u8]) -> Result<Vec<u8>, PullError>
     ensures { IfOk result (λ reply. reply.items ≡ greeting_of name.now) }
 {

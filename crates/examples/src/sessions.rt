@@ -1,4 +1,5 @@
-//! A table of open sessions. Each has a basket of a pool, into which it puts products, until it is closed.
+//! A table of open sessions. Each has a basket of a pool, into which it puts products, until it is
+//! closed.
 ghost use Rattle.std.specs.Prelude.{◌≡◌, ◌≢◌, ℕ, [], ◌∷◌, ◌++◌, None, Some, Err, IsSome, OnOk, OnErr, IfErr};
 ghost use Rattle.pool_parts.specs.declared.pull_error.PullError.TheVariants.{Memory};
 
@@ -26,7 +27,7 @@ impl Sessions {
     ghost use Rattle.std.specs.Option.{option_copied, option_map};
     ghost use Rattle.examples.specs.Sessions.{basket_of, limit_of};
 
-    /// A table of no sessions.
+    /// Creates a table of no sessions.
     pub fn new(alloc: Global, pool: Arc<BasketPool>) -> Sessions
         ensures { (session : ℕ) → basket_of result session ≡ None }
     {
@@ -36,12 +37,14 @@ impl Sessions {
         }
     }
 
-    /// Opens a session, or opens it anew. Its basket is empty, whoever had the number or the basket before. That of an open session goes
-    /// back once the new one is there, so at its limit a pool refuses it.
+    /// Opens a session, or opens it anew. Its basket is empty, whoever had the number or the basket
+    /// before. That of an open session goes back once the new one is there, so at its limit a pool
+    /// refuses it.
     ///
     /// # Errors
     ///
-    /// As the pool's `pull_owned`; `Memory` too where the table can't grow. The session is as before then.
+    /// As the pool's `pull_owned`, and `Memory` too if the table can't grow. The session is as
+    /// before then.
     pub fn open(&mut self, session: u64) -> Result<(), PullError>
         ensures empty { OnOk result (basket_of self.new session ≡ Some []) }
         ensures others { (other : ℕ) → other ≢ session
@@ -65,11 +68,11 @@ impl Sessions {
         self.open.remove(&session);
     }
 
-    /// Puts a product into the basket of a session. Where it isn't open, nothing happens.
+    /// Puts a product into the basket of a session. If it isn't open, nothing happens.
     ///
     /// # Errors
     ///
-    /// `Memory`, where the basket can't grow. It is as before then.
+    /// `Memory` if the basket can't grow. It is as before then.
     pub fn add(&mut self, session: u64, product: u32) -> Result<(), PullError>
         ensures added { OnOk result (basket_of self.new session
             ≡ option_map (λ products. products ++ product ∷ []) (basket_of self.old session)) }
@@ -85,7 +88,7 @@ impl Sessions {
         Ok(())
     }
 
-    /// What an open session has gathered.
+    /// Returns what an open session has gathered.
     pub fn products(&self, session: u64) -> Option<&[u32]>
         ensures { option_copied result ≡ basket_of self.now session }
     {

@@ -35,8 +35,11 @@ use Rattle.std_heap.specs.contracts.Global as heap
 use Rattle.std_heap.proofs.Global.TheLaws as heap_laws
 use Rattle.std_heap.specs.contracts.GlobalAllocator.TheImpl as heap_impl
 use Rattle.std_heap.specs.declared.Global.{Global}
+use Rattle.fixed_pool_c.specs.contracts.held.Last as last
+use Rattle.fixed_pool_c.proofs.held.Last.TheLaws as last_laws
 use Rattle.fixed_pool_c.specs.declared.held.Held.{Held}
-use Rattle.fixed_pool_c.specs.HandleOwns.{handle_owns}
+use Rattle.fixed_pool_c.specs.declared.held.Last.{Last}
+use Rattle.fixed_pool_c.specs.HandleOwns.{handle_owns, last_owns}
 use Rattle.std.specs.Prelude.{Option, Some, None}
 
 abbrev pub both : Val → Val → Val
@@ -100,6 +103,19 @@ HLoose = Loose HR HZ heap_laws.the_row_laws heap_impl.ghosts
 abbrev pub hal : Al
 hal = al HR HZ heap_laws.the_row_laws heap_impl.ghosts
 
+-- what a closed handle keeps
+abbrev pub LR : RattleType
+LR = last.the_row
+
+abbrev pub lal : Al
+lal = record {
+  row = LR;
+  laws = last_laws.the_row_laws;
+  g = record { dealloc_token = λ _ _ _. ftrue };
+  d = impl [] tnil dnil;
+  drops = impl [] tnil dnil;
+}
+
 -- what lies at a handle's pointer may be freed, so the pointer may be compared with null
 tested : {M : Type 1} {𝓤 : Ura M} (𝓛 : Logic 𝓤) (a : Global) (p : Ptr) (x : Held)
     → ent 𝓤 (sem 𝓛 (box_owns (heap_impl.ghosts.dealloc_token a) HR p x)) (guard 𝓤 (Testable p) (sem 𝓛 (box_owns
@@ -118,7 +134,7 @@ module _ {M : Type 1} {𝓤 : Ura M} {𝓛 : Logic 𝓤} {K : Type 0} {Γ : List
       fsplit t $ fpick t (λ vss. fsplit t $ feq_l t (λ ev. fsplit t $ feq_l t
       (λ ep. fsplit t $ handle_tells hal t d.alloc vss.1.0
       (λ h ea fits. move t (1 ∷ []) $ drop t $ move t (1 ∷ []) $
-      rewrite t 0 (λ (m : Option Held). ‵ (handle_owns d.alloc d.at m)) is refl $
+      rewrite t 0 (λ (m : Option Held). ‵ (handle_owns d.alloc d.at m d.last)) is refl $
       in_a_block t d.at (λ p. box_owns (heap_impl.ghosts.dealloc_token d.alloc) HR p x) (fst∗ 𝓤 (never 𝓤) (sem 𝓛
       (heap_impl.ghosts.dealloc_token d.alloc (bare (lone HR.mir)) null_ptr))) (λ b o e. k b o h e
       (subst (λ (p : Ptr). vs ≡ vstruct (of_list (ptr_val p ∷ h ∷ [])) ∷ []) e
@@ -134,7 +150,7 @@ module _ {M : Type 1} {𝓤 : Ura M} {𝓛 : Logic 𝓤} {K : Type 0} {Γ : List
       fsplit t $ fpick t (λ vss. fsplit t $ feq_l t (λ ev. fsplit t $ feq_l t
       (λ ep. fsplit t $ handle_tells hal t d.alloc vss.1.0
       (λ h ea fits. move t (1 ∷ []) $ drop t $ move t (1 ∷ []) $
-      rewrite t 0 (λ (m : Option Held). ‵ (handle_owns d.alloc d.at m)) is refl $ fpick t (λ null. drop t $ k h
+      rewrite t 0 (λ (m : Option Held). ‵ (handle_owns d.alloc d.at m d.last)) is refl $ fpick t (λ null. drop t $ k h
       (subst (λ (p : Ptr). vs ≡ vstruct (of_list (ptr_val p ∷ h ∷ [])) ∷ []) null
       (subst (λ (ws : List Val). vs ≡ vstruct (of_list (ptr_val d.at ∷ (ws ++ []))) ∷ []) ea (subst
       (λ (ps : List Val). vs ≡ vstruct (of_list (ps ++ (vss.1.0 ++ []))) ∷ []) ep ev))) fits)))))
@@ -170,6 +186,7 @@ module _ {M : Type 1} {𝓤 : Ura M} {𝓛 : Logic 𝓤} {K : Type 0} {Γ : List
         alloc = a;
         held =
             Some x;
+        last = None;
       }) (both (vptr b o) h ∷ [])) ∷ Γ) G (‵ (box_owns (heap_impl.ghosts.dealloc_token a) HR (block_ptr b o)
       x) ∷ ‵ (HZ.own_val a (h ∷ [])) ∷ Γ) G
   handle_in t b o h a x = step (λ s. let v : Val = both (vptr b o) h in
@@ -184,9 +201,27 @@ module _ {M : Type 1} {𝓤 : Ura M} {𝓛 : Logic 𝓤} {K : Type 0} {Γ : List
         alloc = a;
         held =
             None;
+        last = None;
       }) (both (ptr_val null_ptr) h ∷ [])) ∷ Γ) G (‵ (HZ.own_val a (h ∷ [])) ∷ Γ) G
   handle_none t h a = step (λ s. let v : Val = both (ptr_val null_ptr) h in
       nothing t $ fpack t (null_ptr ≡ null_ptr) (λ _. ftrue) refl $ nothing t $ move t (2 ∷ 0 ∷ []) $ fjoin t $ feq_i t
+      (List Val) (ptr_val null_ptr ∷ []) (ptr_val null_ptr ∷ []) refl $ fjoin t $ feq_i t (List Val) (v ∷ []) (v ∷
+      []) refl $ fjoin t $
+      fpack t (Valss (RawPtr ∷ HZ ∷ [])) (within (shape handle.the_type) (null_ptr, (((tt, tt), tt), tt)) (v ∷ []))
+      (ptr_val null_ptr ∷ [], (h ∷ [], tt)) $ fjoin t $ s)
+
+  -- a closed handle is null too, and keeps a note
+  pub handle_closed : K → (h : Val) (a : Global) (l : Last) (vs : List Val)
+      → Step K 𝓛 (‵ (handle.the_row.own_val (record {
+        at = null_ptr;
+        alloc = a;
+        held =
+            None;
+        last = Some l;
+      }) (both (ptr_val null_ptr) h ∷ [])) ∷ Γ) G (‵ (HZ.own_val a (h ∷ [])) ∷ ‵ (LR.own_val l vs) ∷ Γ) G
+  handle_closed t h a l vs = step (λ s. let v : Val = both (ptr_val null_ptr) h in
+      move t (1 ∷ []) $ fpack t (List Val) (λ (values : List Val). LR.own_val l values) vs $
+      fpack t (null_ptr ≡ null_ptr) (λ _. last_owns (Some l)) refl $ nothing t $ move t (2 ∷ 0 ∷ []) $ fjoin t $ feq_i t
       (List Val) (ptr_val null_ptr ∷ []) (ptr_val null_ptr ∷ []) refl $ fjoin t $ feq_i t (List Val) (v ∷ []) (v ∷
       []) refl $ fjoin t $
       fpack t (Valss (RawPtr ∷ HZ ∷ [])) (within (shape handle.the_type) (null_ptr, (((tt, tt), tt), tt)) (v ∷ []))

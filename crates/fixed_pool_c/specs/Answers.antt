@@ -1,5 +1,5 @@
--- What the exported calls answer, told by what a handle shows before and after: nothing, where it is empty, or its
--- pool and its hand.
+-- What the exported calls answer, told by what a handle shows before and after: nothing, where it
+-- is empty, or its pool and its hand.
 use Rattle.std.specs.Prelude.{◌≡◌, ℕ, ◌+◌, ◌*◌, ◌/◌, ◌⊎◌, ⊤, Option, Some, None}
 use Rattle.std.specs.Arc.{arc_value}
 use Rattle.nonblocking_pools.specs.FixedAnswer.{IsPulledWith, IsFullNoteAfter, IsGivenBack, note_steps, returns_since}
@@ -9,17 +9,17 @@ use Rattle.nonblocking_pools.specs.StepCount.{IsWithin, passes_to_take, passes_t
 use Rattle.nonblocking_pools.specs.Items.{IsFilled}
 use Rattle.nonblocking_pools.specs.Note.{IsNoteOf, note_view}
 use Rattle.pool_parts.specs.declared.page.note.PageNote.{PageNote}
-use Rattle.fixed_pool_c.specs.Shows.{PlacePool, OutPlace, hand_pool}
+use Rattle.fixed_pool_c.specs.Shows.{PlacePool, OutPlace, hand_pool, last_of}
 use Rattle.fixed_pool_c.specs.declared.answer.TheConstants.{DONE, ALL_OUT, HOLDS_ONE, HOLDS_NONE, NO_POOL, IN_USE}
 use Rattle.fixed_pool_c.specs.declared.answer.TheConstants.{NO_PLACES, NO_MEMORY}
 use Rattle.fixed_pool_c.specs.declared.held.Hand.{Hand}
 use Rattle.fixed_pool_c.specs.declared.held.Hand.TheVariants.{Empty, Full}
 use Rattle.fixed_pool_c.specs.declared.held.Held.{Held}
 use Rattle.fixed_pool_c.specs.declared.held.Idle.{Idle}
+use Rattle.fixed_pool_c.specs.declared.held.Last.{Last}
 
--- the handle held no place, and holds this one: the last operation of a legal sequential history of the whole pool is
--- this pull of
--- this number, after all that the handle knew
+-- the handle held no place, and holds this one: the last operation of a legal sequential history of
+-- the whole pool is this pull of this number, after all that the handle knew
 pub record Pulls (old new : Held) (place : ℕ) : Type 0 where
   pub idle : Idle
   pub held_none : old.hand ≡ Some (Empty idle)
@@ -28,12 +28,13 @@ pub record Pulls (old new : Held) (place : ℕ) : Type 0 where
   pub same_pool : arc_value (reusable_pool out) ≡ arc_value idle.pool
   pub pulled : IsPulledWith (pool_identity (arc_value idle.pool)) idle.note (reusable_item out)
   pub number : place ≡ (reusable_item out).id
-  -- so many loads and tries at most in the first pass, and in a further one for each return meanwhile
+  -- the pull's user made so many loads and tries at most in the first pass, and in a further one
+  -- for each return meanwhile
   pub brief : IsWithin (pool_pages (arc_value idle.pool) * passes_to_take (reusable_returns out))
       (note_steps idle.note) (reusable_steps out)
 
--- the handle held no place, and holds none: at one moment of the call all places were out (or 2^32 returns and more came
--- within it)
+-- the handle held no place, and holds none: at one moment of the call all places were out (or 2^32
+-- returns and more came within it)
 pub record FindsAllOut (old new : Held) : Type 0 where
   pub idle : Idle
   pub held_none : old.hand ≡ Some (Empty idle)
@@ -44,7 +45,8 @@ pub record FindsAllOut (old new : Held) : Type 0 where
   pub brief : IsWithin (pool_pages (arc_value idle.pool) * passes_to_refuse (returns_since (note_view later.note)))
       (note_steps idle.note) (note_steps later.note)
 
--- the handle held a place, and holds none: the place was returned, and the handle's history ends with its return
+-- the handle held a place, and holds none: the place was returned, and the handle's history ends
+-- with its return
 pub record Returns (old new : Held) : Type 0 where
   pub out : OutPlace
   pub held_one : old.hand ≡ Some (Full out)
@@ -53,7 +55,7 @@ pub record Returns (old new : Held) : Type 0 where
   pub same_pool : arc_value idle.pool ≡ arc_value (reusable_pool out)
   pub given_back : IsGivenBack (λ old new. new ≡ old) (reusable_item out) idle.note
 
--- a new handle of this pool: it holds no place, and knows the pool's history as it was then
+-- a new handle of this pool: it holds no place, and knows some prefix of the pool's history
 pub record OpensOf (pool : PlacePool) (new : Held) : Type 0 where
   pub idle : Idle
   pub holds_none : new.hand ≡ Some (Empty idle)
@@ -144,14 +146,16 @@ abbrev pub handle_items : Option Held → ℕ
 handle_items None = 0
 handle_items (Some held) = hand_items held.hand
 
--- a place that was held was returned, as a note of that return tells
-abbrev pub LeavesNone : Option Hand → Type 0
-LeavesNone None = ⊤
-LeavesNone (Some (Empty idle)) = ⊤
-LeavesNone (Some (Full out)) = (note : PageNote ⊤) × IsGivenBack (λ old new. new ≡ old) (reusable_item out) note
+-- a handle that held no place keeps the note that it had; a place that was held was returned, and
+-- the closed handle keeps the note of that return
+abbrev pub LeavesNone : Option Hand → Option Last → Type 0
+LeavesNone None last = ⊤
+LeavesNone (Some (Empty idle)) last = last ≡ Some (last_of idle.note)
+LeavesNone (Some (Full out)) last =
+    (note : PageNote ⊤) × (last ≡ Some (last_of note)) × IsGivenBack (λ old new. new ≡ old) (reusable_item out) note
 
 -- what the end of a handle answers
-abbrev pub IsDropAnswer : ℕ → Option Held → Option Held → Type 0
-IsDropAnswer number old new =
-    ((number ≡ DONE) × (new ≡ None) × ((held : Held) × (old ≡ Some held) × LeavesNone held.hand))
+abbrev pub IsDropAnswer : ℕ → Option Held → Option Held → Option Last → Type 0
+IsDropAnswer number old new last =
+    ((number ≡ DONE) × (new ≡ None) × ((held : Held) × (old ≡ Some held) × LeavesNone held.hand last))
     ⊎ ((number ≡ NO_POOL) × (old ≡ None) × (new ≡ None))

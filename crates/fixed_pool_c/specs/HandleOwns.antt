@@ -1,13 +1,22 @@
--- What a handle owns: what an open one has lies in a box at its pointer, and an empty one is null.
-use Rattle.std.specs.Prelude.{◌≡◌, Option, Some, None}
+-- What a handle owns: what an open one has lies in a box at its pointer. An empty one is null, and
+-- may own the note of its last operation.
+use Rattle.std.specs.Prelude.{◌≡◌, List, Option, Some, None}
 use base.Fml.{Fml, ftrue, fex}
+use mir.Val.{Val}
 use denote.RawPtr.{Ptr, null_ptr}
 use Rattle.std_alloc.specs.Box.Ownership.{box_owns}
 use Rattle.std_heap.specs.contracts.GlobalAllocator.TheImpl.{ghosts}
 use Rattle.std_heap.specs.declared.Global.{Global}
 use Rattle.fixed_pool_c.specs.contracts.held.Held.{the_row}
+use Rattle.fixed_pool_c.specs.contracts.held.Last as LastRow
 use Rattle.fixed_pool_c.specs.declared.held.Held.{Held}
+use Rattle.fixed_pool_c.specs.declared.held.Last.{Last}
 
-abbrev pub handle_owns : Global → Ptr → Option Held → Fml
-handle_owns alloc at None = fex (at ≡ null_ptr) (λ _. ftrue)
-handle_owns alloc at (Some held) = box_owns (ghosts.dealloc_token alloc) the_row at held
+-- the note that a closed handle keeps
+abbrev pub last_owns : Option Last → Fml
+last_owns None = ftrue
+last_owns (Some last) = fex (List Val) (λ values. LastRow.the_row.own_val last values)
+
+abbrev pub handle_owns : Global → Ptr → Option Held → Option Last → Fml
+handle_owns alloc at None last = fex (at ≡ null_ptr) (λ _. last_owns last)
+handle_owns alloc at (Some held) last = box_owns (ghosts.dealloc_token alloc) the_row at held

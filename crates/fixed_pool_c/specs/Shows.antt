@@ -9,7 +9,9 @@ use Rattle.pool_parts.specs.declared.closures.ready.Copied.{Copied}
 use Rattle.pool_parts.specs.declared.closures.ready.Keep.{Keep}
 use Rattle.nonblocking_pools.specs.declared.fixed_object_pool.FixedObjectPool.{FixedObjectPool}
 use Rattle.nonblocking_pools.specs.declared.fixed_reusable.FixedReusableOf.{FixedReusableOf}
+use Rattle.pool_parts.specs.declared.page.note.PageNote.{PageNote}
 use Rattle.fixed_pool_c.specs.declared.held.Hand.{Hand}
+use Rattle.fixed_pool_c.specs.declared.held.Last.{Last}
 use Rattle.fixed_pool_c.specs.declared.held.Hand.TheVariants.{Empty, Full}
 
 -- a pool of places alone: its items have no value
@@ -24,3 +26,7 @@ OutPlace = FixedReusableOf ⊤ (Arc PlacePool Global)
 abbrev pub hand_pool : Hand → PlacePool
 hand_pool (Empty idle) = arc_value idle.pool
 hand_pool (Full out) = arc_value (reusable_pool out)
+
+-- what a closed handle keeps that knew this at its end
+abbrev pub last_of : PageNote ⊤ → Last
+last_of note = record { note = record { value = note } }

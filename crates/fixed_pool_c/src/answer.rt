@@ -1,9 +1,9 @@
-//! What the exported calls answer, as numbers. The header has them as an enumeration of C.
+//! The answers of the exported calls, as numbers. The header has them as an enumeration of C.
 
-/// It was done.
+/// The call was done.
 pub const DONE: u32 = 0;
 
-/// All places were out at one moment.
+/// All places were in use at one moment of the call, or 2^32 returns and more came within it.
 pub const ALL_OUT: u32 = 1;
 
 /// The handle holds a place already.

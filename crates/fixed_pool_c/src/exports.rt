@@ -1,4 +1,4 @@
-//! What C calls.
+//! The calls for C.
 ghost use Rattle.std.specs.Prelude.{◌≡◌, Some, None};
 ghost use Rattle.fixed_pool_c.specs.Answers.{IsNewAnswer, IsShareAnswer, IsPullAnswer, IsReturnAnswer, IsDropAnswer, handle_items};
 
@@ -7,7 +7,11 @@ use crate::handle::Handle;
 use crate::held::{Hand, Held, Idle};
 use std::alloc::Global;
 
-/// Makes a pool of so many free places. Its first handle goes to `out`, which was empty.
+/// Makes a pool of `items` free places. Its first handle goes to `out`, which was empty.
+///
+/// # Errors
+///
+/// `IN_USE`, `NO_PLACES` or `NO_MEMORY`. `out` is as before.
 #[unsafe(no_mangle)]
 pub extern "C" fn kdr_pool_new(alloc: Global, items: usize, out: &mut Handle) -> u32
     ensures { IsNewAnswer result items out.old.held out.new.held }
@@ -26,7 +30,12 @@ pub extern "C" fn kdr_pool_new(alloc: Global, items: usize, out: &mut Handle) ->
     DONE
 }
 
-/// Makes a further handle of the same pool, which holds no place. It goes to `out`, which was empty.
+/// Makes a further handle of the same pool, which holds no place. It goes to `out`, which was
+/// empty.
+///
+/// # Errors
+///
+/// `IN_USE`, `NO_POOL` or `NO_MEMORY`. `out` is as before.
 #[unsafe(no_mangle)]
 pub extern "C" fn kdr_pool_share(alloc: Global, handle: &mut Handle, out: &mut Handle) -> u32
     ensures answer { IsShareAnswer result handle.old.held out.old.held out.new.held }
@@ -50,7 +59,7 @@ pub extern "C" fn kdr_pool_share(alloc: Global, handle: &mut Handle, out: &mut H
     }
 }
 
-/// How many places the handle's pool has, or 0 where the handle has no pool.
+/// Returns how many places the handle's pool has, or 0 if the handle has no pool.
 #[unsafe(no_mangle)]
 pub extern "C" fn kdr_pool_items(alloc: Global, handle: &mut Handle) -> usize
     ensures items { result ≡ handle_items handle.old.held }
@@ -64,7 +73,12 @@ pub extern "C" fn kdr_pool_items(alloc: Global, handle: &mut Handle) -> usize
     items
 }
 
-/// Takes a place. The pull begins at the page of the handle's last place, and at first at a page of its own.
+/// Takes a place. The pull begins at the page of the handle's last place, and at first at a page of
+/// its own.
+///
+/// # Errors
+///
+/// `ALL_OUT`, `HOLDS_ONE` or `NO_POOL`. `place` is as before.
 #[unsafe(no_mangle)]
 pub extern "C" fn kdr_pool_pull(alloc: Global, handle: &mut Handle, place: &mut usize) -> u32
     ensures { IsPullAnswer result handle.old.held handle.new.held place.old place.new }
@@ -77,6 +91,10 @@ pub extern "C" fn kdr_pool_pull(alloc: Global, handle: &mut Handle, place: &mut 
 }
 
 /// Takes a place. The pull begins at this page of 32 places, counted round and round.
+///
+/// # Errors
+///
+/// As of `kdr_pool_pull`.
 #[unsafe(no_mangle)]
 pub extern "C" fn kdr_pool_pull_near(
     alloc: Global,
@@ -123,6 +141,10 @@ fn pull_at(handle: &mut Handle, mut held: Box<Held>, page: usize, place: &mut us
 }
 
 /// Returns the handle's place.
+///
+/// # Errors
+///
+/// `HOLDS_NONE` or `NO_POOL`.
 #[unsafe(no_mangle)]
 pub extern "C" fn kdr_pool_return(alloc: Global, handle: &mut Handle) -> u32
     ensures { IsReturnAnswer result handle.old.held handle.new.held }
@@ -147,10 +169,15 @@ pub extern "C" fn kdr_pool_return(alloc: Global, handle: &mut Handle) -> u32
     }
 }
 
-/// Closes the handle, which is empty from then on. A place that it holds is returned. The pool ends with its last handle.
+/// Closes the handle, which is empty from then on. A place that it holds is returned. The pool ends
+/// with its last handle.
+///
+/// # Errors
+///
+/// `NO_POOL`.
 #[unsafe(no_mangle)]
 pub extern "C" fn kdr_pool_drop(alloc: Global, handle: &mut Handle) -> u32
-    ensures { IsDropAnswer result handle.old.held handle.new.held }
+    ensures { IsDropAnswer result handle.old.held handle.new.held handle.new.last }
 {
     let Some(held) = handle.take(alloc) else {
         return NO_POOL;
@@ -162,10 +189,14 @@ pub extern "C" fn kdr_pool_drop(alloc: Global, handle: &mut Handle) -> u32
     } = Box::into_inner(held);
     match hand {
         Some(Hand::Full(out)) => {
-            let _note = out.give_back();
+            let note = out.give_back();
+            handle.close(alloc, note);
+            DONE
         }
-        Some(Hand::Empty(_idle)) => {}
-        None => {}
+        Some(Hand::Empty(Idle { pool: _pool, note })) => {
+            handle.close(alloc, note);
+            DONE
+        }
+        None => DONE,
     }
-    DONE
 }

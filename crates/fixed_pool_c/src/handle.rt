@@ -1,33 +1,48 @@
 //! A handle as C has it.
 ghost use Rattle.std.specs.Prelude.{◌≡◌, Option, Some, None, MatchOption};
 ghost use Rattle.fixed_pool_c.specs.HandleOwns.{handle_owns};
+ghost use Rattle.fixed_pool_c.specs.Shows.{last_of};
 ghost use Rattle.fixed_pool_c.specs.declared.held.Held.{Held};
+ghost use Rattle.fixed_pool_c.specs.declared.held.Last.{Last};
 
-use crate::held::{Hand, Held};
+use crate::held::{Hand, Held, Last};
 use crate::loose::Loose;
+use nonblocking_pools::fixed_object_pool::PoolNote;
 use std::alloc::Global;
 use std::marker::Model;
-use std::mem::replace;
+use std::mem::{ManuallyDrop, replace};
 use std::ptr::null_mut;
 
 /// An open handle, which is a pointer to what it has, or an empty one, which is null.
 ///
-/// Nothing lets go of one silently: it isn't `Drop`, so each is closed by `take`.
+/// It isn't `Drop`, so each is closed by `take` and none is dropped silently.
 #[repr(C)]
 pub struct Handle {
     at: *mut u8,
     alloc: Global,
     pub ghost held: { Option Held },
+    pub ghost last: { Option Last },
 }
 
 impl Model for Handle {
-    ghost also_owns = { λ handle. handle_owns handle.alloc handle.at handle.held };
+    ghost also_owns = { λ handle. handle_owns handle.alloc handle.at handle.held handle.last };
 }
 
 impl Handle {
     fn empty(alloc: Global) -> Handle
         ensures { result.held ≡ None }
     {
+        Handle {
+            at: null_mut(),
+            alloc,
+        }
+    }
+
+    /// Makes a handle that is closed. It is empty, and keeps the note of its last operation.
+    fn closed(alloc: Global, last: Last) -> Handle
+        ensures { (result.held ≡ None) × (result.last ≡ Some last) }
+    {
+        let Last { note: _ } = last;
         Handle {
             at: null_mut(),
             alloc,
@@ -58,7 +73,7 @@ impl Handle {
         }
     }
 
-    /// What an open handle has, which is empty from then on.
+    /// Takes out what an open handle has, which is empty from then on.
     #[inline(always)]
     pub(crate) fn take(&mut self, alloc: Global) -> Option<Box<Held>>
         ensures taken { MatchOption result (self.old.held ≡ None)
@@ -68,6 +83,22 @@ impl Handle {
         match replace(self, Handle::empty(alloc)).into_loose() {
             Some(loose) => Some(loose.into_box()),
             None => None,
+        }
+    }
+
+    /// Closes the handle, which is empty, for good. It keeps the note.
+    #[inline(always)]
+    pub(crate) fn close(&mut self, alloc: Global, note: PoolNote<()>)
+        requires { self.old.held ≡ None }
+        ensures empty { self.new.held ≡ None }
+        ensures last { self.new.last ≡ Some (last_of note) }
+    {
+        let last = Last {
+            note: ManuallyDrop::new(note),
+        };
+        match replace(self, Handle::closed(alloc, last)).into_loose() {
+            None => {}
+            Some(_) => unreachable!(),
         }
     }
 

@@ -1,4 +1,4 @@
-//! What an open handle has: its pool, and a place of it or none.
+//! The parts of an open handle: its pool, and a place of it or none.
 ghost use Rattle.std.specs.Prelude.{◌≡◌};
 ghost use Rattle.std.specs.Arc.{arc_value};
 ghost use Rattle.nonblocking_pools.specs.FixedPool.{pool_identity};
@@ -9,13 +9,14 @@ use nonblocking_pools::clean::AnyValue;
 use nonblocking_pools::closures::{Copied, Keep};
 use nonblocking_pools::fixed_object_pool::PoolNote;
 use nonblocking_pools::{FixedObjectPool, FixedOwnedReusable};
+use std::mem::ManuallyDrop;
 use std::sync::Arc;
 use std::sync::atomic::AtomicUsize;
 
 /// A pool of places alone.
 pub type PlacePool = FixedObjectPool<(), Copied<(), AnyValue>, Keep>;
 
-/// A place that is out, with an owner of its pool.
+/// A place in use, with an owner of its pool.
 pub type OutPlace = FixedOwnedReusable<(), Copied<(), AnyValue>, Keep>;
 
 /// An owner of a pool that holds no place, and what it knows of the pool's history.
@@ -33,12 +34,19 @@ pub enum Hand {
     Full(OutPlace),
 }
 
-/// What an open handle has.
+/// The note that a closed handle keeps: what it knew of its pool's history at its end. It has no
+/// bytes.
+pub struct Last {
+    pub note: ManuallyDrop<PoolNote<()>>,
+}
+
+/// The contents of an open handle.
 #[derive(Drop)]
 pub struct Held {
     /// At which page its next pull begins, counted round and round. It promises nothing.
     pub page: usize,
-    /// How many handles the pool has had. It promises nothing but that the pages at which handles begin differ.
+    /// How many handles the pool has had. It promises nothing but that the pages at which handles
+    /// begin differ.
     pub handles: Arc<AtomicUsize>,
     /// `None` only within a call.
     pub hand: Option<Hand>,

@@ -1,4 +1,5 @@
-//! A fixed pool of places for C: a place is a number, and threads take and return places without a lock.
+//! A fixed pool of places for C: a place is a number, and threads take and return places without a
+//! lock.
 //!
 //! The exported calls are in `exports`, and `outside/c/kundratu_pool.h` declares them for C.
 #![tactic(auto)]

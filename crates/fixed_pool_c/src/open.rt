@@ -1,4 +1,4 @@
-//! How handles are made, and what an open one tells of its pool.
+//! How handles are made, and what an open one shows of its pool.
 ghost use Rattle.std.specs.Prelude.{◌≡◌, ◌≤◌, ◌⊎◌, Some, None, MatchOption, IfSome, IfOk, IfErr};
 ghost use Rattle.std.specs.Arc.{arc_value};
 ghost use Rattle.fixed_pool_c.specs.Answers.{OpensOf, OpensNew, Shares, hand_items};
@@ -15,11 +15,12 @@ use std::sync::Arc;
 use std::sync::atomic::AtomicUsize;
 use std::sync::atomic::Ordering::SeqCst;
 
-/// How many pages apart handles begin. In a pool of many pages their words then lie on cache lines of their own.
+/// How many pages apart handles begin. In a pool of many pages their words then lie on cache lines
+/// of their own.
 const PAGES_APART: usize = 17;
 
 impl Hand {
-    /// The pool's owner, whether a place is held or not.
+    /// Returns the pool's owner, whether a place is held or not.
     fn pool(&self) -> &Arc<PlacePool>
         ensures { arc_value result.now ≡ hand_pool self.now }
     {
@@ -31,7 +32,11 @@ impl Hand {
 }
 
 impl Held {
-    /// The first handle of a new pool of so many free places. `None` where memory is refused.
+    /// Makes the first handle of a new pool of so many free places.
+    ///
+    /// # Errors
+    ///
+    /// `None` if memory is refused.
     pub(crate) fn first(alloc: Global, items: usize) -> Option<Box<Held>>
         requires { 1 ≤ items }
         ensures { IfSome result (λ held. OpensNew items held.value) }
@@ -51,7 +56,11 @@ impl Held {
         }
     }
 
-    /// A further handle of the pool, which holds no place: or the answer why there is none.
+    /// Makes a further handle of the pool, which holds no place.
+    ///
+    /// # Errors
+    ///
+    /// The answer for C.
     pub(crate) fn share(&self, alloc: Global) -> Result<Box<Held>, u32>
         ensures shares { IfOk result (λ other. Shares self.now other.value) }
         ensures refused { IfErr result
@@ -72,7 +81,7 @@ impl Held {
         }
     }
 
-    /// How many places the pool has.
+    /// Returns how many places the pool has.
     pub(crate) fn items(&self) -> usize
         ensures { result ≡ hand_items self.now.hand }
     {
@@ -82,7 +91,7 @@ impl Held {
         }
     }
 
-    /// The pool's owner.
+    /// Returns the pool's owner.
     fn pool(&self) -> Option<&Arc<PlacePool>>
         ensures { MatchOption result (self.now.hand ≡ None) (λ pool. (hand : HandShown)
             × (self.now.hand ≡ Some hand) × (arc_value pool.now ≡ hand_pool hand)) }
@@ -93,7 +102,7 @@ impl Held {
         }
     }
 
-    /// A handle of this pool. `None` where memory is refused.
+    /// Makes a handle of this pool, or returns `None` if memory is refused.
     fn open(alloc: Global, pool: Arc<PlacePool>, handles: Arc<AtomicUsize>) -> Option<Box<Held>>
         ensures { IfSome result (λ held. OpensOf (arc_value pool) held.value) }
     {
@@ -114,7 +123,8 @@ impl Held {
     }
 }
 
-/// At which page the handle of this number begins, in a pool of so many items: no two handles at one, while there are pages.
+/// Returns the page at which the handle of this number begins, in a pool of so many items: no two
+/// handles at one, while there are pages.
 fn start_page(handle: usize, items: usize) -> usize {
     let step = if items.div_ceil(PAGE_ITEMS) % PAGES_APART == 0 {
         1

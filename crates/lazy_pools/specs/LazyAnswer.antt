@@ -1,13 +1,15 @@
 -- What the answers of a pool show whose items are made one at a time.
-use Rattle.std.specs.Prelude.{◌≡◌, ⊤, List, Option, Some, None, IfSome}
+use Rattle.std.specs.Prelude.{◌≡◌, ⊤, List, Option, Some, None, IfSome, Result, Ok}
 use Rattle.atomic_table.specs.Seated.{TableId}
 use Rattle.pool_parts.specs.Answers.{IsMadeOrReset}
-use Rattle.nonblocking_pools.specs.FixedAnswer.{IsPulledFrom, IsBusyOf}
+use Rattle.nonblocking_pools.specs.FixedAnswer.{IsPulledFrom, IsBusyOf, IsFullNote}
 use Rattle.nonblocking_pools.specs.FixedItem.{item_with}
 use Rattle.pool_parts.specs.Item.{Item}
 use Rattle.pool_parts.specs.Note.{IsReturned}
 use Rattle.lazy_pools.specs.declared.lazy_object_pool.lazy_refused.LazyRefused.{LazyRefused}
 use Rattle.lazy_pools.specs.declared.lazy_object_pool.lazy_refused.LazyRefused.TheVariants.{Busy, NotMade}
+use Rattle.lazy_pools.specs.declared.lazy_object_pool.lazy_refused.PullWithError.{PullWithError}
+use Rattle.lazy_pools.specs.declared.lazy_object_pool.lazy_refused.PullWithError.TheVariants as With
 use Rattle.pool_parts.specs.declared.page.note.PageNote.{PageNote}
 use Rattle.pool_parts.specs.declared.pull_error.PullError.{PullError}
 use Rattle.pool_parts.specs.declared.pull_error.PullError.TheVariants.{Memory, Init, Limit}
@@ -54,3 +56,14 @@ RefusesWaiting may_answer_none Limit = ⊥
 abbrev pub RefusesOnePass : {T : Type 0} → TableId → List (Option (Option T)) → Type 0 → LazyRefused T → Type 0
 RefusesOnePass pool opening may_answer_none (Busy busy) = IsBusyOf pool opening busy
 RefusesOnePass pool opening may_answer_none NotMade = may_answer_none
+
+-- a closure may make this of an empty place: the value that it returns
+abbrev pub MakesValue : {T E : Type 0} → (Result T E → Type 0) → Option T → Type 0
+MakesValue returns made = IfSome made (λ value. returns (Ok value))
+
+-- a pull by a closure gave no item: the pool was full at one moment, or the closure failed with this cause
+abbrev pub RefusesWith : {T E : Type 0} → TableId → List (Option (Option T)) → Type 0 → (E → Type 0)
+    → PullWithError T E → Type 0
+RefusesWith pool opening may_lack_memory fails_with With.Memory = may_lack_memory
+RefusesWith pool opening may_lack_memory fails_with (With.Limit full) = IsFullNote pool opening full
+RefusesWith pool opening may_lack_memory fails_with (With.Make cause) = fails_with cause

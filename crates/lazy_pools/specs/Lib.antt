@@ -1,4 +1,5 @@
 pub mod LazyAnswer
 pub mod LazyLends
+pub mod LazyNear
 pub mod LazyPool
 pub mod LazyReusable

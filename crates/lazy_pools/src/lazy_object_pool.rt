@@ -1,14 +1,19 @@
-//! A pool of a set number of items, each made when it is first needed. A pull may wait for an item to be returned.
+//! A pool of a set number of items, each made when it is first needed. A pull may wait for an item
+//! to be returned.
 //!
-//! The places of the items are the items of a fixed pool. Each place is empty at first. A pull takes a place, and makes the value
-//! if the place is empty. So one sequential history has the pulls and returns of the whole pool, those of empty places too.
+//! The places of the items are the items of a fixed pool. Each place is empty at first. A pull
+//! takes a place, and makes the value if the place is empty. So one sequential history has the
+//! pulls and returns of the whole pool, those of empty places too.
 //!
-//! A pull makes an item only after it saw each lower item of the page in use, and it begins a new page last. So while one thread
-//! at a time pulls or returns, and `init` never refuses, the pool makes no more items than were in use at once.
+//! A pull makes an item only after it saw each lower item of the page in use, and it begins a new
+//! page last. So while one thread at a time pulls or returns, and `init` never refuses, the pool
+//! makes no more items than were in use at once.
 //!
-//! Only the pulls that take a permission to wait do so. No return waits: it reads whether anybody waits, and wakes one.
+//! Only the pulls that take a permission to wait do so. No return waits: it reads whether anybody
+//! waits, and wakes one.
 //!
-//! Serving isn't fair: who waits longest needn't come first. An `init` or a `reset` that waits on its own pool can wait for ever.
+//! Serving isn't fair: who waits longest needn't come first. An `init` or a `reset` that waits on
+//! its own pool can wait for ever.
 ghost use Rattle.std.specs.Prelude.{◌≡◌, ◌+◌, ◌*◌, ◌/◌, ◌<◌, ◌≤◌, ⊤, None, Some, IfOk, IfErr};
 ghost use Rattle.std.specs.Arc.{arc_value};
 
@@ -18,6 +23,7 @@ use crate::waiters::Waiters;
 use kept_place::KeptPlace;
 use lazy_item::LazyItem;
 use lazy_refused::LazyRefused;
+use near::Near;
 use nonblocking_pools::fixed_object_pool::PoolNote;
 use nonblocking_pools::fixed_object_pool::items::FixedItems;
 use nonblocking_pools::fixed_object_pool::items::order::Order;
@@ -26,7 +32,7 @@ use pool_parts::PullError;
 use pool_parts::clean::{AnyValue, Clean};
 use pool_parts::closures::{Init, Reset};
 use pool_parts::page::holding::Holding;
-use pool_parts::page::{PAGE_ITEMS, PageId, PageNote, PullPass, Witness};
+use pool_parts::page::{PageNote, PullPass, Witness};
 use std::alloc::Global;
 use std::fmt::{self, Debug, Formatter, Write};
 use std::sync::atomic::AtomicUsize;
@@ -34,9 +40,12 @@ use std::sync::atomic::Ordering::SeqCst;
 use std::sync::{Arc, Wait};
 use std::time::{Clock, Duration};
 
+mod counts;
 pub mod kept_place;
 pub(crate) mod lazy_item;
 pub mod lazy_refused;
+pub mod near;
+mod pull_with;
 mod waiting;
 
 /// What [`LazyObjectPool::try_pull`] returns: an item, or why there is none.
@@ -47,26 +56,35 @@ pub type LazyPulled<'s, 'p, T, I, R, K = AnyValue> = Result<
 
 /// A pool of a set number of items, each made when it is first needed.
 ///
+/// # Examples
+///
 /// ```rust
-/// let pool: LazyObjectPool<Vec<u8>, _, _, Empty> = LazyObjectPool::new(alloc, WithCapacity::new(alloc, 4 << 20), Clear, 64)?;
-/// let buffer = pool.pull()?; // 4 MiB are taken here
-/// let other = pool.pull_timeout(&rt, Duration::from_millis(20))?; // and here; with all in use it would wait
+/// let pool = LazyObjectPool::<u32, _, _>::new(alloc, Copied::new(0), Copied::new(0), 1_000)?;
+/// let mut item = pool.pull()?; // makes an item, since there is none yet
+/// *item = 5;
+/// drop(item); // the value is 0 again, and in the pool
+/// let other = pool.pull_timeout(&rt, Duration::from_millis(20))?; // it waits if all are in use
 /// ```
 pub struct LazyObjectPool<T, I: Init<T, K>, R: Reset<T, K>, K: Clean<T> = AnyValue> {
     init: I,
     reset: R,
     pub(crate) places: FixedItems<Option<T>, KeptPlace<I, R, K>>,
+    /// How many items there are, in use or free.
+    existing: AtomicUsize,
+    /// The most items that there ever were at once.
     made: AtomicUsize,
     waiters: Waiters,
 }
 
-/// Not derived: the proof of a caller that drops it has one call here, and a derived drop has that of each field.
+/// Not derived: the proof of a caller that drops it has one call here, and a derived drop has that
+/// of each field.
 impl<T: Drop, I: Init<T, K>, R: Reset<T, K>, K: Clean<T>> Drop for LazyObjectPool<T, I, R, K> {
     fn drop(self) {
         let LazyObjectPool {
             init: _,
             reset: _,
             places: _,
+            existing: _,
             made: _,
             waiters: _,
         } = self;
@@ -81,16 +99,24 @@ impl<T: Drop, I: Init<T, K>, R: Reset<T, K>, K: Clean<T>> LazyObjectPool<T, I, R
     ghost use Rattle.pool_parts.specs.Holding.{holding_page, held_item};
     ghost use Rattle.pool_parts.specs.Items.{IsFilled};
     ghost use Rattle.lazy_pools.specs.LazyAnswer.{IsBroughtBack, IsKeptPlace, IsPulledLazily, RefusesLazily, RefusesOnePass, RefusesWaiting};
+    ghost use Rattle.lazy_pools.specs.LazyNear.{lazy_near_pool};
     ghost use Rattle.lazy_pools.specs.LazyPool.{lazy_identity, lazy_items, lazy_pages, lazy_opening, lazy_init, lazy_reset};
     ghost use Rattle.lazy_pools.specs.LazyReusable.{lazy_pool, lazy_place, lazy_value, lazy_steps, lazy_returns, lazy_item_place, held_place};
     ghost use Rattle.pool_parts.specs.Note.{note_page, witness_page, IsNoteOf, HasLearned, IsReturned};
     ghost use Rattle.pool_parts.specs.Refusal.{RefusesMaking, RefusesPull};
 
-    /// Creates a pool of `items` empty places. It makes no item. A place takes the room of a `T` and two words.
+    /// Creates a pool of `items` empty places. It makes no item. A place takes the room of a `T`
+    /// and two words.
     ///
     /// # Errors
     ///
     /// `Memory`.
+    ///
+    /// # Examples
+    ///
+    /// ```rust
+    /// let pool = LazyObjectPool::<u32, _, _>::new(alloc, Copied::new(0), Keep, 1_000)?;
+    /// ```
     pub fn new(
         alloc: Global,
         init: I,
@@ -111,6 +137,7 @@ impl<T: Drop, I: Init<T, K>, R: Reset<T, K>, K: Clean<T>> LazyObjectPool<T, I, R
             init,
             reset,
             places,
+            existing: AtomicUsize::new(0),
             made: AtomicUsize::new(0),
             waiters: Waiters::new(),
         })
@@ -123,23 +150,16 @@ impl<T: Drop, I: Init<T, K>, R: Reset<T, K>, K: Clean<T>> LazyObjectPool<T, I, R
         self.places.count()
     }
 
-    /// Returns the number of items that there are at this moment, in use or free. An item that was discarded or detached no longer
-    /// counts.
-    pub fn made(&self) -> usize
-        ensures { result ≤ lazy_items self.now }
-    {
-        self.made.load(SeqCst).min(self.places.count())
-    }
-
-    /// Pulls a free item, and makes it if its place is empty. `init` runs under no lock, and the item is in use meanwhile.
+    /// Pulls a free item, and makes it if its place is empty. `init` runs under no lock, and the
+    /// item is in use meanwhile.
     ///
-    /// A pull passes over the pool's words again only after another thread returned an item: it is lock-free, but for `init`.
-    /// [`LazyObjectPool::try_pull`] makes one pass.
+    /// A pull passes over the pool's words again only after another thread returned an item: it is
+    /// lock-free, but for `init`. [`LazyObjectPool::try_pull`] makes one pass.
     ///
     /// # Errors
     ///
-    /// - `Limit` if no item was free at one moment of the call (or 2^32 returns and more came within it, which the counts of the
-    ///   words can't tell from none).
+    /// - `Limit` if no item was free at one moment of the call (or 2^32 returns and more came
+    ///   within it, which the counts of the words can't tell from none).
     /// - `Init` if `init` returned `None`. The place is free again, and empty.
     pub fn pull(&self) -> Result<LazyReusable<'_, T, I, R, K>, PullError>
         ensures pool { IfOk result (λ item. (lazy_pool item).now ≡ self.now) }
@@ -161,6 +181,21 @@ impl<T: Drop, I: Init<T, K>, R: Reset<T, K>, K: Clean<T>> LazyObjectPool<T, I, R
             }
             Err(_) => Err(PullError::Limit),
         }
+    }
+
+    /// Returns a place for one thread to begin its pulls at: each call names the next page, eight words
+    /// further, so that threads don't meet while their pages have free places.
+    ///
+    /// # Examples
+    ///
+    /// ```rust
+    /// let near = pool.near();
+    /// let item = near.pull()?;
+    /// ```
+    pub fn near(&self) -> Near<'_, T, I, R, K>
+        ensures { lazy_near_pool result ≡ self.now }
+    {
+        Near::new(self, self.places.next_own_page())
     }
 
     /// Pulls a free item as `pull` does, by one pass over the pool's words.
@@ -192,7 +227,8 @@ impl<T: Drop, I: Init<T, K>, R: Reset<T, K>, K: Clean<T>> LazyObjectPool<T, I, R
         }
     }
 
-    /// Pulls a free item as `pull` does. The reusable owns the pool with others, which are one more before an item is taken.
+    /// Pulls a free item as `pull` does. The reusable owns the pool with others, which are one more
+    /// before an item is taken.
     ///
     /// # Errors
     ///
@@ -242,7 +278,8 @@ impl<T: Drop, I: Init<T, K>, R: Reset<T, K>, K: Clean<T>> LazyObjectPool<T, I, R
         Ok(LazyReusable::new(self, item))
     }
 
-    /// Pulls a free item, or waits for `time` at most until one is returned. With no time it waits for nobody.
+    /// Pulls a free item, or waits for `time` at most until one is returned. With no time it waits
+    /// for nobody.
     ///
     /// # Errors
     ///
@@ -327,39 +364,7 @@ impl<T: Drop, I: Init<T, K>, R: Reset<T, K>, K: Clean<T>> LazyObjectPool<T, I, R
         }
     }
 
-    /// Makes items, by number, until the pool has `items` of them. It takes one empty place at a time, and passes over those that
-    /// another call has meanwhile.
-    ///
-    /// # Errors
-    ///
-    /// `Init` if `init` returned `None`. The items made until then stay.
-    pub fn fill(&self, items: usize) -> Result<(), PullError>
-        ensures refused { IfErr result (RefusesWaiting (I.answers (lazy_init self.now) None)) }
-    {
-        for number in 0..self.places.count() {
-            if self.made() >= items {
-                return Ok(());
-            }
-            self.fill_place(number)?;
-        }
-        Ok(())
-    }
-
-    /// Makes the value of a place that is free and empty.
-    fn fill_place(&self, number: usize) -> Result<(), PullError>
-        requires { number < lazy_items self.now }
-        ensures refused { IfErr result (RefusesWaiting (I.answers (lazy_init self.now) None)) }
-    {
-        let bit = (number % PAGE_ITEMS) as PageId;
-        let Some(pulled) = self.places.pull_at(number / PAGE_ITEMS, bit) else {
-            return Ok(());
-        };
-        let LazyItem { holding, value } = self.item(pulled)?;
-        self.bring_back(holding, Some(value));
-        Ok(())
-    }
-
-    /// Returns a note of this pool, which knows its history up to now.
+    /// Returns a note of this pool, which knows some prefix of its history.
     pub fn note(&self) -> PoolNote<Option<T>>
         ensures { IsNoteOf (lazy_identity self.now) (lazy_opening self.now) result }
     {
@@ -410,7 +415,7 @@ impl<T: Drop, I: Init<T, K>, R: Reset<T, K>, K: Clean<T>> LazyObjectPool<T, I, R
     {
         match self.init.make() {
             Some(value) => {
-                self.made.fetch_add(1, SeqCst);
+                self.count_made();
                 Ok(LazyItem { holding, value })
             }
             None => {
@@ -432,13 +437,13 @@ impl<T: Drop, I: Init<T, K>, R: Reset<T, K>, K: Clean<T>> LazyObjectPool<T, I, R
         self.bring_back(holding, Some(left))
     }
 
-    /// Returns the place of an item without its value, and wakes one that waits. The item no longer counts as made.
+    /// Returns the place of an item without its value, and wakes one that waits.
     pub(crate) fn leave_empty(&self, holding: Holding<Option<T>>) -> PoolNote<Option<T>>
         requires of_pool { holding_page holding ≡ lazy_identity self.now }
         requires in_pool { holding.number < lazy_items self.now }
         ensures { IsReturned (held_item holding None) result }
     {
-        self.made.fetch_sub(1, SeqCst);
+        self.existing.fetch_sub(1, SeqCst);
         self.bring_back(holding, None)
     }
 

@@ -144,6 +144,14 @@ pub struct LazyReusableOf<T: Drop, P: SharedLazyPool<T>> {
 }
 
 /// A pulled value, under a borrow of its pool. Its drop resets it and returns it.
+///
+/// # Examples
+///
+/// ```rust
+/// let mut item = pool.pull()?; // makes an item, since there is none yet
+/// *item = 5;
+/// drop(item); // the value is 0 again, and in the pool
+/// ```
 pub type LazyReusable<'p, T, I, R, K = AnyValue> = LazyReusableOf<
     T,
     &'p LazyObjectPool<T, I, R, K>,
@@ -210,7 +218,8 @@ impl<T: Drop, P: SharedLazyPool<T>> LazyReusableOf<T, P> {
         taken.pool.witness(&mut taken.holding)
     }
 
-    /// Resets the value and returns it, as the drop does. The note knows the pool's history up to this return.
+    /// Resets the value and returns it, as the drop does. The note knows the pool's history up to
+    /// this return.
     pub fn give_back(self) -> PoolNote<Option<T>>
         ensures { IsBroughtBack (P.leaves (lazy_pool self)) (lazy_place self) (lazy_value self) result }
     {
@@ -223,8 +232,8 @@ impl<T: Drop, P: SharedLazyPool<T>> LazyReusableOf<T, P> {
         pool.give(holding, value)
     }
 
-    /// Drops the value without a reset. Its place is empty, and a later pull makes an item there. The note knows the pool's history
-    /// up to this return.
+    /// Drops the value without a reset. Its place is empty, and a later pull makes an item there.
+    /// The note knows the pool's history up to this return.
     pub fn discard(self) -> PoolNote<Option<T>>
         ensures { IsReturned (item_with (lazy_place self) None) result }
     {
@@ -233,7 +242,8 @@ impl<T: Drop, P: SharedLazyPool<T>> LazyReusableOf<T, P> {
         note
     }
 
-    /// Takes the value out of its pool without a reset. Its place is empty, and a later pull makes an item there.
+    /// Takes the value out of its pool without a reset. Its place is empty, and a later pull makes
+    /// an item there.
     pub fn detach(self) -> T
         ensures { result ≡ lazy_value self }
     {

@@ -9,12 +9,32 @@ use pool_parts::PullError;
 use std::alloc::Global;
 
 /// The lazy pool of a [`Recyclable`] type: each of its values is made when it is first needed.
+///
+/// # Examples
+///
+/// ```rust
+/// let pool = LazyPool::<Vec<u8>>::with_recycler(alloc, 8)?;
+/// ```
 pub type LazyPool<T> = LazyObjectPool<T, Recycler, Recycler, Recycler>;
 
 /// A value that was pulled from a [`LazyPool`], under a borrow of it.
+///
+/// # Examples
+///
+/// ```rust
+/// let pool = LazyPool::<Vec<u8>>::with_recycler(alloc, 8)?;
+/// assert_eq!(rt; pool.pull()?.len(), 0);
+/// ```
 pub type LazyPoolReusable<'p, T> = LazyReusable<'p, T, Recycler, Recycler, Recycler>;
 
 /// A value that was pulled from a [`LazyPool`], with an owner of it.
+///
+/// # Examples
+///
+/// ```rust
+/// let pool = Arc::new(alloc, pool)?;
+/// let item = pool.pull_owned()?; // may go to any thread
+/// ```
 pub type LazyPoolOwnedReusable<T> = LazyOwnedReusable<T, Recycler, Recycler, Recycler>;
 
 impl<T: Recyclable> LazyPool<T> {
@@ -26,6 +46,12 @@ impl<T: Recyclable> LazyPool<T> {
     /// # Errors
     ///
     /// `Memory`.
+    ///
+    /// # Examples
+    ///
+    /// ```rust
+    /// let pool = LazyPool::<Vec<u8>>::with_recycler(alloc, 8)?;
+    /// ```
     pub fn with_recycler(alloc: Global, items: usize) -> Result<LazyPool<T>, PullError>
         requires { 1 ≤ items }
         ensures items { IfOk result (λ pool. lazy_items pool ≡ items) }

@@ -1,12 +1,13 @@
 //! Threads that wait until an item is returned: an event count of two words.
 //!
-//! A waiter counts itself, reads how many returns were told, tries once more, and sleeps only if no return was told since. A return
-//! sets the bit of its item, and then reads whether anybody waits. Each step is sequentially consistent. So if a waiter's try missed
-//! the item, the return finds the waiter counted, and the waiter finds the return told. While nobody waits, a return costs one load
-//! more, of a word that nobody writes.
+//! A waiter counts itself, reads how many returns were told, tries once more, and sleeps only if no
+//! return was told since. A return sets the bit of its item, and then reads whether anybody waits.
+//! Each step is sequentially consistent. So if a waiter's try missed the item, the return finds the
+//! waiter counted, and the waiter finds the return told. While nobody waits, a return costs one
+//! load more, of a word that nobody writes.
 //!
-//! A waiter that gives up may have been woken in place of another, so it wakes one. No contract says any of this:
-//! `ci/waiting_model` explores these steps.
+//! A waiter that gives up may have been woken in place of another, so it wakes one. No contract
+//! says any of this: `ci/waiting_model` explores these steps.
 use std::sync::Wait;
 use std::sync::atomic::AtomicU64;
 use std::sync::atomic::Ordering::SeqCst;
@@ -16,7 +17,8 @@ use std::time::Duration;
 #[derive(Drop)]
 pub(crate) struct Waiters {
     waiting: AtomicU64,
-    /// It may wrap. A sleep misses a return only if 2^32 others come between its look and its sleep.
+    /// It may wrap. A sleep misses a return only if 2^32 others come between its look and its
+    /// sleep.
     told: AtomicU64,
 }
 
@@ -45,7 +47,8 @@ impl Waiters {
         self.tell();
     }
 
-    /// Returns the number of returns told, which a waiter reads before its try and hands to its sleep.
+    /// Returns the number of returns told, which a waiter reads before its try and hands to its
+    /// sleep.
     pub(crate) fn seen(&self) -> u32 {
         (self.told.load(SeqCst) & 0xffff_ffff) as u32
     }

@@ -32,11 +32,13 @@ pub use Rattle.nonblocking_pools.specs.FixedPool
 pub use Rattle.nonblocking_pools.specs.FixedReusable
 pub use Rattle.nonblocking_pools.specs.LinearLends
 pub use Rattle.nonblocking_pools.specs.LinearPool
+pub use Rattle.nonblocking_pools.specs.Near
 pub use Rattle.nonblocking_pools.specs.NoneLends
 pub use Rattle.nonblocking_pools.specs.NonePool
 pub use Rattle.nonblocking_pools.specs.PoolAndHolding
 pub use Rattle.nonblocking_pools.specs.StepCount
 pub use Rattle.lazy_pools.specs.LazyAnswer
 pub use Rattle.lazy_pools.specs.LazyLends
+pub use Rattle.lazy_pools.specs.LazyNear
 pub use Rattle.lazy_pools.specs.LazyPool
 pub use Rattle.lazy_pools.specs.LazyReusable

@@ -1,4 +1,5 @@
--- A spin lock: one word, which is 0 where the lock is free and 1 where it is taken, and one place for the value.
+-- A spin lock: one word, which is 0 where the lock is free and 1 where it is taken, and one place
+-- for the value.
 use Rattle.std.specs.Prelude.{◌≡◌, ◌≢◌, ℕ, ◌<◌, [], ◌∷◌, length, slice_index, Option, Some}
 use mathlib.Core.Option.{some}
 use lib.ListN.{get_elem?}
@@ -7,7 +8,8 @@ use Rattle.lockfree_object_pool.specs.declared.spin_lock.rule.Visitor.{Visitor}
 use Rattle.lockfree_object_pool.specs.declared.spin_lock.rule.Visitor.TheVariants.{Passing, Holder}
 
 module _ {T : Type 0} where
-  -- the lock is taken just where a visitor holds it, one holds it at a time, and where it is free the value is at home
+  -- the lock is taken just where a visitor holds it, one holds it at a time, and where it is free
+  -- the value is at home
   pub record IsLock (s : State (Option T) Visitor) : Type 0 where
     pub one_word : length s.words ≡ 1
     pub one_place : length s.homes ≡ 1

@@ -1,4 +1,4 @@
-//! Where a stack pool keeps its values: a list that threads share.
+//! The list in which a stack pool keeps its values, shared by threads.
 ghost use Rattle.std.specs.Prelude.{IfSome};
 
 use crate::spin_lock::SpinLock;
@@ -7,21 +7,24 @@ use pool_parts::stack::{Room, Stack};
 use std::mem;
 use std::sync::{Mutex, Wait};
 
-/// A list of kept values, each of which meets `K`, in the room that came with it. Its calls may
-/// wait for other threads.
+/// A list of kept values. Each meets `K` and lies in the room that came with it. The calls may wait
+/// for other threads.
 pub trait FreeList<T, K: Clean<T>>: Drop {
-    /// A kept value with its room, or `None` where nothing is kept. The two lists of this crate give the value that was put last.
+    /// Takes a kept value with its room, or returns `None` if nothing is kept. The two lists of
+    /// this crate take the value that was put last.
     fn take<W: Wait>(&self, rt: &W) -> Option<(T, Room<T>)>
         ensures { IfSome result (λ taken. K.meets taken.0) };
 
-    /// Keeps a value in an empty room. The two lists of this crate take no memory for it.
+    /// Keeps a value in an empty room. The two lists of this crate need no memory for it.
     fn put<W: Wait>(&self, rt: &W, room: Room<T>, value: T)
         requires { K.meets value };
 
-    /// How many values are kept at this moment, `usize::MAX` where there are more. The two lists of this crate count them under the lock.
+    /// Counts the values that are kept at this moment, up to `usize::MAX`. The two lists of this
+    /// crate count them under the lock.
     fn count<W: Wait>(&self, rt: &W) -> usize;
 
-    /// Drops all values that are kept, with their rooms. The two lists of this crate drop them without the lock.
+    /// Drops all values that are kept, with their rooms. The two lists of this crate drop them
+    /// without the lock.
     fn clear<W: Wait>(&self, rt: &W);
 }
 

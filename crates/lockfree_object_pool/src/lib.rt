@@ -1,7 +1,8 @@
 //! Object pools with automatic return: a used object is kept and handed out again.
 //!
-//! A port of the Rust crate `lockfree-object-pool` 0.1.6 to Rattle. The pools that never wait stand in `nonblocking_pools`, the one
-//! whose items are made when they are needed in `lazy_pools`, and what all are made of below these; each name is here too.
+//! A port of the Rust crate `lockfree-object-pool` 0.1.6 to Rattle. The pools that never wait are
+//! defined in `nonblocking_pools`, the pool that makes its items when they are needed in
+//! `lazy_pools`, and their parts in the crates below these. This crate exports all their names.
 #![tactic(auto)]
 
 pub mod free_list;

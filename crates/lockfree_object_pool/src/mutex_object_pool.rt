@@ -10,7 +10,11 @@ use std::alloc::Global;
 use std::fmt::{self, Debug, Formatter, Write};
 use std::sync::Mutex;
 
-/// A pool whose kept values lie in a stack under a mutex.
+/// A pool that keeps returned values in a stack under a mutex.
+///
+/// A pull takes the value that was returned last, or makes one if none is kept.
+///
+/// # Examples
 ///
 /// ```rust
 /// let pool: MutexObjectPool<u32, _, _> = MutexObjectPool::new(alloc, Copied::new(0), Keep);
@@ -28,7 +32,13 @@ pub type MutexObjectPool<T, I, R, K = AnyValue> = StackObjectPool<
 impl<T: Drop, I: Init<T, K>, R: Reset<T, K>, K: Clean<T>> MutexObjectPool<T, I, R, K> {
     ghost use Rattle.lockfree_object_pool.specs.StackPool.{stack_init, stack_reset};
 
-    /// A pool that keeps nothing yet. It takes no memory.
+    /// Creates a pool that keeps nothing yet. It takes no memory.
+    ///
+    /// # Examples
+    ///
+    /// ```rust
+    /// let pool: MutexObjectPool<u32, _, _> = MutexObjectPool::new(alloc, Copied::new(0), Keep);
+    /// ```
     pub fn new(alloc: Global, init: I, reset: R) -> MutexObjectPool<T, I, R, K>
         ensures init { stack_init result ≡ init }
         ensures reset { stack_reset result ≡ reset }

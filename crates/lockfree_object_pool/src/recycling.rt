@@ -1,7 +1,7 @@
-//! Values that say themselves how they are made and reset, and the pools of them.
+//! Pools of types that define how they are made and reset.
 //!
-//! One impl of [`Recyclable`] is all that a type needs, and [`Pool`], [`FixedPool`], [`LazyPool`], [`MutexPool`] and
-//! [`SpinLockPool`] name its pools.
+//! A type needs one impl of [`Recyclable`]. Its pools are [`Pool`], [`FixedPool`], [`LazyPool`],
+//! [`MutexPool`] and [`SpinLockPool`].
 ghost use Rattle.std.specs.Prelude.{IfErr};
 
 use crate::mutex_object_pool::MutexObjectPool;
@@ -19,16 +19,43 @@ use pool_parts::PullError;
 use std::alloc::Global;
 
 /// The mutex pool of a [`Recyclable`] type.
+///
+/// # Examples
+///
+/// ```rust
+/// let pool = MutexPool::<Vec<u8>>::with_recycler(alloc);
+/// assert_eq!(rt; pool.pull(&rt)?.len(), 0);
+/// ```
 pub type MutexPool<T> = MutexObjectPool<T, Recycler, Recycler, Recycler>;
 
 /// A value that was pulled from a [`MutexPool`] or attached to it, under a borrow of it.
+///
+/// # Examples
+///
+/// ```rust
+/// let pool = MutexPool::<Vec<u8>>::with_recycler(alloc);
+/// assert_eq!(rt; pool.pull(&rt)?.len(), 0);
+/// ```
 pub type MutexPoolReusable<'p, T, W> = MutexReusable<'p, T, Recycler, Recycler, Recycler, W>;
 
 /// A value that was pulled from a [`MutexPool`] or attached to it, with an owner of it.
+///
+/// # Examples
+///
+/// ```rust
+/// let pool = Arc::new(alloc, pool)?;
+/// let item = pool.pull_owned(&rt)?; // may go to any thread
+/// ```
 pub type MutexPoolOwnedReusable<T, W> = MutexOwnedReusable<T, Recycler, Recycler, Recycler, W>;
 
 impl<T: Recyclable> MutexPool<T> {
-    /// A pool that keeps nothing yet. It takes no memory.
+    /// Creates a pool that keeps nothing yet. It takes no memory.
+    ///
+    /// # Examples
+    ///
+    /// ```rust
+    /// let pool = MutexPool::<Vec<u8>>::with_recycler(alloc);
+    /// ```
     pub fn with_recycler(alloc: Global) -> MutexPool<T> {
         let recycler = Recycler::new(alloc);
         MutexObjectPool::new(alloc, recycler, recycler)
@@ -36,12 +63,33 @@ impl<T: Recyclable> MutexPool<T> {
 }
 
 /// The spin lock pool of a [`Recyclable`] type.
+///
+/// # Examples
+///
+/// ```rust
+/// let pool = SpinLockPool::<Vec<u8>>::with_recycler(alloc)?;
+/// assert_eq!(rt; pool.pull(&rt)?.len(), 0);
+/// ```
 pub type SpinLockPool<T> = SpinLockObjectPool<T, Recycler, Recycler, Recycler>;
 
 /// A value that was pulled from a [`SpinLockPool`] or attached to it, under a borrow of it.
+///
+/// # Examples
+///
+/// ```rust
+/// let pool = SpinLockPool::<Vec<u8>>::with_recycler(alloc)?;
+/// assert_eq!(rt; pool.pull(&rt)?.len(), 0);
+/// ```
 pub type SpinLockPoolReusable<'p, T, W> = SpinLockReusable<'p, T, Recycler, Recycler, Recycler, W>;
 
 /// A value that was pulled from a [`SpinLockPool`] or attached to it, with an owner of it.
+///
+/// # Examples
+///
+/// ```rust
+/// let pool = Arc::new(alloc, pool)?;
+/// let item = pool.pull_owned(&rt)?; // may go to any thread
+/// ```
 pub type SpinLockPoolOwnedReusable<T, W> = SpinLockOwnedReusable<
     T,
     Recycler,
@@ -53,11 +101,17 @@ pub type SpinLockPoolOwnedReusable<T, W> = SpinLockOwnedReusable<
 impl<T: Recyclable> SpinLockPool<T> {
     ghost use Rattle.pool_parts.specs.Refusal.{RefusesMaking};
 
-    /// A pool that keeps nothing yet.
+    /// Creates a pool that keeps nothing yet.
     ///
     /// # Errors
     ///
-    /// `Memory`.
+    /// `Memory` if there is no memory for the lock.
+    ///
+    /// # Examples
+    ///
+    /// ```rust
+    /// let pool = SpinLockPool::<Vec<u8>>::with_recycler(alloc)?;
+    /// ```
     pub fn with_recycler(alloc: Global) -> Result<SpinLockPool<T>, PullError>
         ensures refused { IfErr result (RefusesMaking ⊥) }
     {

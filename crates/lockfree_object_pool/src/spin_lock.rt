@@ -1,7 +1,8 @@
 //! A lock that tries again until it has the value, and lets other threads run in between.
 //!
-//! Its word changes in two ways: one exchange takes it, and one store frees it. The guard has the value itself, and its
-//! drop brings the value home before it frees the word. A holder that stops keeps all others waiting.
+//! Its word changes in two ways: an exchange takes it, and a store frees it. The guard has the
+//! value itself. Its drop puts the value back before it frees the word. A holder that stops keeps
+//! all others waiting.
 ghost use Rattle.std.specs.Prelude.{◌≡◌, [], ◌∷◌, Some, IfErr, IfOk, IfSome};
 ghost use Rattle.lockfree_object_pool.specs.Guard.{lock_of, guard_value};
 ghost use Rattle.lockfree_object_pool.specs.Lock.{HasValue};
@@ -29,12 +30,22 @@ const FREE: u64 = 0;
 
 const TAKEN: u64 = 1;
 
-/// A value that one guard at a time has. In a clause it is the table in which the value lies.
+/// A lock round a value, which one guard at a time has.
+///
+/// In a clause it is the table in which the value lies.
+///
+/// # Examples
+///
+/// ```rust
+/// let lock = SpinLock::new(alloc, 5)?;
+/// *lock.lock(&rt) = 6; // the guard's drop frees the lock
+/// ```
 pub struct SpinLock<T> {
     table: Table<Option<T>, Visitor, (), OneHolder, Global>,
 }
 
-/// Not derived: the proof of a caller that drops it has one call here, and a derived drop has that of each field.
+/// Not derived: the proof of a caller that drops it has one call here, and a derived drop has that
+/// of each field.
 impl<T: Drop> Drop for SpinLock<T> {
     fn drop(self) {
         let SpinLock { table: _ } = self;
@@ -54,11 +65,17 @@ impl<T> Model for SpinLock<T> {
 }
 
 impl<T: Drop> SpinLock<T> {
-    /// A lock with this value in it.
+    /// Creates a free lock with this value in it.
     ///
     /// # Errors
     ///
-    /// The value, where there is no memory for the lock.
+    /// The value, if there is no memory for the lock.
+    ///
+    /// # Examples
+    ///
+    /// ```rust
+    /// let lock = SpinLock::new(alloc, 5)?;
+    /// ```
     pub fn new(alloc: Global, value: T) -> Result<SpinLock<T>, T>
         ensures refused { IfErr result (λ back. back ≡ value) }
     {
@@ -72,7 +89,8 @@ impl<T: Drop> SpinLock<T> {
         }
     }
 
-    /// Waits for its turn. A guard that is forgotten leaves the lock taken for good.
+    /// Takes the lock, and waits while another guard has it. A guard that leaks keeps the lock
+    /// taken for good.
     pub fn lock<W: Wait>(&self, rt: &W) -> SpinLockGuard<'_, T>
         ensures { lock_of result ≡ self.now }
     {
@@ -85,7 +103,7 @@ impl<T: Drop> SpinLock<T> {
         unreachable!()
     }
 
-    /// A guard, where the lock is free at this moment.
+    /// Takes the lock if it is free at this moment.
     pub fn try_lock(&self) -> Option<SpinLockGuard<'_, T>>
         ensures { IfSome result (λ guard. lock_of guard ≡ self.now) }
     {
@@ -99,7 +117,7 @@ impl<T: Drop> SpinLock<T> {
         }
     }
 
-    /// One exchange. Who finds the lock free is its holder.
+    /// Makes one exchange. It has taken the lock if it found it free.
     fn take(&self) -> Option<Seat<Option<T>, Visitor>>
         ensures table { IfSome result (λ seat. seat.table_id ≡ self.now) }
         ensures holder { IfSome result (λ seat. HasValue seat.me) }
@@ -109,7 +127,7 @@ impl<T: Drop> SpinLock<T> {
     }
 }
 
-/// A row of one place, with the value in it.
+/// Returns a row of one place, with the value in it.
 fn one_place<T: Drop>(alloc: Global, value: T) -> Result<Vec<Option<T>>, T>
     ensures row { IfOk result (λ places. places.items ≡ Some value ∷ []) }
     ensures refused { IfErr result (λ back. back ≡ value) }
@@ -122,7 +140,14 @@ fn one_place<T: Drop>(alloc: Global, value: T) -> Result<Vec<Option<T>>, T>
     }
 }
 
-/// The value of a lock, until the guard is dropped.
+/// The value of a lock. Its drop puts the value back and frees the lock.
+///
+/// # Examples
+///
+/// ```rust
+/// *lock.lock(&rt) = 6; // the guard's drop frees the lock
+/// assert_eq!(rt; *lock.lock(&rt), 6);
+/// ```
 pub struct SpinLockGuard<'s, T> {
     turn: Turn<'s, T>,
     value: T,

@@ -13,7 +13,11 @@ use pool_parts::stack::Stack;
 use std::alloc::Global;
 use std::fmt::{self, Debug, Formatter, Write};
 
-/// A pool whose kept values lie in a stack under a spin lock.
+/// A pool that keeps returned values in a stack under a spin lock.
+///
+/// A pull takes the value that was returned last, or makes one if none is kept.
+///
+/// # Examples
 ///
 /// ```rust
 /// let pool: SpinLockObjectPool<u32, _, _> = SpinLockObjectPool::new(alloc, Copied::new(0), Keep)?;
@@ -32,11 +36,17 @@ impl<T: Drop, I: Init<T, K>, R: Reset<T, K>, K: Clean<T>> SpinLockObjectPool<T, 
     ghost use Rattle.lockfree_object_pool.specs.StackPool.{stack_init, stack_reset};
     ghost use Rattle.pool_parts.specs.Refusal.{RefusesMaking};
 
-    /// A pool that keeps nothing yet.
+    /// Creates a pool that keeps nothing yet.
     ///
     /// # Errors
     ///
-    /// `Memory`.
+    /// `Memory` if there is no memory for the lock.
+    ///
+    /// # Examples
+    ///
+    /// ```rust
+    /// let pool = SpinLockObjectPool::<u32, _, _>::new(alloc, Copied::new(0), Keep)?;
+    /// ```
     pub fn new(
         alloc: Global,
         init: I,

@@ -1,7 +1,7 @@
-//! A pool over a free list, which is a stack behind a lock.
+//! A pool over a free list, which is a stack under a lock.
 //!
-//! A pull takes the value that was returned last, or makes one where none is kept. Pulls and
-//! returns wait for the lock.
+//! A pull takes the value that was returned last, or makes one if none is kept. Pulls and returns
+//! wait for the lock.
 ghost use Rattle.std.specs.Prelude.{◌≡◌, None, IfOk, IfErr};
 ghost use Rattle.std.specs.Arc.{arc_value};
 
@@ -16,10 +16,18 @@ use std::alloc::Global;
 use std::marker::PhantomData;
 use std::sync::{Arc, Mutex, Wait};
 
-/// A pool whose kept values lie in the free list `F`.
+/// A pool that keeps returned values in the free list `F`.
 ///
 /// Its two kinds are [`MutexObjectPool`](crate::MutexObjectPool) and
 /// [`SpinLockObjectPool`](crate::SpinLockObjectPool).
+///
+/// # Examples
+///
+/// ```rust
+/// let pool: MutexObjectPool<u32, _, _> = MutexObjectPool::new(alloc, Copied::new(0), Keep);
+/// *pool.pull(&rt)? = 5; // its drop keeps it
+/// assert_eq!(rt; *pool.pull(&rt)?, 5);
+/// ```
 pub struct StackObjectPool<
     T,
     I: Init<T, K>,
@@ -34,7 +42,8 @@ pub struct StackObjectPool<
     marker: PhantomData<(Mutex<T>, Mutex<K>)>,
 }
 
-/// Not derived: the proof of a caller that drops it has one call here, and a derived drop has that of each field.
+/// Not derived: the proof of a caller that drops it has one call here, and a derived drop has that
+/// of each field.
 impl<T, I: Init<T, K>, R: Reset<T, K>, K: Clean<T>, F: FreeList<T, MadeOrReset<I, R, K>>> Drop
     for StackObjectPool<T, I, R, K, F> {
     fn drop(self) {
@@ -59,6 +68,7 @@ impl<
     ghost use Rattle.lockfree_object_pool.specs.StackPool.{stack_init, stack_reset, stack_pool, stack_value};
     ghost use Rattle.pool_parts.specs.Refusal.{RefusesMaking};
 
+    /// Creates a pool over this list.
     pub(crate) fn over(alloc: Global, init: I, reset: R, kept: F) -> StackObjectPool<T, I, R, K, F>
         ensures init { stack_init result ≡ init }
         ensures reset { stack_reset result ≡ reset }
@@ -72,11 +82,15 @@ impl<
         }
     }
 
-    /// The value that was returned last, or one that is made now. `init` runs without the lock.
+    /// Pulls the value that was returned last, or makes one if none is kept. `init` runs without
+    /// the lock.
     ///
     /// # Errors
     ///
-    /// Where none is kept: `Memory`, and `init` isn't called; or `Init`, where it answers `None`.
+    /// Only if no value is kept:
+    ///
+    /// - `Memory` if there is no memory for the room of its return. Then `init` isn't called.
+    /// - `Init` if `init` returned `None`.
     pub fn pull<W: Wait + Copy>(&self, rt: &W) -> Result<StackReusable<T, &Self, W>, PullError>
         ensures pool { IfOk result (λ item. (stack_pool item).now ≡ self.now) }
         ensures meets { IfOk result (λ item. K.meets (stack_value item)) }
@@ -88,12 +102,12 @@ impl<
         Ok(StackReusable::in_room(self, *rt, room, value))
     }
 
-    /// As `pull`, with a reusable that owns the pool with others. The pool's owners grow by one
-    /// before an item is taken.
+    /// Pulls a value as `pull` does. The reusable owns the pool with others: it becomes one more
+    /// owner before an item is taken.
     ///
     /// # Errors
     ///
-    /// As `pull`; `Memory` too where the pool can have no more owners.
+    /// As `pull`, and `Memory` if the pool can have no more owners.
     pub fn pull_owned<W: Wait + Copy>(
         self: &Arc<Self>,
         rt: &W,
@@ -110,7 +124,7 @@ impl<
         Ok(StackReusable::in_room(owner, *rt, room, value))
     }
 
-    /// A kept value with its room, or a new one of each. The list is asked for the kept one alone.
+    /// Returns a kept value with its room, or a new one of each.
     #[inline(always)]
     fn item<W: Wait>(&self, rt: &W) -> Result<(T, Room<T>), PullError>
         ensures meets { IfOk result (λ item. K.meets item.0) }
@@ -123,7 +137,7 @@ impl<
         }
     }
 
-    /// A new value, with a room for its return.
+    /// Makes a value and the room for its return.
     fn made(&self) -> Result<(T, Room<T>), PullError>
         ensures meets { IfOk result (λ item. K.meets item.0) }
         ensures made_or_reset { IfOk result (λ item. IsMadeOrReset I.answers R.leaves item.0) }
@@ -136,11 +150,12 @@ impl<
         }
     }
 
-    /// Makes so many values and keeps them, so that as many pulls take no memory. `init` runs without the lock.
+    /// Makes `count` values and keeps them, so that as many pulls take no memory. `init` runs
+    /// without the lock.
     ///
     /// # Errors
     ///
-    /// `Memory`, or `Init` at the first `None`. What was made before is kept.
+    /// `Memory`, or `Init` at the first `None`. The values made until then are kept.
     pub fn fill<W: Wait>(&self, rt: &W, count: usize) -> Result<(), PullError>
         ensures refused { IfErr result (RefusesMaking (I.answers (stack_init self.now) None)) }
     {
@@ -151,18 +166,23 @@ impl<
         Ok(())
     }
 
-    /// How many values are kept at this moment, `usize::MAX` where there are more. They are counted one by one under the lock, and other
-    /// threads may change it meanwhile.
+    /// Counts the values that are kept at this moment, up to `usize::MAX`. It counts them one by
+    /// one under the lock. Other threads may have changed the number before it returns.
     pub fn kept<W: Wait>(&self, rt: &W) -> usize {
         self.kept.count(rt)
     }
 
-    /// Drops all values that are kept, and their rooms, without the lock. What is out comes back as ever.
+    /// Drops all values that are kept, and their rooms, without the lock. Items in use are returned
+    /// as usual.
     pub fn clear<W: Wait>(&self, rt: &W) {
         self.kept.clear(rt);
     }
 
-    /// A room for a return.
+    /// Makes a room for a return.
+    ///
+    /// # Errors
+    ///
+    /// `Memory`.
     pub(crate) fn room(&self) -> Result<Room<T>, PullError>
         ensures refused { IfErr result (RefusesMaking ⊥) }
     {

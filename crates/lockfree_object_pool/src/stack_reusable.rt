@@ -1,4 +1,5 @@
-//! A value that was pulled from a stack pool or attached to it, under a borrow of the pool or with an owner of it.
+//! A value that was pulled from a stack pool or attached to it, with a borrow or an owner of the
+//! pool.
 ghost use Rattle.std.specs.Prelude.{◌≡◌, IfOk, IfErr};
 
 use crate::free_list::FreeList;
@@ -13,19 +14,19 @@ use std::fmt::{self, Debug, Formatter, Write};
 use std::ops::{Deref, DerefMut};
 use std::sync::{Arc, Wait};
 
-/// A stack pool as each of its reusables has it: by a borrow, or with an owner.
+/// A stack pool as a reusable has it: by a borrow or with an owner.
 pub trait SharedStackPool<T>: Drop {
     ghost use Rattle.pool_parts.specs.Refusal.{RefusesMaking};
 
-    /// A room for the return of a value.
+    /// Makes a room for the return of a value.
     ///
     /// # Errors
     ///
-    /// `Memory`.
+    /// `Memory` if there is no memory for it.
     fn room(&self) -> Result<Room<T>, PullError>
         ensures refused { IfErr result (RefusesMaking ⊥) };
 
-    /// Resets a value and keeps it. It takes no memory beside what the reset takes.
+    /// Resets a value and keeps it. It takes no memory besides what the reset takes.
     fn give<W: Wait>(&self, rt: &W, room: Room<T>, value: T);
 }
 
@@ -61,9 +62,10 @@ impl<
     }
 }
 
-/// What a reusable keeps for its drop: the permission to wait for the lock of its pool. Nothing but the return may use it.
+/// The permission to wait for the lock of a pool, which a reusable keeps for its drop.
 ///
-/// Each permission that can be copied is one. A reusable asks for no more of it, so no call but its drop can wait.
+/// Each permission that can be copied is one. A reusable requires no more of it, so none of its
+/// calls but the drop can wait.
 pub trait ReturnPermission<T, P>: Copy + Drop {
     /// Returns a value to its pool.
     fn give_to(&self, pool: &P, room: Room<T>, value: T);
@@ -76,8 +78,15 @@ impl<T: Drop, P: SharedStackPool<T>, W: Wait + Copy> ReturnPermission<T, P> for 
     }
 }
 
-/// A value with the room for its return. Its drop waits for the pool's lock, and brings it back
-/// reset. No other call of it waits.
+/// A value with the room for its return. Its drop resets the value, waits for the pool's lock and
+/// returns the value to the pool. No other call of it waits.
+///
+/// # Examples
+///
+/// ```rust
+/// let item = pool.pull(&rt)?;
+/// assert_eq!(rt; item.detach(), 5); // the value is out of the pool for good
+/// ```
 pub struct StackReusable<T: Drop, P: SharedStackPool<T>, W: ReturnPermission<T, P>> {
     pool: P,
     lender: Lender,
@@ -90,11 +99,18 @@ impl<T: Drop, P: SharedStackPool<T>, W: ReturnPermission<T, P>> StackReusable<T,
     ghost use Rattle.std.specs.Prelude.{MatchResult};
     ghost use Rattle.lockfree_object_pool.specs.StackPool.{stack_pool, stack_value};
 
-    /// An item that `init` never made.
+    /// Attaches a value to a pool, as an item that `init` never made.
     ///
     /// # Errors
     ///
-    /// The value, where there is no memory for the room of its return. The pool, or its owner, that was given is dropped.
+    /// The value, if there is no memory for the room of its return. The borrow or the owner of the
+    /// pool is dropped.
+    ///
+    /// # Examples
+    ///
+    /// ```rust
+    /// let item = MutexReusable::new(&rt, &pool, 5)?; // its drop gives the pool a value
+    /// ```
     pub fn new(rt: &W, pool: P, value: T) -> Result<StackReusable<T, P, W>, T>
         ensures pool { IfOk result (λ item. stack_pool item ≡ pool) }
         ensures attached { MatchResult result (λ item. stack_value item ≡ value)
@@ -106,7 +122,8 @@ impl<T: Drop, P: SharedStackPool<T>, W: ReturnPermission<T, P>> StackReusable<T,
         }
     }
 
-    /// The value, which leaves its pool for good: no reset runs, its room is dropped, and so is an owner of the pool.
+    /// Takes the value out of its pool for good. No reset runs. Its room is dropped, and so is an
+    /// owner of the pool.
     pub fn detach(self) -> T
         ensures { result ≡ stack_value self }
     {
@@ -120,6 +137,7 @@ impl<T: Drop, P: SharedStackPool<T>, W: ReturnPermission<T, P>> StackReusable<T,
         value
     }
 
+    /// Makes the reusable of a value that has its room.
     pub(crate) fn in_room(pool: P, rt: W, room: Room<T>, value: T) -> StackReusable<T, P, W>
         ensures pool { stack_pool result ≡ pool }
         ensures value { stack_value result ≡ value }
@@ -163,7 +181,7 @@ impl<T: Drop, P: SharedStackPool<T>, W: ReturnPermission<T, P>> DerefMut
 }
 
 impl<T: Drop, P: SharedStackPool<T>, W: ReturnPermission<T, P>> Drop for StackReusable<T, P, W> {
-    // Inlined, so that the value isn't handed on through memory.
+    // Inlined, so that the value isn't passed on through memory.
     #[inline(always)]
     fn drop(self) {
         let StackReusable {

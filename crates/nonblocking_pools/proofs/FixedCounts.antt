@@ -1,49 +1,19 @@
 -- What the counts of a pool's words tell that were read twice.
-use Rattle.std.proofs.Common.{◌≡◌, ℕ, ◌+◌, ◌-◌, ◌*◌, ◌/◌, ◌%◌, ◌^◌, ◌<◌, ◌≤◌, Bool, true, false, nat_lt, ◌==◌, []}
-use Rattle.std.proofs.Common.{◌∷◌, ◌++◌, Some, None, refl, sym, ap, ◌∙◌, subst, arith, inl, inr, lt-ltb, le-ltb, eq-eqb}
-use Rattle.std.proofs.Common.{ne_eqb, true≢false, le_trans, mul-add, mul_comm, mul-le-mul_left}
-use Rattle.std.proofs.lemmas.Bool.{cases_lt}
-use Rattle.std.specs.Int.{w32, bit_at, trailing_zeros}
-use Rattle.std.proofs.lemmas.Nat.Bits.{bit_at-trailing_zeros}
+use Rattle.std.proofs.Common.{◌≡◌, ℕ, ◌+◌, ◌*◌, ◌/◌, ◌%◌, ◌^◌, ◌≤◌, Bool, true, false, ◌==◌, []}
+use Rattle.std.proofs.Common.{◌∷◌, ◌++◌, None, refl, sym, ap, ◌∙◌, subst, arith, inl, inr}
+use Rattle.std.proofs.Common.{true≢false, le_trans}
+use Rattle.std.proofs.lemmas.Bool.{cases_lt, eqb-true}
+use native.Mathlib.Decide.{ℕ_discrete}
+use mathlib.Core.Logic.{dite}
 use Rattle.pool_parts.specs.declared.page.history.Operation.TheVariants.{Pull, Return}
 use Rattle.pool_parts.specs.declared.page.user_view.UserView.{UserView}
-use Rattle.pool_parts.specs.Ledger.{History, value_at, returns_among, returns_of, returns_on}
-use Rattle.pool_parts.specs.PageRule.{User, item_of, GoesOn, IsOutNow, LoadsOn, IsSound}
+use Rattle.pool_parts.specs.Ledger.{History, value_at, returns_among, returns_of, returns_on, WasOutBetween}
+use Rattle.pool_parts.specs.PageRule.{User, GoesOn, IsOutNow, LoadsOn, Counts, IsSound}
 use Rattle.pool_parts.specs.Taking.{MissesAll, TakesOne}
-use Rattle.pool_parts.proofs.Ledger.{goes_on_further, prefix_further}
-use Rattle.pool_parts.proofs.Returns.{one_more, grows, grows_within, stays_out, came_back}
-use Rattle.nonblocking_pools.specs.FixedAnswer.{IsFullSince}
-use Rattle.nonblocking_pools.specs.FixedCount.{returns_below, ReadsOn, Tallies, HasChanged}
-use Rattle.nonblocking_pools.specs.StepCount.{passes_to_take, passes_to_refuse}
-
--- a word that isn't 0 has a bit that is set
-pub some_bit : (word : ℕ) → (word ≡ 0 → ⊥) → word < 2 ^ 32 → (bit : ℕ) × (bit < 32) × (bit_at word bit ≡ 1)
-some_bit word some fits =
-    let least = bit_at-trailing_zeros w32 word (omega arith) fits in
-    (trailing_zeros w32 word, least.0, least.1)
-
--- the words that a call has read which goes round once more
-pub next_round : (words round : ℕ) → words * (3 * (round + 1)) ≡ words * (3 * round) + 3 * words
-next_round words round =
-    let three : 3 * (round + 1) ≡ 3 * round + 3 = omega arith in
-    ap (λ n. words * n) three ∙ mul-add words (3 * round) 3 ∙ ap (λ n. words * (3 * round) + n) (mul_comm words 3)
-
--- and which takes an item, or is refused, no more rounds than returns having gone before
-pub within_take : (words round returns : ℕ) → round ≤ returns
-    → words * (3 * round) + words ≤ words * passes_to_take returns
-within_take words round returns fewer =
-    let more : words * (3 * round) ≤ words * (3 * returns) = mul-le-mul_left words (omega arith) in
-    let whole = mul-add words (3 * returns) 1 in
-    let one : words * 1 ≡ words = omega arith in
-    omega arith
-
-pub within_refuse : (words round returns : ℕ) → round ≤ returns
-    → words * (3 * round) + 3 * words ≤ words * passes_to_refuse returns
-within_refuse words round returns fewer =
-    let more : words * (3 * round) ≤ words * (3 * returns) = mul-le-mul_left words (omega arith) in
-    let whole = mul-add words (3 * returns) 3 in
-    let three : words * 3 ≡ 3 * words = mul_comm words 3 in
-    omega arith
+use Rattle.pool_parts.proofs.Ledger.{goes_on_further, still_out, out_longer}
+use Rattle.pool_parts.proofs.Returns.{one_more, grows, grows_within, stays_out}
+use Rattle.nonblocking_pools.specs.FixedCount.{is_beside, ReadsOn, Tallies, PassesOver}
+use Rattle.nonblocking_pools.proofs.PoolWords.{Splits, inside, before, behind, same_beside}
 
 module _ {T : Type 0} where
   -- what a user knows later has no fewer returns, whatever it did
@@ -59,15 +29,18 @@ module _ {T : Type 0} where
       → returns_among passes old.operations ≤ returns_among passes new.operations
   grown passes old new goes = grown_by passes [] old new goes
 
-  grown_within : (passes : ℕ → Bool) (old new : UserView T) → GoesOn [] old new
+  pub grown_within : (passes : ℕ → Bool) (made : History T) (old new : UserView T) → GoesOn made old new
       → returns_among passes new.operations + returns_of old.operations
       ≤ returns_of new.operations + returns_among passes old.operations
-  grown_within passes old new goes =
+  grown_within passes made old new goes =
+      let others : History T = goes.operations.0 in
+      let first = grows_within passes others old.operations in
+      let second = grows_within passes made (others ++ old.operations) in
       subst (λ operations. returns_among passes operations + returns_of old.operations
       ≤ returns_of operations + returns_among passes old.operations)
-      (sym goes.operations.1) (grows_within passes goes.operations.0 old.operations)
+      (sym goes.operations.1) (omega arith)
 
-  out_still : (passes : ℕ → Bool) (id : ℕ) (old new : UserView T) → GoesOn [] old new → passes id ≡ true
+  pub out_still : (passes : ℕ → Bool) (id : ℕ) (old new : UserView T) → GoesOn [] old new → passes id ≡ true
       → returns_among passes new.operations ≤ returns_among passes old.operations → IsOutNow old id → IsOutNow new id
   out_still passes id old new goes own none out =
       let later = goes.operations.0 in
@@ -77,16 +50,6 @@ module _ {T : Type 0} where
       (stays_out new.opening passes id later old.operations own
       (subst (λ operations. returns_among passes operations ≤ returns_among passes old.operations)
       goes.operations.1 none) opened)
-
-  -- of no words there are no returns
-  none_below : (operations : History T) → returns_below 0 operations ≡ 0
-  none_below [] = refl
-  none_below (Pull user id value ∷ before) = none_below before
-  none_below (Return user id value ∷ before) =
-      elim (one_more (λ id. nat_lt (id / 32) 0) user id value before) [
-        | inl counts ↦ absurd (true≢false (sym counts.0 ∙ le-ltb (id / 32) 0 (omega arith)))
-        | inr other ↦ other.1 ∙ none_below before
-      ]
 
   counts : (passes : ℕ → Bool) (user id : ℕ) (value : T) (before : History T) → passes id ≡ true
       → returns_among passes (Return user id value ∷ before) ≡ returns_among passes before + 1
@@ -102,136 +65,68 @@ module _ {T : Type 0} where
     | inr other ↦ other.1
   ]
 
-  -- the returns of one word more
-  below_more : (words : ℕ) (operations : History T)
-      → returns_below (words + 1) operations ≡ returns_below words operations + returns_on words operations
-  below_more words [] = refl
-  below_more words (Pull user id value ∷ before) = below_more words before
-  below_more words (Return user id value ∷ before) =
-      let rest = below_more words before in
-      let all : ℕ → Bool = λ id. nat_lt (id / 32) (words + 1) in
-      let low : ℕ → Bool = λ id. nat_lt (id / 32) words in
-      let own : ℕ → Bool = λ id. id / 32 == words in
-      elim (cases_lt (id / 32) words) [
-        | inl below ↦
-            let one = counts all user id value before (lt-ltb (id / 32) (words + 1) (omega arith)) in
-            let two = counts low user id value before (lt-ltb (id / 32) words below) in
-            let three = counts_not own user id value before (ne_eqb (id / 32) words (λ same. absurd (omega arith))) in
+  -- the returns of the one test are those of the two others together
+  pub adds_up : (whole one other : ℕ → Bool) → ((id : ℕ) → Splits whole one other id) → (history : History T)
+      → returns_among whole history ≡ returns_among one history + returns_among other history
+  adds_up whole one other split [] = omega arith
+  adds_up whole one other split (Pull user id value ∷ before) = adds_up whole one other split before
+  adds_up whole one other split (Return user id value ∷ before) =
+      let rest = adds_up whole one other split before in
+      elim (split id) [
+        | inl first ↦
+            let all = counts whole user id value before first.0 in
+            let here = counts one user id value before first.1 in
+            let there = counts_not other user id value before first.2 in
             omega arith
-        | inr from ↦ elim (cases_lt words (id / 32)) [
-          | inl past ↦
-              let one = counts_not all user id value before (le-ltb (id / 32) (words + 1) (omega arith)) in
-              let two = counts_not low user id value before (le-ltb (id / 32) words from) in
-              let three = counts_not own user id value before (ne_eqb (id / 32) words (λ same. absurd (omega arith))) in
-              omega arith
-          | inr here ↦
-              let one = counts all user id value before (lt-ltb (id / 32) (words + 1) (omega arith)) in
-              let two = counts_not low user id value before (le-ltb (id / 32) words from) in
-              let three = counts own user id value before (eq-eqb (id / 32) words (omega arith)) in
-              omega arith
-        ]
+        | inr (inl second) ↦
+            let all = counts whole user id value before second.0 in
+            let here = counts_not one user id value before second.1 in
+            let there = counts other user id value before second.2 in
+            omega arith
+        | inr (inr none) ↦
+            let all = counts_not whole user id value before none.0 in
+            let here = counts_not one user id value before none.1 in
+            let there = counts_not other user id value before none.2 in
+            omega arith
       ]
 
-  -- no word was read yet
-  pub tallies_none : (known : UserView T) → Tallies 0 0 known known
-  tallies_none known = record {
-    total = 0;
-    is_total = omega arith;
-    from_first = let none = none_below known.operations in omega arith;
-    to_last = omega arith;
-    full = λ _ id within. absurd (omega arith);
-  }
+  -- of no numbers there are no returns
+  none_among : (passes : ℕ → Bool) → ((id : ℕ) → passes id ≡ false) → (history : History T)
+      → returns_among passes history ≡ 0
+  none_among passes none [] = refl
+  none_among passes none (Pull user id value ∷ before) = none_among passes none before
+  none_among passes none (Return user id value ∷ before) =
+      counts_not passes user id value before (none id) ∙ none_among passes none before
 
-  -- a further word was read, of which no item is free
-  pub tallies_more : (words sum count : ℕ) (old mid new : UserView T) → Tallies words sum old mid → GoesOn [] old mid
-      → GoesOn [] mid new → count ≡ returns_on words new.operations % 2 ^ 32
-      → ((bit : ℕ) → bit < 32 → IsOutNow new (item_of words bit))
-      → Tallies (words + 1) ((sum + count) % 2 ^ 32) old new
-  tallies_more words sum count old mid new tally before goes is out =
-      let low : ℕ → Bool = λ id. nat_lt (id / 32) words in
-      let own : ℕ = returns_on words new.operations in
-      let first = below_more words old.operations in
-      let last = below_more words new.operations in
-      let own_grown = grown (λ id. id / 32 == words) old new (goes_on_further [] old mid new before goes) in
-      let low_grown = grown low mid new goes in
-      let total = tally.is_total in
-      let from = tally.from_first in
-      let to = tally.to_last in
-      record {
-        total = tally.total + own;
-        is_total = omega arith;
-        from_first = omega arith;
-        to_last = omega arith;
-        full = λ all id within. elim (cases_lt id (32 * words)) [
-          | inl below ↦ out_still low id mid new goes (lt-ltb (id / 32) words (omega arith)) (omega arith)
-              (tally.full (omega arith) id below)
-          | inr here ↦ let whole : 32 * words + (id - 32 * words) ≡ id = omega arith in
-              subst (IsOutNow new) whole (out (id - 32 * words) (omega arith))
-        ];
-      }
-
-  -- each word counts what it counted when it was read first: no item was free between the two readings; or the counts
-  -- came round
-  pub full_between : (items words sum : ℕ) (one two three : UserView T) → Tallies words sum one two
-      → Tallies words sum two three → GoesOn [] one two → GoesOn [] two three → items ≤ 32 * words
-      → IsFullSince items one.operations three
-  full_between items words sum one two three first second before goes covered =
-      let total_one = first.is_total in
-      let total_two = second.is_total in
-      let from_one = first.from_first in
-      let to_one = first.to_last in
-      let from_two = second.from_first in
-      let to_two = second.to_last in
-      let within = grown_within (λ id. nat_lt (id / 32) words) one three (goes_on_further [] one two three before goes) in
-      elim (cases_lt first.total second.total) [
-        | inl more ↦ inr (omega arith)
-        | inr same ↦ inl (
-          two.operations,
-          before.operations,
-          goes.operations,
-          λ id inside. ap (λ opening. value_at opening two.operations id) goes.same_opening
-              ∙ first.full (omega arith) id (omega arith),
-        )
+  same_among : (one other : ℕ → Bool) → ((id : ℕ) → one id ≡ other id) → (history : History T)
+      → returns_among one history ≡ returns_among other history
+  same_among one other same [] = refl
+  same_among one other same (Pull user id value ∷ before) = same_among one other same before
+  same_among one other same (Return user id value ∷ before) =
+      let rest = same_among one other same before in
+      elim (one_more one user id value before) [
+        | inl counted ↦
+            let too = counts other user id value before (sym (same id) ∙ counted.0) in
+            let more = counted.1 in omega arith
+        | inr not_counted ↦
+            let neither = counts_not other user id value before (sym (same id) ∙ not_counted.0) in
+            let no_more = not_counted.1 in omega arith
       ]
 
-  -- the words count something else than before: there was a return
-  pub counts_changed : (words one_sum two_sum : ℕ) (one two three : UserView T) → Tallies words one_sum one two
-      → Tallies words two_sum two three → GoesOn [] one two → GoesOn [] two three → (one_sum ≡ two_sum → ⊥)
-      → returns_of one.operations < returns_of three.operations
-  counts_changed words one_sum two_sum one two three first second before goes differ =
-      let total_one = first.is_total in
-      let total_two = second.is_total in
-      let from_one = first.from_first in
-      let to_one = first.to_last in
-      let from_two = second.from_first in
-      let to_two = second.to_last in
-      let within = grown_within (λ id. nat_lt (id / 32) words) one three (goes_on_further [] one two three before goes) in
-      elim (cases_lt first.total second.total) [
-        | inl more ↦ omega arith
-        | inr same ↦
-            let equal : first.total ≡ second.total = omega arith in
-            absurd (differ (total_one ∙ ap (λ total. total % 2 ^ 32) equal ∙ sym total_two))
-      ]
-
-  -- who has observed each item taken, and then sees that the pool has changed, knows of a return
-  pub returned_meanwhile : (items : ℕ) (start mid last : User T) → MissesAll 0 items start mid
-      → GoesOn [] mid.0 last.0 → HasChanged items mid.0 last.0
-      → returns_of start.0.operations < returns_of last.0.operations
-  returned_meanwhile items start mid last missed goes (inl more) =
-      let before = grown (λ id. true) start.0 mid.0 missed.goes_on in omega arith
-  returned_meanwhile items start mid last missed goes (inr free) =
-      let was = missed.each_was_out free.id (omega arith) free.in_pool in
-      let place = was.0 in
-      let longer = prefix_further place mid.0.operations last.0.operations was.2 goes.operations in
-      let out : value_at last.0.opening place free.id ≡ None =
-      ap (λ opening. value_at opening place free.id) goes.same_opening ∙ was.3 in
-      let here : value_at last.0.opening (longer.0 ++ place) free.id ≡ Some free.is_free.0 =
-      ap (λ operations. value_at last.0.opening operations free.id) (sym longer.1) ∙ free.is_free.1 in
-      let more = came_back last.0.opening free.id free.is_free.0 longer.0 place out here in
-      let before = grows (λ id. true) was.1.0 start.0.operations in
-      let is_place = ap (λ operations. returns_of operations) was.1.1 in
-      let is_last = ap (λ operations. returns_of operations) longer.1 in
-      omega arith
+  -- what was out at some place is out now, where nothing came back since that passes a test which it passes
+  pub out_kept : (passes : ℕ → Bool) (id : ℕ) (from : History T) (now : UserView T) → passes id ≡ true
+      → returns_among passes now.operations ≤ returns_among passes from
+      → WasOutBetween now.opening from now.operations id → IsOutNow now id
+  out_kept passes id from now own none was =
+      let place : History T = was.0 in
+      let later : History T = was.2.0 in
+      let begun : returns_among passes from ≤ returns_among passes place =
+      subst (λ operations. returns_among passes from ≤ returns_among passes operations) (sym was.1.1)
+      (grows passes was.1.0 from) in
+      subst (λ operations. value_at now.opening operations id ≡ None) (sym was.2.1)
+      (stays_out now.opening passes id later place own
+      (le_trans (subst (λ operations. returns_among passes operations ≤ returns_among passes from) was.2.1 none) begun)
+      was.3)
 
   pub reads_further : (one two three : User T) → ReadsOn one two → ReadsOn two three → ReadsOn one three
   reads_further one two three first second = record {
@@ -239,14 +134,6 @@ module _ {T : Type 0} where
     carries_same = second.carries_same ∙ first.carries_same;
     goes_on = goes_on_further [] one.0 two.0 three.0 first.goes_on second.goes_on;
   }
-
-  -- what was found since a later place was found since an earlier one
-  pub full_longer : (items : ℕ) (start from : UserView T) (known : UserView T) → GoesOn [] start from
-      → IsFullSince items from.operations known → IsFullSince items start.operations known
-  full_longer items start from known goes (inl was) =
-      inl (was.0, prefix_further start.operations from.operations was.0 goes.operations was.1, was.2, was.3)
-  full_longer items start from known goes (inr round) =
-      let before = grown (λ id. true) start from goes in inr (omega arith)
 
   -- who has taken nothing has read on
   pub missed_reads : (from to : ℕ) (old new : User T) → MissesAll from to old new → ReadsOn old new
@@ -279,6 +166,151 @@ module _ {T : Type 0} where
       sound = sound;
     };
   }
+
+  -- two passes over words that differ
+  tallies_join : (whole one other : ℕ → Bool) → ((id : ℕ) → Splits whole one other id) → (sum more : ℕ)
+      (old mid new : UserView T) → Tallies one sum old mid → GoesOn [] old mid → Tallies other more mid new
+      → GoesOn [] mid new → Tallies whole ((sum + more) % 2 ^ 32) old new
+  tallies_join whole one other split sum more old mid new tally before further goes =
+      let first = adds_up whole one other split old.operations in
+      let last = adds_up whole one other split new.operations in
+      let one_grown = grown one mid new goes in
+      let other_grown = grown other old mid before in
+      let total_one = tally.is_total in
+      let from_one = tally.from_first in
+      let to_one = tally.to_last in
+      let total_two = further.is_total in
+      let from_two = further.from_first in
+      let to_two = further.to_last in
+      record {
+        total = tally.total + further.total;
+        is_total = omega arith;
+        from_first = omega arith;
+        to_last = omega arith;
+        full = λ all id own. elim (split id) [
+          | inl first_one ↦ out_still one id mid new goes first_one.1 (omega arith)
+              (tally.full (omega arith) id first_one.1)
+          | inr (inl second) ↦ further.full (omega arith) id second.2
+          | inr (inr none) ↦ absurd (true≢false (sym own ∙ none.0))
+        ];
+      }
+
+  -- what was counted since a place was counted since an earlier one
+  pub tallies_since : (is_read : ℕ → Bool) (sum : ℕ) (old mid new : UserView T) → GoesOn [] old mid
+      → Tallies is_read sum mid new → Tallies is_read sum old new
+  tallies_since is_read sum old mid new goes tally =
+      let before = grown is_read old mid goes in
+      let from = tally.from_first in
+      record {
+        total = tally.total;
+        is_total = tally.is_total;
+        from_first = omega arith;
+        to_last = tally.to_last;
+        full = tally.full;
+      }
+
+  pub passes_join : (whole one other : ℕ → Bool) → ((id : ℕ) → Splits whole one other id) → (sum more : ℕ)
+      (old mid new : User T) → PassesOver one sum old mid → PassesOver other more mid new
+      → PassesOver whole ((sum + more) % 2 ^ 32) old new
+  passes_join whole one other split sum more old mid new first second =
+      let before = first.reads_on.goes_on in
+      let goes = second.reads_on.goes_on in
+      record {
+        reads_on = reads_further old mid new first.reads_on second.reads_on;
+        each_was_out = λ id own. elim (split id) [
+          | inl first_one ↦ still_out old.0.operations mid.0 new.0 id goes (first.each_was_out id first_one.1)
+          | inr (inl second_one) ↦ out_longer new.0.opening old.0.operations mid.0.operations new.0.operations id
+              before.operations (second.each_was_out id second_one.2)
+          | inr (inr none) ↦ absurd (true≢false (sym own ∙ none.0))
+        ];
+        tallies = tallies_join whole one other split sum more old.0 mid.0 new.0 first.tallies before second.tallies goes;
+      }
+
+  -- no word was read yet
+  pub passes_none : (from skipped : ℕ) (known : User T) → ReadsOn known known
+      → PassesOver (is_beside from from skipped) 0 known known
+  passes_none from skipped known reads =
+      let none : (id : ℕ) → is_beside from from skipped id ≡ false = λ id. elim (cases_lt (id / 32) from) [
+        | inl low ↦ before from from skipped id low
+        | inr high ↦ behind from from skipped id high
+      ] in
+      let no_returns = none_among (is_beside from from skipped) none known.0.operations in
+      record {
+        reads_on = reads;
+        each_was_out = λ id own. absurd (true≢false (sym own ∙ none id));
+        tallies = record {
+          total = 0;
+          is_total = omega arith;
+          from_first = omega arith;
+          to_last = omega arith;
+          full = λ _ id own. absurd (true≢false (sym own ∙ none id));
+        };
+      }
+
+  -- a word was skipped
+  pub passes_skip : (from skipped sum : ℕ) (old new : User T) → PassesOver (is_beside from skipped skipped) sum old new
+      → PassesOver (is_beside from (skipped + 1) skipped) sum old new
+  passes_skip from skipped sum old new passed =
+      let same = same_beside from skipped in
+      let tally = passed.tallies in
+      let first = same_among _ _ same old.0.operations in
+      let last = same_among _ _ same new.0.operations in
+      let from_old = tally.from_first in
+      let to_new = tally.to_last in
+      record {
+        reads_on = passed.reads_on;
+        each_was_out = λ id own. passed.each_was_out id (same id ∙ own);
+        tallies = record {
+          total = tally.total;
+          is_total = tally.is_total;
+          from_first = omega arith;
+          to_last = omega arith;
+          full = λ all id own. tally.full (omega arith) id (same id ∙ own);
+        };
+      }
+
+  -- one word was read, and nothing was taken of it
+  pub passes_word : (places page word count : ℕ) (old mid new : User T) → Counts places page old word count mid
+      → MissesAll (32 * page) (32 * page + 32) mid new → PassesOver (λ id. id / 32 == page) count old new
+  passes_word places page word count old mid new counted missed =
+      let loaded = counted.loads_on.goes_on in
+      let on_page : ℕ → Bool = λ id. id / 32 == page in
+      let mid_grown = grown on_page old.0 mid.0 loaded in
+      let new_grown = grown on_page mid.0 new.0 missed.goes_on in
+      let out : (id : ℕ) → on_page id ≡ true
+      → WasOutBetween new.0.opening mid.0.operations new.0.operations id = λ id own.
+      let here : id / 32 ≡ page = eqb-true (id / 32) page own in
+      missed.each_was_out id (omega arith) (omega arith) in
+      record {
+        reads_on = reads_further old mid new (loaded_reads page word old mid counted.loads_on)
+            (missed_reads (32 * page) (32 * page + 32) mid new missed);
+        each_was_out = λ id own. out_longer new.0.opening old.0.operations mid.0.operations new.0.operations id
+            loaded.operations (out id own);
+        tallies = record {
+          total = returns_on page mid.0.operations;
+          is_total = counted.counts;
+          from_first = omega arith;
+          to_last = omega arith;
+          full = λ same id own. out_kept on_page id mid.0.operations new.0 own (omega arith) (out id own);
+        };
+      }
+
+  -- the first word, and then the others
+  pub missed_pass : (start words slots sum : ℕ) (old one last : User T) → slots ≤ 32 * words
+      → MissesAll (32 * start) (32 * start + 32) old one → PassesOver (is_beside 0 words start) sum one last
+      → MissesAll 0 slots old last
+  missed_pass start words slots sum old one last covered own others =
+      let goes = others.reads_on.goes_on in
+      record {
+        holds_same = others.reads_on.holds_same ∙ own.holds_same;
+        carries_same = others.reads_on.carries_same ∙ own.carries_same;
+        each_was_out = λ id _ within. dite (ℕ_discrete (id / 32) start)
+            (λ same. still_out old.0.operations one.0 last.0 id goes (own.each_was_out id (omega arith) (omega arith)))
+            (λ differ. out_longer last.0.opening old.0.operations one.0.operations last.0.operations id
+            own.goes_on.operations
+            (others.each_was_out id (inside 0 words start id (omega arith) (omega arith) differ)));
+        goes_on = goes_on_further [] old.0 one.0 last.0 own.goes_on goes;
+      }
 
   -- and then an item was taken
   pub takes_later : (meets : T → Type 0) (items id : ℕ) (value : T) (one two three : User T) → ReadsOn one two

@@ -26,11 +26,11 @@ module _ {T : Type 0} where
     pub is_item : IsFixedItem pool item
     pub pulled : IsPulledAfter note item
 
-  -- what the refused pull has read and tried
+  -- what the user of the refused pull has read and tried
   abbrev pub busy_steps : FullSeen T → StepCount
   busy_steps busy = steps_of (full_view busy)
 
-  -- each item of this pool was observed taken by one call
+  -- each item of this pool was observed taken by one user, since its first load
   abbrev pub IsBusyOf : TableId → List (Option T) → FullSeen T → Type 0
   IsBusyOf pool opening busy = IsAllOut pool.slots pool opening busy
 
@@ -77,7 +77,7 @@ module _ {T : Type 0} where
     pub same_operations : operations_of (note_user new) (note_history new) ≡ operations_of (note_user old)
         (note_history old)
 
-  -- what the operations of a note have read and tried
+  -- what the user of a note has read and tried
   abbrev pub note_steps : PageNote T → StepCount
   note_steps note = steps_of (note_view note)
 

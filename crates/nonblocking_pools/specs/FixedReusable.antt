@@ -15,7 +15,7 @@ module _ {T P : Type 0} where
   abbrev pub reusable_item : FixedReusableOf T P → Item T
   reusable_item reusable = held_item reusable.taken.holding reusable.value
 
-  -- what its pull has read and tried
+  -- what the user that pulled it has read and tried
   abbrev pub reusable_steps : FixedReusableOf T P → StepCount
   reusable_steps reusable = steps_of (holding_view reusable.taken.holding)
 

@@ -6,7 +6,7 @@ pub mod FixedPool
 pub mod FixedReusable
 pub mod LinearLends
 pub mod LinearPool
-pub mod LowFirst
+pub mod Near
 pub mod NoneLends
 pub mod NonePool
 pub mod PoolAndHolding

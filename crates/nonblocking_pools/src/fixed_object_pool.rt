@@ -1,8 +1,10 @@
-//! A pool of a fixed number of items, all made at first: threads pull and return without a lock, and nothing takes memory.
+//! A pool of a fixed number of items, all made up front. Threads pull and return without a lock,
+//! and no call needs memory after the opening, but for one more owner.
 //!
-//! The items lie 32 to a page, and a page is one word. All words lie in one table, so one sequential history tells what was
-//! pulled and returned of the whole pool. No pull and no return waits for another thread. The upper half of each word counts the
-//! returns of its page, so that a pull which took nothing sees whether an item came back while it looked.
+//! The items lie 32 to a page, and a page is one word. All words lie in one table, so one
+//! sequential history has the pulls and returns of the whole pool. No pull and no return waits for
+//! another thread. The upper half of each word counts the returns of its page, so a pull that took
+//! nothing sees whether an item came back while it looked.
 ghost use Rattle.std.specs.Prelude.{◌≡◌, ◌+◌, ◌*◌, ◌/◌, ◌<◌, ◌≤◌, None, Some, IfOk, IfErr, ◌⊎◌};
 ghost use Rattle.std.specs.Arc.{arc_value};
 ghost use Rattle.pool_parts.specs.declared.pull_error.PullError.TheVariants.{Memory, Limit};
@@ -11,6 +13,7 @@ use crate::fixed_owned_reusable::FixedOwnedReusable;
 use crate::fixed_reusable::FixedReusable;
 use items::FixedItems;
 use items::order::Order;
+use near::Near;
 use pool_parts::PullError;
 use pool_parts::clean::{AnyValue, Clean};
 use pool_parts::closures::{Init, Reset};
@@ -22,15 +25,16 @@ use std::fmt::{self, Debug, Formatter, Write};
 use std::sync::Arc;
 
 pub mod items;
+pub mod near;
 
 /// What is known of a fixed pool's history while no item is held. It has no bytes.
 pub type PoolNote<T> = PageNote<T>;
 
-/// What a pull of one pass has that took no item: each item of the pool was observed taken since the pass was made, by a
-/// word that was read or by an attempt on its own bit.
+/// The evidence of a pull of one pass that took no item: each item of the pool was seen in use
+/// since the pass was made, by a word that was read or by a try of its own bit.
 pub type BusySeen<'p, T> = FullSeen<'p, T>;
 
-/// What [`FixedObjectPool::try_pull`] answers: an item, or that each one was observed taken.
+/// The result of [`FixedObjectPool::try_pull`]: an item, or that each one was seen in use.
 pub type FixedPulled<'s, 'p, T, I, R, K = AnyValue> = Result<
     FixedReusable<'s, T, I, R, K>,
     BusySeen<'p, T>,
@@ -38,8 +42,10 @@ pub type FixedPulled<'s, 'p, T, I, R, K = AnyValue> = Result<
 
 /// A pool of a fixed number of items.
 ///
+/// # Examples
+///
 /// ```rust
-/// let pool: FixedObjectPool<u32, _, _> = FixedObjectPool::new(alloc, Copied::new(0), Copied::new(0), 1_000)?;
+/// let pool = FixedObjectPool::<u32, _, _>::new(alloc, Copied::new(0), Copied::new(0), 1_000)?;
 /// let mut item = pool.pull()?; // takes no memory
 /// *item = 5;
 /// drop(item); // the value is 0 again, and in the pool
@@ -49,7 +55,8 @@ pub struct FixedObjectPool<T, I: Init<T, K>, R: Reset<T, K>, K: Clean<T> = AnyVa
     pub(crate) items: FixedItems<T, MadeOrReset<I, R, K>>,
 }
 
-/// Not derived: the proof of a caller that drops it has one call here, and a derived drop has that of each field.
+/// Not derived: the proof of a caller that drops it has one call here, and a derived drop has that
+/// of each field.
 impl<T: Drop, I: Init<T, K>, R: Reset<T, K>, K: Clean<T>> Drop for FixedObjectPool<T, I, R, K> {
     fn drop(self) {
         let FixedObjectPool { reset: _, items: _ } = self;
@@ -61,17 +68,25 @@ impl<T: Drop, I: Init<T, K>, R: Reset<T, K>, K: Clean<T>> FixedObjectPool<T, I, 
     ghost use Rattle.nonblocking_pools.specs.FixedAnswer.{IsPulledFrom, IsPulledWith, IsBusyOf, IsBusyAfter, IsFullNoteAfter, IsGivenBack, busy_steps, note_steps, returns_since};
     ghost use Rattle.nonblocking_pools.specs.FixedPool.{pool_identity, pool_items, pool_pages, pool_opening, pool_reset};
     ghost use Rattle.pool_parts.specs.Holding.{holding_page, held_item};
+    ghost use Rattle.nonblocking_pools.specs.Near.{near_pool};
     ghost use Rattle.pool_parts.specs.Items.{IsFilled};
     ghost use Rattle.nonblocking_pools.specs.FixedReusable.{reusable_pool, reusable_item, reusable_steps, reusable_returns};
     ghost use Rattle.nonblocking_pools.specs.StepCount.{IsWithin, no_steps, passes_to_take, passes_to_refuse};
     ghost use Rattle.pool_parts.specs.Note.{note_page, note_view, witness_page, IsNoteOf, HasLearned};
     ghost use Rattle.pool_parts.specs.Refusal.{RefusesMaking};
 
-    /// A pool of so many free items: item `i` is the answer of call `i` of `init`, counted from 0.
+    /// Creates a pool of `items` free items. Item `i` is the answer of call `i` of `init`, counted
+    /// from 0.
     ///
     /// # Errors
     ///
     /// `Memory`, or `Init` at the first `None`. The items that were made are dropped.
+    ///
+    /// # Examples
+    ///
+    /// ```rust
+    /// let pool = FixedObjectPool::<u32, _, _>::new(alloc, Copied::new(0), Copied::new(0), 8)?;
+    /// ```
     pub fn new(
         alloc: Global,
         init: I,
@@ -91,24 +106,27 @@ impl<T: Drop, I: Init<T, K>, R: Reset<T, K>, K: Clean<T>> FixedObjectPool<T, I, 
         Ok(FixedObjectPool { reset, items })
     }
 
-    /// How many items the pool has.
+    /// Returns the number of items of the pool.
     pub fn items(&self) -> usize
         ensures { result ≡ pool_items self.now }
     {
         self.items.count()
     }
 
-    /// An item that is free. It begins at the page that a hint names.
+    /// Pulls a free item, beginning at the page that a hint names.
     ///
-    /// It passes over the words of the pool, each read once and each set bit tried once. Most pulls take an item within this
-    /// first pass. One that took nothing reads each word twice more: where no item was free at one moment, it is refused;
-    /// where another thread has returned an item meanwhile, it passes over the words again. So a further pass comes only
-    /// after another thread's return: a pull is lock-free. [`FixedObjectPool::try_pull`] makes one pass, and is wait-free.
+    /// It passes over the words of the pool, each read once and each set bit tried once. Most pulls
+    /// take an item within this first pass. One that took nothing makes a second pass. If that
+    /// takes nothing either, and the words count no more returns than before, the pull fails: no
+    /// item was free at one moment. Otherwise it goes on. So a third pass comes only after another
+    /// thread's return: a pull is lock-free. [`FixedObjectPool::try_pull`] makes one pass, and is
+    /// wait-free. Both count steps of this source. On x86-64 the step that clears a bit is compiled
+    /// to a loop.
     ///
     /// # Errors
     ///
-    /// `Limit`, where at one moment of the call no item was free (or 2^32 returns and more came within the call, which the
-    /// counts of the words can't tell from none).
+    /// `Limit` if no item was free at one moment of the call (or 2^32 returns and more came within
+    /// it, which the counts of the words can't tell from none).
     pub fn pull(&self) -> Result<FixedReusable<'_, T, I, R, K>, PullError>
         ensures pool { IfOk result (λ item. (reusable_pool item).now ≡ self.now) }
         ensures pulled { IfOk result (λ item.
@@ -127,12 +145,23 @@ impl<T: Drop, I: Init<T, K>, R: Reset<T, K>, K: Clean<T>> FixedObjectPool<T, I, 
         }
     }
 
-    /// As `pull`, which begins at this page, counted round and round. It reads and sets no hint, so that threads which keep to
-    /// pages of their own share no word of items; a return to a page that was full reads the pool's hint, and may set it.
+    /// Pulls a free item as `pull` does, but begins at this page, counted round and round. If the
+    /// page has no free item, it goes on at the hinted page, then at those behind that one, then
+    /// from page 0 on.
+    ///
+    /// Threads that keep to pages of their own share no word of items: as long as the page has a
+    /// free item, the pull neither reads nor sets the hint. A return to a page that was full reads
+    /// it, and may set it. [`FixedObjectPool::near`] chooses the pages.
     ///
     /// # Errors
     ///
     /// `Limit`, as of `pull`.
+    ///
+    /// # Examples
+    ///
+    /// ```rust
+    /// let item = pool.pull_near(8 * thread)?;
+    /// ```
     pub fn pull_near(&self, page: usize) -> Result<FixedReusable<'_, T, I, R, K>, PullError>
         ensures pool { IfOk result (λ item. (reusable_pool item).now ≡ self.now) }
         ensures pulled { IfOk result (λ item.
@@ -151,7 +180,23 @@ impl<T: Drop, I: Init<T, K>, R: Reset<T, K>, K: Clean<T>> FixedObjectPool<T, I, 
         }
     }
 
-    /// As `pull`, which makes one pass and shows what it found where it took no item. It is wait-free.
+    /// Returns a place for one thread to begin its pulls at: each call names the next page, eight
+    /// words further, so that threads don't meet while their pages have free items.
+    ///
+    /// # Examples
+    ///
+    /// ```rust
+    /// let near = pool.near();
+    /// let item = near.pull()?;
+    /// ```
+    pub fn near(&self) -> Near<'_, T, I, R, K>
+        ensures { near_pool result ≡ self.now }
+    {
+        Near::new(self, self.items.next_own_page())
+    }
+
+    /// Pulls as `pull` does, by one pass, and shows what it found if it took no item. It is
+    /// wait-free, as `pull` says.
     ///
     /// # Errors
     ///
@@ -172,7 +217,8 @@ impl<T: Drop, I: Init<T, K>, R: Reset<T, K>, K: Clean<T>> FixedObjectPool<T, I, 
         Ok(FixedReusable::new(self, self.items.try_pull(pass)?))
     }
 
-    /// As `try_pull`, by a user that knows something of the pool: its pull stands after all that the note knew.
+    /// Pulls as `try_pull` does, by a user that knows something of the pool. The pull comes after
+    /// all that the note knew.
     ///
     /// # Errors
     ///
@@ -199,14 +245,15 @@ impl<T: Drop, I: Init<T, K>, R: Reset<T, K>, K: Clean<T>> FixedObjectPool<T, I, 
         Ok(FixedReusable::new(self, pulled))
     }
 
-    /// A note of this pool, which knows its history up to now.
+    /// Returns a note of this pool, which knows some prefix of its history.
     pub fn note(&self) -> PoolNote<T>
         ensures { IsNoteOf (pool_identity self.now) (pool_opening self.now) result }
     {
         self.items.shared.note()
     }
 
-    /// Tells a note what a witness knows. The histories of both are prefixes of one.
+    /// Adds what a witness knows to what a note knows. Afterwards both their histories are prefixes
+    /// of the note's.
     pub fn tell(&self, note: &mut PoolNote<T>, other: Witness<T>)
         requires note { note_page note.old ≡ pool_identity self.now }
         requires other { witness_page other ≡ pool_identity self.now }
@@ -215,11 +262,12 @@ impl<T: Drop, I: Init<T, K>, R: Reset<T, K>, K: Clean<T>> FixedObjectPool<T, I, 
         self.items.shared.tell(note, other);
     }
 
-    /// As `pull`, with a reusable that owns the pool with others. The pool's owners grow by one before an item is taken.
+    /// Pulls as `pull` does. The reusable owns the pool with others: it becomes one more owner
+    /// before an item is taken.
     ///
     /// # Errors
     ///
-    /// `Memory`, where the pool can have no more owners; `Limit`, as of `pull`.
+    /// `Limit`, as of `pull`, and `Memory` if the pool can have no more owners.
     pub fn pull_owned(self: &Arc<Self>) -> Result<FixedOwnedReusable<T, I, R, K>, PullError>
         ensures pool { IfOk result (λ item. arc_value (reusable_pool item) ≡ arc_value self.now) }
         ensures pulled { IfOk result (λ item.
@@ -240,13 +288,14 @@ impl<T: Drop, I: Init<T, K>, R: Reset<T, K>, K: Clean<T>> FixedObjectPool<T, I, 
         Ok(FixedOwnedReusable::new(owner, pulled))
     }
 
-    /// As `pull_near`, by an owner of the pool that has a note of it. The reusable takes over both, so the owners stay as many as they
-    /// are and nothing is counted, and its pull stands after all that the note knew. `give_back_with_owner` hands both out again.
+    /// Pulls as `pull_near` does, by an owner of the pool that has a note of it. The reusable takes
+    /// over both, so no owner is counted, and the pull comes after all that the note knew.
+    /// `give_back_with_owner` hands both out again.
     ///
     /// # Errors
     ///
-    /// The owner and the note, which now knows that the pool was full at one moment of this call (or that so many returns
-    /// came within it as `pull` says).
+    /// The owner and the note, which now knows that the pool was full at one moment of this call
+    /// (or that so many returns came within it as `pull` says).
     pub fn pull_by_owner(
         self: Arc<Self>,
         page: usize,
@@ -277,7 +326,7 @@ impl<T: Drop, I: Init<T, K>, R: Reset<T, K>, K: Clean<T>> FixedObjectPool<T, I, 
         }
     }
 
-    /// Resets the value of an item and brings it back.
+    /// Resets the value of an item and returns it.
     pub(crate) fn give(&self, holding: Holding<T>, value: T) -> PoolNote<T>
         requires of_pool { holding_page holding ≡ pool_identity self.now }
         requires in_pool { holding.number < pool_items self.now }

@@ -1,5 +1,5 @@
-//! A value that was pulled from a fixed pool, under a borrow of the pool or with an owner of it.
-ghost use Rattle.std.specs.Prelude.{◌≡◌, ◌<◌, ◌/◌, ◌%◌};
+//! A value that was pulled from a fixed pool, with a borrow or an owner of the pool.
+ghost use Rattle.std.specs.Prelude.{◌≡◌, ◌≢◌, ◌<◌, ◌/◌, ◌%◌};
 ghost use Rattle.std.specs.Arc.{arc_value};
 ghost use Rattle.atomic_table.specs.Seated.{TableId};
 ghost use Rattle.nonblocking_pools.specs.FixedPool.{pool_identity, pool_reset};
@@ -17,9 +17,10 @@ use std::marker::Model;
 use std::ops::{Deref, DerefMut};
 use std::sync::Arc;
 
-/// A fixed pool as each of its reusables has it: by a borrow, or with an owner.
+/// A fixed pool as a reusable has it: by a borrow or with an owner.
 pub trait SharedFixedPool<T>: Drop {
     ghost use Rattle.nonblocking_pools.specs.FixedAnswer.{IsGivenBack};
+    ghost use Rattle.pool_parts.specs.Meeting.{HoldsSame};
     ghost use Rattle.pool_parts.specs.Note.{witness_page, witness_history};
 
     /// Which pool it is.
@@ -37,7 +38,15 @@ pub trait SharedFixedPool<T>: Drop {
         ensures same_view { holding_view holding.new ≡ holding_view holding.old }
         ensures same_number { holding.new.number ≡ holding.old.number };
 
-    /// Resets the value of an item and brings it back.
+    /// Finds that two holders have two items.
+    fn are_two(&self, one: &mut Holding<T>, other: &mut Holding<T>)
+        requires one { holding_page one.old ≡ identity self.now }
+        requires other { holding_page other.old ≡ identity self.now }
+        ensures differ { one.old.number ≢ other.old.number }
+        ensures same_one { HoldsSame one.old one.new }
+        ensures same_other { HoldsSame other.old other.new };
+
+    /// Resets the value of an item and returns it.
     fn give(&self, holding: Holding<T>, value: T) -> PoolNote<T>
         requires of_pool { holding_page holding ≡ identity self.now }
         requires in_pool { holding.number < (identity self.now).slots }
@@ -54,6 +63,10 @@ impl<T: Drop, I: Init<T, K>, R: Reset<T, K>, K: Clean<T>> SharedFixedPool<T>
 
     fn witness(&self, holding: &mut Holding<T>) -> Witness<T> {
         holding.witness(&self.items.shared)
+    }
+
+    fn are_two(&self, one: &mut Holding<T>, other: &mut Holding<T>) {
+        self.items.shared.are_two(one, other)
     }
 
     fn give(&self, holding: Holding<T>, value: T) -> PoolNote<T>
@@ -76,6 +89,10 @@ impl<T: Drop, I: Init<T, K>, R: Reset<T, K>, K: Clean<T>> SharedFixedPool<T>
 
     fn witness(&self, holding: &mut Holding<T>) -> Witness<T> {
         holding.witness(&self.items.shared)
+    }
+
+    fn are_two(&self, one: &mut Holding<T>, other: &mut Holding<T>) {
+        (**self).items.shared.are_two(one, other)
     }
 
     fn give(&self, holding: Holding<T>, value: T) -> PoolNote<T>
@@ -109,14 +126,22 @@ impl<T, P: SharedFixedPool<T>> Model for TakenItem<T, P> {
         × (taken.holding.number < (P.identity taken.pool).slots) };
 }
 
-/// A pulled value, with a shared pool. Its drop resets it and brings it back to the pool.
+/// A pulled value, with a shared pool. Its drop resets it and returns it to the pool.
 pub struct FixedReusableOf<T: Drop, P: SharedFixedPool<T>> {
     lender: Lender,
     taken: TakenItem<T, P>,
     value: T,
 }
 
-/// A pulled value, under a borrow of its pool. Its drop resets it and brings it back.
+/// A pulled value, with a borrow of its pool. Its drop resets it and returns it.
+///
+/// # Examples
+///
+/// ```rust
+/// let mut item = pool.pull()?; // takes no memory
+/// *item = 5;
+/// drop(item); // the value is 0 again, and in the pool
+/// ```
 pub type FixedReusable<'p, T, I, R, K = AnyValue> = FixedReusableOf<
     T,
     &'p FixedObjectPool<T, I, R, K>,
@@ -147,7 +172,7 @@ impl<T: Drop, P: SharedFixedPool<T>> FixedReusableOf<T, P> {
         }
     }
 
-    /// The number of the item in its pool, counted from 0.
+    /// Returns the number of the item in its pool, counted from 0.
     pub fn number(&self) -> usize
         ensures value { result ≡ (reusable_item self.now).id }
         ensures in_pool { result < (P.identity (reusable_pool self.now)).slots }
@@ -156,14 +181,14 @@ impl<T: Drop, P: SharedFixedPool<T>> FixedReusableOf<T, P> {
         self.taken.holding.number
     }
 
-    /// The number of the item's page in the pool, counted from 0.
+    /// Returns the number of the item's page in the pool, counted from 0.
     pub fn page_number(&self) -> usize
         ensures { result ≡ (reusable_item self.now).id / 32 }
     {
         self.taken.holding.number / PAGE_ITEMS
     }
 
-    /// The number of the item in its page.
+    /// Returns the number of the item in its page.
     pub fn page_id(&self) -> PageId
         ensures value { result ≡ (reusable_item self.now).id % 32 }
         ensures in_page { result < PAGE_ITEMS }
@@ -171,7 +196,7 @@ impl<T: Drop, P: SharedFixedPool<T>> FixedReusableOf<T, P> {
         (self.taken.holding.number % PAGE_ITEMS) as PageId
     }
 
-    /// What the holder knows of the pool, for another to be told. It costs one load.
+    /// Returns what the holder knows of the pool, for another user. It costs one load.
     pub fn witness(&mut self) -> Witness<T>
         ensures pool { witness_page result ≡ (reusable_item self.old).page }
         ensures history { witness_history result ≡ (reusable_item self.old).history }
@@ -182,7 +207,24 @@ impl<T: Drop, P: SharedFixedPool<T>> FixedReusableOf<T, P> {
         taken.pool.witness(&mut taken.holding)
     }
 
-    /// Resets the value and brings it back, as the end does. The note knows the pool's history up to this return.
+    /// Ensures that this item and another that is held of the pool are two: their numbers differ.
+    ///
+    /// It costs seven loads, and changes neither item.
+    pub fn differs_from<Q: SharedFixedPool<T>>(&mut self, other: &mut FixedReusableOf<T, Q>)
+        requires pool { (reusable_item other.old).page ≡ (reusable_item self.old).page }
+        ensures differ { (reusable_item self.old).id ≢ (reusable_item other.old).id }
+        ensures same_item { reusable_item self.new ≡ reusable_item self.old }
+        ensures same_pool { reusable_pool self.new ≡ reusable_pool self.old }
+        ensures same_other { reusable_item other.new ≡ reusable_item other.old }
+        ensures same_others_pool { reusable_pool other.new ≡ reusable_pool other.old }
+    {
+        let taken = &mut self.taken;
+        let other = &mut other.taken;
+        taken.pool.are_two(&mut taken.holding, &mut other.holding);
+    }
+
+    /// Resets the value and returns it, as the drop does. The note knows the pool's history up to
+    /// this return.
     pub fn give_back(self) -> PoolNote<T>
         ensures { IsGivenBack (P.leaves (reusable_pool self)) (reusable_item self) result }
     {
@@ -195,14 +237,15 @@ impl<T: Drop, P: SharedFixedPool<T>> FixedReusableOf<T, P> {
         pool.give(holding, value)
     }
 
-    /// The borrow or the owner of the pool that the reusable keeps.
+    /// Returns the borrow or the owner of the pool that the reusable keeps.
     pub fn owner(&self) -> &P
         ensures { result.now ≡ reusable_pool self.now }
     {
         &self.taken.pool
     }
 
-    /// As `give_back`, which hands out the borrow or the owner of the pool too.
+    /// Returns the value as `give_back` does, and hands out the borrow or the owner of the pool
+    /// too.
     pub fn give_back_with_owner(self) -> (P, PoolNote<T>)
         ensures owner { result.0 ≡ reusable_pool self }
         ensures given_back { IsGivenBack (P.leaves (reusable_pool self))

@@ -1,6 +1,7 @@
 //! Object pools that never wait: a used object is kept and handed out again.
 //!
-//! A program that isn't allowed to wait takes this crate. `lockfree_object_pool`, above it, has the pools behind a lock too.
+//! A program that isn't allowed to wait uses this crate. `lockfree_object_pool`, above it, has the
+//! pools under a lock too.
 #![tactic(auto)]
 
 pub mod fixed_object_pool;

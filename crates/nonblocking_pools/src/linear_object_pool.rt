@@ -1,7 +1,8 @@
 //! A pool over a chain of pages: threads pull and return without a lock.
 //!
-//! A pull takes a free item of the first page, or of a page that a hint names, or of the first page that has one, and makes a
-//! page where each one was full. No pull and no return waits for another thread.
+//! A pull takes a free item of the first page, or of a page that a hint names, or of the first page
+//! along the links that has one. If each page was full it makes a further page. No pull and no
+//! return waits for another thread.
 ghost use Rattle.std.specs.Prelude.{◌≡◌, ◌≤◌, ◌<◌, Option, None, Some, IfOk, IfErr};
 ghost use Rattle.std.specs.Arc.{arc_value};
 
@@ -22,7 +23,8 @@ use std::sync::Arc;
 mod answer_of;
 mod page_limit;
 
-/// Why [`LinearObjectPool::try_pull`] has no item: each page up to the pool's limit was found full, or no further page could be made.
+/// Why [`LinearObjectPool::try_pull`] took no item: each page up to the pool's limit was found
+/// full, or no further page could be made.
 pub type LinearRefusal<'p, T, I, R, K = AnyValue> = WalkRefusal<
     'p,
     T,
@@ -30,16 +32,19 @@ pub type LinearRefusal<'p, T, I, R, K = AnyValue> = WalkRefusal<
     AnswerOf<I, K>,
 >;
 
-/// What [`LinearObjectPool::try_pull`] answers.
+/// The result of [`LinearObjectPool::try_pull`].
 pub type LinearPulled<'s, 'p, T, I, R, K = AnyValue> = Result<
     LinearReusable<'s, T, I, R, K>,
     LinearRefusal<'p, T, I, R, K>,
 >;
 
-/// A pool whose items lie in pages of 32: a page is made at first, and one more where each is full.
+/// A pool whose items lie in pages of 32. It opens with one page, and makes a further one if each
+/// page is full.
+///
+/// # Examples
 ///
 /// ```rust
-/// let pool: LinearObjectPool<u32, _, _> = LinearObjectPool::new(alloc, Copied::new(0), Copied::new(0))?;
+/// let pool = LinearObjectPool::<u32, _, _>::new(alloc, Copied::new(0), Copied::new(0))?;
 /// let mut item = pool.pull()?;
 /// *item = 5;
 /// drop(item); // the value is 0 again, and in the pool
@@ -51,7 +56,8 @@ pub struct LinearObjectPool<T, I: Init<T, K>, R: Reset<T, K>, K: Clean<T> = AnyV
     limit: Option<PageLimit>,
 }
 
-/// Not derived: the proof of a caller that drops it has one call here, and a derived drop has that of each field.
+/// Not derived: the proof of a caller that drops it has one call here, and a derived drop has that
+/// of each field.
 impl<T: Drop, I: Init<T, K>, R: Reset<T, K>, K: Clean<T>> Drop for LinearObjectPool<T, I, R, K> {
     fn drop(self) {
         let LinearObjectPool {
@@ -74,11 +80,17 @@ impl<T: Drop, I: Init<T, K>, R: Reset<T, K>, K: Clean<T>> LinearObjectPool<T, I,
     ghost use Rattle.pool_parts.specs.Refusal.{RefusesMaking, RefusesPull};
     ghost use Rattle.pool_parts.specs.Slot.{slot_item};
 
-    /// A pool of one page, which grows by a page where each is full.
+    /// Creates a pool of one page, which grows by a page if each is full.
     ///
     /// # Errors
     ///
     /// `Memory`, or `Init` at the first `None`. The items that were made are dropped.
+    ///
+    /// # Examples
+    ///
+    /// ```rust
+    /// let pool = LinearObjectPool::<u32, _, _>::new(alloc, Copied::new(0), Copied::new(0))?;
+    /// ```
     pub fn new(alloc: Global, init: I, reset: R) -> Result<LinearObjectPool<T, I, R, K>, PullError>
         ensures init { IfOk result (λ pool. pool_init pool ≡ init) }
         ensures reset { IfOk result (λ pool. pool_reset pool ≡ reset) }
@@ -88,11 +100,18 @@ impl<T: Drop, I: Init<T, K>, R: Reset<T, K>, K: Clean<T>> LinearObjectPool<T, I,
         LinearObjectPool::with_page_limit(alloc, init, reset, None)
     }
 
-    /// A pool of one page, which grows to `pages` pages at most.
+    /// Creates a pool of one page, which grows to at most `pages` pages.
     ///
     /// # Errors
     ///
     /// As `new`.
+    ///
+    /// # Examples
+    ///
+    /// ```rust
+    /// // at most 64 items
+    /// let pool = LinearObjectPool::<u32, _, _>::with_limit(alloc, Copied::new(0), Keep, 2)?;
+    /// ```
     pub fn with_limit(
         alloc: Global,
         init: I,
@@ -129,7 +148,7 @@ impl<T: Drop, I: Init<T, K>, R: Reset<T, K>, K: Clean<T>> LinearObjectPool<T, I,
         })
     }
 
-    /// How many pages the pool may have, where it has a limit.
+    /// Returns how many pages the pool may have, if it has a limit.
     pub fn limit(&self) -> Option<usize>
         ensures { result ≡ pool_limit self.now }
     {
@@ -137,17 +156,18 @@ impl<T: Drop, I: Init<T, K>, R: Reset<T, K>, K: Clean<T>> LinearObjectPool<T, I,
         Some(*pages)
     }
 
-    /// A free item, which no one else has until it is dropped. No call waits for another thread.
+    /// Pulls a free item, which nobody else has until it is dropped. It waits for no other thread.
     ///
-    /// The first page is asked, then one that a hint names, then each page in turn; of a page the lowest free item comes.
+    /// It asks the first page, then one that a hint names, then each page in turn. Of a page it
+    /// takes the lowest free item.
     ///
-    /// A hint word stands for 64 pages. A pull that finds no hint asks each linked page, so that the making of many pages costs their
-    /// number squared; who links page `2^b` also makes the links of as many pages.
+    /// A pull that finds no hint asks each linked page, so making many pages costs the square of
+    /// their number. The call that links page `2^b` also makes the links of as many pages.
     ///
     /// # Errors
     ///
-    /// `Limit`, where each item of as many pages as the limit allows was observed taken in this call. Where a page is made:
-    /// `Memory`, or `Init` at the first `None`; no page is linked in part then.
+    /// - `Limit` if each item of as many pages as the limit allows was seen in use in this call.
+    /// - `Memory`, or `Init` at the first `None`, if it has to make a page. Then no page is linked.
     pub fn pull(&self) -> Result<LinearReusable<'_, T, I, R, K>, PullError>
         ensures pool { IfOk result (λ item. reusable_pool item ≡ self.now) }
         ensures pulled { IfOk result (λ item.
@@ -164,12 +184,12 @@ impl<T: Drop, I: Init<T, K>, R: Reset<T, K>, K: Clean<T>> LinearObjectPool<T, I,
         }
     }
 
-    /// As `pull`, which shows what it found if it has no item.
+    /// Pulls as `pull` does, and shows what it found if it took no item.
     ///
     /// # Errors
     ///
-    /// `Limit`, with the evidence that each page up to the limit was full during this call; or `Making`, with the reason why no
-    /// further page could be made.
+    /// - `Limit`, with the evidence that each page up to the limit was full during this call.
+    /// - `Making`, with the reason why no further page could be made.
     pub fn try_pull<'s, 'p>(&'s self, pass: &'p PullPass) -> LinearPulled<'s, 'p, T, I, R, K>
         ensures pool { IfOk result (λ item. reusable_pool item ≡ self.now) }
         ensures pulled { IfOk result (λ item.
@@ -194,8 +214,8 @@ impl<T: Drop, I: Init<T, K>, R: Reset<T, K>, K: Clean<T>> LinearObjectPool<T, I,
         }
     }
 
-    /// As `try_pull`, by a user that knows something of the first page: where its item is of that page, the pull stands after all
-    /// that the note knew.
+    /// Pulls as `try_pull` does, by a user that knows something of the first page. If its item is
+    /// of that page, the pull comes after all that the note knew.
     ///
     /// # Errors
     ///
@@ -229,11 +249,12 @@ impl<T: Drop, I: Init<T, K>, R: Reset<T, K>, K: Clean<T>> LinearObjectPool<T, I,
         }
     }
 
-    /// As `pull`, with a reusable that owns the pool with others. The pool's owners grow by one before an item is taken.
+    /// Pulls as `pull` does. The reusable owns the pool with others: it becomes one more owner
+    /// before an item is taken.
     ///
     /// # Errors
     ///
-    /// As `pull`; `Memory` too where the pool can have no more owners.
+    /// As `pull`, and `Memory` if the pool can have no more owners.
     pub fn pull_owned(self: &Arc<Self>) -> Result<LinearOwnedReusable<T, I, R, K>, PullError>
         ensures pool { IfOk result (λ item. owned_pool item ≡ arc_value self.now) }
         ensures pulled { IfOk result (λ item.
@@ -254,7 +275,7 @@ impl<T: Drop, I: Init<T, K>, R: Reset<T, K>, K: Clean<T>> LinearObjectPool<T, I,
         }
     }
 
-    /// The item of a pull that found the first page full, and its page's number.
+    /// Pulls on after the first page was found full. It returns the item with its page's number.
     #[inline]
     fn pull_further<'s, 'p>(
         &'s self,

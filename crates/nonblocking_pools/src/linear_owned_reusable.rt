@@ -16,7 +16,8 @@ use std::fmt::{self, Debug, Formatter, Write};
 use std::ops::{Deref, DerefMut};
 use std::sync::Arc;
 
-/// An item that was taken by an owner of its pool, without its value. Its page is found by the page's number.
+/// An item that was taken by an owner of its pool, without its value. Its page is found by the
+/// page's number.
 #[derive(Drop)]
 pub(crate) struct OwnedTakenItem<T: Drop, I: Init<T, K>, R: Reset<T, K>, K: Clean<T>> {
     pool: Arc<LinearObjectPool<T, I, R, K>>,
@@ -27,7 +28,16 @@ pub(crate) struct OwnedTakenItem<T: Drop, I: Init<T, K>, R: Reset<T, K>, K: Clea
     ghost in_page: { holding.number < PAGE_ITEMS },
 }
 
-/// A pulled value. Its drop resets it and brings it back to its page.
+/// A pulled value. Its drop resets it and returns it to its page.
+///
+/// # Examples
+///
+/// ```rust
+/// let pool = Arc::new(alloc, pool)?;
+/// let mut item = pool.pull_owned()?;
+/// drop(pool); // the item keeps the pool alive
+/// *item = 5;
+/// ```
 pub struct LinearOwnedReusable<T: Drop, I: Init<T, K>, R: Reset<T, K>, K: Clean<T> = AnyValue> {
     taken: OwnedTakenItem<T, I, R, K>,
     value: T,
@@ -60,14 +70,14 @@ impl<T: Drop, I: Init<T, K>, R: Reset<T, K>, K: Clean<T>> LinearOwnedReusable<T,
         }
     }
 
-    /// The number of the item's page in the pool, counted from 0.
+    /// Returns the number of the item's page in the pool, counted from 0.
     pub fn page_number(&self) -> usize
         ensures { result ≡ owned_number self.now }
     {
         self.taken.number.get()
     }
 
-    /// What the holder knows of the item's page, for another to be told. It costs one load.
+    /// Returns what the holder knows of the item's page, for another user. It costs one load.
     pub fn witness(&mut self) -> Witness<T>
         ensures page { witness_page result ≡ (owned_item self.old).page }
         ensures history { witness_history result ≡ (owned_item self.old).history }
@@ -80,7 +90,7 @@ impl<T: Drop, I: Init<T, K>, R: Reset<T, K>, K: Clean<T>> LinearOwnedReusable<T,
         taken.holding.witness_of(page)
     }
 
-    /// A note of the item's page, by a user that did nothing. It costs one load.
+    /// Returns a note of the item's page, by a user that did nothing. It costs one load.
     ///
     /// It knows some prefix of the page's history; which one, no contract can say.
     pub fn note(&mut self) -> PageNote<T>
@@ -94,7 +104,8 @@ impl<T: Drop, I: Init<T, K>, R: Reset<T, K>, K: Clean<T>> LinearOwnedReusable<T,
         page.note()
     }
 
-    /// Adds what a witness knows of the item's page to what a note knows. Afterwards the note's history has both histories as prefixes.
+    /// Adds what a witness knows of the item's page to what a note knows. Afterwards both their
+    /// histories are prefixes of the note's.
     pub fn tell(&mut self, note: &mut PageNote<T>, other: Witness<T>)
         requires note { note_page note.old ≡ (owned_item self.old).page }
         requires other { witness_page other ≡ (owned_item self.old).page }
@@ -108,7 +119,8 @@ impl<T: Drop, I: Init<T, K>, R: Reset<T, K>, K: Clean<T>> LinearOwnedReusable<T,
         page.tell(note, other);
     }
 
-    /// Resets the value and brings it back, as the drop does. The note knows the page's history up to this return.
+    /// Resets the value and returns it, as the drop does. The note knows the page's history up to
+    /// this return.
     #[inline(always)]
     pub fn give_back(self) -> PageNote<T>
         ensures { IsGivenBack (R.leaves (pool_reset (owned_pool self))) (owned_item self) result }
@@ -123,7 +135,7 @@ impl<T: Drop, I: Init<T, K>, R: Reset<T, K>, K: Clean<T>> LinearOwnedReusable<T,
         pool.chain.free(number, holding, value)
     }
 
-    /// The number of the item in its page.
+    /// Returns the number of the item in its page.
     pub fn page_id(&self) -> PageId
         ensures value { result ≡ (owned_item self.now).id }
         ensures in_page { result < PAGE_ITEMS }

@@ -1,5 +1,5 @@
-//! A value that was pulled from a linear pool, under a borrow of the pool.
-ghost use Rattle.std.specs.Prelude.{◌≡◌, ◌<◌};
+//! A value that was pulled from a linear pool, with a borrow of the pool.
+ghost use Rattle.std.specs.Prelude.{◌≡◌, ◌≢◌, ◌<◌};
 ghost use Rattle.pool_parts.specs.declared.page.TheConstants.{PAGE_ITEMS};
 
 use crate::linear_object_pool::{AnswerOf, LinearObjectPool};
@@ -12,7 +12,15 @@ use pool_parts::page::{PageId, PageNote, PageSlot, Returned, TakenId, Witness};
 use std::fmt::{self, Debug, Formatter, Write};
 use std::ops::{Deref, DerefMut};
 
-/// A pulled value. Its drop resets it and brings it back to its page.
+/// A pulled value. Its drop resets it and returns it to its page.
+///
+/// # Examples
+///
+/// ```rust
+/// let mut item = pool.pull()?;
+/// *item = 5;
+/// drop(item); // the value is 0 again, and in the pool
+/// ```
 pub struct LinearReusable<'p, T: Drop, I: Init<T, K>, R: Reset<T, K>, K: Clean<T> = AnyValue> {
     pool: &'p LinearObjectPool<T, I, R, K>,
     lender: Lender,
@@ -46,14 +54,14 @@ impl<'p, T: Drop, I: Init<T, K>, R: Reset<T, K>, K: Clean<T>> LinearReusable<'p,
         }
     }
 
-    /// The number of the item's page in the pool, counted from 0.
+    /// Returns the number of the item's page in the pool, counted from 0.
     pub fn page_number(&self) -> usize
         ensures { result ≡ reusable_number self.now }
     {
         self.number.get()
     }
 
-    /// What the holder knows of the item's page, for another to be told. It costs one load.
+    /// Returns what the holder knows of the item's page, for another user. It costs one load.
     pub fn witness(&mut self) -> Witness<T>
         ensures page { witness_page result ≡ (reusable_item self.old).page }
         ensures history { witness_history result ≡ (reusable_item self.old).history }
@@ -64,7 +72,23 @@ impl<'p, T: Drop, I: Init<T, K>, R: Reset<T, K>, K: Clean<T>> LinearReusable<'p,
         self.taken.witness()
     }
 
-    /// A note of the item's page, by a user that did nothing. It costs one load.
+    /// Ensures that this item and another that is held of its page are two: their numbers differ.
+    ///
+    /// It costs seven loads, and changes neither item.
+    pub fn differs_from(&mut self, other: &mut LinearReusable<'_, T, I, R, K>)
+        requires page { (reusable_item other.old).page ≡ (reusable_item self.old).page }
+        ensures differ { (reusable_item self.old).id ≢ (reusable_item other.old).id }
+        ensures same_item { reusable_item self.new ≡ reusable_item self.old }
+        ensures same_pool { reusable_pool self.new ≡ reusable_pool self.old }
+        ensures same_page { reusable_page self.new ≡ reusable_page self.old }
+        ensures same_other { reusable_item other.new ≡ reusable_item other.old }
+        ensures same_others_pool { reusable_pool other.new ≡ reusable_pool other.old }
+        ensures same_others_page { reusable_page other.new ≡ reusable_page other.old }
+    {
+        self.taken.differs_from(&mut other.taken);
+    }
+
+    /// Returns a note of the item's page, by a user that did nothing. It costs one load.
     ///
     /// It knows some prefix of the page's history; which one, no contract can say.
     pub fn note(&self) -> PageNote<T>
@@ -73,7 +97,8 @@ impl<'p, T: Drop, I: Init<T, K>, R: Reset<T, K>, K: Clean<T>> LinearReusable<'p,
         self.taken.note()
     }
 
-    /// Adds what a witness knows of the item's page to what a note knows. Afterwards the note's history has both histories as prefixes.
+    /// Adds what a witness knows of the item's page to what a note knows. Afterwards both their
+    /// histories are prefixes of the note's.
     pub fn tell(&self, note: &mut PageNote<T>, other: Witness<T>)
         requires note { note_page note.old ≡ (reusable_item self.now).page }
         requires other { witness_page other ≡ (reusable_item self.now).page }
@@ -82,7 +107,8 @@ impl<'p, T: Drop, I: Init<T, K>, R: Reset<T, K>, K: Clean<T>> LinearReusable<'p,
         self.taken.tell(note, other);
     }
 
-    /// Resets the value and brings it back, as the drop does. The note knows the page's history up to this return.
+    /// Resets the value and returns it, as the drop does. The note knows the page's history up to
+    /// this return.
     #[inline]
     pub fn give_back(self) -> PageNote<T>
         ensures { IsGivenBack (R.leaves (pool_reset (reusable_pool self.entry)))
@@ -104,7 +130,7 @@ impl<'p, T: Drop, I: Init<T, K>, R: Reset<T, K>, K: Clean<T>> LinearReusable<'p,
         note
     }
 
-    /// The number of the item in its page.
+    /// Returns the number of the item in its page.
     pub fn page_id(&self) -> PageId
         ensures value { result ≡ (reusable_item self.now).id }
         ensures in_page { result < PAGE_ITEMS }

@@ -9,7 +9,9 @@ use pool_parts::PullError;
 use std::fmt::{self, Debug, Formatter, Write};
 use std::sync::Arc;
 
-/// A pool to compare other pools with. A closure makes its items, and nothing is asked of what a return leaves.
+/// A pool that keeps nothing, to compare other pools with. A closure makes its items.
+///
+/// # Examples
 ///
 /// ```rust
 /// let pool = NoneObjectPool::new(|| Some(0u32));
@@ -21,18 +23,24 @@ pub struct NoneObjectPool<T, I: Fn() -> Option<T>> {
 }
 
 impl<T, I: Fn() -> Option<T>> NoneObjectPool<T, I> {
-    /// A pool whose items this closure makes.
+    /// Creates a pool whose items this closure makes.
+    ///
+    /// # Examples
+    ///
+    /// ```rust
+    /// let pool = NoneObjectPool::new(|| Some(0u32));
+    /// ```
     pub fn new(init: I) -> NoneObjectPool<T, I>
         ensures { none_init result ≡ init }
     {
         NoneObjectPool { init }
     }
 
-    /// An item that was made now.
+    /// Makes an item.
     ///
     /// # Errors
     ///
-    /// `Init`, where `init` answers `None`.
+    /// `Init` if `init` returns `None`.
     pub fn pull(&self) -> Result<NoneReusable<T>, PullError>
         requires callable { I.pre (none_init self.now) }
         ensures made { IfOk result (λ item. I.post (none_init self.now) (Some (none_value item))) }
@@ -45,7 +53,8 @@ impl<T, I: Fn() -> Option<T>> NoneObjectPool<T, I> {
         }
     }
 
-    /// As `pull`, for a pool in an `Arc`. An item needs no owner of the pool, since it doesn't come back.
+    /// Makes an item as `pull` does, for a pool in an `Arc`. An item needs no owner of the pool,
+    /// since it isn't returned.
     ///
     /// # Errors
     ///

@@ -5,6 +5,13 @@ use std::fmt::{self, Debug, Formatter, Write};
 use std::ops::{Deref, DerefMut};
 
 /// A pulled value, which is dropped with it.
+///
+/// # Examples
+///
+/// ```rust
+/// let mut item = NoneReusable::new(5);
+/// *item = 6;
+/// ```
 #[derive(Drop)]
 pub struct NoneReusable<T> {
     value: T,
@@ -13,7 +20,13 @@ pub struct NoneReusable<T> {
 impl<T> NoneReusable<T> {
     ghost use Rattle.nonblocking_pools.specs.NonePool.{none_value};
 
-    /// A reusable of this value, of no pool.
+    /// Creates a reusable of this value, of no pool.
+    ///
+    /// # Examples
+    ///
+    /// ```rust
+    /// let mut item = NoneReusable::new(5);
+    /// ```
     pub fn new(value: T) -> NoneReusable<T>
         ensures { none_value result ≡ value }
     {

@@ -1,6 +1,6 @@
-//! Values that say themselves how they are made and reset, and the pools of them.
+//! Pools of types that define how they are made and reset.
 //!
-//! One impl of [`Recyclable`] is all that a type needs, and [`Pool`] and [`FixedPool`] name its pools.
+//! A type needs one impl of [`Recyclable`]. Its pools here are [`Pool`] and [`FixedPool`].
 ghost use Rattle.std.specs.Prelude.{◌≡◌, ◌≤◌, ⊤, [], None, Some, IfSome, IfOk, IfErr};
 
 use crate::fixed_object_pool::FixedObjectPool;
@@ -13,13 +13,34 @@ use pool_parts::PullError;
 use pool_parts::clean::Clean;
 use pool_parts::closures::{Init, Reset};
 use std::alloc::Global;
+use std::collections::{BTreeMap, HashMap, VecDeque};
+use std::hash::Hash;
 
 /// A value that can be used again once it is reset.
+///
+/// # Examples
+///
+/// ```rust
+/// impl Recyclable for Connection {
+///     ghost is_clean = { λ connection. connection.sent.items ≡ [] };
+///
+///     fn make(alloc: Global) -> Option<Connection> {
+///         Some(Connection {
+///             sent: Vec::with_capacity(alloc, 16).ok()?,
+///         })
+///     }
+///
+///     fn reset(&mut self) {
+///         self.sent.clear();
+///     }
+/// }
+/// ```
 pub trait Recyclable: Drop {
     /// Nothing of an earlier use is left in the value.
     ghost is_clean: { Self → Type 0 };
 
-    /// A new value, or `None` as a refusal, also for want of memory: a pull then answers `Init`.
+    /// Makes a value, or returns `None` as a refusal, also for want of memory. Then the pull is
+    /// refused with `Init`.
     fn make(alloc: Global) -> Option<Self>
         ensures { IfSome result is_clean };
 
@@ -56,14 +77,106 @@ impl Recyclable for String {
     }
 }
 
-/// Makes and resets the values of any [`Recyclable`] type. It is the condition of their pool too: a value is clean.
+/// A deque comes empty. Its room grows with its use and is kept.
+impl<X: Drop> Recyclable for VecDeque<X> {
+    ghost is_clean = { λ deque. deque.items ≡ [] };
+
+    fn make(alloc: Global) -> Option<VecDeque<X>> {
+        Some(VecDeque::new(alloc))
+    }
+
+    fn reset(&mut self) {
+        self.clear();
+    }
+}
+
+/// A map comes empty. Its room grows with its use and is kept.
+impl<X: Eq + Hash + Drop, Y: Drop> Recyclable for HashMap<X, Y> {
+    ghost use Rattle.std.specs.HashMap.{IsEmpty};
+
+    ghost is_clean = { λ map. IsEmpty map };
+
+    fn make(alloc: Global) -> Option<HashMap<X, Y>> {
+        Some(HashMap::new(alloc))
+    }
+
+    fn reset(&mut self) {
+        self.clear();
+    }
+}
+
+/// A map in order comes empty.
+impl<X: Ord + Drop, Y: Drop> Recyclable for BTreeMap<X, Y> {
+    ghost use Rattle.std.specs.BTreeMap.{IsEmpty};
+
+    ghost is_clean = { λ map. IsEmpty map };
+
+    fn make(alloc: Global) -> Option<BTreeMap<X, Y>> {
+        Some(BTreeMap::new(alloc))
+    }
+
+    fn reset(&mut self) {
+        self.clear();
+    }
+}
+
+/// An option comes empty.
+impl<X: Drop> Recyclable for Option<X> {
+    ghost is_clean = { λ option. option ≡ None };
+
+    fn make(_alloc: Global) -> Option<Option<X>> {
+        Some(None)
+    }
+
+    fn reset(&mut self) {
+        *self = None;
+    }
+}
+
+/// A box keeps its room. Its value is reset in place.
+impl<X: Recyclable> Recyclable for Box<X> {
+    ghost is_clean = { λ boxed. X.is_clean boxed.value };
+
+    fn make(alloc: Global) -> Option<Box<X>> {
+        Box::new(alloc, X::make(alloc)?).ok()
+    }
+
+    fn reset(&mut self) {
+        (**self).reset();
+    }
+}
+
+/// Both values of a pair are made and reset, the first one first.
+impl<X: Recyclable, Y: Recyclable> Recyclable for (X, Y) {
+    ghost is_clean = { λ pair. X.is_clean pair.0 × Y.is_clean pair.1 };
+
+    fn make(alloc: Global) -> Option<(X, Y)> {
+        let first = X::make(alloc)?;
+        let second = Y::make(alloc)?;
+        Some((first, second))
+    }
+
+    fn reset(&mut self) {
+        self.0.reset();
+        self.1.reset();
+    }
+}
+
+/// Makes and resets the values of any [`Recyclable`] type. It is the condition of their pool too: a
+/// value is clean.
+///
+/// # Examples
+///
+/// ```rust
+/// let pool = Pool::<Vec<u8>>::with_recycler(alloc)?;
+/// ```
 #[derive(Clone, Copy, Debug)]
 pub struct Recycler {
     alloc: Global,
 }
 
 impl Recycler {
-    /// Makes values by this allocator.
+    /// Creates a recycler whose values are made by this allocator.
     pub fn new(alloc: Global) -> Recycler {
         Recycler { alloc }
     }
@@ -86,23 +199,50 @@ impl<T: Recyclable> Reset<T, Recycler> for Recycler {
 }
 
 /// The linear pool of a [`Recyclable`] type.
+///
+/// # Examples
+///
+/// ```rust
+/// let pool = Pool::<Vec<u8>>::with_recycler(alloc)?;
+/// pool.pull()?.push(5)?; // its drop brings it back
+/// assert_eq!(rt; pool.pull()?.len(), 0);
+/// ```
 pub type Pool<T> = LinearObjectPool<T, Recycler, Recycler, Recycler>;
 
 /// A value that was pulled from a [`Pool`], under a borrow of it.
+///
+/// # Examples
+///
+/// ```rust
+/// pool.pull()?.push(5)?; // its drop brings it back
+/// ```
 pub type Reusable<'p, T> = LinearReusable<'p, T, Recycler, Recycler, Recycler>;
 
 /// A value that was pulled from a [`Pool`], with an owner of it.
+///
+/// # Examples
+///
+/// ```rust
+/// let pool = Arc::new(alloc, pool)?;
+/// let item = pool.pull_owned()?; // may go to any thread
+/// ```
 pub type OwnedReusable<T> = LinearOwnedReusable<T, Recycler, Recycler, Recycler>;
 
 impl<T: Recyclable> Pool<T> {
     ghost use Rattle.nonblocking_pools.specs.LinearPool.{pool_limit};
     ghost use Rattle.pool_parts.specs.Refusal.{RefusesMaking};
 
-    /// A pool of one page, which grows by a page where each is full.
+    /// Creates a pool of one page, which grows by a page if each is full.
     ///
     /// # Errors
     ///
     /// As [`LinearObjectPool::new`].
+    ///
+    /// # Examples
+    ///
+    /// ```rust
+    /// let pool = Pool::<Vec<u8>>::with_recycler(alloc)?;
+    /// ```
     pub fn with_recycler(alloc: Global) -> Result<Pool<T>, PullError>
         ensures limit { IfOk result (λ pool. pool_limit pool ≡ None) }
         ensures refused { IfErr result (RefusesMaking ⊤) }
@@ -111,11 +251,17 @@ impl<T: Recyclable> Pool<T> {
         LinearObjectPool::new(alloc, recycler, recycler)
     }
 
-    /// A pool of one page, which grows to so many pages of 32 values.
+    /// Creates a pool of one page, which grows to at most `pages` pages of 32 values.
     ///
     /// # Errors
     ///
     /// As [`LinearObjectPool::new`].
+    ///
+    /// # Examples
+    ///
+    /// ```rust
+    /// let pool = Pool::<Vec<u8>>::with_recycler_within(alloc, 2)?; // at most 64 vectors
+    /// ```
     pub fn with_recycler_within(alloc: Global, pages: usize) -> Result<Pool<T>, PullError>
         requires { 1 ≤ pages }
         ensures limit { IfOk result (λ pool. pool_limit pool ≡ Some pages) }
@@ -127,23 +273,49 @@ impl<T: Recyclable> Pool<T> {
 }
 
 /// The fixed pool of a [`Recyclable`] type: all its values are made at first.
+///
+/// # Examples
+///
+/// ```rust
+/// let pool = FixedPool::<Vec<u8>>::with_recycler(alloc, 8)?;
+/// ```
 pub type FixedPool<T> = FixedObjectPool<T, Recycler, Recycler, Recycler>;
 
 /// A value that was pulled from a [`FixedPool`], under a borrow of it.
+///
+/// # Examples
+///
+/// ```rust
+/// let pool = FixedPool::<Vec<u8>>::with_recycler(alloc, 8)?;
+/// assert_eq!(rt; pool.pull()?.len(), 0);
+/// ```
 pub type FixedPoolReusable<'p, T> = FixedReusable<'p, T, Recycler, Recycler, Recycler>;
 
 /// A value that was pulled from a [`FixedPool`], with an owner of it.
+///
+/// # Examples
+///
+/// ```rust
+/// let pool = Arc::new(alloc, pool)?;
+/// let item = pool.pull_owned()?; // may go to any thread
+/// ```
 pub type FixedPoolOwnedReusable<T> = FixedOwnedReusable<T, Recycler, Recycler, Recycler>;
 
 impl<T: Recyclable> FixedPool<T> {
     ghost use Rattle.nonblocking_pools.specs.FixedPool.{pool_items};
     ghost use Rattle.pool_parts.specs.Refusal.{RefusesMaking};
 
-    /// A pool of so many values.
+    /// Creates a pool of `items` values.
     ///
     /// # Errors
     ///
-    /// `Memory`, or `Init` where a value can't be made. The values that were made are dropped.
+    /// `Memory`, or `Init` if a value can't be made. The values that were made are dropped.
+    ///
+    /// # Examples
+    ///
+    /// ```rust
+    /// let pool = FixedPool::<Vec<u8>>::with_recycler(alloc, 8)?;
+    /// ```
     pub fn with_recycler(alloc: Global, items: usize) -> Result<FixedPool<T>, PullError>
         requires { 1 ≤ items }
         ensures items { IfOk result (λ pool. pool_items pool ≡ items) }

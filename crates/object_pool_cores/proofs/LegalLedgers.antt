@@ -1,5 +1,5 @@
--- What follows from a legal ledger: an operation is on a number with which the pool opened, further numbers may come,
--- and what is out has a holder.
+-- What follows from a legal ledger: an operation is on a number with which the pool opened, further
+-- numbers may come, and what is out has a holder.
 use Rattle.std.proofs.Common.{◌≡◌, ◌≢◌, inl, inr, ℕ, ◌<◌, ◌≤◌, ◌==◌, Bool, true, false, if◌then◌else◌, Option, Some}
 use Rattle.std.proofs.Common.{None, List, [], ◌∷◌, ◌++◌, length, get_or, refl, ap, sym, ◌∙◌}
 use Rattle.std.proofs.lemmas.Bool.{cases_eq, cases_lt}

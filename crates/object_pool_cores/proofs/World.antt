@@ -15,5 +15,6 @@ pub mod Reachable
 pub mod RunsEvents
 pub mod Solo
 pub mod SoloSteps
+pub mod StepBounds
 pub mod ValueSteps
 pub mod WordSteps

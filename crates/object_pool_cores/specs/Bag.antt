@@ -17,7 +17,8 @@ module _ {T : Type 0} where
     pub without : small ≡ front ++ back
     pub within : large ≡ front ++ v ∷ back
 
-  -- the value is an answer of init: given only where none is kept; further answers may enter the bag
+  -- the value is an answer of init: given only where none is kept; further answers may enter the
+  -- bag
   pub record IsFresh (answers : Option T → Type 0) (old : List T) (v : T) (new : List T) : Type 0 where
     pub none : old ≡ []
     pub answer : answers (Some v)

@@ -1,4 +1,5 @@
--- What an engine read and wrote: the replies of its commands on a new pool of numbers. Begin with `Ends`, at the end.
+-- What an engine read and wrote: the replies of its commands on a new pool of numbers. Begin with
+-- `Ends`, at the end.
 use Rattle.std.specs.Prelude.{◌≡◌, ◌≤◌, ℕ, Option, Some, None, List, [], Result, Err, OnOk, replicate, ⊤}
 use Rattle.std.specs.Io.KnownBytes.{Consumes, IsAtEnd}
 use Rattle.pool_parts.specs.declared.pull_error.PullError.{PullError}
@@ -45,7 +46,8 @@ pub record IsFirst (first : Playing (Pool ℕ) ℕ) : Type 0 where
   pub pool : IsSame first.pool (opening (replicate PAGE_ITEMS 0))
   pub held : first.held ≡ []
 
--- a statement about the three steps of a pool, and about the pool and the table with which a play begins
+-- a statement about the three steps of a pool, and about the pool and the table with which a play
+-- begins
 abbrev pub Telling : Type 1
 Telling = (P : Type 0) → (P → Result (Item ℕ) PullError → P → Type 0) → (P → Item ℕ → P → Type 0)
     → (P → ℕ → Result (Item ℕ) (AttachError ℕ) → P → Type 0) → Playing P ℕ → Type 0
@@ -56,8 +58,8 @@ module _ (leaves : ℕ → ℕ → Type 0) where
   OnLinear limit tells = (first : Playing (Pool ℕ) ℕ) × IsFirst first
       × tells (Pool ℕ) (PullsItem limit makes_zero) (ReturnsItem leaves) RefusesAttach first
 
-  -- the statement holds of the pool of a kind: the stack begins with nothing kept, and without a pool each item is
-  -- fresh
+  -- the statement holds of the pool of a kind: the stack begins with nothing kept, and without a
+  -- pool each item is fresh
   abbrev pub OnKind : Kind → Telling → Type 0
   OnKind kind.Linear tells = OnLinear None tells
   OnKind (kind.Bounded pages) tells = OnLinear (Some pages) tells

@@ -1,4 +1,5 @@
--- What the types of the code show and keep: views and invariants. A theorem is stated in the files beside this folder.
+-- What the types of the code show and keep: views and invariants. A theorem is stated in the files
+-- beside this folder.
 pub mod Buffered
 pub mod EngineCore
 pub mod HeldTable

@@ -25,7 +25,8 @@ module _ {T : Type 0} where
 
 -- From here on, `answers` says what `init` may answer.
 module _ {T : Type 0} (limit : Option ℕ) (answers : Option T → Type 0) where
-  -- where no number is free, a growth by answers of init comes first, and then the least number is pulled
+  -- where no number is free, a growth by answers of init comes first, and then the least number is
+  -- pulled
   pub record GrowsFirst (old : Pool T) (n : ℕ) (v : T) (new : Pool T) : Type 0 where
     pub exhausted : IsExhausted old
     pub values : List T

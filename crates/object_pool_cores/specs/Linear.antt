@@ -1,4 +1,5 @@
--- The steps of the linear core, by the pool that it stands for: a pull by least choice, and a return.
+-- The steps of the linear core, by the pool that it stands for: a pull by least choice, and a
+-- return.
 use Rattle.std.specs.Prelude.{◌≡◌, ℕ, ◌+◌, ◌-◌, ◌/◌, ◌≤◌, min, Option, Some, IfSome, List, Result, slice_get}
 use Rattle.pool_parts.specs.declared.pull_error.PullError.{PullError}
 use Rattle.object_pool_cores.specs.declared.sequential.item.Item.{Item}
@@ -29,38 +30,39 @@ module _ {T I R K : Type 0} where
   start_page_of core = core.items.start
 
   -- what makes the values of a core
-  abbrev pub init_of : LinearCore T I R K → I
-  init_of core = core.init
+  abbrev pub linear_init : LinearCore T I R K → I
+  linear_init core = core.init
 
   -- what resets the values that are returned to it
-  abbrev pub reset_of : LinearCore T I R K → R
-  reset_of core = core.reset
+  abbrev pub linear_reset : LinearCore T I R K → R
+  linear_reset core = core.reset
 
   -- both stand for pools within the limit, and what makes and resets their values stays
-  pub record IsStep (old new : LinearCore T I R K) : Type 0 where
+  pub record IsLinearStep (old new : LinearCore T I R K) : Type 0 where
     pub before : IsPool (limit_of old) (core_pool old)
     pub after : IsPool (limit_of new) (core_pool new)
     pub limit : limit_of new ≡ limit_of old
-    pub init : init_of new ≡ init_of old
-    pub reset : reset_of new ≡ reset_of old
+    pub init : linear_init new ≡ linear_init old
+    pub reset : linear_reset new ≡ linear_reset old
 
   -- the number of an item is out
   abbrev pub IsOutOf : LinearCore T I R K → Item T → Type 0
   IsOutOf core item = (n : ℕ) × (item_number item ≡ Some n) × IsOut (core_pool core) n
 
   -- a pull is by least choice
-  pub record Pulls (answers : Option T → Type 0) (old : LinearCore T I R K)
+  pub record LinearPulls (answers : Option T → Type 0) (old : LinearCore T I R K)
       (answer : Result (Item T) PullError) (new : LinearCore T I R K) : Type 0 where
-    pub step : IsStep old new
+    pub step : IsLinearStep old new
     pub pulled : PullsItem (limit_of old) answers (core_pool old) answer (core_pool new)
 
   -- a return leaves at the item's number what reset may make of its value
-  pub record Gives (leaves : T → T → Type 0) (old : LinearCore T I R K) (item : Item T)
+  pub record LinearGives (leaves : T → T → Type 0) (old : LinearCore T I R K) (item : Item T)
       (new : LinearCore T I R K) : Type 0 where
-    pub step : IsStep old new
+    pub step : IsLinearStep old new
     pub returned : ReturnsItem leaves (core_pool old) item (core_pool new)
 
-  -- a pull that took an item probed each page from its start up to the item's, where the next pull starts
+  -- a pull that took an item probed each page from its start up to the item's, where the next pull
+  -- starts
   pub record ProbesUpTo (old : LinearCore T I R K) (item : Item T) (new : LinearCore T I R K) : Type 0 where
     pub onward : start_page_of old ≤ start_page_of new
     pub stops : IfSome (item_number item) (λ n. start_page_of new ≡ n / PAGE_ITEMS)

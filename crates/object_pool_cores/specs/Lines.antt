@@ -9,7 +9,8 @@ ended line = line ++ 10 ∷ []
 abbrev pub HasNoLineFeed : List ℕ → Type 0
 HasNoLineFeed bytes = All (λ byte. byte ≢ 10) bytes
 
--- the bytes are these lines, each ended by a line feed, and then an unterminated final line, which may be empty
+-- the bytes are these lines, each ended by a line feed, and then an unterminated final line, which
+-- may be empty
 pub record IsLines (bytes : List ℕ) (lines : List (List ℕ)) (rest : List ℕ) : Type 0 where
   pub whole : bytes ≡ flat_map ended lines ++ rest
   pub each : All HasNoLineFeed lines

@@ -7,9 +7,9 @@ use Rattle.object_pool_cores.specs.Fresh.{PullsFresh}
 
 module _ {T I : Type 0} where
   -- what makes the values of a core
-  abbrev pub init_of : NoneCore T I → I
-  init_of core = core.init
+  abbrev pub none_init : NoneCore T I → I
+  none_init core = core.init
 
   -- a pull is fresh, and what makes the values stays
-  abbrev pub Pulls : (Option T → Type 0) → NoneCore T I → Result (Item T) PullError → NoneCore T I → Type 0
-  Pulls answers old answer new = (new ≡ old) × PullsFresh answers answer
+  abbrev pub NonePulls : (Option T → Type 0) → NoneCore T I → Result (Item T) PullError → NoneCore T I → Type 0
+  NonePulls answers old answer new = (new ≡ old) × PullsFresh answers answer

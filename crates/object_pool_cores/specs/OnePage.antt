@@ -1,4 +1,5 @@
--- A sequential page: a map from free ids to values, written as the list of what lies at each of its 32 ids.
+-- A sequential page: a map from free ids to values, written as the list of what lies at each of its
+-- 32 ids.
 use Rattle.std.specs.Prelude.{◌≡◌, ℕ, ◌<◌, ◌↔◌, Option, Some, None, List, All, length, map, slice_get, slice_set}
 use Rattle.std.specs.Int.{bit_at}
 use Rattle.pool_parts.specs.declared.page.TheConstants.{PAGE_ITEMS}

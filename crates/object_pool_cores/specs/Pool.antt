@@ -32,7 +32,8 @@ module _ {T : Type 0} where
   abbrev pub IsOut : Pool T → ℕ → Type 0
   IsOut pool n = pool.at n ≡ Out
 
-  -- there is a place at exactly the numbers below 32 times the pages, and there may be so many pages
+  -- there is a place at exactly the numbers below 32 times the pages, and there may be so many
+  -- pages
   pub record IsPool (limit : Option ℕ) (pool : Pool T) : Type 0 where
     pub inside : (n : ℕ) → n < PAGE_ITEMS * pool.pages → pool.at n ≢ Absent
     pub past : (n : ℕ) → PAGE_ITEMS * pool.pages ≤ n → pool.at n ≡ Absent
@@ -43,7 +44,8 @@ module _ {T : Type 0} where
     pub pages : a.pages ≡ b.pages
     pub places : (n : ℕ) → a.at n ≡ b.at n
 
-  -- what lies at a number: nothing at one that is out, a value at one that is free, neither where there is no item
+  -- what lies at a number: nothing at one that is out, a value at one that is free, neither where
+  -- there is no item
   abbrev pub place_of : Option (Option T) → Place T
   place_of None = Absent
   place_of (Some None) = Out

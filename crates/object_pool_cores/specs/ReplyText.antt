@@ -6,8 +6,9 @@ use Rattle.pool_parts.specs.declared.pull_error.PullError.TheVariants.{Memory, I
 use Rattle.object_pool_cores.specs.declared.sequential.attach_error.AttachError.{AttachError}
 use Rattle.object_pool_cores.specs.declared.sequential.attach_error.AttachError.TheVariants as attach
 use Rattle.object_pool_cores.specs.declared.sequential.reply.Reply.{Reply}
-use Rattle.object_pool_cores.specs.declared.sequential.reply.Reply.TheVariants.{Pulled, Refused, Attached}
-use Rattle.object_pool_cores.specs.declared.sequential.reply.Reply.TheVariants.{AttachRefused, NoSuchHolder}
+use Rattle.object_pool_cores.specs.declared.sequential.reply.Reply.TheVariants.{Pulled, Refused, Written, Returned}
+use Rattle.object_pool_cores.specs.declared.sequential.reply.Reply.TheVariants.{Forgotten, Attached, AttachRefused}
+use Rattle.object_pool_cores.specs.declared.sequential.reply.Reply.TheVariants.{NoSuchHolder}
 use Rattle.object_pool_cores.specs.declared.sequential.item.Item.{Item}
 use Rattle.object_pool_cores.specs.declared.sequential.command.Command.{Command}
 use Rattle.object_pool_cores.specs.declared.sequential.command.Command.TheVariants.{Pull, Write, Return, Forget, Attach}
@@ -34,31 +35,25 @@ abbrev pub pulled_text : ℕ → Option ℕ → ℕ → List ℕ
 pulled_text holder number value =
     codes "pulled " ++ decimal holder ++ number_text number ++ codes " value " ++ decimal value
 
--- the text of a pull's reply, with what is held afterwards
-abbrev pub IsPullText : List (Option (Item ℕ)) → Reply ℕ → List ℕ → Type 0
-IsPullText held (Pulled holder number) text =
+-- the index that a command names; 0 for a pull and an attach, which name none
+abbrev pub command_index : Command ℕ → ℕ
+command_index Pull = 0
+command_index (Write index value) = index
+command_index (Return index) = index
+command_index (Forget index) = index
+command_index (Attach value) = 0
+
+-- the text of a reply to a command that names this index, with what is held afterwards
+abbrev pub IsReplyText : ℕ → List (Option (Item ℕ)) → Reply ℕ → List ℕ → Type 0
+IsReplyText index held (Pulled holder number) text =
     (value : ℕ) × (value_of (held_at held holder) ≡ Some value) × (text ≡ pulled_text holder number value)
-IsPullText held (Refused cause) text = text ≡ refusal_text cause
-IsPullText held _ text = ⊥
-
--- the text of an attach's reply
-abbrev pub IsAttachText : Reply ℕ → List ℕ → Type 0
-IsAttachText (Attached holder) text = text ≡ codes "attached " ++ decimal holder
-IsAttachText (AttachRefused error) text = text ≡ attach_refusal_text error
-IsAttachText _ text = ⊥
-
--- what a command to a holder is answered: what was done there, or that there is none
-abbrev pub holder_text : List ℕ → ℕ → Reply ℕ → List ℕ
-holder_text done index NoSuchHolder = codes "no such holder"
-holder_text done index _ = done ++ decimal index
-
--- the text of a command's reply, with what is held afterwards
-abbrev pub IsReplyText : Command ℕ → List (Option (Item ℕ)) → Reply ℕ → List ℕ → Type 0
-IsReplyText Pull held reply text = IsPullText held reply text
-IsReplyText (Write index value) held reply text = text ≡ holder_text (codes "written ") index reply
-IsReplyText (Return index) held reply text = text ≡ holder_text (codes "returned ") index reply
-IsReplyText (Forget index) held reply text = text ≡ holder_text (codes "forgotten ") index reply
-IsReplyText (Attach value) held reply text = IsAttachText reply text
+IsReplyText index held (Refused cause) text = text ≡ refusal_text cause
+IsReplyText index held Written text = text ≡ codes "written " ++ decimal index
+IsReplyText index held Returned text = text ≡ codes "returned " ++ decimal index
+IsReplyText index held Forgotten text = text ≡ codes "forgotten " ++ decimal index
+IsReplyText index held (Attached holder) text = text ≡ codes "attached " ++ decimal holder
+IsReplyText index held (AttachRefused error) text = text ≡ attach_refusal_text error
+IsReplyText index held NoSuchHolder text = text ≡ codes "no such holder"
 
 -- what a bad line is answered
 abbrev pub bad_line_text : List ℕ

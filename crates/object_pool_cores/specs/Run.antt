@@ -1,5 +1,6 @@
--- Runs: what agents do with a pool, one act after another. A run is a ledger whose users are the agents, with openings,
--- writes, growths and refusals beside it. As in a ledger, the last act stands first.
+-- Runs: what agents do with a pool, one act after another. A run is a ledger whose users are the
+-- agents, with openings, writes, growths and refusals beside it. As in a ledger, the last act
+-- stands first.
 use Rattle.std.specs.Prelude.{◌≡◌, ◌≢◌, ◌⊎◌, ℕ, ◌+◌, ◌*◌, ◌<◌, ◌≤◌, ◌==◌, nat_lt, if◌then◌else◌, Option, Some, None}
 use Rattle.std.specs.Prelude.{List, [], ◌∷◌, ◌++◌, map, ⊤}
 use Rattle.pool_parts.specs.declared.page.history.Operation.{Operation}
@@ -11,8 +12,8 @@ use Rattle.nonblocking_pools.specs.Ledger.{History, user_of, operations_of, held
 use Rattle.object_pool_cores.specs.Pool.{Pool, IsOut, IsPool, place_of}
 use Rattle.object_pool_cores.specs.Move.{IsGrowth}
 
--- an agent opens, writes the value that it holds, does an operation of the ledger, grows the pool by a page of values,
--- or is refused
+-- an agent opens, writes the value that it holds, does an operation of the ledger, grows the pool
+-- by a page of values, or is refused
 pub data Act (T : Type 0) : Type 0 where
   Opens : (agent : ℕ) → Act T
   Writes : (agent : ℕ) (value : T) → Act T
@@ -61,7 +62,8 @@ module _ {T : Type 0} where
   lies_at first acts n =
       if nat_lt n (PAGE_ITEMS * pages_of acts) then Some (value_at (opened first acts) (ledger_of acts) n) else None
 
-  -- the pool to which a run has led: a number is free with the value that lies there, and out where nothing does
+  -- the pool to which a run has led: a number is free with the value that lies there, and out where
+  -- nothing does
   abbrev pub pool_of : List T → List (Act T) → Pool T
   pool_of first acts = record { pages = pages_of acts; at = λ n. place_of (lies_at first acts n) }
 
@@ -92,17 +94,17 @@ module _ {T : Type 0} where
   Since first a P [] = ⊥
   Since first a P (act ∷ acts) = P (pool_of first (act ∷ acts)) ⊎ ((act ≢ Opens a) × Since first a P acts)
 
-  -- the number was found out since the agent began
-  abbrev pub FoundOut : List T → List (Act T) → ℕ → ℕ → Type 0
-  FoundOut first acts a n = Since first a (λ pool. IsOut pool n) acts
+  -- the agent saw the number taken: it was out at some place since the agent began
+  abbrev pub SawTaken : List T → List (Act T) → ℕ → ℕ → Type 0
+  SawTaken first acts a n = Since first a (λ pool. IsOut pool n) acts
 
   -- there were so many pages at some place since the agent began
   abbrev pub HadPages : List T → List (Act T) → ℕ → ℕ → Type 0
   HadPages first acts a count = Since first a (λ pool. pool.pages ≡ count) acts
 
-  -- each number of so many pages was found out since the agent began
-  abbrev pub FoundPagesOut : List T → List (Act T) → ℕ → ℕ → Type 0
-  FoundPagesOut first acts a count = (n : ℕ) → n < PAGE_ITEMS * count → FoundOut first acts a n
+  -- the agent saw each number of so many pages taken since it began
+  abbrev pub SawPagesTaken : List T → List (Act T) → ℕ → ℕ → Type 0
+  SawPagesTaken first acts a count = (n : ℕ) → n < PAGE_ITEMS * count → SawTaken first acts a n
 
 module _ {T : Type 0} (Leaves : T → T → Type 0) (limit : Option ℕ) (first : List T) where
   -- an agent pulls while it looks, and returns a value that reset leaves of its own
@@ -110,14 +112,16 @@ module _ {T : Type 0} (Leaves : T → T → Type 0) (limit : Option ℕ) (first 
   MayOperate acts (Pull a n value) = Looks (acts_of a acts)
   MayOperate acts (Return a n kept) = (value : T) × (last_value (acts_of a acts) ≡ Some value) × Leaves value kept
 
-  -- an agent is refused for the limit where there are as many pages, and it found each of their numbers out
+  -- an agent is refused for the limit where there are as many pages, and it saw each of their
+  -- numbers taken
   abbrev pub MayRefuse : List (Act T) → ℕ → PullError → Type 0
-  MayRefuse acts a Limit = (limit ≡ Some (pages_of acts)) × FoundPagesOut first acts a (pages_of acts)
+  MayRefuse acts a Limit = (limit ≡ Some (pages_of acts)) × SawPagesTaken first acts a (pages_of acts)
   MayRefuse acts a Memory = ⊤
   MayRefuse acts a Init = ⊤
 
-  -- the act may come after these: an agent opens once and before all else, writes where it holds a number, does an
-  -- operation that the ledger allows, and grows the pool or is refused while it looks
+  -- the act may come after these: an agent opens once and before all else, writes where it holds a
+  -- number, does an operation that the ledger allows, and grows the pool or is refused while it
+  -- looks
   abbrev pub MayCome : List (Act T) → Act T → Type 0
   MayCome acts (Opens a) = acts_of a acts ≡ []
   MayCome acts (Writes a value) = (n : ℕ) × IsHolder acts a n
@@ -132,17 +136,17 @@ module _ {T : Type 0} (Leaves : T → T → Type 0) (limit : Option ℕ) (first 
   Run (act ∷ acts) = MayCome acts act × Run acts
 
 module _ {T : Type 0} (first : List T) where
-  -- what an agent had found before it grew the pool, or was refused
-  abbrev pub FoundOutBefore : List (Act T) → Act T → Type 0
-  FoundOutBefore acts (Grows a values) = FoundPagesOut first acts a (pages_of acts)
-  FoundOutBefore acts (Refused a cause) =
-      (count : ℕ) × (1 ≤ count) × FoundPagesOut first acts a count × HadPages first acts a count
-  FoundOutBefore acts _ = ⊤
+  -- what an agent had seen taken before it grew the pool, or was refused
+  abbrev pub SawTakenBefore : List (Act T) → Act T → Type 0
+  SawTakenBefore acts (Grows a values) = SawPagesTaken first acts a (pages_of acts)
+  SawTakenBefore acts (Refused a cause) =
+      (count : ℕ) × (1 ≤ count) × SawPagesTaken first acts a count × HadPages first acts a count
+  SawTakenBefore acts _ = ⊤
 
   -- so it was at each growth and each refusal
-  abbrev pub FoundOutBeforeEach : List (Act T) → Type 0
-  FoundOutBeforeEach [] = ⊤
-  FoundOutBeforeEach (act ∷ acts) = FoundOutBefore acts act × FoundOutBeforeEach acts
+  abbrev pub SawTakenBeforeEach : List (Act T) → Type 0
+  SawTakenBeforeEach [] = ⊤
+  SawTakenBeforeEach (act ∷ acts) = SawTakenBefore acts act × SawTakenBeforeEach acts
 
   -- each number that is out has one holder, and each other number none
   pub record HasHolders (acts : List (Act T)) : Type 0 where

@@ -71,7 +71,8 @@ module _ {P : Type 0} (pulls : P → Result (Item ℕ) PullError → P → Type 
   abbrev pub AnswersLast : Playing P ℕ → Option (List ℕ) → List ℕ → Option (List ℕ) → Type 0
   AnswersLast = AnswersLastLine Appends
 
-  -- a prefix of the answers was written; of ServesPart each of the lines ends in that prefix of the bytes
+  -- a prefix of the answers was written; of ServesPart each of the lines ends in that prefix of the
+  -- bytes
   abbrev pub ServesPart : Playing P ℕ → Option (List ℕ) → List ℕ → Option (List ℕ) → Type 0
   ServesPart = ServesFrontLines AppendsPart
 

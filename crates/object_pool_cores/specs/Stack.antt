@@ -13,33 +13,33 @@ module _ {T I R K : Type 0} where
   kept_of core = core.kept
 
   -- what makes the values of a core
-  abbrev pub init_of : StackCore T I R K → I
-  init_of core = core.init
+  abbrev pub stack_init : StackCore T I R K → I
+  stack_init core = core.init
 
   -- what resets the values that are returned to it
-  abbrev pub reset_of : StackCore T I R K → R
-  reset_of core = core.reset
+  abbrev pub stack_reset : StackCore T I R K → R
+  stack_reset core = core.reset
 
   -- what makes and resets the values stays
-  pub record IsStep (old new : StackCore T I R K) : Type 0 where
-    pub init : init_of new ≡ init_of old
-    pub reset : reset_of new ≡ reset_of old
+  pub record IsStackStep (old new : StackCore T I R K) : Type 0 where
+    pub init : stack_init new ≡ stack_init old
+    pub reset : stack_reset new ≡ stack_reset old
 
   -- a pull is that of a stack, and its item brings a room
-  pub record Pulls (answers : Option T → Type 0) (old : StackCore T I R K)
+  pub record StackPulls (answers : Option T → Type 0) (old : StackCore T I R K)
       (answer : Result (Item T) PullError) (new : StackCore T I R K) : Type 0 where
-    pub step : IsStep old new
+    pub step : IsStackStep old new
     pub room : IfOk answer (λ item. IsTrue (has_room item))
     pub pulled : PullsLast answers (kept_of old) answer (kept_of new)
 
   -- a return is that of a stack
-  pub record Gives (leaves : T → T → Type 0) (old : StackCore T I R K) (item : Item T)
+  pub record StackGives (leaves : T → T → Type 0) (old : StackCore T I R K) (item : Item T)
       (new : StackCore T I R K) : Type 0 where
-    pub step : IsStep old new
+    pub step : IsStackStep old new
     pub returned : ReturnsLast leaves (kept_of old) item (kept_of new)
 
   -- an attach is that of a stack, and its item brings a room
-  pub record Attaches (old : StackCore T I R K) (value : T) (answer : Result (Item T) (AttachError T))
+  pub record StackAttaches (old : StackCore T I R K) (value : T) (answer : Result (Item T) (AttachError T))
       (new : StackCore T I R K) : Type 0 where
     pub same : new ≡ old
     pub room : IfOk answer (λ item. IsTrue (has_room item))

@@ -9,7 +9,7 @@ use Rattle.object_pool_cores.specs.CommandText.{IsCommand, IsBadLine}
 use Rattle.object_pool_cores.specs.Held.{Playing}
 use Rattle.object_pool_cores.specs.Lines.{ended}
 use Rattle.object_pool_cores.specs.Replies.{Plays}
-use Rattle.object_pool_cores.specs.ReplyText.{IsReplyText, bad_line_text}
+use Rattle.object_pool_cores.specs.ReplyText.{IsReplyText, command_index, bad_line_text}
 
 module _ {P : Type 0} (pulls : P → Result (Item ℕ) PullError → P → Type 0) (gives : P → Item ℕ → P → Type 0)
     (attaches : P → ℕ → Result (Item ℕ) (AttachError ℕ) → P → Type 0) where
@@ -18,7 +18,7 @@ module _ {P : Type 0} (pulls : P → Result (Item ℕ) PullError → P → Type 
     pub reply : Reply ℕ
     pub words : List ℕ
     pub played : Plays pulls gives attaches old command reply new
-    pub said : IsReplyText command new.held reply words
+    pub said : IsReplyText (command_index command) new.held reply words
     pub whole : text ≡ ended words
 
   -- the line is a command, and the text answers it

@@ -5,6 +5,7 @@ pub mod AbstractPool
 pub mod Trace
 pub mod OwnSteps
 pub mod Solo
+pub mod StepBounds
 pub mod Enabled
 pub mod Headline
 pub mod Reachable

@@ -1,6 +1,7 @@
 //! A pool of byte buffers of so many pages at most, which threads share without a lock.
 //!
-//! A pulled buffer is empty, whatever was done with it before, and it returns to its pool when it is dropped.
+//! A pulled buffer is empty, whatever was done with it before, and it returns to its pool when it
+//! is dropped.
 ghost use Rattle.std.specs.Prelude.{◌≡◌, ◌≤◌, ◌<◌, [], None, Some, IfOk, IfErr, IsSome, IfSome, vec_capacity};
 
 use nonblocking_pools::clean::Clean;
@@ -16,7 +17,19 @@ pub use buffer::Buffer;
 pub use nonblocking_pools::clean::Empty;
 pub use nonblocking_pools::closures::{Clear, WithCapacity};
 
-/// An empty buffer with room for `capacity` bytes, or `None` where there is no memory for it.
+/// Makes an empty buffer with room for `capacity` bytes.
+///
+/// # Errors
+///
+/// `None` if there is no memory for it.
+///
+/// # Examples
+///
+/// ```rust
+/// let mut bytes = fresh(alloc, 512).expect(&rt, "memory is left");
+/// bytes.push(5)?;
+/// clear(&mut bytes);
+/// ```
 pub fn fresh(alloc: Global, capacity: usize) -> Option<Vec<u8>>
     ensures empty { IfSome result (λ bytes. bytes.items ≡ []) }
     ensures room { IfSome result (λ bytes. capacity ≤ vec_capacity bytes) }
@@ -34,14 +47,16 @@ pub fn clear(bytes: &mut Vec<u8>)
 
 /// A pool of byte buffers. Its initializer and its reset leave each one empty.
 ///
+/// # Examples
+///
 /// ```rust
 /// let pool = BufferPool::new(alloc, WithCapacity::new(alloc, 512), Clear, 4)?;
 /// let mut buffer = pool.pull()?;
 /// buffer.append(b"hello")?;
 /// ```
 ///
-/// `T` and `K` are always as they stand here: a type with a pool in it is checked where
-/// what its pool's values are, and which condition they meet, are parameters of it.
+/// `T` and `K` are always as they stand here. They are parameters since a type with a pool in it is
+/// checked only so.
 #[derive(Drop)]
 pub struct BufferPool<I: Init<T, K>, R: Reset<T, K>, T = Vec<u8>, K: Clean<T> = Empty> {
     pool: LinearObjectPool<T, I, R, K>,
@@ -51,11 +66,17 @@ impl<I: Init<Vec<u8>, Empty>, R: Reset<Vec<u8>, Empty>> BufferPool<I, R> {
     ghost use Rattle.nonblocking_pools.specs.Refusal.{RefusesMaking, RefusesPull};
     ghost use Rattle.object_pool_cores.specs.Buffers.{maker_of, limit_of_pages, bytes_of, page_of, IsOnItsPage};
 
-    /// A pool of one page, which grows to `pages` pages at most. A page has 32 buffers.
+    /// Creates a pool of one page, which grows to at most `pages` pages of 32 buffers.
     ///
     /// # Errors
     ///
     /// `Memory`, or `Init` at the first `None` of `init`. The buffers that were made are dropped.
+    ///
+    /// # Examples
+    ///
+    /// ```rust
+    /// let pool = BufferPool::new(alloc, WithCapacity::new(alloc, 512), Clear, 4)?;
+    /// ```
     pub fn new(
         alloc: Global,
         init: I,
@@ -71,12 +92,12 @@ impl<I: Init<Vec<u8>, Empty>, R: Reset<Vec<u8>, Empty>> BufferPool<I, R> {
         Ok(BufferPool { pool })
     }
 
-    /// An empty buffer.
+    /// Pulls a buffer, which is empty.
     ///
     /// # Errors
     ///
-    /// Where each page was found full and no further one comes: `Limit`, where the pool may have no
-    /// more pages; `Memory`; or `Init`, where `init` answers `None`.
+    /// If each page was found full and no further one comes: `Limit` if the pool may have no more
+    /// pages, `Memory`, or `Init` if `init` returns `None`.
     pub fn pull(&self) -> Result<Buffer<'_, I, R>, PullError>
         ensures empty { IfOk result (λ buffer. bytes_of buffer ≡ []) }
         ensures on_page { IfOk result (IsOnItsPage self.now) }

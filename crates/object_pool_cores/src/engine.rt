@@ -24,14 +24,26 @@ use std::alloc::Global;
 use std::io::{Read, Write};
 use std::sync::Wait;
 
-/// Plays the lines of `input` on a new pool whose items are made as 0, and writes
-/// a reply for each line to `output`. The replies to the lines of one read are written
-/// before the next read. It reads until there is no more, so it may wait.
+/// Plays the lines of `input` on a new pool whose items are made as 0, and writes a reply for each
+/// line to `output`.
+///
+/// The replies to the lines of one read are written before the next read. It reads until there is
+/// no more, so it may wait.
 ///
 /// # Errors
 ///
-/// `Read`, where a read fails. `Write`, where a write fails or takes nothing. One that is interrupted has failed. `Memory`, where there
-/// is none for the pool or for its player. The replies that were written till then stand.
+/// `Read` if a read fails. `Write` if a write fails or takes nothing. One that is interrupted has
+/// failed. `Memory` if there is none for the pool or for its player. The replies that were written
+/// until then stand.
+///
+/// # Examples
+///
+/// ```rust
+/// let mut input = "pull\n".as_bytes();
+/// let mut output = Vec::new(alloc);
+/// let (kind, reset) = (Kind::Linear, Reset::Keep);
+/// engine::run(&rt, alloc, kind, reset, &mut input, &mut output)?;
+/// ```
 pub fn run<H: Wait, R: Read, W: Write>(
     rt: &H,
     alloc: Global,
@@ -71,7 +83,7 @@ fn run_on<H: Wait, S: closures::Reset<u32, AnyValue>, R: Read, W: Write>(
     }
 }
 
-/// Plays on a linear pool, of at most so many pages where there is a limit.
+/// Plays on a linear pool, of at most so many pages if there is a limit.
 fn run_linear<H: Wait, S: closures::Reset<u32, AnyValue>, R: Read, W: Write>(
     rt: &H,
     alloc: Global,
@@ -91,7 +103,8 @@ fn run_linear<H: Wait, S: closures::Reset<u32, AnyValue>, R: Read, W: Write>(
     serve(rt, &mut player, input, output)
 }
 
-/// A player on a new linear pool. There is none only where there is no memory for its first page.
+/// Creates a player on a new linear pool, or returns `None` if there is no memory for its first
+/// page.
 fn player_of<S: closures::Reset<u32, AnyValue>>(
     alloc: Global,
     limit: Option<usize>,

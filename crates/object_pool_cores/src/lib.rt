@@ -1,5 +1,6 @@
-//! The cores of the object pools: sequential ones with exact contracts, and a transition system of any number
-//! of agents. Beside them a pool of byte buffers, which stands on the pool that threads share.
+//! The cores of the object pools: sequential ones with exact contracts, and a transition system of
+//! any number of agents. Beside them a pool of byte buffers, which stands on the pool that threads
+//! share.
 #![tactic(auto)]
 
 pub mod buffers;

@@ -5,17 +5,17 @@ ghost use Rattle.object_pool_cores.specs.Pool.{number};
 
 use nonblocking_pools::page::{PAGE_ITEMS, PageId};
 
-/// How many numbers a page has.
+/// The count of numbers of a page.
 const PAGE_NUMBERS: u128 = PAGE_ITEMS as u128;
 
-/// The number of an item, by its page and its id there.
+/// Returns the number of an item, by its page and its id there.
 pub(crate) fn number(page: usize, id: PageId) -> u128
     ensures { result ≡ number page id }
 {
     PAGE_NUMBERS * page as u128 + u128::from(id)
 }
 
-/// The page and the id of a number, where it is below the end of so many pages.
+/// Returns the page and the id of a number, if it is below the end of so many pages.
 pub(crate) fn page_and_id(number: u128, pages: usize) -> Option<(usize, PageId)>
     ensures { MatchOption result (PAGE_ITEMS * pages ≤ number)
         (λ at. (number ≡ PAGE_ITEMS * at.0 + at.1) × (at.1 < PAGE_ITEMS) × (at.0 < pages)) }

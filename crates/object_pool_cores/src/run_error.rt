@@ -5,7 +5,7 @@ ghost use Rattle.std.specs.Prelude.{◌≡◌};
 use std::alloc::{AllocError, AllocFailed};
 use thiserror::Error;
 
-/// Why a run stopped. What was done before stays done; the step that failed wasn't done.
+/// Why a run stopped. What was done before stays done, and the step that failed wasn't done.
 #[derive(Clone, Copy, Debug, PartialEq, Eq, Hash, Error)]
 pub enum RunError {
     /// A table of the run, or the list of its answers, couldn't grow.

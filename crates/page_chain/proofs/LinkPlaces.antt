@@ -1,4 +1,5 @@
--- That one link leads to a page, so that what a page's number knows of its link is of the link at the number's place.
+-- That one link leads to a page, so that what a page's number knows of its link is of the link at
+-- the number's place.
 use Rattle.std.proofs.Common.{◌≡◌, ℕ, suc, ◌+◌, ◌^◌, ◌<◌, ◌≤◌, Some, ap, subst, sym, ◌∙◌, arith}
 use Rattle.std.specs.Arc.{arc_value}
 use Rattle.std.specs.Coded.{Coded-set, coded_ℕ, coded_option, coded×}

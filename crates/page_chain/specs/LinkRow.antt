@@ -20,8 +20,8 @@ link_at place = (cell_name place.row.now, place.offset)
 abbrev pub Cells : Type 0
 Cells = List (Global × ℕ)
 
--- the link to a page, by its row's cell and its place there: row `b` begins with the link to page `2 ^ b` and has as
--- many links
+-- the link to a page, by its row's cell and its place there: row `b` begins with the link to page
+-- `2 ^ b` and has as many links
 pub record IsLinkTo (rows : Cells) (number : ℕ) (link : ℕ × ℕ) : Type 0 where
   pub row_number : ℕ
   pub row : Global × ℕ

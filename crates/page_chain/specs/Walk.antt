@@ -41,7 +41,8 @@ module _ {T K O : Type 0} where
   abbrev pub number_of : PageNumber T K O → ℕ
   number_of known = known.number
 
-  -- the link to the page of this number leads to this page, as the notes of its row and of itself know
+  -- the link to the page of this number leads to this page, as the notes of its row and of itself
+  -- know
   pub record IsLinkedAt (links : Cells) (known : PageNumber T K O) (page : TableId) : Type 0 where
     -- where in its row that link lies
     pub offset : ℕ
@@ -49,14 +50,15 @@ module _ {T K O : Type 0} where
     pub in_row : cell_in_row known.row.known offset ≡ Some known.link.cell
     pub leads_here : option_map (λ page. page_identity (arc_value page)) known.link.known ≡ Some page
 
-  -- a walk came to the page of this number: it is the start's, or the one to which the link of that number leads
+  -- a walk came to the page of this number: it is the start's, or the one to which the link of that
+  -- number leads
   abbrev pub IsWalkedTo : Start → PageNumber T K O → TableId → Type 0
   IsWalkedTo start known page =
       ((known.number ≡ start.number) × (page ≡ start.page)) ⊎ IsLinkedAt start.links known page
 
 module _ {T K : Type 0} where
-  -- what a page of a chain answers to a pull: an item of this page with its origin; or each of its ids was observed
-  -- taken
+  -- what a page of a chain answers to a pull: an item of this page with its origin; or each of its
+  -- ids was observed taken
   abbrev pub IsAnsweredBy : (T → Type 0) → (T → Type 0) → TableId → Allocated T K → Type 0
   IsAnsweredBy meets may_open page (Slot slot) =
       IsItemOf meets page (slot_item slot) × HasOrigin may_open (slot_item slot)
@@ -97,7 +99,8 @@ pub record IsAllFull {T K O : Type 0} (start : Start) (pages : ℕ) (seen : Limi
   pub each : (number : ℕ) → start.number ≤ number → number < start.number + pages → WasFull T K O start number
 
 module _ {T K O : Type 0} where
-  -- why a walk has no item: there is a limit, and each page up to it was found full; or no further page could be made
+  -- why a walk has no item: there is a limit, and each page up to it was found full; or no further
+  -- page could be made
   abbrev pub IsRefusedBy : Start → Option ℕ → Type 0 → WalkRefusal T K O → Type 0
   IsRefusedBy start limit init_refuses (Limit seen) = (pages : ℕ) × (limit ≡ Some pages) × IsAllFull start pages seen
   IsRefusedBy start limit init_refuses (Making cause) = RefusesMaking init_refuses cause
@@ -107,7 +110,8 @@ module _ {T K O : Type 0} where
   cause_of (Limit seen) = LimitCause
   cause_of (Making cause) = cause
 
--- what a walk took: an item with its origin, of the page of this number, within so many pages from the walk's start
+-- what a walk took: an item with its origin, of the page of this number, within so many pages from
+-- the walk's start
 pub record IsTaken {T K O : Type 0} (meets may_open : T → Type 0) (start : Start) (limit : Option ℕ)
     (number : PageNumber T K O) (item : Item T) : Type 0 where
   pub is_item : IsItemOf meets item.page item

@@ -1,4 +1,5 @@
-//! A chain of pages of items: it grows by a page at its end, and threads pull from it without a lock.
+//! A chain of pages of items. It grows by a page at its end, and threads pull from it without a
+//! lock.
 //!
 //! No call waits for another thread.
 #![tactic(auto)]

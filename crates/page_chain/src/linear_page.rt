@@ -1,11 +1,15 @@
 //! A chain of pages, which grows by a page at its end and never shrinks.
 //!
-//! This file has the chain and a page of it. Below it: where a link lies (`directory`), what a caller has learned of a
-//! link (`link_note`) and of the number of a page (`page_number`), a page with what it opened with (`opened_page`), the walk
-//! from page to page for an item (`walk`), which pages may have a free item (`hints`), a pull by such hints (`hinted`), and
-//! the return of an item to the page of its number (`numbered`).
+//! This file has the chain and a page of it. Its modules:
 //!
-//! No call waits for another thread. A link is set once, in `get_or_create_next_as` alone, for a
+//! - `directory`: where a link lies
+//! - `link_note`, `page_number`: what a caller has learned of a link, and of the number of a page
+//! - `opened_page`: a page with the condition on its first values
+//! - `walk`: from page to page for an item
+//! - `hints`, `hinted`: which pages may have a free item, and a pull that uses it
+//! - `numbered`: the return of an item to the page of its number
+//!
+//! No call waits for another thread. A link is set once, only in `get_or_create_next_as`, for a
 //! caller that has found its page full.
 ghost use Rattle.std.specs.Prelude.{◌≡◌, ◌+◌, ◌^◌, ◌<◌, Option, None, IfSome, IfNone, IfOk, IfErr};
 ghost use Rattle.std.specs.Arc.{arc_value};
@@ -36,15 +40,23 @@ pub use link_note::LinkNote;
 pub use page_number::PageNumber;
 pub use walk::{LimitSeen, WalkEnd, WalkRefusal};
 
-/// A chain of pages: the first one, and the links behind it.
+/// A chain of pages: the first one, and the links to the others.
 ///
-/// Each value that one of its pages opens with meets `O`, each free item meets `K`.
+/// Each value with which one of its pages opens meets `O`. Each free item meets `K`.
+///
+/// # Examples
+///
+/// ```rust
+/// let chain: Chain<u32, AnyValue> = Chain::new(alloc, &|| Some(0))?;
+/// let (slot, page_number) = chain.first().alloc(&|| Some(0))?;
+/// ```
 pub struct Chain<T, K: Clean<T>, O: Clean<T> = AnyValue> {
     first: OpenedPage<T, K, O>,
     directory: Directory<T, K, O>,
 }
 
-/// Not derived: the proof of a caller that drops it has one call here, and a derived drop has that of each field.
+/// Not derived: the proof of a caller that drops it has one call here, and a derived drop has that
+/// of each field.
 impl<T: Drop, K: Clean<T>, O: Clean<T>> Drop for Chain<T, K, O> {
     fn drop(self) {
         let Chain {
@@ -58,11 +70,17 @@ impl<T: Drop, K: Clean<T>, O: Clean<T>> Chain<T, K, O> {
     ghost use Rattle.page_chain.specs.LinearPage.{first_page, shown_page, page_number};
     ghost use Rattle.page_chain.specs.Walk.{start_at, start_of};
 
-    /// A chain of one page, made as by [`Page::new`].
+    /// Creates a chain of one page, made as by [`Page::new`].
     ///
     /// # Errors
     ///
     /// `Memory`, or `Init` at the first `None`. The items that were made are dropped.
+    ///
+    /// # Examples
+    ///
+    /// ```rust
+    /// let chain: Chain<u32, AnyValue> = Chain::new(alloc, &|| Some(0))?;
+    /// ```
     pub fn new<I: Fn() -> Option<T>>(alloc: Global, init: &I) -> Result<Chain<T, K, O>, PullError>
         requires { MayOpen I.pre I.post K.meets O.meets init.now }
         ensures refused { IfErr result (RefusesMaking (I.post init.now None)) }
@@ -72,7 +90,7 @@ impl<T: Drop, K: Clean<T>, O: Clean<T>> Chain<T, K, O> {
         Ok(Chain { first, directory })
     }
 
-    /// The page with number 0.
+    /// Returns the page with number 0.
     pub fn first(&self) -> LinearPage<'_, T, K, O>
         ensures page { shown_page result ≡ first_page self.now }
         ensures number { page_number result ≡ 0 }
@@ -83,6 +101,13 @@ impl<T: Drop, K: Clean<T>, O: Clean<T>> Chain<T, K, O> {
 }
 
 /// One page of a chain.
+///
+/// # Examples
+///
+/// ```rust
+/// let (slot, page_number) = chain.first().alloc(&|| Some(0))?;
+/// assert_eq!(rt; (slot.id(), page_number), (0, 0));
+/// ```
 pub struct LinearPage<'c, T, K: Clean<T>, O: Clean<T> = AnyValue> {
     directory: &'c Directory<T, K, O>,
     page: &'c OpenedPage<T, K, O>,
@@ -131,7 +156,7 @@ impl<'c, T: Drop, K: Clean<T>, O: Clean<T>> LinearPage<'c, T, K, O> {
         }
     }
 
-    /// The page's items.
+    /// Returns the page with its items.
     pub fn page(&self) -> &'c Page<T, K>
         ensures page { page_identity result.now ≡ shown_page self.now }
         ensures opened { OpensWith O.meets result.now }
@@ -139,14 +164,15 @@ impl<'c, T: Drop, K: Clean<T>, O: Clean<T>> LinearPage<'c, T, K, O> {
         self.page.owner()
     }
 
-    /// How many links the page lies behind its chain's first one.
+    /// Returns the page's number: how many links lead to it from the first page of its chain.
     pub fn number(&self) -> usize
         ensures { result ≡ page_number self.now }
     {
         self.number
     }
 
-    /// The page after this one, if one is linked, and a note of the link, which knows that page. It takes no memory.
+    /// Returns the page after this one, if one is linked, and a note of the link, which knows that
+    /// page. It takes no memory.
     pub fn next(&self) -> Option<(LinearPage<'c, T, K, O>, LinkNote<T, K, O>)>
         ensures { IfSome result (λ answer. IsNext self.now answer.1 answer.0) }
     {
@@ -155,11 +181,12 @@ impl<'c, T: Drop, K: Clean<T>, O: Clean<T>> LinearPage<'c, T, K, O> {
         Some((next, note))
     }
 
-    /// A note of the link to the next page, which knows no page yet. It takes memory where the link has no place yet.
+    /// Returns a note of the link to the next page, which knows no page yet. It takes memory only
+    /// if the link has no place yet.
     ///
     /// # Errors
     ///
-    /// `Memory`, where the link has no place yet.
+    /// `Memory`, only if the link has no place yet.
     pub fn next_note(&self) -> Result<LinkNote<T, K, O>, PullError>
         ensures note { IfOk result (IsNewNoteOf (next_link self.now)) }
         ensures refused { IfErr result (RefusesMaking ⊥) }
@@ -167,7 +194,10 @@ impl<'c, T: Drop, K: Clean<T>, O: Clean<T>> LinearPage<'c, T, K, O> {
         self.next.new_note()
     }
 
-    /// As `next`: where the note knows a page that is linked here, the answer is that page, and the note knows each answer.
+    /// Returns the page after this one as `next` does, for a caller with a note of the link.
+    ///
+    /// If the note knows the page that is linked here, it is that page. Afterwards the note knows
+    /// the page that was returned.
     pub fn next_as(&self, note: &mut LinkNote<T, K, O>) -> Option<LinearPage<'c, T, K, O>>
         requires { known_link note.old ≡ next_link self.now }
         ensures link { known_link note.new ≡ known_link note.old }
@@ -181,14 +211,14 @@ impl<'c, T: Drop, K: Clean<T>, O: Clean<T>> LinearPage<'c, T, K, O> {
         Some(LinearPage::new(self.directory, page, number))
     }
 
-    /// The page after this one, and a note of the link, which knows that page. If none is linked, one is made and linked, unless
-    /// another thread was first.
+    /// Returns the page after this one, and a note of the link, which knows that page. If none is
+    /// linked, it makes one and links it, unless another thread was first.
     ///
-    /// A page that another thread's came before is dropped, with its items.
+    /// A page that was made too late is dropped, with its items.
     ///
     /// # Errors
     ///
-    /// `Memory`, or `Init` at the first `None`. No page is linked then.
+    /// `Memory`, or `Init` at the first `None`. Then no page is linked.
     pub fn get_or_create_next<I: Fn() -> Option<T>>(
         &self,
         seen: FullSeen<'_, T>,
@@ -204,8 +234,12 @@ impl<'c, T: Drop, K: Clean<T>, O: Clean<T>> LinearPage<'c, T, K, O> {
         Ok((next, note))
     }
 
-    /// As `get_or_create_next`, for a caller with a note of the link: where the note knows the page that is linked here, that page
-    /// comes; the note knows the page that comes. The link is read once, and one exchange sets it where a page was made.
+    /// Returns the page after this one as `get_or_create_next` does, for a caller with a note of
+    /// the link.
+    ///
+    /// If the note knows the page that is linked here, it is that page. Afterwards the note knows
+    /// the page that was returned. The link is read once, and one exchange sets it if a page was
+    /// made.
     ///
     /// # Errors
     ///
@@ -241,7 +275,7 @@ impl<'c, T: Drop, K: Clean<T>, O: Clean<T>> LinearPage<'c, T, K, O> {
     }
 }
 
-/// A page for a chain.
+/// Makes a page for a chain.
 fn made_page<T: Drop, K: Clean<T>, O: Clean<T>, I: Fn() -> Option<T>>(
     alloc: Global,
     init: &I,
@@ -253,7 +287,7 @@ fn made_page<T: Drop, K: Clean<T>, O: Clean<T>, I: Fn() -> Option<T>>(
     Ok(OpenedPage::new(page))
 }
 
-/// As `made_page`, which tells that a page was made.
+/// Makes a page as `made_page` does, and records that it was made.
 fn told_page<T: Drop, K: Clean<T>, O: Clean<T>, I: Fn() -> Option<T>>(
     alloc: Global,
     init: &I,

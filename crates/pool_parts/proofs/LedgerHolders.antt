@@ -74,7 +74,7 @@ module _ {T : Type 0} where
         ];
       }
 
-  longer_own : (user : ℕ) (more operations : History T)
+  pub longer_own : (user : ℕ) (more operations : History T)
       → length (operations_of user operations) ≤ length (operations_of user (more ++ operations))
   longer_own user [] operations = omega arith
   longer_own user (operation ∷ more) operations = let rest = longer_own user more operations in

@@ -2,6 +2,7 @@ pub mod FilledItems
 pub mod KeptPlaces
 pub mod Ledger
 pub mod LedgerHolders
+pub mod Meetings
 pub mod PageAnswers
 pub mod PageHistories
 pub mod PageItems

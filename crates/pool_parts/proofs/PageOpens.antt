@@ -9,6 +9,7 @@ use Rattle.atomic_table.specs.Table.{opening}
 use Rattle.atomic_table.proofs.Lists.{at_map}
 use Rattle.pool_parts.specs.declared.page.user_view.UserView.{UserView}
 use Rattle.pool_parts.proofs.Ledger.{prefix_same}
+use Rattle.pool_parts.proofs.Meetings.{met_nobody}
 use Rattle.pool_parts.proofs.PageItems.{only_one}
 use Rattle.pool_parts.specs.Word.{item_bit, IsAllFree}
 use Rattle.pool_parts.specs.PageRule.{first_view, IsPage, IsKept, Knows}
@@ -72,8 +73,8 @@ module _ {T : Type 0} (meets : T → Type 0) where
     nothing_past : (id : ℕ) → item_bit words id ≡ 0 → get_or items id None ≡ None
     nothing_past id out = grind (arith, free.set id, get_or_past items id None)
 
-    pub opens : (raise : ℕ) → IsKept meets raise items (opening words items (first_view items))
-    opens raise = (
+    starts : (raise : ℕ) → IsKept meets raise items (opening words items (first_view items))
+    starts raise = (
       opens_page,
       record {
         operations = [];
@@ -85,4 +86,13 @@ module _ {T : Type 0} (meets : T → Type 0) where
         counted = λ place. let fits = free.words_fit place in let none = mul-zero raise in
             grind arith;
       },
+      λ user known at.
+          let first = (only_one (first_view items) known user at).1 in
+          met_nobody (first_view items ∷ []) known (sym (ap (λ (known : UserView T). known.met) first)),
     )
+
+    -- the same of values that are said to be these
+    pub opens : (raise : ℕ) (said : List (Option T)) → said ≡ items
+        → IsKept meets raise said (opening words items (first_view said))
+    opens raise said same =
+        subst (λ o. IsKept meets raise o (opening words items (first_view o))) (sym same) (starts raise)

@@ -16,12 +16,14 @@ use Rattle.atomic_table.proofs.Lists.{at_set, set_again, set_here}
 use Rattle.pool_parts.specs.declared.page.user_view.UserView.{UserView}
 use Rattle.pool_parts.specs.declared.page.history.Operation.{Operation}
 use Rattle.pool_parts.specs.declared.page.history.Operation.TheVariants.{Pull, Return}
-use Rattle.pool_parts.specs.Ledger.{History, operations_of, value_at, MayFollow, IsPrefixOf, returns_on}
+use Rattle.pool_parts.specs.Ledger.{History, operations_of, value_at, MayFollow, IsLegal, IsPrefixOf, returns_on}
 use Rattle.pool_parts.specs.Word.{whole_word, count_in, SetsBit, ClearsBit, item_bit}
 use Rattle.pool_parts.specs.PageRule.{PageState, User, first_view, item_of, IsSet, IsClear, HasHistory, IsKept, IsSound}
 use Rattle.pool_parts.specs.PageRule.{IsInformed, Knows, GoesOn, Takes, Misses, Loads, LoadsAgain, LoadsOn}
-use Rattle.pool_parts.specs.PageRule.{Counts, Clears, GivesBack, told_of, gone_view, witness_of}
+use Rattle.pool_parts.specs.PageRule.{Counts, Clears, GivesBack, AllHaveMet, told_of, gone_view, witness_of}
+use Rattle.pool_parts.specs.Meeting.{Meets, introduction_of}
 use Rattle.pool_parts.proofs.Ledger.{prefix_same, at_below}
+use Rattle.pool_parts.proofs.Meetings.{met_set, met_same, met_snoc, met_nobody}
 use Rattle.pool_parts.proofs.WordBits.{lacks_one, and_clears, Raises, raises, item_bit_of, Turns, turns, same_count}
 use Rattle.pool_parts.proofs.WordBits.{same_counts}
 use Rattle.pool_parts.proofs.PageItems.{state, joins_page, takes_item, keeps_item}
@@ -47,6 +49,7 @@ module _ {T : Type 0} (meets : T → Type 0) (raise : ℕ) (opening : List (Opti
             told = (has.operations, sym (append-nil has.operations));
             acting = λ _. record { sound = sound; number = refl; same_opening = refl; own_so_far = own };
           },
+          met_snoc page.views known (met_nobody page.views known refl) kept.2,
         ),
         record {
           holds_none = refl;
@@ -64,26 +67,30 @@ module _ {T : Type 0} (meets : T → Type 0) (raise : ℕ) (opening : List (Opti
   -- one user knows something else, and holds what it held, or nothing
   sees : (page : PageState T) (user : ℕ) (old known : UserView T) → (kept : IsKept meets raise opening page)
       → get_elem? page.views user ≡ some old → ((i : ℕ) → known.held ≡ Some i → old.held ≡ Some i)
-      → Knows opening kept.1.operations user known → IsKept meets raise opening (told_page page user known)
-  sees page user old known kept at held knows = (
+      → AllHaveMet (set page.views user known) → Knows opening kept.1.operations user known
+      → IsKept meets raise opening (told_page page user known)
+  sees page user old known kept at held met knows = (
     keeps_item meets page page.words user old known kept.0 refl (λ i. refl) at held,
     saw_history raise opening page page.words user known kept.1 (λ i. refl) (λ i. refl) knows,
+    met,
   )
 
   -- so it is where a user reads a word
   reads : (page : PageState T) (place user : ℕ) (old known : UserView T) → (kept : IsKept meets raise opening page)
-      → get_elem? page.views user ≡ some old → known.held ≡ old.held → Knows opening kept.1.operations user known
+      → get_elem? page.views user ≡ some old → known.held ≡ old.held → AllHaveMet (set page.views user known)
+      → Knows opening kept.1.operations user known
       → IsKept meets raise opening
       (state (set page.words place (get_or page.words place 0)) page.homes (set page.views user known))
-  reads page place user old known kept at same knows =
+  reads page place user old known kept at same met knows =
       subst (λ words. IsKept meets raise opening (state words page.homes (set page.views user known)))
-      (sym (set-get_or page.words place 0)) (sees page user old known kept at (λ i holds. sym same ∙ holds) knows)
+      (sym (set-get_or page.words place 0)) (sees page user old known kept at (λ i holds. sym same ∙ holds) met knows)
 
-  -- what a user knows, beside what it was told and where its last call began
-  told_since : (known : UserView T) (since told operations : History T) (user : ℕ) → IsPrefixOf since known.operations
+  -- what a user knows, beside what it was told, whom it met and where its last call began
+  told_since : (known : UserView T) (since told : History T) (met : Option (ℕ × ℕ)) (meetings : ℕ)
+      (operations : History T) (user : ℕ) → IsPrefixOf since known.operations
       → IsInformed opening operations user known
-      → IsInformed opening operations user record known { since = since; told = told }
-  told_since known since told operations user began is = record {
+      → IsInformed opening operations user record known { since = since; told = told; met = met; meetings = meetings }
+  told_since known since told met meetings operations user began is = record {
     sound = record {
       legal = is.sound.legal;
       since_load = began;
@@ -104,12 +111,13 @@ module _ {T : Type 0} (meets : T → Type 0) (raise : ℕ) (opening : List (Opti
       let known : UserView T =
       record me.0 { operations = has.operations; since = has.operations; loads = me.0.loads + 1 } in
       let is : IsInformed opening has.operations user known = told_since
-      (has_seen me.0 has.operations (me.0.loads + 1) me.0.tries) has.operations me.0.told has.operations user
-      (prefix_same has.operations) (step.0.acting here) in (
+      (has_seen me.0 has.operations (me.0.loads + 1) me.0.tries) has.operations me.0.told me.0.met me.0.meetings
+      has.operations user (prefix_same has.operations) (step.0.acting here) in (
         known,
         keeps,
         tt,
         reads page place user me.0 known kept at refl
+            (met_same page.views user me.0 known at refl refl refl kept.2)
             record { seen = step.0.seen; told = knew.told; acting = λ _. is },
         record {
           holds_same = refl;
@@ -144,6 +152,67 @@ module _ {T : Type 0} (meets : T → Type 0) (raise : ℕ) (opening : List (Opti
           told = (has.operations, sym (append-nil has.operations));
           acting = λ gone. absurd (true≢false gone);
         },
+        met_snoc page.views (witness_of me) (met_nobody page.views (witness_of me) refl) kept.2,
+      )
+
+  -- a user that introduces itself
+  pub introduces : (user : ℕ) (me : UserView T) → me.gone ≡ false
+      → Splits (IsKept meets raise opening) user me me (introduction_of me)
+  introduces user me here page kept at =
+      let has = kept.1 in
+      let knew = has.informed user me at in
+      subst (λ views. IsKept meets raise opening record
+      { words = page.words; homes = page.homes; views = views ++ introduction_of me ∷ [] })
+      (sym (set_again page.views user me at)) (
+        joins_page meets page (introduction_of me) kept.0 refl,
+        joins_history raise opening page (introduction_of me) has record {
+          seen = knew.told;
+          told = (has.operations, sym (append-nil has.operations));
+          acting = λ gone. absurd (true≢false gone);
+        },
+        met_snoc page.views (introduction_of me) (λ other count met.
+            let said : (me.user, me.meetings) ≡ (other, count) = cc in
+            let often = ap (λ (said : ℕ × ℕ). said.1) said in (
+              me,
+              subst (λ i. get_elem? page.views i ≡ some me)
+                  (sym (knew.acting here).number ∙ ap (λ (said : ℕ × ℕ). said.0) said) at,
+              λ _. omega arith,
+            )) kept.2,
+      )
+
+  -- a user to whom another was introduced is told the history so far
+  pub meets_other : (slots place user : ℕ) (me : User T) → me.0.gone ≡ false
+      → Allows (IsKept meets raise opening) slots user me place (λ word. word) (λ _. Meets me)
+  meets_other slots place user me here page kept places at fits =
+      let has = kept.1 in
+      let knew = has.informed user me.0 at in
+      let is = knew.acting here in
+      let known : UserView T = record me.0 { told = has.operations; meetings = me.0.meetings + 1 } in (
+        known,
+        keeps,
+        tt,
+        reads page place user me.0 known kept at refl
+            (met_set page.views user me.0 known at (λ _. (here, omega arith)) (kept.2 user me.0 at) kept.2) record {
+              seen = knew.seen;
+              told = prefix_same has.operations;
+              acting = λ _. told_since me.0 me.0.since has.operations me.0.met (me.0.meetings + 1) has.operations
+                  user is.sound.since_load is;
+            },
+        record {
+          hears = record { knows = refl; carries_same = refl };
+          once_more = refl;
+          legal = subst (λ o. IsLegal o has.operations) (sym is.same_opening) has.legal;
+          after_told = knew.told;
+          own = ap (λ u. operations_of u has.operations) is.number ∙ is.own_so_far;
+          holds = is.sound.holds;
+          apart = λ count met.
+              let there = kept.2 user me.0 at me.0.user count met in
+              let same : there.0 ≡ me.0 =
+              some-injective there.0 me.0 (sym there.1 ∙ ap (get_elem? page.views) is.number ∙ at) in
+              let said = there.2 (ap (λ (known : UserView T). known.gone) same ∙ here) in
+              let had = ap (λ (known : UserView T). known.meetings) same in
+              omega arith;
+        },
       )
 
   pub tells : (user other : ℕ) (me them : UserView T) → me.gone ≡ false
@@ -156,15 +225,19 @@ module _ {T : Type 0} (meets : T → Type 0) (raise : ℕ) (opening : List (Opti
       ] in
       let knew = kept.1.informed user me at in
       let has_told : IsKept meets raise opening (told_page page user known) =
-      sees page user me known kept at (λ i holds. holds) record {
+      sees page user me known kept at (λ i holds. holds)
+      (met_set page.views user me known at (λ _. (here, omega arith)) (kept.2 other them theirs) kept.2) record {
         seen = knew.seen;
         told = (kept.1.informed other them theirs).seen;
         acting = λ _. let is = knew.acting here in
-            told_since me me.since them.operations kept.1.operations user is.sound.since_load is;
+            told_since me me.since them.operations them.met me.meetings kept.1.operations user is.sound.since_load is;
       } in
       let none : IsPrefixOf [] has_told.1.operations =
       (has_told.1.operations, sym (append-nil has_told.1.operations)) in
+      let views : List (UserView T) = set page.views user known in
       sees (told_page page user known) other them gone_view has_told at_other (λ i holds. cc)
+      (met_set views other them gone_view at_other (λ gone. absurd (true≢false gone))
+      (met_nobody views gone_view refl) has_told.2)
       record { seen = none; told = none; acting = λ gone. absurd (true≢false gone) }
 
   pub loads_on : (slots place user : ℕ) (me : User T) → me.0.gone ≡ false
@@ -177,7 +250,8 @@ module _ {T : Type 0} (meets : T → Type 0) (raise : ℕ) (opening : List (Opti
         known,
         keeps,
         tt,
-        reads page place user me.0 known kept at refl step.0,
+        reads page place user me.0 known kept at refl
+            (met_same page.views user me.0 known at refl refl refl kept.2) step.0,
         record {
           holds_same = refl;
           carries_same = refl;
@@ -262,7 +336,11 @@ module _ {T : Type 0} (meets : T → Type 0) (raise : ℕ) (opening : List (Opti
               known,
               takes id (Some item.0),
               item.1,
-              (takes_item meets page words user id known is inside_places turned free refl, history.0),
+              (
+                takes_item meets page words user id known is inside_places turned free refl,
+                history.0,
+                met_same page.views user me.0 known at refl refl refl kept.2,
+              ),
               record {
                 took = λ i inside lacks_i _. subst (λ i.
                     Takes meets slots (item_of place i) me (known, (id, Some item.0) ∷ me.1))
@@ -291,6 +369,7 @@ module _ {T : Type 0} (meets : T → Type 0) (raise : ℕ) (opening : List (Opti
               (
                 keeps_item meets page words user me.0 known is turned.same_count same_bits at (λ i holds. holds),
                 saw_history raise opening page words user known has same_bits counts_same step.0,
+                met_same page.views user me.0 known at refl refl refl kept.2,
               ),
               record {
                 took = λ i inside lacks_i one. let here =
@@ -364,7 +443,11 @@ module _ {T : Type 0} (meets : T → Type 0) (raise : ℕ) (opening : List (Opti
         known,
         gives,
         tt,
-        (gives_item meets page words user id out.0 value known is inside turned at holds met refl, history.0),
+        (
+          gives_item meets page words user id out.0 value known is inside turned at holds met refl,
+          history.0,
+          met_same page.views user out.0 known at refl refl refl kept.2,
+        ),
         record {
           holds_none = refl;
           carries = refl;

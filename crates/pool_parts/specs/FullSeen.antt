@@ -19,15 +19,15 @@ module _ {T : Type 0} where
   abbrev pub full_page : FullSeen T → TableId
   full_page seen = seen.seat.table_id
 
-  -- what the call knows of the page
+  -- what the user of the call knows of the page
   abbrev pub full_view : FullSeen T → UserView T
   full_view seen = seen.seat.me.0
 
-  -- the page's history up to the call's load
+  -- the page's history up to that user's first load
   abbrev pub full_since : FullSeen T → History T
   full_since seen = (full_view seen).since
 
-  -- the page's history up to the call's last step
+  -- the page's history up to that user's last step
   abbrev pub full_history : FullSeen T → History T
   full_history seen = (full_view seen).operations
 
@@ -38,12 +38,12 @@ module _ {T : Type 0} where
     pub goes_on : IsPrefixOf known.since known.operations
     pub each_was_out : (id : ℕ) → id < count → WasOutBetween opening known.since known.operations id
 
-  -- each of the items of this page or fixed pool, which has so many, was observed taken by one call
+  -- each of the items of this page or fixed pool, which has so many, was observed taken by one user, since its first load
   pub record IsAllOut (count : ℕ) (page : TableId) (opening : List (Option T)) (seen : FullSeen T) : Type 0 where
     pub of_page : full_page seen ≡ page
     pub found : FoundAllOut count opening (full_view seen)
 
-  -- the same of a call that goes on from a note: its first load stands after all that the note knew
+  -- the same of a user that goes on from a note: its first load stands after all that the note knew
   pub record IsAllOutAfter (count : ℕ) (page : TableId) (note : PageNote T) (seen : FullSeen T) : Type 0 where
     pub all_out : IsAllOut count page (note_opening note) seen
     pub after_note : IsPrefixOf (note_history note) (full_since seen)
@@ -52,18 +52,19 @@ module _ {T : Type 0} where
   abbrev pub IsFullOf : TableId → List (Option T) → FullSeen T → Type 0
   IsFullOf page opening seen = IsAllOut PAGE_ITEMS page opening seen
 
-  -- what one call did: it read the page's word once, and tried so many bits at most
+  -- this user has read the page's word once, and has tried so many bits at most
   pub record IsBrief (known : UserView T) : Type 0 where
     pub one_look : known.loads ≡ 1
     pub tries : known.tries ≤ PAGE_ITEMS
 
-  -- the same of a call that goes on from a note: it read the word once more, and tried so many bits more at most
+  -- the same of a user that goes on from a note: it has read the word once more, and has tried so
+  -- many bits more at most
   pub record IsBriefAfter (note : PageNote T) (known : UserView T) : Type 0 where
     pub one_look_more : known.loads ≡ (note_view note).loads + 1
     pub tries : known.tries ≤ (note_view note).tries + PAGE_ITEMS
 
 module _ {T K : Type 0} where
-  -- what the call knows of the page, whatever it answers
+  -- what the user of the call knows of the page, whatever it answers
   abbrev pub answer_view : Allocated T K → UserView T
   answer_view (Slot slot) = slot_view slot
   answer_view (Full seen) = full_view seen

@@ -7,6 +7,7 @@ pub mod Kept
 pub mod LastIn
 pub mod Ledger
 pub mod Lends
+pub mod Meeting
 pub mod Note
 pub mod OneProof
 pub mod OwnedSlot

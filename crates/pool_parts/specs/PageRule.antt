@@ -33,6 +33,8 @@ first_view opening =
       own = [];
       loads = 0;
       tries = 0;
+      met = None;
+      meetings = 0;
     }
 
 -- the number of the item that a bit of a word stands for
@@ -100,9 +102,19 @@ module _ {T : Type 0} where
     -- the upper half of each word counts the returns of its items; where a return raises it by 0, it stays 0
     pub counted : (place : ℕ) → count_in (slice_index page.words place) ≡ (raise * returns_on place operations) % 2 ^ 32
 
+  -- the user that was introduced to this one is there, and has met no less often than it said, unless it has gone
+  abbrev pub HasMet : List (UserView T) → UserView T → Type 0
+  HasMet views known =
+      (other count : ℕ) → known.met ≡ Some (other, count)
+      → (there : UserView T) × (get_elem? views other ≡ some there) × (there.gone ≡ false → count ≤ there.meetings)
+
+  -- so it is of each user
+  abbrev pub AllHaveMet : List (UserView T) → Type 0
+  AllHaveMet views = (user : ℕ) (known : UserView T) → get_elem? views user ≡ some known → HasMet views known
+
   -- what holds of a page between any two steps
   abbrev pub IsKept : (T → Type 0) → ℕ → List (Option T) → PageState T → Type 0
-  IsKept meets raise opening page = IsPage meets page × HasHistory raise opening page
+  IsKept meets raise opening page = IsPage meets page × HasHistory raise opening page × AllHaveMet page.views
 
   -- a user went on: the page's history is longer by what others did, and then by what it did itself
   pub record GoesOn (made : History T) (old new : UserView T) : Type 0 where
@@ -222,7 +234,7 @@ module _ {T : Type 0} where
 
 -- a user that was told what another knew
 abbrev pub told_of : {T : Type 0} → UserView T → UserView T → UserView T
-told_of old other = record old { told = other.operations }
+told_of old other = record old { told = other.operations; met = other.met }
 
 -- who only remembers what another knew
 abbrev pub witness_of : {T : Type 0} → UserView T → UserView T

@@ -1,5 +1,7 @@
 -- Which refusals a call may answer, and when.
 use Rattle.std.specs.Prelude.{⊤}
+use Rattle.std.specs.declared.io.ErrorKind.{ErrorKind}
+use Rattle.std.specs.declared.io.ErrorKind.TheVariants.{OutOfMemory, Other, ResourceBusy}
 use Rattle.pool_parts.specs.declared.pull_error.PullError.{PullError}
 use Rattle.pool_parts.specs.declared.pull_error.PullError.TheVariants.{Memory, Init, Limit}
 
@@ -21,3 +23,9 @@ abbrev pub RefusesPull : Causes → PullError → Type 0
 RefusesPull causes Memory = ⊤
 RefusesPull causes Init = causes.init_refuses
 RefusesPull causes Limit = causes.limited
+
+-- the kind of the io::Error that a refusal becomes
+abbrev pub refusal_kind : PullError → ErrorKind
+refusal_kind Memory = OutOfMemory
+refusal_kind Init = Other
+refusal_kind Limit = ResourceBusy

@@ -1,10 +1,11 @@
-//! What a pool asks of the two things that make and reset its values, and what serves for them.
+//! Initializers and resets: what makes a pool's values, and what makes them ready for the next use.
 //!
-//! A pool's type is bounded by [`Init`] and [`Reset`], whose contracts carry the facts that a reusable's drop
-//! can't ask of anyone. [`Copied`], [`Keep`], [`Kept`], [`WithCapacity`] and [`Clear`] are ready-made. A named struct
-//! implements them directly. Bare closures go through [`Makes`] and [`Resets`], in code that is generic in [`InitBy`]
-//! and [`ResetBy`]. A type that says itself how its values are made and reset is `Recyclable`, which
-//! stands with the pools.
+//! A pool's type is bounded by [`Init`] and [`Reset`]. Their contracts carry the facts that a
+//! reusable's drop can't require of anyone. [`ByDefault`], [`Copied`], [`Keep`], [`Kept`],
+//! [`WithCapacity`] and [`Clear`] are ready-made. A type of your own implements the traits
+//! directly. Closures go through [`Makes`] and [`Resets`], in code that is generic in [`InitBy`]
+//! and [`ResetBy`]. A type that defines how its values are made and reset implements `Recyclable`,
+//! which is defined with the pools.
 ghost use Rattle.std.specs.Prelude.{⊤, Option, IfSome};
 
 use crate::clean::Clean;
@@ -14,24 +15,49 @@ mod ready;
 mod vectors;
 
 pub use by_closure::{InitBy, Makes, ResetBy, Resets};
-pub use ready::{Copied, Keep, Kept};
+pub use ready::{ByDefault, Copied, Keep, Kept};
 pub use vectors::{Clear, WithCapacity};
 
-/// What makes the values of a pool. `None` is a refusal.
+/// An initializer, which makes the values of a pool. `None` is a refusal.
+///
+/// # Examples
+///
+/// ```rust
+/// impl Init<Ticket, Unused> for Press {
+///     fn make(&self) -> Option<Ticket> {
+///         if self.made.fetch_add(1, SeqCst) < 40 {
+///             Some(Ticket { uses: 0 })
+///         } else {
+///             None
+///         }
+///     }
+/// }
+/// ```
 pub trait Init<T, K: Clean<T>>: Drop {
-    /// The answers that may come. An impl that doesn't say leaves any that meets the condition open.
+    /// The answers that may come. By default any answer that meets the condition may.
     ghost answers: { Self → Option T → Type 0 } = { λ _ _. ⊤ };
 
-    /// A new value, or `None` as a refusal, also for want of memory: a pull then answers `Init`.
+    /// Makes a value, or returns `None` as a refusal, also for want of memory. Then the pull is
+    /// refused with `Init`.
     fn make(&self) -> Option<T>
         ensures answer { answers self.now result }
         ensures meets { IfSome result K.meets };
 }
 
-/// What resets a value of a pool before it is kept.
+/// A reset, which makes a value ready to be kept after its use.
+///
+/// # Examples
+///
+/// ```rust
+/// impl Reset<Ticket, Unused> for Renew {
+///     fn reset(&self, ticket: &mut Ticket) {
+///         ticket.uses = 0;
+///     }
+/// }
+/// ```
 pub trait Reset<T, K: Clean<T>>: Drop {
-    /// What may be made of a value: the old one, then the new one. An impl that doesn't say leaves any new value that
-    /// meets the condition open.
+    /// The values that the reset may leave: the old one, then the new one. By default it may leave
+    /// any value that meets the condition.
     ghost leaves: { Self → T → T → Type 0 } = { λ _ _ _. ⊤ };
 
     /// Makes a value ready to be kept.

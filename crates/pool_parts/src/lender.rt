@@ -1,12 +1,14 @@
-//! A field of no bytes, for a type that lends its value out.
+//! A field of no bytes, for a type that lends its value.
 ghost use Rattle.std.specs.Prelude.{⊤};
 
 use std::marker::Model;
 
-/// A type that holds a borrow of something else and lends a value of its own as `&mut` has this field.
+/// A type that holds a borrow of something else and lends a value of its own as `&mut` has this
+/// field.
 ///
-/// It does nothing when the program runs. The check proves the exact end of such a loan only where a field's own
-/// type has a `Model`; a borrow, a value of a type parameter and a ghost field have none.
+/// It does nothing when the program runs. The checker proves the exact end of such a loan only if
+/// the type of some field has a `Model`. A borrow, a value of a type parameter and a ghost field
+/// have none.
 #[derive(Drop)]
 pub struct Lender;
 

@@ -1,5 +1,8 @@
-//! What object pools are made of: the condition of their values, what makes and resets them, why a pull is refused, pages of
-//! items that threads share without a lock, and the list of values that a stack pool keeps.
+//! The parts of object pools.
+//!
+//! They are: the condition of a pool's values, their initializers and resets, why a pull is
+//! refused, pages of items that threads share without a lock, and the list of values that a stack
+//! pool keeps.
 //!
 //! No call waits for another thread.
 #![tactic(auto)]

@@ -1,12 +1,13 @@
-//! The condition of the values that a pool keeps: what its initializer may answer, or what its reset may leave.
+//! The condition of the values that a pool keeps: its initializer may answer them, or its reset may
+//! leave them.
 ghost use Rattle.pool_parts.specs.Answers.{IsMadeOrReset};
 
 use crate::clean::Clean;
 use crate::closures::{Init, Reset};
 use std::marker::PhantomData;
 
-/// The values that a pool may keep: each meets `K`, and is an answer that an initializer of type `I` may give or what
-/// a reset of type `R` may leave of some value. Contracts alone name it.
+/// The values that a pool may keep. Each meets `K`, and an initializer of type `I` may answer it or
+/// a reset of type `R` may leave it of some value. Only contracts name it.
 pub struct MadeOrReset<I, R, K> {
     init: PhantomData<I>,
     reset: PhantomData<R>,

@@ -1,12 +1,19 @@
-//! A page of 32 items that threads share without a lock. Its word has a bit for each item, set where the item is free.
+//! A page of 32 items that threads share without a lock. Its word has a bit for each item, which is
+//! set if the item is free.
 //!
-//! This file has the pure steps of a word, and a page with its calls. Below it: what users do with a page's items
-//! (`history`), what holds of a page between any two steps and the kinds of step (`rule`), the steps themselves
-//! (`steps`) on the words and places that a page and a fixed pool have (`items`), what a user knows (`user_view`) and has of an
-//! item that it took (`holding`), an item that is out, under a borrow or an owner of its page (`slot`, `owned_slot`), the answer
-//! of a full page (`full_seen`), and what is known of a page while no item is held (`note`).
+//! This file has the pure steps of a word, and a page with its calls. Its modules:
 //!
-//! No call waits for another thread or tries again: a page reads its word once, and then clears single bits.
+//! - `history`: what users do with the items of a page
+//! - `rule`: what holds between any two steps, and the kinds of step
+//! - `items`, `steps`: the words and places of a page or of a fixed pool, and the steps on them
+//! - `meeting`: how the holders of two items find that they have two items
+//! - `user_view`, `holding`: what a user knows, and what it has of an item that it took
+//! - `slot`, `owned_slot`: an item in use, with a borrow or an owner of its page
+//! - `full_seen`: the answer of a full page
+//! - `note`: what is known of a page while no item is held
+//!
+//! No call waits for another thread or tries again: a page reads its word once, and then clears
+//! single bits.
 ghost use Rattle.std.specs.Prelude.{◌≡◌, ◌==◌, ◌+◌, ◌-◌, ◌^◌, ◌<◌, ◌≤◌, ◌↔◌, ℕ, [], false, Option, None, Some, IsTrue, IsNone, IfSome, IsOk, IfOk, IfErr, bit_and, bit_or};
 ghost use Rattle.std.specs.Int.{w32, bit_at, bit_not};
 ghost use Rattle.pool_parts.specs.Items.{items_identity, items_raise};
@@ -24,6 +31,7 @@ mod full_seen;
 pub mod history;
 pub mod holding;
 pub mod items;
+mod meeting;
 mod note;
 mod owned_slot;
 pub mod rule;
@@ -45,7 +53,8 @@ pub const PAGE_ITEMS: usize = 32;
 /// The bits of a word's count.
 const COUNT_BITS: u64 = 0xffff_ffff_0000_0000;
 
-/// The word without its lowest set bit, and that bit's place. `None` where no bit is set.
+/// Clears the lowest set bit of a word, and returns the rest with that bit's place. `None` if no
+/// bit is set.
 pub fn take_least(word: u32) -> Option<(u32, PageId)>
     ensures none { IsNone result ↔ (word ≡ 0) }
     ensures least { IfSome result (λ taken. IsLeastBit word taken.1) }
@@ -58,7 +67,7 @@ pub fn take_least(word: u32) -> Option<(u32, PageId)>
     Some((word & (word - 1), word.trailing_zeros() as PageId))
 }
 
-/// The word with one bit set.
+/// Returns the word with one bit set.
 pub fn with_bit(word: u32, id: PageId) -> u32
     requires { id < PAGE_ITEMS }
     ensures bits { SetsBit word id result }
@@ -67,7 +76,7 @@ pub fn with_bit(word: u32, id: PageId) -> u32
     word | 1 << id
 }
 
-/// The word with one bit clear.
+/// Returns the word with one bit clear.
 pub fn without_bit(word: u32, id: PageId) -> u32
     requires { id < PAGE_ITEMS }
     ensures bits { ClearsBit word id result }
@@ -76,7 +85,7 @@ pub fn without_bit(word: u32, id: PageId) -> u32
     word & !(1 << id)
 }
 
-/// Whether the bit is set.
+/// Returns whether the bit is set.
 pub fn has_bit(word: u32, id: PageId) -> bool
     requires { id < PAGE_ITEMS }
     ensures bits { IsTrue result ↔ (bit_at word id ≡ 1) }
@@ -85,28 +94,28 @@ pub fn has_bit(word: u32, id: PageId) -> bool
     word >> id & 1 == 1
 }
 
-/// Whether no bit is set.
+/// Returns whether no bit is set.
 fn is_none_free(word: u32) -> bool
     ensures { IsTrue result ↔ (word ≡ 0) }
 {
     word == 0
 }
 
-/// The lower half of a word: the bits of its items, without the count above them.
+/// Returns the lower half of a word: the bits of its items, without the count above them.
 fn low_half(word: u64) -> u32
     ensures { IsLowHalf word result }
 {
     (word & u32::MAX as u64) as u32
 }
 
-/// The count in the upper half of a word.
+/// Returns the count in the upper half of a word.
 fn count_of(word: u64) -> u32
     ensures { result ≡ count_in word }
 {
     (word >> 32) as u32
 }
 
-/// A word whose bits are all set but this one, those of the count too.
+/// Returns a word in which each bit is set but this one, those of the count too.
 fn all_but(id: PageId) -> u64
     requires { id < PAGE_ITEMS }
     ensures { ClearsBit whole_word id result }
@@ -115,13 +124,23 @@ fn all_but(id: PageId) -> u64
 }
 
 /// 32 items that threads share.
+///
+/// # Examples
+///
+/// ```rust
+/// let page: Page<u32, AnyValue> = Page::new(alloc, &|| Some(0))?;
+/// if let Some(slot) = page.alloc()? {
+///     Page::free(slot);
+/// }
+/// ```
 pub struct Page<T, K: Clean<T>> {
     items: Items<T, K>,
     ghost sized: { (items_identity items).slots ≡ PAGE_ITEMS },
     ghost counts_nothing: { items_raise items ≡ 0 },
 }
 
-/// Not derived: the proof of a caller that drops it has one call here, and a derived drop has that of each field.
+/// Not derived: the proof of a caller that drops it has one call here, and a derived drop has that
+/// of each field.
 impl<T: Drop, K: Clean<T>> Drop for Page<T, K> {
     fn drop(self) {
         let Page { items: _ } = self;
@@ -139,11 +158,18 @@ impl<T, K: Clean<T>> Page<T, K> {
     ghost use Rattle.pool_parts.specs.Refusal.{RefusesMaking};
     ghost use Rattle.pool_parts.specs.Slot.{slot_item, slot_view};
 
-    /// A page of 32 free items: item `i` is the answer of call `i` of `init`, counted from 0.
+    /// Creates a page of 32 free items. Item `i` is the answer of call `i` of `init`, counted from
+    /// 0.
     ///
     /// # Errors
     ///
     /// `Memory`, or `Init` at the first `None`. The items that were made are dropped.
+    ///
+    /// # Examples
+    ///
+    /// ```rust
+    /// let page: Page<u32, AnyValue> = Page::new(alloc, &|| Some(0))?;
+    /// ```
     pub fn new<I: Fn() -> Option<T>>(alloc: Global, init: &I) -> Result<Page<T, K>, PullError>
     where
         T: Drop,
@@ -155,13 +181,16 @@ impl<T, K: Clean<T>> Page<T, K> {
         Ok(Page { items })
     }
 
-    /// A slot, or `None` after each of the 32 ids was observed taken during the call.
+    /// Pulls a free item, or returns `None` if each of the 32 items was seen in use during the
+    /// call.
     ///
-    /// The word is read once. Then the bits that were set in it are cleared, lowest first, until one was still set.
+    /// It reads the word once. Then it clears the bits that were set in it, lowest first, until one
+    /// was still set.
     ///
     /// # Errors
     ///
-    /// There is none: a page counts no users, and the clause `succeeds` says so. `None` has no clause; `try_alloc` gives the evidence.
+    /// There is none: a page counts no users, and the clause `succeeds` says so. `None` has no
+    /// clause. [`Page::try_alloc`] gives the evidence.
     pub fn alloc(&self) -> Result<Option<PageSlot<'_, T, K>>, PullError>
         ensures succeeds { IsOk result }
         ensures pulled { IfOk result
@@ -177,7 +206,8 @@ impl<T, K: Clean<T>> Page<T, K> {
         }
     }
 
-    /// As `alloc`, for a pull that may go on to another page: a page that is full says so for this pull.
+    /// Pulls a free item as `alloc` does, or returns the evidence that each was seen in use. A pull
+    /// may go on to another page with it.
     ///
     /// # Errors
     ///
@@ -194,7 +224,8 @@ impl<T, K: Clean<T>> Page<T, K> {
         Ok(self.take(pass).answer)
     }
 
-    /// As `try_alloc`, which is never refused.
+    /// Pulls as `try_alloc` does, without its `Result`. It returns too whether the page was left
+    /// full.
     pub fn take<'s, 'p>(&'s self, pass: &'p PullPass) -> Taken<'s, 'p, T, K>
         ensures answer { IsAnswerOf K.meets (page_identity self.now)
             (page_opening self.now) result.answer }
@@ -204,7 +235,8 @@ impl<T, K: Clean<T>> Page<T, K> {
         self.take_lowest(pass, word, seat)
     }
 
-    /// As `try_alloc`, by a user that knows something of the page: its pull stands after all that it knew.
+    /// Pulls as `try_alloc` does, by a user that knows something of the page. The pull comes after
+    /// all that the note knew.
     ///
     /// # Errors
     ///
@@ -224,7 +256,7 @@ impl<T, K: Clean<T>> Page<T, K> {
         Ok(self.take_lowest(pass, word, seat).answer)
     }
 
-    /// A note of this page, by a user that did nothing. It costs one load.
+    /// Returns a note of this page, by a user that did nothing. It costs one load.
     ///
     /// It knows some prefix of the page's history; which one, no contract can say.
     pub fn note(&self) -> PageNote<T>
@@ -233,9 +265,11 @@ impl<T, K: Clean<T>> Page<T, K> {
         self.items.note()
     }
 
-    /// Adds what a witness knows of this page to what a note knows. Afterwards the note's history has both histories as prefixes.
+    /// Adds what a witness knows of this page to what a note knows. Afterwards both their histories
+    /// are prefixes of the note's.
     ///
-    /// A witness comes of another thread's slot or note: so a thread that received it concludes what happened before.
+    /// A witness comes from another thread's slot or note. So a thread that received it can
+    /// conclude what happened before.
     pub fn tell(&self, note: &mut PageNote<T>, other: Witness<T>)
         requires note { note_page note.old ≡ page_identity self.now }
         requires other { witness_page other ≡ page_identity self.now }
@@ -283,7 +317,8 @@ impl<T, K: Clean<T>> Page<T, K> {
         }
     }
 
-    /// The value goes home, and the slot's id is free again. The note knows the page's history up to the return.
+    /// Returns an item to its page, with its value. The note knows the page's history up to the
+    /// return.
     pub fn free(slot: PageSlot<'_, T, K>) -> PageNote<T>
         requires { K.meets (slot_item slot).value }
         ensures { IsReturned (slot_item slot.entry) result }
@@ -292,7 +327,7 @@ impl<T, K: Clean<T>> Page<T, K> {
         taken.free(value).note
     }
 
-    /// The value of an item that is out goes home, and its id is free again.
+    /// Returns an item to this page by what its holder has, with a value.
     pub fn give(&self, holding: Holding<T>, value: T) -> Returned<T>
         requires of_page { holding_page holding ≡ page_identity self.now }
         requires in_page { holding.number < PAGE_ITEMS }
@@ -306,12 +341,12 @@ impl<T, K: Clean<T>> Page<T, K> {
         }
     }
 
-    /// Whether no item was free at this moment.
+    /// Returns whether no item is free at this moment.
     pub fn is_full(&self) -> bool {
         is_none_free(self.get_mask())
     }
 
-    /// The word at this moment.
+    /// Returns the word at this moment.
     pub fn get_mask(&self) -> u32 {
         self.items.look(0).0
     }

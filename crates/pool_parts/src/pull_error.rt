@@ -1,20 +1,37 @@
-//! Why a pool has no item to give.
+//! Why a pull was refused.
 ghost use Rattle.pool_parts.specs.declared.pull_error.PullError.TheVariants.{Memory};
+ghost use Rattle.pool_parts.specs.Refusal.{refusal_kind};
+ghost use Rattle.std.specs.IoError.{error_kind};
 ghost use Rattle.std.specs.Prelude.{◌≡◌};
 
 use std::alloc::{AllocError, AllocFailed};
+use std::io::{self, ErrorKind};
 use thiserror::Error;
 
-/// Why a pull, or the making of a pool, was refused.
+/// Why a pull, or the opening of a pool, was refused.
+///
+/// # Examples
+///
+/// ```rust
+/// match connections.pull_timeout(rt, Duration::from_secs(1)) {
+///     Ok(mut connection) => {
+///         connection.sent.extend_from_slice(message)?;
+///         Ok(true)
+///     }
+///     Err(PullError::Limit) => Ok(false), // a fallback goes here
+///     Err(error) => Err(error),
+/// }
+/// ```
 #[derive(Clone, Copy, Debug, PartialEq, Eq, Hash, Error)]
 pub enum PullError {
-    /// A growth was refused, or a counter is at its type's end.
+    /// A request for memory was refused, or a counter is at its type's end.
     #[error("out of memory")]
     Memory = 1,
-    /// The pool's `init` answered `None`. One that takes memory answers so where there is none, as `WithCapacity` does.
+    /// The pool's `init` returned `None`. An `init` that takes memory returns it also if there is
+    /// none, as `WithCapacity` does.
     #[error("init gave no item")]
     Init = 2,
-    /// Each item of the pages that the pool, or the pull, may have was observed taken in this call.
+    /// Each item that the pull could have taken was seen in use in this call.
     #[error("the pool is at its limit")]
     Limit = 3,
 }
@@ -32,5 +49,20 @@ impl<X: Drop> From<AllocFailed<X>> for PullError {
 
     fn from(_error: AllocFailed<X>) -> PullError {
         PullError::Memory
+    }
+}
+
+/// Lets `?` pass on a refusal where an `io::Error` is returned.
+impl From<PullError> for io::Error {
+    ghost from_gives = { λ refusal error. error_kind error ≡ refusal_kind refusal };
+
+    fn from(refusal: PullError) -> io::Error {
+        match refusal {
+            PullError::Memory => io::Error::from(ErrorKind::OutOfMemory),
+            PullError::Init => io::Error::other("init gave no item"),
+            PullError::Limit => {
+                io::Error::new(ErrorKind::ResourceBusy, "the pool is at its limit")
+            }
+        }
     }
 }

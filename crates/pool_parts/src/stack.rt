@@ -1,6 +1,6 @@
-//! The locked state of a stack pool: the values that are kept, last returned first.
+//! The list of values that a stack pool keeps under its lock, last returned first.
 //!
-//! Each value lies in a boxed place that came with it, so that keeping a value takes no memory.
+//! Each value lies in a boxed place that came with it, so keeping a value takes no memory.
 ghost use Rattle.std.specs.Prelude.{◌≡◌, [], length, min, IfErr, IfSome, MatchOption};
 ghost use Rattle.pool_parts.specs.declared.pull_error.PullError.TheVariants.{Memory};
 ghost use Rattle.pool_parts.specs.LastIn.{PutsInFront, StaysEmpty, TakesFirst};
@@ -16,6 +16,13 @@ use std::sync::Mutex;
 mod node;
 
 /// An empty boxed place for one value.
+///
+/// # Examples
+///
+/// ```rust
+/// let room = Room::new(alloc)?;
+/// stack.put(room, 5); // takes no memory
+/// ```
 #[derive(Drop)]
 pub struct Room<T> {
     place: Box<Node<T>>,
@@ -33,11 +40,17 @@ impl<T> Model for Room<T> {
 }
 
 impl<T: Drop> Room<T> {
-    /// An empty place.
+    /// Makes an empty place.
     ///
     /// # Errors
     ///
-    /// `Memory`.
+    /// `Memory` if there is no memory for it.
+    ///
+    /// # Examples
+    ///
+    /// ```rust
+    /// let room = Room::new(alloc)?;
+    /// ```
     pub fn new(alloc: Global) -> Result<Room<T>, PullError>
         ensures refused { IfErr result (λ error. error ≡ Memory) }
     {
@@ -52,7 +65,18 @@ impl<T: Drop> Room<T> {
     }
 }
 
-/// A list of kept values, last returned first, each of which meets `K`. The marker may be sent and shared whatever `K` is.
+/// A list of kept values, last returned first. Each meets `K`.
+///
+/// The marker may be sent and shared whatever `K` is.
+///
+/// # Examples
+///
+/// ```rust
+/// let mut stack: Stack<u32, AnyValue> = Stack::new();
+/// let room = Room::new(alloc)?;
+/// stack.put(room, 5); // takes no memory
+/// let taken = stack.take(); // 5, with its room
+/// ```
 pub struct Stack<T, K: Clean<T>> {
     head: Option<Box<Node<T>>>,
     marker: PhantomData<Mutex<Badge<K>>>,
@@ -70,7 +94,13 @@ impl<T, K: Clean<T>> Model for Stack<T, K> {
 }
 
 impl<T: Drop, K: Clean<T>> Stack<T, K> {
-    /// A stack that keeps nothing.
+    /// Creates a stack that keeps nothing.
+    ///
+    /// # Examples
+    ///
+    /// ```rust
+    /// let mut stack: Stack<u32, AnyValue> = Stack::new();
+    /// ```
     pub fn new() -> Stack<T, K>
         ensures { result ≡ [] }
     {
@@ -80,7 +110,7 @@ impl<T: Drop, K: Clean<T>> Stack<T, K> {
         }
     }
 
-    /// The last value that was put, with its room.
+    /// Takes the value that was put last, with its room.
     pub fn take(&mut self) -> Option<(T, Room<T>)>
         ensures first { MatchOption result (StaysEmpty self.old self.new)
             (λ taken. TakesFirst self.old taken.0 self.new) }
@@ -105,7 +135,7 @@ impl<T: Drop, K: Clean<T>> Stack<T, K> {
         self.head = Some(place);
     }
 
-    /// How many values are kept, `usize::MAX` where there are more.
+    /// Counts the values that are kept, up to `usize::MAX`.
     pub fn kept(&self) -> usize
         ensures { result ≡ min (length self.now) usize.MAX }
     {

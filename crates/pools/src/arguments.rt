@@ -1,4 +1,4 @@
-//! What the program is told by its arguments.
+//! The arguments of the program.
 ghost use Rattle.std.specs.Prelude.{◌≡◌, ℕ, IfSome, MatchOption, map};
 ghost use Rattle.object_pool_cores.specs.Engine.{IsPlayable};
 ghost use Rattle.object_pool_cores.specs.declared.engine.kind.Reset.{Reset};
@@ -6,14 +6,18 @@ ghost use Rattle.pools.specs.Arguments.{reset_word, IsPages, AreArguments, AreOt
 
 use object_pool_cores::engine::{Kind, Reset, number_of};
 
-/// The pool to play on, and what a return leaves.
+/// The pool to play on, and what a return leaves of an item.
 #[derive(Clone, Copy, Debug, PartialEq, Eq)]
 pub struct Arguments {
     pub kind: Kind,
     pub reset: Reset,
 }
 
-/// The arguments that the words behind the program's name are.
+/// Reads the arguments from the words after the program's name.
+///
+/// # Errors
+///
+/// `None` if the words ask for no pool.
 pub fn arguments_of(words: &[&str]) -> Option<Arguments>
     ensures judged { MatchOption result (AreOther (map (λ word. word.now) words.now))
         (λ arguments. AreArguments (map (λ word. word.now) words.now)
@@ -31,7 +35,7 @@ pub fn arguments_of(words: &[&str]) -> Option<Arguments>
     Some(Arguments { kind, reset })
 }
 
-/// What a return leaves, by its word.
+/// Reads what a return leaves, or returns `None` for another word.
 fn reset_of(word: &str) -> Option<Reset>
     ensures { MatchOption result ((reset : Reset) → word.now ≡ reset_word reset → ⊥)
         (λ reset. word.now ≡ reset_word reset) }
@@ -43,7 +47,7 @@ fn reset_of(word: &str) -> Option<Reset>
     }
 }
 
-/// A number of pages.
+/// Reads a number of pages, or returns `None` for another word or 0.
 fn pages_of(word: &str) -> Option<usize>
     ensures { MatchOption result ((pages : ℕ) → IsPages word.now pages → ⊥) (IsPages word.now) }
 {

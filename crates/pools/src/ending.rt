@@ -24,7 +24,7 @@ pub struct Report {
     pub status: u8,
 }
 
-/// What the program says of this ending.
+/// Returns what the program says of this ending.
 pub fn report_of(ending: Ending) -> Report
     ensures message { result.message.now ≡ message_of ending }
     ensures status { result.status ≡ status_of ending }

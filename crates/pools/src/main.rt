@@ -1,4 +1,5 @@
-//! Commands by lines from standard input, played on a pool of numbers; replies by lines to standard output.
+//! Commands by lines from standard input, played on a pool of numbers; replies by lines to standard
+//! output.
 #![tactic(auto)]
 
 mod arguments;
@@ -19,7 +20,7 @@ fn main(rt: HostRuntime) -> ExitCode {
     run_program(&rt)
 }
 
-/// Plays standard input, says on standard error why that ended, and answers the exit status.
+/// Plays standard input, says on standard error why that ended, and returns the exit status.
 fn run_program<R: Env + Input + Print + Eprint + AllocGlobal + Wait>(rt: &R) -> ExitCode {
     let ending = play_standard_input(rt).unwrap_or(Ending::Stopped(EngineError::Memory));
     let report = report_of(ending);
@@ -27,7 +28,11 @@ fn run_program<R: Env + Input + Print + Eprint + AllocGlobal + Wait>(rt: &R) -> 
     ExitCode::from(report.status)
 }
 
-/// Plays standard input by the arguments behind the program's name. Without memory for those it reads nothing.
+/// Plays standard input by the arguments after the program's name.
+///
+/// # Errors
+///
+/// `AllocError` if there is no memory for the arguments. It has read nothing then.
 fn play_standard_input<R: Env + Input + Print + AllocGlobal + Wait>(
     rt: &R,
 ) -> Result<Ending, AllocError> {

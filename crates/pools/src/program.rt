@@ -9,7 +9,8 @@ use std::alloc::Global;
 use std::io::{Read, Write};
 use std::sync::Wait;
 
-/// Plays the lines of `input` on the pool that the words ask for, and writes their replies to `output`.
+/// Plays the lines of `input` on the pool that the words ask for, and writes their replies to
+/// `output`.
 pub fn play<H: Wait, R: Read, W: Write>(
     rt: &H,
     alloc: Global,

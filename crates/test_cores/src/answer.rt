@@ -35,7 +35,7 @@ pub enum Answer {
     NotOut,
 }
 
-/// The answer that an item, or a refusal, is.
+/// Returns the answer that an item, or a refusal, is.
 pub fn answer_of<A: Pulled>(given: &Result<A, PullError>) -> Answer {
     match given {
         Ok(item) => Answer::Came {
@@ -70,6 +70,10 @@ impl<X: Drop> From<AllocFailed<X>> for Stopped {
 }
 
 /// Stops where the running pool's answer isn't the core's.
+///
+/// # Errors
+///
+/// `Stopped` if the two answers differ.
 pub fn compare(call: Call, running: Answer, core: Answer) -> Result<(), Stopped> {
     if running == core {
         Ok(())

@@ -86,12 +86,20 @@ struct Buffers<'p> {
 }
 
 impl<'p> Gives<Vec<u8>, Buffer<'p, NewBuffers, Empties>> for Buffers<'p> {
-    fn gives(&self, _asked: Ask<Vec<u8>>) -> Result<Buffer<'p, NewBuffers, Empties>, PullError> {
+    fn gives(
+        &self,
+        _asked: Ask<Vec<u8>>,
+        _page: usize,
+    ) -> Result<Buffer<'p, NewBuffers, Empties>, PullError> {
         self.pool.pull()
     }
 }
 
-/// The session's calls. A buffer pool always has a limit.
+/// Does the session's calls on a buffer pool, which always has a limit.
+///
+/// # Errors
+///
+/// `Stopped` if the two sides differ, or memory is refused.
 pub fn compare_buffers(alloc: Global, session: Session) -> Result<Figures, Stopped> {
     let tallies = Tallies::new(alloc)?;
     refuse_opening(&tallies, session);

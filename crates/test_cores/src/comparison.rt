@@ -1,4 +1,5 @@
-//! Random calls on a running pool and on the core of its kind, whose answers are compared one by one.
+//! Random calls on a running pool and on the core of its kind, whose answers are compared one by
+//! one.
 use crate::answer::{Answer, Call, Stopped, answer_of, compare};
 use crate::dice::Dice;
 use crate::figures::Figures;
@@ -26,7 +27,19 @@ pub enum Ask<T> {
 
 /// A running pool, which gives items.
 pub trait Gives<T, A> {
-    fn gives(&self, asked: Ask<T>) -> Result<A, PullError>;
+    /// Gives an item. Of this page is the one that the core gives to a pull.
+    fn gives(&self, asked: Ask<T>, page: usize) -> Result<A, PullError>;
+}
+
+/// The page of an item that the core gave. It is 0 where there is none, or no number.
+fn page_of<T>(given: &Result<Item<T>, PullError>) -> usize {
+    let Ok(item) = given else {
+        return 0;
+    };
+    let Some(number) = item.number() else {
+        return 0;
+    };
+    usize::try_from(number / 32).unwrap_or(0)
 }
 
 /// The items that one call gave on both sides.
@@ -62,7 +75,8 @@ pub struct Ended<C> {
 }
 
 impl<T: Value, A: Pulled, C: SequentialPool<T> + Drop> Comparison<T, A, C> {
-    /// A comparison with a core at whose side nothing is held yet. `attaches` says whether both pools attach values.
+    /// Creates a comparison with a core beside which nothing is held yet. `attaches` says whether
+    /// both pools attach values.
     pub fn new(
         alloc: Global,
         core: C,
@@ -84,15 +98,23 @@ impl<T: Value, A: Pulled, C: SequentialPool<T> + Drop> Comparison<T, A, C> {
     }
 
     /// Pulls so many items on both sides, and compares the tallies behind the last.
+    ///
+    /// # Errors
+    ///
+    /// `Stopped` if the two sides differ, or memory is refused.
     pub fn pull_first<P: Gives<T, A>>(&mut self, items: usize, pool: &P) -> Result<(), Stopped> {
         for _ in 0..items {
-            let answer = self.pull(Call::Pull, pool.gives(Ask::Pull))?;
+            let answer = self.pull(Call::Pull, Ask::Pull, pool)?;
             self.figures.count(Call::Pull, answer);
         }
         self.tallies.compare(Call::Pull)
     }
 
     /// Does the session's calls, and drops what is held then.
+    ///
+    /// # Errors
+    ///
+    /// `Stopped` if the two sides differ, or memory is refused.
     pub fn play<P: Gives<T, A>>(mut self, pool: &P) -> Result<Ended<C>, Stopped> {
         for _ in 0..self.session.calls {
             let call = self.drawn_call();
@@ -109,7 +131,8 @@ impl<T: Value, A: Pulled, C: SequentialPool<T> + Drop> Comparison<T, A, C> {
         })
     }
 
-    /// The next call: mostly one that gives an item until as many are held as may be, then mostly one that takes it back.
+    /// The next call: mostly one that gives an item until as many are held as may be, then mostly
+    /// one that takes it back.
     fn drawn_call(&mut self) -> Call {
         if self.held.is_empty() {
             self.is_rising = true;
@@ -157,15 +180,15 @@ impl<T: Value, A: Pulled, C: SequentialPool<T> + Drop> Comparison<T, A, C> {
     /// Does a call on both sides.
     fn call<P: Gives<T, A>>(&mut self, call: Call, pool: &P) -> Result<(), Stopped> {
         let answer = match call {
-            Call::Pull => self.pull(call, pool.gives(Ask::Pull))?,
-            Call::PullOwned => self.pull(call, pool.gives(Ask::PullOwned))?,
+            Call::Pull => self.pull(call, Ask::Pull, pool)?,
+            Call::PullOwned => self.pull(call, Ask::PullOwned, pool)?,
             Call::Attach => {
                 let value = attached(&self.tallies.running, &self.figures)?;
-                self.attach(call, pool.gives(Ask::Attach(value)))?
+                self.attach(call, pool.gives(Ask::Attach(value), 0))?
             }
             Call::AttachOwned => {
                 let value = attached(&self.tallies.running, &self.figures)?;
-                self.attach(call, pool.gives(Ask::AttachOwned(value)))?
+                self.attach(call, pool.gives(Ask::AttachOwned(value), 0))?
             }
             Call::Look | Call::Write => self.write(call)?,
             Call::Drop | Call::Forget => self.let_go(call)?,
@@ -175,9 +198,15 @@ impl<T: Value, A: Pulled, C: SequentialPool<T> + Drop> Comparison<T, A, C> {
         self.tallies.compare(call)
     }
 
-    /// What the running pool gave to a pull, beside what the core gives.
-    fn pull(&mut self, call: Call, running: Result<A, PullError>) -> Result<Answer, Stopped> {
+    /// What the core gives to a pull, beside what the running pool gives then.
+    fn pull<P: Gives<T, A>>(
+        &mut self,
+        call: Call,
+        asked: Ask<T>,
+        pool: &P,
+    ) -> Result<Answer, Stopped> {
         let core = self.core.pull();
+        let running = pool.gives(asked, page_of(&core));
         self.hold(call, running, core)
     }
 
@@ -267,7 +296,12 @@ fn attached<T: Value>(tally: &Arc<SideTally>, figures: &Figures) -> Result<T, St
     }
 }
 
-/// Drops the core and looks whether both sides are alike. The running pool has ended before, unless an owner of it was forgotten.
+/// Drops the core and looks whether both sides are alike. The running pool has ended before, unless
+/// an owner of it was forgotten.
+///
+/// # Errors
+///
+/// `Stopped` if the two sides differ, or memory is refused.
 pub fn compare_ends<C: Drop>(ended: Ended<C>) -> Result<Figures, Stopped> {
     let Ended {
         core,
@@ -284,7 +318,11 @@ pub fn compare_ends<C: Drop>(ended: Ended<C>) -> Result<Figures, Stopped> {
     Ok(figures)
 }
 
-/// Both pools, where both opened. `None` where both were refused for the same cause.
+/// Returns both pools if both opened, or `None` if both were refused for the same cause.
+///
+/// # Errors
+///
+/// `Stopped` if the two sides differ, or memory is refused.
 pub fn compare_openings<P: Drop, C: Drop>(
     tallies: &Tallies,
     running: Result<P, PullError>,

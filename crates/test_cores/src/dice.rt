@@ -11,14 +11,14 @@ pub struct Dice {
 }
 
 impl Dice {
-    /// The choices of a session of a seed.
+    /// Creates the choices of a session of a seed.
     pub fn new(seed: u64, session: u64) -> Dice {
         Dice {
             random: Pcg32::new(seed, session),
         }
     }
 
-    /// A number below this one. Below 0 it is 0.
+    /// Draws a number below this one. Below 0 it is 0.
     pub fn below(&mut self, end: usize) -> usize
         ensures below { 0 < end → result < end }
     {
@@ -26,12 +26,12 @@ impl Dice {
         if end == 0 { 0 } else { drawn % end }
     }
 
-    /// Whether something comes that comes once in so many times.
+    /// Draws whether something comes that comes once in so many times.
     pub fn one_in(&mut self, times: usize) -> bool {
         self.below(times) == 0
     }
 
-    /// A content that is written to an item.
+    /// Draws a content that is written to an item.
     pub fn content(&mut self) -> u64 {
         u64::from(self.random.next_u32())
     }

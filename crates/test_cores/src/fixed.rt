@@ -24,7 +24,12 @@ type Owned<T> = FixedOwnedReusable<T, Maker, Traces, AnyValue>;
 /// How many pages a pool has at most.
 const MOST_PAGES: usize = 300;
 
-/// The session's calls. A pull that begins at the first page finds the least free number, as the core's does.
+/// Does the session's calls. A pull near the page of the core's item finds that number, the least
+/// free one.
+///
+/// # Errors
+///
+/// `Stopped` if the two sides differ, or memory is refused.
 pub fn compare_fixed<T: Value>(alloc: Global, session: Session) -> Result<Figures, Stopped> {
     let tallies = Tallies::new(alloc)?;
     let pages = session.limit.unwrap_or(40).clamp(1, MOST_PAGES);
@@ -44,8 +49,8 @@ pub fn compare_fixed<T: Value>(alloc: Global, session: Session) -> Result<Figure
     compare_ends(ended)
 }
 
-/// What is left behind the session's calls. At first each item is pulled: the pool has made them all, and the core makes them
-/// page by page.
+/// What is left behind the session's calls. At first each item is pulled: the pool has made them
+/// all, and the core makes them page by page.
 fn played<T: Value>(
     alloc: Global,
     pool: &Arc<Pool<T>>,
@@ -66,12 +71,16 @@ struct Fixed<'p, T: Value> {
 }
 
 impl<'p, T: Value> Gives<T, Held<Borrowed<'p, T>, Owned<T>>> for Fixed<'p, T> {
-    fn gives(&self, asked: Ask<T>) -> Result<Held<Borrowed<'p, T>, Owned<T>>, PullError> {
+    fn gives(
+        &self,
+        asked: Ask<T>,
+        page: usize,
+    ) -> Result<Held<Borrowed<'p, T>, Owned<T>>, PullError> {
         match asked {
-            Ask::Pull | Ask::Attach(_) => Ok(Held::Borrowed(self.pool.pull_near(0)?)),
+            Ask::Pull | Ask::Attach(_) => Ok(Held::Borrowed(self.pool.pull_near(page)?)),
             Ask::PullOwned | Ask::AttachOwned(_) => {
                 let owner = Arc::try_clone(self.pool)?;
-                match owner.pull_by_owner(0, self.pool.note()) {
+                match owner.pull_by_owner(page, self.pool.note()) {
                     Ok(item) => Ok(Held::Owned(item)),
                     Err(_) => Err(PullError::Limit),
                 }

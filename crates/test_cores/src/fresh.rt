@@ -30,7 +30,11 @@ struct Fresh<T: Value> {
     figures: Figures,
 }
 
-/// The session's calls. Each item is new.
+/// Does the session's calls. Each item is new.
+///
+/// # Errors
+///
+/// `Stopped` if the two sides differ, or memory is refused.
 pub fn compare_fresh<T: Value>(alloc: Global, session: Session) -> Result<Figures, Stopped> {
     let tallies = Tallies::new(alloc)?;
     let init = Maker::new(&tallies.running)?;

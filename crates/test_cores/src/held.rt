@@ -20,7 +20,7 @@ pub trait Pulled: Drop {
     fn number(&self) -> Option<u128>;
 }
 
-/// The number of the item with this id of this page.
+/// Returns the number of the item with this id of this page.
 pub fn number_of(page: usize, id: PageId) -> u128 {
     page as u128 * 32 + u128::from(id)
 }

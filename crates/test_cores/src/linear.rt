@@ -23,7 +23,11 @@ type Borrowed<'p, T> = LinearReusable<'p, T, Maker, Traces, AnyValue>;
 
 type Owned<T> = LinearOwnedReusable<T, Maker, Traces, AnyValue>;
 
-/// The session's calls. One thread's pulls find the least free number, as the core's do.
+/// Does the session's calls. One thread's pulls find the least free number, as the core's do.
+///
+/// # Errors
+///
+/// `Stopped` if the two sides differ, or memory is refused.
 pub fn compare_linear<T: Value>(alloc: Global, session: Session) -> Result<Figures, Stopped> {
     let tallies = Tallies::new(alloc)?;
     refuse_opening(&tallies, session);
@@ -49,7 +53,7 @@ fn played<T: Value>(
     Comparison::new(alloc, core, session, tallies, false).play(&Linear { pool })
 }
 
-/// Now and then one of the calls of `init` for the first page is refused.
+/// Refuses, now and then, one of the calls of `init` for the first page.
 pub fn refuse_opening(tallies: &Tallies, session: Session) {
     let mut dice = Dice::new(session.seed.wrapping_add(2), session.number);
     if session.refuses && dice.one_in(4) {
@@ -88,7 +92,11 @@ struct Linear<'p, T: Value> {
 }
 
 impl<'p, T: Value> Gives<T, Held<Borrowed<'p, T>, Owned<T>>> for Linear<'p, T> {
-    fn gives(&self, asked: Ask<T>) -> Result<Held<Borrowed<'p, T>, Owned<T>>, PullError> {
+    fn gives(
+        &self,
+        asked: Ask<T>,
+        _page: usize,
+    ) -> Result<Held<Borrowed<'p, T>, Owned<T>>, PullError> {
         match asked {
             Ask::Pull | Ask::Attach(_) => Ok(Held::Borrowed(self.pool.pull()?)),
             Ask::PullOwned | Ask::AttachOwned(_) => Ok(Held::Owned(self.pool.pull_owned()?)),

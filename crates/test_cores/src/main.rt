@@ -1,7 +1,9 @@
-//! Random calls of one thread, each done on a running pool and on the proved core of its kind, whose answers are compared.
+//! Random calls of one thread, each done on a running pool and on the proved core of its kind,
+//! whose answers are compared.
 //!
-//! The two arguments are a seed and how many calls are done at least, both below 2^64. It prints a line of figures. Where an
-//! answer differs it prints the seed, the session, the call and both answers, and ends with status 1.
+//! The two arguments are a seed and how many calls are done at least, both below 2^64. It prints a
+//! line of figures. Where an answer differs it prints the seed, the session, the call and both
+//! answers, and ends with status 1.
 #![tactic(auto)]
 
 mod answer;

@@ -13,11 +13,17 @@ pub struct Maker {
 }
 
 impl Maker {
+    /// Creates an initializer that counts on this tally.
+    ///
+    /// # Errors
+    ///
+    /// If memory is refused.
     pub fn new(tally: &Arc<SideTally>) -> Result<Maker, AllocError> {
         let tally = Arc::try_clone(tally)?;
         Ok(Maker { tally })
     }
 
+    /// Makes a value, or returns `None` if the tally refuses it.
     pub fn value<T: Value>(&self) -> Option<T> {
         let number = self.tally.next_number()?;
         T::new(&self.tally, number)
@@ -37,6 +43,11 @@ pub struct Traces {
 }
 
 impl Traces {
+    /// Creates a reset that counts on this tally.
+    ///
+    /// # Errors
+    ///
+    /// If memory is refused.
     pub fn new(tally: &Arc<SideTally>) -> Result<Traces, AllocError> {
         let tally = Arc::try_clone(tally)?;
         Ok(Traces { tally })
@@ -50,7 +61,7 @@ impl<T: Value> Reset<T, AnyValue> for Traces {
     }
 }
 
-/// What a reset makes of a content.
+/// Returns what a reset makes of a content.
 pub fn traced(content: u64) -> u64 {
     content.wrapping_mul(5).wrapping_add(1)
 }

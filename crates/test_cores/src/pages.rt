@@ -145,7 +145,11 @@ where
     figures: Figures,
 }
 
-/// The session's calls.
+/// Does the session's calls.
+///
+/// # Errors
+///
+/// `Stopped` if the two sides differ, or memory is refused.
 pub fn compare_pages<T: Value>(alloc: Global, session: Session) -> Result<Figures, Stopped> {
     let tallies = Tallies::new(alloc)?;
     refuse_opening(&tallies, session);
@@ -215,7 +219,8 @@ impl<'c, T: Value> Pages<'c, T> {
         })
     }
 
-    /// The next call: mostly one that gives an item until as many are held as may be, then mostly one that takes it back.
+    /// The next call: mostly one that gives an item until as many are held as may be, then mostly
+    /// one that takes it back.
     fn drawn_call(&mut self) -> Call {
         if self.held.is_empty() {
             self.is_rising = true;
@@ -286,7 +291,8 @@ impl<'c, T: Value> Pages<'c, T> {
         Ok(answer)
     }
 
-    /// Learns the page that was linked behind the last known one, which is there if the list has grown.
+    /// Learns the page that was linked behind the last known one, which is there if the list has
+    /// grown.
     fn learn(&mut self, call: Call) -> Result<(), Stopped> {
         let Some(&last) = self.chain.last() else {
             return Ok(());

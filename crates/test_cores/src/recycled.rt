@@ -48,7 +48,11 @@ impl Value for Recycled {
     }
 }
 
-/// The session's calls on a pool without a limit.
+/// Does the session's calls on a pool without a limit.
+///
+/// # Errors
+///
+/// `Stopped` if the two sides differ, or memory is refused.
 pub fn compare_recycled(alloc: Global, session: Session) -> Result<Figures, Stopped> {
     let tallies = Tallies::new(alloc)?;
     let pool = Pool::<Recycled>::with_recycler(alloc);
@@ -75,6 +79,7 @@ impl<'p> Gives<Recycled, Held<Reusable<'p, Recycled>, OwnedReusable<Recycled>>> 
     fn gives(
         &self,
         asked: Ask<Recycled>,
+        _page: usize,
     ) -> Result<Held<Reusable<'p, Recycled>, OwnedReusable<Recycled>>, PullError> {
         match asked {
             Ask::Pull | Ask::Attach(_) => Ok(Held::Borrowed(self.pool.pull()?)),

@@ -45,7 +45,7 @@ pub struct Session {
     pub grows: bool,
 }
 
-/// The session with this number.
+/// Draws the session with this number.
 pub fn drawn(seed: u64, number: u64) -> Session {
     let mut dice = Dice::new(seed, number);
     let kind = drawn_kind(&mut dice);
@@ -120,7 +120,8 @@ fn most_asked(kind: Kind, limit: Option<usize>) -> usize {
     }
 }
 
-/// A session in which more pages are held than a row of links has. Where 1,120,000 calls are wanted, it comes to the twelfth row.
+/// Returns a session in which more pages are held than a row of links has. If 1,120,000 calls are
+/// wanted, it comes to the twelfth row.
 pub fn many_held(seed: u64, number: u64, calls: u64) -> Session {
     let most_held = (calls / 16).min(MOST_HELD);
     Session {
@@ -135,7 +136,7 @@ pub fn many_held(seed: u64, number: u64, calls: u64) -> Session {
     }
 }
 
-/// A session in which a pool grows by half of so many calls, up to more than 65,536 pages.
+/// Returns a session in which a pool grows by half of so many calls, up to more than 65,536 pages.
 pub fn many_pages(seed: u64, number: u64, calls: u64) -> Session {
     Session {
         kind: Kind::Linear,

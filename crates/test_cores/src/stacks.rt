@@ -28,7 +28,11 @@ type Borrowed<'p, T, F, W> = StackReusable<T, &'p Pool<T, F>, W>;
 
 type Owned<T, F, W> = StackReusable<T, Arc<Pool<T, F>>, W>;
 
-/// The session's calls on a mutex pool.
+/// Does the session's calls on a mutex pool.
+///
+/// # Errors
+///
+/// `Stopped` if the two sides differ, or memory is refused.
 pub fn compare_mutex<T: Value, W: Wait + Copy>(
     rt: &W,
     alloc: Global,
@@ -43,7 +47,11 @@ pub fn compare_mutex<T: Value, W: Wait + Copy>(
     compare_stack::<T, _, W>(rt, alloc, session, tallies, pool)
 }
 
-/// The session's calls on a spin lock pool.
+/// Does the session's calls on a spin lock pool.
+///
+/// # Errors
+///
+/// `Stopped` if the two sides differ, or memory is refused.
 pub fn compare_spin_lock<T: Value, W: Wait + Copy>(
     rt: &W,
     alloc: Global,
@@ -103,6 +111,7 @@ impl<'p, T: Value, F: FreeList<T, Kept>, W: Wait + Copy> Gives<
     fn gives(
         &self,
         asked: Ask<T>,
+        _page: usize,
     ) -> Result<Held<Borrowed<'p, T, F, W>, Owned<T, F, W>>, PullError> {
         match asked {
             Ask::Pull => Ok(Held::Borrowed(self.pool.pull(self.rt)?)),

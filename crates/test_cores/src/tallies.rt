@@ -12,6 +12,11 @@ pub struct Tallies {
 }
 
 impl Tallies {
+    /// Creates the tallies of both sides.
+    ///
+    /// # Errors
+    ///
+    /// If memory is refused.
     pub fn new(alloc: Global) -> Result<Tallies, AllocError> {
         Ok(Tallies {
             running: SideTally::new(alloc)?,
@@ -19,13 +24,17 @@ impl Tallies {
         })
     }
 
-    /// From now on the call of `init` behind so many others is refused on both sides.
+    /// Refuses from now on, on both sides, the call of `init` after so many others.
     pub fn refuse_after(&self, calls: usize) {
         self.running.refuse_after(calls);
         self.core.refuse_after(calls);
     }
 
     /// Stops where the figures of both sides differ.
+    ///
+    /// # Errors
+    ///
+    /// `Stopped` if the two tallies differ.
     pub fn compare(&self, call: Call) -> Result<(), Stopped> {
         let (running, core) = (self.running.counts(), self.core.counts());
         if running == core {

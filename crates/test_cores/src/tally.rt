@@ -21,6 +21,11 @@ pub struct SideTally {
 }
 
 impl SideTally {
+    /// Creates a tally that counts from 0 and refuses nothing.
+    ///
+    /// # Errors
+    ///
+    /// If memory is refused.
     pub fn new(alloc: Global) -> Result<Arc<SideTally>, AllocError> {
         let tally = SideTally {
             tally: Tally::new(),
@@ -29,7 +34,7 @@ impl SideTally {
         Ok(Arc::new(alloc, tally)?)
     }
 
-    /// The number of this call of `init`, counted from 0, or `None` where it is refused.
+    /// Counts a call of `init`, and returns its number from 0 on, or `None` if it is refused.
     pub fn next_number(&self) -> Option<u64> {
         let call = self.tally.next_call();
         if call == self.refused_call.load(SeqCst) {
@@ -39,20 +44,23 @@ impl SideTally {
         }
     }
 
-    /// From now on the call of `init` behind so many others is refused, and no other.
+    /// Refuses from now on the call of `init` after so many others, and no other.
     pub fn refuse_after(&self, calls: usize) {
         let call = self.tally.calls().wrapping_add(calls);
         self.refused_call.store(call, SeqCst);
     }
 
+    /// Counts a reset.
     pub fn count_reset(&self) {
         self.tally.count_reset();
     }
 
+    /// Counts a drop.
     pub fn count_drop(&self) {
         self.tally.count_drop();
     }
 
+    /// Returns the counts.
     pub fn counts(&self) -> Counts {
         Counts {
             inits: self.tally.calls(),

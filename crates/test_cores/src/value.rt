@@ -1,4 +1,5 @@
-//! The kinds of item: of no bytes, of 8 bytes and of 4 KiB, with a drop that is counted and without.
+//! The kinds of item: of no bytes, of 8 bytes and of 4 KiB, with a drop that is counted and
+//! without.
 use crate::tally::SideTally;
 use std::sync::Arc;
 

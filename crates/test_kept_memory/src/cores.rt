@@ -18,6 +18,11 @@ type Stack = StackCore<Buffer, Supply, Keep, AnyValue>;
 
 type Fresh = NoneCore<Buffer, Supply>;
 
+/// Observes the cores.
+///
+/// # Errors
+///
+/// If the process's figures can't be read, or a line can't be printed.
 pub fn observe<R: Files + AllocGlobal + Print>(
     alloc: Global,
     observer: &mut Observer<R>,
@@ -60,7 +65,8 @@ impl Turns for Kind {
     }
 }
 
-/// A linear core whose page is full refuses each pull, after it has made any number of a page's items.
+/// A linear core whose page is full refuses each pull, after it has made any number of a page's
+/// items.
 fn linear_refuses(alloc: Global, turns: usize) -> Option<()> {
     let supply = Supply::endless(alloc)?;
     let mut core: Linear = LinearCore::new(alloc, supply.share()?, Keep).ok()?;

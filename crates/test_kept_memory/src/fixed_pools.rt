@@ -15,6 +15,11 @@ type Pool = FixedObjectPool<Buffer, Supply, Keep>;
 /// How many items a pool has: a word of them and one more.
 const ITEMS: usize = 33;
 
+/// Observes the fixed pools.
+///
+/// # Errors
+///
+/// If the process's figures can't be read, or a line can't be printed.
 pub fn observe<R: Files + AllocGlobal + Print>(
     alloc: Global,
     observer: &mut Observer<R>,

@@ -14,6 +14,11 @@ use std::sync::Arc;
 
 type Pool = LinearObjectPool<Buffer, Supply, Keep>;
 
+/// Observes the linear pools.
+///
+/// # Errors
+///
+/// If the process's figures can't be read, or a line can't be printed.
 pub fn observe<R: Files + AllocGlobal + Print>(
     alloc: Global,
     observer: &mut Observer<R>,

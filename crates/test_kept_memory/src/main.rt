@@ -1,10 +1,11 @@
 //! Pools and their parts at work for long, and whether the process has more memory then.
 //!
-//! No clause tells of a box that is forgotten, and no test sees one. Here one that is forgotten in each turn adds up to
-//! megabytes. A line for each kind of turn says that nothing is kept, or how much is; then the status is 1.
+//! No clause tells of a box that is forgotten, and no test sees one. Here one that is forgotten in
+//! each turn adds up to megabytes. A line for each kind of turn says that nothing is kept, or how
+//! much is; then the status is 1.
 //!
-//! Before the turns it looks at what openings and pages take, while the process has little: memory that is taken at an
-//! opening and let go again, or never written to, counts too.
+//! Before the turns it looks at what openings and pages take, while the process has little: memory
+//! that is taken at an opening and let go again, or never written to, counts too.
 #![tactic(auto)]
 
 mod cores;

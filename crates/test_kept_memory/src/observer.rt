@@ -25,7 +25,7 @@ pub struct Observer<R> {
 }
 
 impl<R: Files + AllocGlobal + Print> Observer<R> {
-    /// One who observes so many turns of each kind.
+    /// Creates an observer of so many turns of each kind.
     pub fn new(rt: R, turns: usize) -> Observer<R> {
         Observer {
             rt,
@@ -34,12 +34,17 @@ impl<R: Files + AllocGlobal + Print> Observer<R> {
         }
     }
 
-    /// Whether nothing was kept or taken in excess until now, and each call answered as it should.
+    /// Returns whether nothing was kept or taken in excess until now, and each call answered as it
+    /// should.
     pub fn saw_nothing_kept(&self) -> bool {
         self.saw_nothing_kept
     }
 
     /// Takes turns, and prints whether the process has more memory then.
+    ///
+    /// # Errors
+    ///
+    /// If the process's figures can't be read, or a line can't be printed.
     pub fn observe<T: Turns>(&mut self, alloc: Global, name: &str, turns: &T) -> Result<()> {
         let first = turns.take(alloc, FIRST_TURNS);
         let before = peak_kilobytes(&self.rt)?;
@@ -57,13 +62,21 @@ impl<R: Files + AllocGlobal + Print> Observer<R> {
         Ok(())
     }
 
-    /// How many kilobytes the process ever had, before some work is done once.
+    /// Returns how many kilobytes the process ever had, before some work is done once.
+    ///
+    /// # Errors
+    ///
+    /// If the process's figures can't be read.
     pub fn before(&self) -> Result<u64> {
         peak_virtual_kilobytes(&self.rt)
     }
 
-    /// Prints whether the process ever had so many kilobytes more for such work, or for what it made, which is there yet. Whether it
-    /// is: it isn't where a call answered what it should not.
+    /// Prints whether the process ever had so many kilobytes more for such work, or for what it
+    /// made, which is there yet. Whether it is: it isn't where a call answered what it should not.
+    ///
+    /// # Errors
+    ///
+    /// If the process's figures can't be read, or a line can't be printed.
     pub fn observe_growth(
         &mut self,
         name: &str,

@@ -1,10 +1,11 @@
-//! What pools, cores, players and worlds take of the process's memory when they open: a few kilobytes each.
+//! What pools, cores, players and worlds take of the process's memory when they open: a few
+//! kilobytes each.
 use crate::observer::Observer;
 use anyhow::Result;
-use lockfree_object_pool::clean::AnyValue;
+use lockfree_object_pool::clean::{AnyValue, Empty};
 use lockfree_object_pool::closures::{Clear, Copied, Keep, WithCapacity};
 use lockfree_object_pool::page::PAGE_ITEMS;
-use lockfree_object_pool::{FixedObjectPool, LinearObjectPool};
+use lockfree_object_pool::{FixedObjectPool, LazyObjectPool, LinearObjectPool};
 use object_pool_cores::buffers::BufferPool;
 use object_pool_cores::interleave::{Prepared, World};
 use object_pool_cores::sequential::{LinearCore, Player, StackCore};
@@ -24,6 +25,9 @@ pub type Pool = LinearObjectPool<u32, Zeros, Keep>;
 
 type Fixed = FixedObjectPool<u32, Zeros, Keep>;
 
+/// Its buffers have 4,096 bytes each.
+type Lazy = LazyObjectPool<Vec<u8>, WithCapacity, Clear, Empty>;
+
 type Buffers = BufferPool<WithCapacity, Clear>;
 
 pub type Core = LinearCore<u32, Zeros, Keep, AnyValue>;
@@ -32,6 +36,11 @@ type Stack = StackCore<u32, Zeros, Keep, AnyValue>;
 
 pub type Agents = World<u32, Keep>;
 
+/// Observes openings that are refused.
+///
+/// # Errors
+///
+/// If the process's figures can't be read, or a line can't be printed.
 pub fn observe<R: Files + AllocGlobal + Print>(
     alloc: Global,
     observer: &mut Observer<R>,
@@ -42,7 +51,8 @@ pub fn observe<R: Files + AllocGlobal + Print>(
     observe_openings::<Agents, R>(alloc, observer, "opening 100 worlds")?;
     observe_openings::<Pool, R>(alloc, observer, "opening 100 linear pools")?;
     observe_openings::<Fixed, R>(alloc, observer, "opening 100 fixed pools")?;
-    observe_openings::<Buffers, R>(alloc, observer, "opening 100 buffer pools")
+    observe_openings::<Buffers, R>(alloc, observer, "opening 100 buffer pools")?;
+    observe_lazy_opening(alloc, observer)
 }
 
 /// What opens.
@@ -103,6 +113,21 @@ fn observe_openings<X: Opens, R: Files + AllocGlobal + Print>(
     observer.observe_growth(name, KILOBYTES, before, opened.is_some())
 }
 
+/// Opens a lazy pool, which makes none of its 40 megabytes.
+fn observe_lazy_opening<R: Files + AllocGlobal + Print>(
+    alloc: Global,
+    observer: &mut Observer<R>,
+) -> Result<()> {
+    let before = observer.before()?;
+    let pool = Lazy::new(alloc, WithCapacity::new(alloc, 4_096), Clear, 10_000);
+    observer.observe_growth(
+        "opening a lazy pool of 10,000 buffers",
+        KILOBYTES,
+        before,
+        pool.is_ok(),
+    )
+}
+
 /// Many of a kind, all open at once.
 fn all_open<X: Opens>(alloc: Global) -> Option<Vec<X>> {
     let mut opened = Vec::with_capacity(alloc, OPENINGS).ok()?;
@@ -112,19 +137,22 @@ fn all_open<X: Opens>(alloc: Global) -> Option<Vec<X>> {
     Some(opened)
 }
 
+/// Creates a core.
 pub fn new_core(alloc: Global) -> Option<Core> {
     LinearCore::new(alloc, Copied::new(0), Keep).ok()
 }
 
+/// Creates a world.
 pub fn new_world(alloc: Global) -> Option<Agents> {
     World::new(alloc, zeros(alloc)?, Keep).ok()
 }
 
-/// The values of a page.
+/// Makes the values of a page.
 pub fn zeros(alloc: Global) -> Option<Prepared<u32>> {
     Prepared::make(alloc, &|| Some(0)).ok()
 }
 
+/// Creates a pool.
 pub fn new_pool(alloc: Global) -> Option<Pool> {
     LinearObjectPool::new(alloc, Copied::new(0), Keep).ok()
 }

@@ -8,6 +8,11 @@ use std::alloc::Global;
 use std::rt::Files;
 use std::sync::{Arc, Wait};
 
+/// Observes the other kinds.
+///
+/// # Errors
+///
+/// If the process's figures can't be read, or a line can't be printed.
 pub fn observe<R: Files + AllocGlobal + Print, W: Wait + Copy>(
     rt: &W,
     alloc: Global,

@@ -19,7 +19,12 @@ const ITEMS: usize = PAGES * PAGE_ITEMS;
 /// What the pages take less than: a kilobyte each.
 const KILOBYTES: u64 = 1_000;
 
-/// What one lets go, the next may use. So what has the most beside its pages, the agents of a world, comes last.
+/// Observes what has pages. What one lets go, the next may use. So what has the most beside its
+/// pages, the agents of a world, comes last.
+///
+/// # Errors
+///
+/// If the process's figures can't be read, or a line can't be printed.
 pub fn observe<R: Files + AllocGlobal + Print>(
     alloc: Global,
     observer: &mut Observer<R>,

@@ -45,6 +45,11 @@ impl List for SpinLocked {
     }
 }
 
+/// Observes the stack pools.
+///
+/// # Errors
+///
+/// If the process's figures can't be read, or a line can't be printed.
 pub fn observe<R: Files + AllocGlobal + Print, W: Wait + Copy>(
     rt: &W,
     alloc: Global,
@@ -148,12 +153,13 @@ fn refused_pulls<F: List, W: Wait + Copy>(rt: &W, alloc: Global, turns: usize) -
     Some(())
 }
 
-/// Items are pulled and returned.
+/// Items are pulled and returned, and one leaves its pool for good.
 fn returns<F: List, W: Wait + Copy>(rt: &W, alloc: Global, turns: usize) -> Option<()> {
     let pool = F::new_pool(alloc, &Supply::endless(alloc)?)?;
     for _ in 0..turns {
         let _borrowed = pool.pull(rt).ok()?;
         let _owned = pool.pull_owned(rt).ok()?;
+        drop(pool.pull(rt).ok()?.detach());
     }
     Some(())
 }

@@ -20,7 +20,7 @@ pub struct Supply {
 }
 
 impl Supply {
-    /// A supply that has no end.
+    /// Creates a supply that has no end.
     pub fn endless(alloc: Global) -> Option<Supply> {
         Some(Supply {
             alloc,
@@ -28,7 +28,7 @@ impl Supply {
         })
     }
 
-    /// The same supply for one more.
+    /// Returns the same supply for one more.
     pub fn share(&self) -> Option<Supply> {
         Some(Supply {
             alloc: self.alloc,
@@ -36,12 +36,12 @@ impl Supply {
         })
     }
 
-    /// From now on so many buffers are left.
+    /// Leaves so many buffers from now on.
     pub fn end_after(&self, buffers: usize) {
         self.left.store(buffers, SeqCst);
     }
 
-    /// A buffer, where one is left.
+    /// Makes a buffer, if one is left.
     pub fn buffer(&self) -> Option<Buffer> {
         let left = self.left.load(SeqCst);
         self.left.store(left.checked_sub(1)?, SeqCst);

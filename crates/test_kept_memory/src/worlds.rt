@@ -8,6 +8,11 @@ use object_pool_cores::interleave::{Event, Prepared, Seen, World};
 use std::alloc::Global;
 use std::rt::Files;
 
+/// Observes the worlds.
+///
+/// # Errors
+///
+/// If the process's figures can't be read, or a line can't be printed.
 pub fn observe<R: Files + AllocGlobal + Print>(
     alloc: Global,
     observer: &mut Observer<R>,
@@ -24,8 +29,8 @@ impl Turns for WorldEnds {
     }
 }
 
-/// A world ends with values that are home, out and written, with a page that is linked and one that isn't yet, after
-/// another page lost its link.
+/// A world ends with values that are home, out and written, with a page that is linked and one that
+/// isn't yet, after another page lost its link.
 fn ends(alloc: Global, turns: usize) -> Option<()> {
     let supply = Supply::endless(alloc)?;
     for _ in 0..turns {
@@ -46,7 +51,7 @@ fn page(supply: &Supply) -> Option<Prepared<Buffer>> {
     Prepared::make(supply.alloc, &|| supply.buffer()).ok()
 }
 
-/// A step that is enabled, and for which there is memory.
+/// Does a step, or returns `None` if it isn't enabled or memory is refused.
 pub fn done<T: Drop>(world: &mut World<T, Keep>, event: Event<T>) -> Option<()> {
     match world.step(event) {
         Seen::NotEnabled | Seen::NoMemory => None,
@@ -62,8 +67,8 @@ fn pull(world: &mut World<Buffer, Keep>, agent: usize) -> Option<()> {
     done(world, Event::MoveOut(agent))
 }
 
-/// Three agents find the first page full and make a page each. One links its page, the next one loses, and the last one
-/// stops.
+/// Three agents find the first page full and make a page each. One links its page, the next one
+/// loses, and the last one stops.
 fn link_and_lose(world: &mut World<Buffer, Keep>, supply: &Supply) -> Option<()> {
     let (winner, loser, last) = (PAGE_ITEMS, PAGE_ITEMS + 1, PAGE_ITEMS + 2);
     for agent in [winner, loser, last] {

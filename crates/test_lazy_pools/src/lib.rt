@@ -4,13 +4,19 @@
 #[cfg(test)]
 mod assert_equal;
 #[cfg(test)]
+mod causes;
+#[cfg(test)]
 mod gone;
 #[cfg(test)]
 mod makings;
 #[cfg(test)]
 mod memory;
 #[cfg(test)]
+mod numbers;
+#[cfg(test)]
 mod owners;
+#[cfg(test)]
+mod recycling;
 #[cfg(test)]
 mod refusals;
 #[cfg(test)]

@@ -1,25 +1,13 @@
 //! Pools that are made where memory is refused, and calls that take none.
-ghost use Rattle.std.specs.Prelude.{◌≤◌};
-
 use crate::assert_equal::assert_equal;
-use lazy_pools::clean::AnyValue;
-use lazy_pools::closures::Copied;
-use lazy_pools::{LazyObjectPool, PullError};
+use crate::numbers::{Numbers, numbers};
+use lazy_pools::PullError;
 use std::alloc::Global;
 use std::sync::Arc;
 use std::time::Duration;
 use test_values::refused::again;
 
-type Numbers = LazyObjectPool<u32, Copied<u32, AnyValue>, Copied<u32, AnyValue>>;
-
-/// A pool of so many sevens, which are reset to 3.
-fn numbers(alloc: Global, items: usize) -> Result<Numbers, PullError>
-    requires { 1 ≤ items }
-{
-    LazyObjectPool::new(alloc, Copied::new(7), Copied::new(3), items)
-}
-
-/// The same, with an owner.
+/// A pool of two, with an owner.
 fn owned_numbers(alloc: Global) -> Result<Arc<Numbers>, PullError> {
     Ok(Arc::new(alloc, numbers(alloc, 2)?)?)
 }
@@ -47,6 +35,6 @@ fn an_item_takes_no_memory(rt: HostRuntime) {
         drop(first);
         drop(second);
     }
-    assert_equal(&rt, pool.pull().map(|item| *item), Ok(3));
-    assert_equal(&rt, pool.made(), 2);
+    let three = pool.pull().map(|item| *item);
+    assert_equal(&rt, (three, pool.made()), (Ok(3), 2));
 }

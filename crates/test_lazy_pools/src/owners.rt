@@ -1,22 +1,20 @@
 //! Items that own their pool, and the end of a pool whose last owner is an item.
 use crate::assert_equal::assert_equal;
-use crate::makings::{CountedPool, counted};
+use crate::makings::tallied;
+use crate::numbers::{Numbers, opened_shared};
 use lazy_pools::clean::AnyValue;
 use lazy_pools::closures::Copied;
-use lazy_pools::{LazyObjectPool, LazyOwnedReusable, PullError};
-use std::sync::Arc;
+use lazy_pools::{LazyOwnedReusable, PullError};
+use std::process::Abort;
+use std::rt::Clock;
+use std::sync::{Arc, Wait};
 use std::thread;
 use std::time::Duration;
 use test_values::counted::NEVER;
-use test_values::tally::Tally;
 
 #[test]
 fn a_last_owner_drops_what_the_pool_has(rt: HostRuntime) {
-    let counts = Tally::new();
-    let pool: CountedPool<'_> = counted(rt.alloc(), &counts, NEVER, 33).expect(
-        &rt,
-        "a pool is made",
-    );
+    let (tally, pool) = tallied(&rt, rt.alloc(), NEVER, 33);
     let pool = Arc::new(rt.alloc(), pool).expect(&rt, "memory is left");
     let first = pool.pull_owned().expect(&rt, "an item is free");
     let second = pool.pull_owned_wait(&rt).expect(&rt, "an item is free");
@@ -24,43 +22,37 @@ fn a_last_owner_drops_what_the_pool_has(rt: HostRuntime) {
         .pull_owned_timeout(&rt, Duration::from_millis(1))
         .expect(&rt, "an item is free");
     drop(pool);
-    assert_equal(&rt, (first.call, second.call, third.call), (0, 1, 2));
+    let calls = [first.number, second.number, third.number];
     drop(first);
     drop(third);
-    assert_equal(&rt, counts.now(), (3, 0));
+    assert_equal(&rt, (calls, tally.now()), ([0, 1, 2], (3, 0)));
     drop(second);
-    assert_equal(&rt, counts.now(), (3, 3));
+    assert_equal(&rt, tally.now(), (3, 3));
 }
 
-/// A pool of one zero.
-type Zeros = LazyObjectPool<u32, Copied<u32, AnyValue>, Copied<u32, AnyValue>>;
+/// An owned number.
+type OwnedNumber = LazyOwnedReusable<u32, Copied<u32, AnyValue>, Copied<u32, AnyValue>>;
 
-/// Writes to an item, which comes home from this thread.
-fn written(mut item: LazyOwnedReusable<u32, Copied<u32, AnyValue>, Copied<u32, AnyValue>>) -> u32 {
-    *item = 7;
-    *item
+/// An item of a pool, which is waited for.
+fn waited_for<R: Abort + Wait + Clock>(rt: &R, pool: &Arc<Numbers>) -> OwnedNumber {
+    pool.pull_owned_timeout(rt, Duration::from_secs(20))
+        .expect(rt, "an item comes back")
 }
 
 #[test]
 fn an_owned_item_comes_home_from_another_thread(rt: HostRuntime) {
-    let zeros: Zeros = LazyObjectPool::new(rt.alloc(), Copied::new(0), Copied::new(0), 1).expect(
-        &rt,
-        "a pool is made",
-    );
-    let pool = Arc::new(rt.alloc(), zeros).expect(&rt, "memory is left");
+    let pool = opened_shared(&rt, rt.alloc());
+    drop(pool.pull_owned());
     for _ in 0..100 {
-        let item = pool
-            .pull_owned_timeout(&rt, Duration::from_secs(20))
-            .expect(&rt, "an item comes back");
-        assert_equal(&rt, *item, 0);
+        let mut item = waited_for(&rt, &pool);
         let other = pool.pull_owned_timeout(&rt, Duration::from_millis(0)).err();
-        assert_equal(&rt, other, Some(PullError::Limit));
-        let thread = thread::spawn(&rt, move || written(item)).expect(&rt, "a thread is made");
-        let again = pool
-            .pull_owned_timeout(&rt, Duration::from_secs(20))
-            .expect(&rt, "an item comes back");
-        assert_equal(&rt, *again, 0);
-        drop(again);
-        assert_equal(&rt, thread.join(&rt), 7);
+        assert_equal(&rt, (*item, other), (3, Some(PullError::Limit)));
+        let write = move || {
+            *item = 7;
+            *item
+        };
+        let thread = thread::spawn(&rt, write).expect(&rt, "a thread is made");
+        let again = *waited_for(&rt, &pool);
+        assert_equal(&rt, (again, thread.join(&rt)), (3, 7));
     }
 }

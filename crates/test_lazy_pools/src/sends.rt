@@ -1,4 +1,5 @@
-//! Callers that need a pool and its reusables to be sent and shared, each under the least that its parts have to allow.
+//! Callers that need a pool and its reusables to be sent and shared, each under the least that its
+//! parts have to allow.
 use lazy_pools::clean::Clean;
 use lazy_pools::closures::{Init, Reset};
 use lazy_pools::{LazyObjectPool, LazyOwnedReusable, LazyReusable};

@@ -1,71 +1,55 @@
 //! Pulls that wait for so long at most.
 use crate::assert_equal::assert_equal;
-use lazy_pools::clean::AnyValue;
-use lazy_pools::closures::Copied;
-use lazy_pools::{LazyObjectPool, PullError};
-use std::alloc::Global;
+use crate::numbers::{Numbers, opened, wait_for_use};
+use lazy_pools::PullError;
 use std::rt::Clock;
 use std::sync::Wait;
 use std::thread;
 use std::thread::Threads;
 use std::time::{Duration, Instant};
 
-type Zero = Copied<u32, AnyValue>;
+/// How many milliseconds are waited for.
+const SHORT: u64 = 30;
 
-type Zeros = LazyObjectPool<u32, Zero, Zero>;
+/// How many no test comes to.
+const LONG: u64 = 20_000;
 
-fn zeros(alloc: Global) -> Result<Zeros, PullError> {
-    LazyObjectPool::new(alloc, Copied::new(0), Copied::new(0), 1)
-}
-
-/// What is waited for.
-fn short_time() -> Duration {
-    Duration::from_millis(30)
-}
-
-/// What no test comes to.
-fn long_time() -> Duration {
-    Duration::from_secs(20)
+/// Why a pull that waits for so many milliseconds is refused.
+fn refusal<R: Wait + Clock>(rt: &R, pool: &Numbers, time: u64) -> Option<PullError> {
+    pool.pull_timeout(rt, Duration::from_millis(time)).err()
 }
 
 #[test]
 fn a_time_is_waited_for_and_then_the_limit_is_told(rt: HostRuntime) {
-    let pool = zeros(rt.alloc()).expect(&rt, "a pool is made");
+    let pool = opened(&rt, rt.alloc());
     let item = pool
         .pull_timeout(&rt, Duration::from_millis(0))
         .expect(&rt, "an item is free");
     let start = Instant::now(&rt).expect(&rt, "the clock is read");
-    assert_equal(
-        &rt,
-        pool.pull_timeout(&rt, Duration::from_millis(0)).err(),
-        Some(PullError::Limit),
-    );
-    assert_equal(
-        &rt,
-        pool.pull_timeout(&rt, short_time()).err(),
-        Some(PullError::Limit),
-    );
+    let limit = Some(PullError::Limit);
+    let refusals = (refusal(&rt, &pool, 0), refusal(&rt, &pool, SHORT));
+    assert_equal(&rt, refusals, (limit, limit));
     let gone = start.elapsed(&rt).expect(&rt, "the clock is read");
-    assert!(rt; gone >= short_time() && gone < long_time());
+    assert!(rt; gone >= Duration::from_millis(SHORT) && gone < Duration::from_millis(LONG));
     drop(item);
-    assert!(rt; pool.pull_timeout(&rt, short_time()).is_ok());
-    assert!(rt; pool.pull().is_ok());
+    assert_equal(&rt, refusal(&rt, &pool, SHORT), None);
+    assert_equal(&rt, pool.pull().err(), None);
 }
 
-/// One thread holds the item for a while, and another, which begins a little later, waits for it. How long that waited.
-fn waited<R: Threads + Wait + Clock + Sync>(rt: &R, pool: &Zeros) -> Option<Duration> {
+/// One thread holds the item for a while, and another, which begins meanwhile, waits for it. How
+/// long that waited.
+fn waited<R: Threads + Wait + Clock + Sync>(rt: &R, pool: &Numbers) -> Option<Duration> {
     let (held, waited) = thread::join(
         rt,
         || {
             let item = pool.pull().ok();
-            thread::sleep(rt, short_time());
+            thread::sleep(rt, Duration::from_millis(SHORT));
             item.is_some()
         },
         || {
-            thread::sleep(rt, Duration::from_millis(10));
+            wait_for_use(pool);
             let start = Instant::now(rt).ok()?;
-            let item = pool.pull_timeout(rt, long_time()).ok()?;
-            drop(item);
+            drop(pool.pull_timeout(rt, Duration::from_millis(LONG)).ok()?);
             start.elapsed(rt).ok()
         },
     );
@@ -74,9 +58,7 @@ fn waited<R: Threads + Wait + Clock + Sync>(rt: &R, pool: &Zeros) -> Option<Dura
 
 #[test]
 fn an_item_that_comes_back_in_time_is_pulled(rt: HostRuntime) {
-    let pool = zeros(rt.alloc()).expect(&rt, "a pool is made");
-    let Some(time) = waited(&rt, &pool) else {
-        panic!(rt; "each pull has an item")
-    };
-    assert!(rt; time < long_time());
+    let pool = opened(&rt, rt.alloc());
+    let time = waited(&rt, &pool).expect(&rt, "each pull has an item");
+    assert!(rt; time < Duration::from_millis(LONG));
 }

@@ -1,5 +1,5 @@
-//! Threads that wait for items. A watcher sees that all are served in time: where they aren't, it frees them one by one, by a pull
-//! and a return for each, and the test fails.
+//! Threads that wait for items. A watcher sees that all are served in time: where they aren't, it
+//! frees them one by one, by a pull and a return for each, and the test fails.
 ghost use Rattle.std.specs.Prelude.{◌≤◌, ⊤};
 
 use crate::assert_equal::assert_equal;
@@ -7,6 +7,7 @@ use lazy_pools::clean::AnyValue;
 use lazy_pools::closures::{Init, Keep};
 use lazy_pools::{LazyObjectPool, PullError};
 use std::alloc::Global;
+use std::process::Abort;
 use std::rt::Clock;
 use std::sync::Wait;
 use std::sync::atomic::AtomicUsize;
@@ -129,7 +130,8 @@ impl Shared {
     }
 }
 
-/// Whether eight workers are served so often each, in time. Every other one waits shortly where that is asked.
+/// Whether eight workers are served so often each, in time. Every other one waits shortly where
+/// that is asked.
 fn all_served<R: Threads + Wait + Clock + Sync>(
     rt: &R,
     alloc: Global,
@@ -151,54 +153,44 @@ fn all_served<R: Threads + Wait + Clock + Sync>(
     Some(answers.iter().all(|answer| *answer))
 }
 
+/// What the items of a new pool of so many add up to, and how many were made, once eight workers
+/// were served so often each, in time. The maker refuses at its first calls.
+fn sum_and_made<R: Abort + Threads + Wait + Clock + Sync>(
+    rt: &R,
+    alloc: Global,
+    items: usize,
+    refusals: usize,
+    rounds: usize,
+    shortly: bool,
+) -> (Result<u64, PullError>, usize)
+    requires { 1 ≤ items }
+{
+    let shared = new_shared(alloc, items, refusals).expect(rt, "a pool is made");
+    let served = all_served(rt, alloc, &shared, rounds, shortly);
+    assert_equal(rt, served, Some(true));
+    (shared.sum(alloc), shared.pool.made())
+}
+
 #[test]
 fn eight_threads_wait_for_one_item(rt: HostRuntime) {
-    let shared = new_shared(rt.alloc(), 1, 0).expect(&rt, "a pool is made");
-    assert_equal(
-        &rt,
-        all_served(&rt, rt.alloc(), &shared, 5_000, false),
-        Some(true),
-    );
-    assert_equal(
-        &rt,
-        (shared.sum(rt.alloc()), shared.pool.made()),
-        (Ok(40_000), 1),
-    );
+    let end = sum_and_made(&rt, rt.alloc(), 1, 0, 5_000, false);
+    assert_equal(&rt, end, (Ok(40_000), 1));
 }
 
 #[test]
 fn eight_threads_wait_for_three_items(rt: HostRuntime) {
-    let shared = new_shared(rt.alloc(), 3, 0).expect(&rt, "a pool is made");
-    assert_equal(
-        &rt,
-        all_served(&rt, rt.alloc(), &shared, 5_000, false),
-        Some(true),
-    );
-    assert_equal(&rt, shared.sum(rt.alloc()), Ok(40_000));
+    let end = sum_and_made(&rt, rt.alloc(), 3, 0, 5_000, false);
+    assert_equal(&rt, end.0, Ok(40_000));
 }
 
 #[test]
 fn a_refused_maker_lets_the_next_one_try(rt: HostRuntime) {
-    let shared = new_shared(rt.alloc(), 1, 2_000).expect(&rt, "a pool is made");
-    assert_equal(
-        &rt,
-        all_served(&rt, rt.alloc(), &shared, 100, false),
-        Some(true),
-    );
-    assert_equal(
-        &rt,
-        (shared.sum(rt.alloc()), shared.pool.made()),
-        (Ok(800), 1),
-    );
+    let end = sum_and_made(&rt, rt.alloc(), 1, 2_000, 100, false);
+    assert_equal(&rt, end, (Ok(800), 1));
 }
 
 #[test]
 fn those_that_give_up_wake_others(rt: HostRuntime) {
-    let shared = new_shared(rt.alloc(), 2, 0).expect(&rt, "a pool is made");
-    assert_equal(
-        &rt,
-        all_served(&rt, rt.alloc(), &shared, 5_000, true),
-        Some(true),
-    );
-    assert_equal(&rt, shared.sum(rt.alloc()), Ok(40_000));
+    let end = sum_and_made(&rt, rt.alloc(), 2, 0, 5_000, true);
+    assert_equal(&rt, end.0, Ok(40_000));
 }

@@ -31,7 +31,8 @@ abbrev last_number : History ℕ → ℕ
 last_number [] = 0
 last_number (operation ∷ before) = id_of operation
 
--- the last return of a number stands in the later part of a history, or it is the one with which the earlier part ends
+-- the last return of a number stands in the later part of a history, or it is the one with which
+-- the earlier part ends
 last_return : (id : ℕ) (between later rest before : History ℕ) (user other number last : ℕ)
     → between ++ (Return user id number ∷ rest) ≡ later ++ (Return other id last ∷ before) → NoOperationOn id later
     → (last ≡ number) ⊎ HasOperationOn id between

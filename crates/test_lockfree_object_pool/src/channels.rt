@@ -23,7 +23,7 @@ fn receive<T: Drop, W: Wait>(rt: &W, from: &Receiver<T>) -> Option<T> {
     None
 }
 
-/// A thread that receives five items and drops them.
+/// Starts a thread that receives five items and drops them.
 pub fn drop_elsewhere<T: Send + Drop + 'static, R: Threads + Wait + Copy + Send + 'static>(
     rt: &R,
     from: Receiver<T>,
@@ -53,7 +53,7 @@ pub fn write_and_send<A: DerefMut<Target = u32> + Drop, W: Wait>(
     to.send(rt, *item).is_ok()
 }
 
-/// Five numbers that were received, least first.
+/// Receives five numbers, and returns them, least first.
 pub fn five_numbers<W: Wait>(rt: &W, alloc: Global, from: &Receiver<u32>) -> Option<Vec<u32>> {
     let mut numbers = Vec::with_capacity(alloc, 5).ok()?;
     for _ in 0..5 {

@@ -1,4 +1,5 @@
-//! Tests of the linear pool and the fixed pool, of what makes and resets the values of a pool, and of items that go over channels.
+//! Tests of the linear pool and the fixed pool, of what makes and resets the values of a pool, and
+//! of items that go over channels.
 #![tactic(auto)]
 
 #[cfg(test)]

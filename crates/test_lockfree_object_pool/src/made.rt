@@ -1,4 +1,5 @@
-//! What many tests begin with, by one call: a count of calls, and a tally. A test ends where memory isn't there.
+//! What many tests begin with, by one call: a count of calls, and a tally. A test ends where memory
+//! isn't there.
 use std::alloc::Global;
 use std::process::Abort;
 use std::sync::Arc;
@@ -6,12 +7,12 @@ use std::sync::atomic::AtomicUsize;
 use test_values::tally::{Tally, new_tally};
 use test_values::zeros::new_calls;
 
-/// A count of calls that begins at 0.
+/// Creates a count of calls that begins at 0.
 pub fn count_of_calls(rt: &impl Abort, alloc: Global) -> Arc<AtomicUsize> {
     new_calls(alloc).expect(rt, "memory is left")
 }
 
-/// A tally that its values are owners of.
+/// Creates a tally of which its values are owners.
 pub fn empty_tally(rt: &impl Abort, alloc: Global) -> Arc<Tally> {
     new_tally(alloc).expect(rt, "memory is left")
 }

@@ -136,8 +136,8 @@ impl Roomy for String {
     }
 }
 
-/// The room of a pool's first item as it is made; then its id, its length and its room once it was given so much room, was written
-/// to, and came back.
+/// The room of a pool's first item as it is made; then its id, its length and its room once it was
+/// given so much room, was written to, and came back.
 fn made_and_again<T: Roomy>(alloc: Global, room: usize) -> Option<(usize, (u8, usize, usize))> {
     let pool = Pool::<T>::with_recycler(alloc).ok()?;
     let mut item = pool.pull().ok()?;

@@ -1,5 +1,5 @@
-//! Threads that work on one thing that they share. What they do stands in one method, so that a test starts and joins them by one
-//! call.
+//! Threads that work on one thing that they share. What they do stands in one method, so that a
+//! test starts and joins them by one call.
 use std::alloc::{AllocError, Global};
 use std::sync::Arc;
 use std::sync::atomic::AtomicUsize;
@@ -23,13 +23,14 @@ pub struct Meeting {
 }
 
 impl Meeting {
+    /// Creates a meeting to which no thread has come.
     pub fn new() -> Meeting {
         Meeting {
             came: AtomicUsize::new(0),
         }
     }
 
-    /// Whether so many threads came.
+    /// Waits until so many threads came, and returns whether they did.
     pub fn wait_for(&self, threads: usize) -> bool {
         self.came.fetch_add(1, SeqCst);
         for _ in 0..MOST_TURNS {
@@ -71,7 +72,8 @@ fn join<R: Threads>(
     Ok(told)
 }
 
-/// What so many threads have to tell, least first. `None` where something was wrong with one of them.
+/// Returns what so many threads have to tell, least first, or `None` if something was wrong with
+/// one of them.
 pub fn told_by<X: Work + 'static, R: Threads>(
     rt: &R,
     alloc: Global,

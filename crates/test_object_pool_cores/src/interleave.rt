@@ -29,7 +29,8 @@ fn unbounded(alloc: Global) -> Result<World<u32, Keep>, PullError> {
     World::new(alloc, zeros(alloc)?, Keep)
 }
 
-/// An event as it stands in a table of steps. The values of a page come from what the table is played with.
+/// An event as it stands in a table of steps. The values of a page come from what the table is
+/// played with.
 #[derive(Clone, Copy)]
 enum Act {
     Begin,

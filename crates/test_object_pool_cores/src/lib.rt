@@ -1,4 +1,5 @@
-//! Tests of the cores with one owner, the player, the world of agents, the engine over lines, and the pool of byte buffers.
+//! Tests of the cores with one owner, the player, the world of agents, the engine over lines, and
+//! the pool of byte buffers.
 #![tactic(auto)]
 
 #[cfg(test)]

@@ -25,7 +25,8 @@ type Tracked = LinearCore<Tallied, TalliedValues, Keep, AnyValue>;
 /// A stack core of such values.
 type TrackedStack = StackCore<Tallied, TalliedValues, Keep, AnyValue>;
 
-/// Such a linear core, of at most so many pages where there is a limit, whose `init` refuses at one call, counted from 0.
+/// Such a linear core, of at most so many pages where there is a limit, whose `init` refuses at one
+/// call, counted from 0.
 fn tracked(
     alloc: Global,
     tally: &Arc<Tally>,
@@ -225,8 +226,9 @@ fn a_page_is_made_where_none_is_free(rt: HostRuntime) {
     );
 }
 
-/// With a page held, the pull that is refused by this call of `init` for the next page, counted from 0, drops what it made, and
-/// changes nothing else: the next pull makes that page. How many values were made, and how many are dropped once all ended.
+/// With a page held, the pull that is refused by this call of `init` for the next page, counted
+/// from 0, drops what it made, and changes nothing else: the next pull makes that page. How many
+/// values were made, and how many are dropped once all ended.
 fn second_page_refused(rt: &impl Abort, alloc: Global, made: usize) -> (usize, usize) {
     let tally = new_tally(alloc).expect(rt, "memory is left");
     let calls = made.saturating_add(33);

@@ -16,7 +16,7 @@ pub struct Arguments {
     pub clears: bool,
 }
 
-/// The arguments that the words behind the program's name are.
+/// Reads the arguments from the words after the program's name.
 pub fn arguments_of(words: &[&str]) -> Option<Arguments> {
     let [kind, reset] = words else {
         return None;

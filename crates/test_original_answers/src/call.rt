@@ -9,8 +9,8 @@ pub enum Origin {
     Caller(u64),
 }
 
-/// A call. Items that are held are named by their places in a list, to which each that comes is added last; where one goes,
-/// the last takes its place.
+/// A call. Items that are held are named by their places in a list, to which each that comes is
+/// added last; where one goes, the last takes its place.
 #[derive(Clone, Copy, Debug, PartialEq, Eq)]
 pub enum Call {
     /// An item comes under a borrow of the pool.
@@ -22,7 +22,7 @@ pub enum Call {
     Forget(usize),
 }
 
-/// The call that a line writes.
+/// Reads the call that a line writes.
 pub fn call_of(words: &[&str]) -> Option<Call> {
     let call = match words {
         ["pull"] => Call::Borrow(Origin::Pool),

@@ -27,7 +27,7 @@ pub struct Given<A> {
 }
 
 impl<A> Given<A> {
-    /// An item whose pool doesn't tell where it lies.
+    /// Makes an item whose pool doesn't say where it lies.
     pub fn nowhere(item: A) -> Given<A> {
         Given { item, place: None }
     }

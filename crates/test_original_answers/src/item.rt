@@ -1,4 +1,5 @@
-//! The items of a replay. They tell which call of `init` made them, and count what is done with them.
+//! The items of a replay. They tell which call of `init` made them, and count what is done with
+//! them.
 use lockfree_object_pool::clean::AnyValue;
 use lockfree_object_pool::closures::{Init, Reset};
 use std::fmt;
@@ -36,6 +37,7 @@ pub struct Item {
 }
 
 impl Item {
+    /// Makes an item with this number.
     pub fn new(tally: &Arc<Tally>, number: u64) -> Option<Item> {
         let tally = Arc::try_clone(tally).ok()?;
         Some(Item {
@@ -45,6 +47,7 @@ impl Item {
         })
     }
 
+    /// Returns what the item shows.
     pub fn shown(&self) -> Shown {
         Shown {
             number: self.number,

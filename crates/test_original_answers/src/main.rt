@@ -1,5 +1,5 @@
-//! Calls of one thread, read from standard input and done on a pool, so that the answers of another library to the same calls can
-//! be compared.
+//! Calls of one thread, read from standard input and done on a pool, so that the answers of another
+//! library to the same calls can be compared.
 #![tactic(auto)]
 
 mod arguments;
@@ -40,7 +40,8 @@ fn main(rt: HostRuntime) -> Result<()> {
     Ok(())
 }
 
-/// Does the calls on a new pool, which ends with the last of them, unless an item that owns it was forgotten.
+/// Does the calls on a new pool, which ends with the last of them, unless an item that owns it was
+/// forgotten.
 fn replay_on<R: Input + Print + AllocGlobal + Wait + Copy>(
     rt: &R,
     tally: &Arc<Tally>,

@@ -24,7 +24,7 @@ type StackItem<'p, F, W> = StackReusable<Item, &'p Stacked<F>, W>;
 
 type StackOwnedItem<F, W> = StackReusable<Item, Arc<Stacked<F>>, W>;
 
-/// An item of a linear pool, which attaches none.
+/// Returns an item of a linear pool, which attaches none.
 pub fn linear_item(pool: &Linear, source: Source) -> Option<Given<LinearItem<'_>>> {
     let Source::Pool = source else {
         return None;
@@ -35,7 +35,7 @@ pub fn linear_item(pool: &Linear, source: Source) -> Option<Given<LinearItem<'_>
     Some(Given { item, place })
 }
 
-/// The same with an owner of the pool.
+/// Returns the same with an owner of the pool.
 pub fn linear_owned_item(pool: &Arc<Linear>, source: Source) -> Option<Given<LinearOwnedItem>> {
     let Source::Pool = source else {
         return None;
@@ -46,7 +46,7 @@ pub fn linear_owned_item(pool: &Arc<Linear>, source: Source) -> Option<Given<Lin
     Some(Given { item, place })
 }
 
-/// An item of a mutex pool or of a spin lock pool.
+/// Returns an item of a mutex pool or of a spin lock pool.
 pub fn stack_item<'p, F: FreeList<Item, StackedItems>, W: Wait + Copy>(
     rt: &W,
     pool: &'p Stacked<F>,
@@ -59,7 +59,7 @@ pub fn stack_item<'p, F: FreeList<Item, StackedItems>, W: Wait + Copy>(
     Some(Given::nowhere(item))
 }
 
-/// The same with an owner of the pool.
+/// Returns the same with an owner of the pool.
 pub fn stack_owned_item<F: FreeList<Item, StackedItems>, W: Wait + Copy>(
     rt: &W,
     pool: &Arc<Stacked<F>>,

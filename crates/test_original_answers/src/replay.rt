@@ -39,7 +39,8 @@ impl fmt::Display for Answer {
     }
 }
 
-/// Does the calls of standard input, and answers each by a line, with the counts. At the end the held items are dropped.
+/// Does the calls of standard input, and answers each by a line, with the counts. At the end the
+/// held items are dropped.
 pub fn replay<
     R: Input + Print + AllocGlobal,
     A: DerefMut<Target = Item> + Drop,

@@ -1,5 +1,5 @@
-//! Pools at work: without arguments, a little of each work on each pool, and what it gave; with a task as arguments, that
-//! task alone, and how long it took too.
+//! Pools at work: without arguments, a little of each work on each pool, and what it gave; with a
+//! task as arguments, that task alone, and how long it took too.
 #![tactic(auto)]
 
 mod measure;
@@ -19,12 +19,14 @@ use test_peak_memory::peak_kilobytes;
 /// How often each work is done where no task is asked for.
 const FEW_TURNS: u64 = 100;
 
-const KINDS: [Kind; 5] = [
+const KINDS: [Kind; 7] = [
     Kind::Linear,
     Kind::SpinLock,
     Kind::Mutex,
     Kind::Fixed,
     Kind::FixedNear,
+    Kind::Lazy,
+    Kind::LazyWait,
 ];
 
 /// A little of each work. 70 items held fill two pages of a linear pool and a part of a third.
@@ -44,8 +46,20 @@ const WORKS: [Work; 7] = [
     Work::Hold,
 ];
 
+/// What is asked of one kind of pool alone.
+const OF_ONE_KIND: [(Kind, Work); 2] = [
+    (Kind::Fixed, Work::Refuse),
+    (
+        Kind::LazyWait,
+        Work::Wait {
+            threads: 4,
+            items: 1,
+        },
+    ),
+];
+
 /// Words that ask for no task.
-const OTHER_WORDS: [&str; 8] = [
+const OTHER_WORDS: [&str; 9] = [
     "",
     "linear",
     "linear hold",
@@ -54,6 +68,7 @@ const OTHER_WORDS: [&str; 8] = [
     "mutex pull 7",
     "mutex pull 0 -1",
     "linear refuse 7",
+    "lazy wait 4 1 7",
 ];
 
 fn main(rt: HostRuntime) -> Result<()> {
@@ -68,8 +83,8 @@ fn main(rt: HostRuntime) -> Result<()> {
     show_time(&rt, task)
 }
 
-/// Does a little of each work on each pool, then lets a fixed pool refuse, and prints what each gave. Then prints what other words
-/// ask for.
+/// Does a little of each work on each pool, then of what is asked of one kind alone, and prints
+/// what each gave. Then prints what other words ask for.
 fn show_each<R: Clock + Threads + Wait + AllocGlobal + Print + Copy + Sync>(rt: &R) -> Result<()> {
     for kind in KINDS {
         for work in WORKS {
@@ -81,14 +96,14 @@ fn show_each<R: Clock + Threads + Wait + AllocGlobal + Print + Copy + Sync>(rt: 
             show_sum(rt, task)?;
         }
     }
-    show_sum(
-        rt,
-        Task {
-            kind: Kind::Fixed,
-            work: Work::Refuse,
+    for (kind, work) in OF_ONE_KIND {
+        let task = Task {
+            kind,
+            work,
             turns: FEW_TURNS,
-        },
-    )?;
+        };
+        show_sum(rt, task)?;
+    }
     for line in OTHER_WORDS {
         let asked = asked_for(rt.alloc(), line)?;
         println!(rt; "{line:?}: {asked:?}")?;
@@ -114,7 +129,8 @@ fn show_sum<R: Clock + Threads + Wait + AllocGlobal + Print + Copy + Sync>(
     Ok(())
 }
 
-/// Does a task, and prints what it gave, how many nanoseconds its turns took, and how much memory the process had at most.
+/// Does a task, and prints what it gave, how many nanoseconds its turns took, and how much memory
+/// the process had at most.
 fn show_time<R: Clock + Files + Threads + Wait + AllocGlobal + Print + Copy + Sync>(
     rt: &R,
     task: Task,

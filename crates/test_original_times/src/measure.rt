@@ -10,7 +10,8 @@ use lockfree_object_pool::free_list::FreeList;
 use lockfree_object_pool::made_or_reset::MadeOrReset;
 use lockfree_object_pool::stack_object_pool::StackObjectPool;
 use lockfree_object_pool::{
-    FixedObjectPool, LinearObjectPool, MutexObjectPool, PullError, SpinLockObjectPool,
+    FixedObjectPool, LazyObjectPool, LinearObjectPool, MutexObjectPool, PullError,
+    SpinLockObjectPool,
 };
 use std::alloc::AllocError;
 use std::ops::DerefMut;
@@ -26,8 +27,8 @@ type Zero = Copied<u64, AnyValue>;
 /// How many items a fixed pool has, but for one whose items are all held.
 const FIXED_ITEMS: usize = 65_536;
 
-/// How many pages lie between two threads that keep to pages of their own: eight words share a cache line, and a processor
-/// may fetch two lines at once.
+/// How many pages lie between two threads that keep to pages of their own: eight words share a
+/// cache line, and a processor may fetch two lines at once.
 const PAGES_APART: usize = 16;
 
 /// What a task gave.
@@ -40,6 +41,10 @@ pub struct Measured {
 }
 
 /// Does the task on a new pool.
+///
+/// # Errors
+///
+/// If a pull is refused that the task doesn't expect, or memory, or a thread.
 pub fn measure<R: Clock + Threads + Wait + AllocGlobal + Copy + Sync>(
     rt: &R,
     task: Task,
@@ -66,15 +71,25 @@ pub fn measure<R: Clock + Threads + Wait + AllocGlobal + Copy + Sync>(
             let pool = FixedObjectPool::new(rt.alloc(), init, reset, items_of(task))?;
             measure_fixed_near(rt, pool, task)
         }
+        Kind::Lazy => {
+            let pool = LazyObjectPool::new(rt.alloc(), init, reset, items_of(task))?;
+            measure_lazy(rt, pool, task)
+        }
+        Kind::LazyWait => {
+            let pool = LazyObjectPool::new(rt.alloc(), init, reset, items_of(task))?;
+            measure_lazy_waiting(rt, pool, task)
+        }
     }
 }
 
-/// How many items a fixed pool has for a task: at least so many as are held, and more than a few pages.
+/// How many items a fixed or a lazy pool has for a task: so many as threads wait for, or at least
+/// so many as are held, and more than a few pages.
 fn items_of(task: Task) -> usize
     ensures { 1 ≤ result }
 {
     match task.work {
         Work::Hold => (task.turns as usize).max(FIXED_ITEMS),
+        Work::Wait { threads: _, items } => items.max(1),
         _ => FIXED_ITEMS,
     }
 }
@@ -107,6 +122,35 @@ fn measure_fixed_near<R: Clock + Threads + AllocGlobal + Sync>(
         task,
         &|| pool.pull_near(0),
         &|| pool.pull_owned(),
+        &share,
+    )
+}
+
+fn measure_lazy<R: Clock + Threads + AllocGlobal + Sync>(
+    rt: &R,
+    pool: LazyObjectPool<u64, Zero, Zero, AnyValue>,
+    task: Task,
+) -> Result<Measured> {
+    let pool = Arc::new(rt.alloc(), pool)?;
+    let one_thread = |_: usize| pull_and_drop(&|| pool.pull(), task.turns);
+    let share = |threads| thread::map_indices(rt, rt.alloc(), threads, &one_thread);
+    measure_pulls(rt, task, &|| pool.pull(), &|| pool.pull_owned(), &share)
+}
+
+/// The lazy pool by pulls that wait.
+fn measure_lazy_waiting<R: Clock + Threads + Wait + AllocGlobal + Sync>(
+    rt: &R,
+    pool: LazyObjectPool<u64, Zero, Zero, AnyValue>,
+    task: Task,
+) -> Result<Measured> {
+    let pool = Arc::new(rt.alloc(), pool)?;
+    let one_thread = |_: usize| pull_and_drop(&|| pool.pull_wait(rt), task.turns);
+    let share = |threads| thread::map_indices(rt, rt.alloc(), threads, &one_thread);
+    measure_pulls(
+        rt,
+        task,
+        &|| pool.pull_wait(rt),
+        &|| pool.pull_owned_wait(rt),
         &share,
     )
 }
@@ -167,14 +211,9 @@ fn measure_pulls<
         Work::PullOwned { held } => measure_turns(rt, pull_owned, held, task.turns),
         Work::Share { threads, held } => {
             let _held = hold(rt.alloc(), pull, held)?;
-            let start = Instant::now(rt)?;
-            let sums = share(threads)?;
-            let time = start.elapsed(rt)?;
-            Ok(Measured {
-                sum: total(sums)?,
-                time,
-            })
+            measure_share(rt, share, threads)
         }
+        Work::Wait { threads, items: _ } => measure_share(rt, share, threads),
         Work::Refuse => measure_refusals(rt, pull, task.turns),
         Work::Hold => {
             let start = Instant::now(rt)?;
@@ -186,6 +225,23 @@ fn measure_pulls<
             })
         }
     }
+}
+
+/// The turns of so many threads, beside each other.
+fn measure_share<R: Clock, S: Fn(usize) -> Result<Vec<Sum>, AllocError>>(
+    rt: &R,
+    share: &S,
+    threads: usize,
+) -> Result<Measured>
+    requires { S.IsAlwaysCallable share.now }
+{
+    let start = Instant::now(rt)?;
+    let sums = share(threads)?;
+    let time = start.elapsed(rt)?;
+    Ok(Measured {
+        sum: total(sums)?,
+        time,
+    })
 }
 
 /// One thread's turns, while so many other items are held.

@@ -10,6 +10,9 @@ pub enum Kind {
     Fixed,
     /// The fixed pool, of whose threads each begins at a page of its own.
     FixedNear,
+    Lazy,
+    /// The lazy pool, by pulls that wait.
+    LazyWait,
 }
 
 /// What is done to the pool, turn by turn.
@@ -25,6 +28,8 @@ pub enum Work {
     Hold,
     /// A pull is refused, since each item of a fixed pool is held.
     Refuse,
+    /// So many threads wait for so few items of a lazy pool, each in all turns.
+    Wait { threads: usize, items: usize },
 }
 
 /// A measurement.
@@ -43,6 +48,8 @@ impl fmt::Display for Kind {
             Kind::Mutex => write!(f, "mutex"),
             Kind::Fixed => write!(f, "fixed"),
             Kind::FixedNear => write!(f, "fixed_near"),
+            Kind::Lazy => write!(f, "lazy"),
+            Kind::LazyWait => write!(f, "lazy_wait"),
         }
     }
 }
@@ -55,6 +62,7 @@ impl fmt::Display for Work {
             Work::Share { threads, held } => write!(f, "share {threads} {held}"),
             Work::Hold => write!(f, "hold"),
             Work::Refuse => write!(f, "refuse"),
+            Work::Wait { threads, items } => write!(f, "wait {threads} {items}"),
         }
     }
 }
@@ -67,13 +75,19 @@ impl fmt::Display for Task {
     }
 }
 
-/// The task that words ask for. A refused pull is asked of the fixed pool alone.
+/// Reads the task that words ask for. Refused pulls are for the fixed pool only, and waiting is for
+/// the lazy pool.
 pub fn task_of(words: &[&str]) -> Option<Task> {
     let [kind, work @ .., turns] = words else {
         return None;
     };
     let (kind, work) = (kind_of(kind)?, work_of(work)?);
-    if work == Work::Refuse && kind != Kind::Fixed {
+    let is_asked = match work {
+        Work::Refuse => kind == Kind::Fixed,
+        Work::Wait { threads: _, items } => kind == Kind::LazyWait && items > 0,
+        _ => true,
+    };
+    if !is_asked {
         return None;
     }
     Some(Task {
@@ -90,6 +104,8 @@ fn kind_of(word: &str) -> Option<Kind> {
         "mutex" => Some(Kind::Mutex),
         "fixed" => Some(Kind::Fixed),
         "fixed_near" => Some(Kind::FixedNear),
+        "lazy" => Some(Kind::Lazy),
+        "lazy_wait" => Some(Kind::LazyWait),
         _ => None,
     }
 }
@@ -108,6 +124,10 @@ fn work_of(words: &[&str]) -> Option<Work> {
         }),
         ["hold"] => Some(Work::Hold),
         ["refuse"] => Some(Work::Refuse),
+        ["wait", threads, items] => Some(Work::Wait {
+            threads: threads.parse().ok()?,
+            items: items.parse().ok()?,
+        }),
         _ => None,
     }
 }

@@ -8,7 +8,8 @@ use std::ops::DerefMut;
 /// A sum of what items were, or why a pull had none.
 pub type Sum = Result<u64, PullError>;
 
-/// In each turn an item is pulled, the turn's number is added to it, and it is dropped. The sum of what the items were then.
+/// Pulls an item in each turn, adds the turn's number to it, and drops it. Returns the sum of what
+/// the items were then.
 pub fn pull_and_drop<A: DerefMut<Target = u64> + Drop, P: Fn() -> Result<A, PullError>>(
     pull: &P,
     turns: u64,
@@ -24,7 +25,7 @@ pub fn pull_and_drop<A: DerefMut<Target = u64> + Drop, P: Fn() -> Result<A, Pull
     Ok(sum)
 }
 
-/// So many items, pulled one after the other.
+/// Pulls so many items, one after the other.
 pub fn hold<A: DerefMut<Target = u64> + Drop, P: Fn() -> Result<A, PullError>>(
     alloc: Global,
     pull: &P,
@@ -40,7 +41,7 @@ pub fn hold<A: DerefMut<Target = u64> + Drop, P: Fn() -> Result<A, PullError>>(
     Ok(items)
 }
 
-/// How many of so many pulls were refused. An item that one of them gives is dropped.
+/// Counts how many of so many pulls were refused. An item that one of them gives is dropped.
 pub fn be_refused<A: Drop, P: Fn() -> Result<A, PullError>>(pull: &P, turns: u64) -> u64
     requires { P.IsAlwaysCallable pull.now }
 {
@@ -53,7 +54,7 @@ pub fn be_refused<A: Drop, P: Fn() -> Result<A, PullError>>(pull: &P, turns: u64
     refused
 }
 
-/// The sum of sums, or the first refusal.
+/// Returns the sum of sums, or the first refusal.
 pub fn total(sums: Vec<Sum>) -> Sum {
     let mut total = 0u64;
     for sum in sums {

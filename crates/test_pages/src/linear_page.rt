@@ -5,6 +5,7 @@ use pool_parts::clean::{AnyValue, Clean};
 use pool_parts::page::{Allocated, Page, PageSlot, PullPass};
 use std::alloc::Global;
 use std::mem;
+use std::process::Abort;
 use std::sync::Arc;
 
 mod links;
@@ -18,24 +19,12 @@ type Zeros = Chain<u32, AnyValue>;
 
 type ZeroPage<'c> = LinearPage<'c, u32, AnyValue>;
 
-/// All items of a page that has none out.
-fn hold_all<'c, T: Drop>(
-    alloc: Global,
-    page: &LinearPage<'c, T, AnyValue>,
-) -> Option<Vec<PageSlot<'c, T, AnyValue>>> {
-    let mut slots = Vec::with_capacity(alloc, 32).ok()?;
+/// Takes all items of a page out for good, without memory. The test ends where one is out already.
+fn forget_all<T: Drop>(rt: &impl Abort, page: &LinearPage<'_, T, AnyValue>) {
     for _ in 0..32 {
-        slots.push(page.page().alloc().ok()??).ok()?;
+        let slot = page.page().alloc().ok().flatten();
+        mem::forget(slot.expect(rt, "an item is free"));
     }
-    Some(slots)
-}
-
-/// Takes all items of a page out for good, without memory.
-fn forget_all<T: Drop>(page: &LinearPage<'_, T, AnyValue>) -> Option<()> {
-    for _ in 0..32 {
-        mem::forget(page.page().alloc().ok()??);
-    }
-    Some(())
 }
 
 /// The page behind one that is full.
@@ -46,19 +35,21 @@ fn behind_full<'c, T: Drop, I: Fn() -> Option<T>>(
     requires { I.pre init.now }
 {
     let pass = PullPass::new();
-    match page.page().try_alloc(&pass).ok()? {
-        Allocated::Slot(_) => None,
-        Allocated::Full(seen) => {
-            let (next, _) = page.get_or_create_next(seen, init).ok()?;
-            Some(next)
-        }
+    match page.page().try_alloc(&pass) {
+        Ok(Allocated::Full(seen)) => match page.get_or_create_next(seen, init) {
+            Ok((next, _)) => Some(next),
+            Err(_) => None,
+        },
+        _ => None,
     }
 }
 
 /// The id that a page gives first, which stays out.
 fn first_id<T: Drop>(page: &LinearPage<'_, T, AnyValue>) -> Option<u8> {
-    let slot = page.page().alloc().ok()??;
-    Some(slot.id())
+    match page.page().alloc() {
+        Ok(Some(slot)) => Some(slot.id()),
+        _ => None,
+    }
 }
 
 /// The number of the page behind a full one, and the id that it gives first, which stays out.
@@ -68,6 +59,8 @@ fn place_behind<T: Drop, I: Fn() -> Option<T>>(
 ) -> Option<(usize, Option<u8>)>
     requires { I.pre init.now }
 {
-    let next = behind_full(page, init)?;
-    Some((next.number(), first_id(&next)))
+    match behind_full(page, init) {
+        Some(next) => Some((next.number(), first_id(&next))),
+        None => None,
+    }
 }

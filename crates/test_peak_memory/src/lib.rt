@@ -8,12 +8,20 @@ use std::rt::Files;
 /// Where the system tells a process what it has.
 const STATUS: &str = "/proc/self/status";
 
-/// The most kilobytes that were resident at once.
+/// Returns the most kilobytes that were resident at once.
+///
+/// # Errors
+///
+/// If the system's figures can't be read.
 pub fn peak_kilobytes(rt: &(impl Files + Alloc)) -> Result<u64> {
     kilobytes(rt, "VmHWM:")
 }
 
-/// The most kilobytes that the process had at once, those too that it never wrote to.
+/// Returns the most kilobytes that the process had at once, those too that it never wrote to.
+///
+/// # Errors
+///
+/// If the system's figures can't be read.
 pub fn peak_virtual_kilobytes(rt: &(impl Files + Alloc)) -> Result<u64> {
     kilobytes(rt, "VmPeak:")
 }

@@ -16,7 +16,8 @@ fn new_pool(rt: &(impl Abort + AllocGlobal), refusals: &Refusals) -> Buffers {
     )
 }
 
-/// Appends bytes. Where memory was refused, the buffer is as it was, and they are appended by a second try.
+/// Appends bytes. Where memory was refused, the buffer is as it was, and they are appended by a
+/// second try.
 fn append(
     rt: &impl Abort,
     refusals: &Refusals,
@@ -72,7 +73,8 @@ fn a_fresh_buffer_that_was_refused_is_asked_again(rt: HostRuntime) -> Result<(),
     refusals.tell(&rt)
 }
 
-/// A buffer that comes again has the room that it grew to. What fits there is appended, whichever request is refused.
+/// A buffer that comes again has the room that it grew to. What fits there is appended, whichever
+/// request is refused.
 #[test]
 fn an_append_where_there_is_room_takes_no_memory(rt: HostRuntime) -> Result<(), Fail> {
     let refusals = Refusals::new();

@@ -1,4 +1,5 @@
-//! The engine over devices that never fail: its replies are those of ample memory, but for one refusal.
+//! The engine over devices that never fail: its replies are those of ample memory, but for one
+//! refusal.
 ghost use Rattle.object_pool_cores.specs.Engine.{IsPlayable};
 
 use crate::assert_equal::assert_equal;
@@ -125,8 +126,8 @@ const BAD_LINE_AND_PULLS: &[u8] = b"?\npull\npull\n";
 /// The replies to these lines, with ample memory, where no items have numbers.
 const REPLIES: &[u8] = b"bad line\npulled 0 value 0\npulled 1 value 0\n";
 
-/// Plays these lines on a pool whose opening takes no memory. So whichever request is refused, it is one of a pull, and the reply
-/// to the line before goes out.
+/// Plays these lines on a pool whose opening takes no memory. So whichever request is refused, it
+/// is one of a pull, and the reply to the line before goes out.
 fn answers_the_first_line(rt: &(impl Wait + Abort), refusals: &Refusals, alloc: Global, kind: Kind)
     requires { IsPlayable kind }
 {

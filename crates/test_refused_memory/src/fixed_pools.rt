@@ -40,7 +40,8 @@ fn a_fixed_pool_that_was_refused_is_made_again(rt: HostRuntime) -> Result<(), Fa
     refusals.tell(&rt)
 }
 
-/// Three hundred pulls and returns ask for no memory, whichever request is refused: a refusal would be another than `Limit`.
+/// Three hundred pulls and returns ask for no memory, whichever request is refused: a refusal would
+/// be another than `Limit`.
 #[test]
 fn pulls_and_returns_in_turn_take_no_memory(rt: HostRuntime) -> Result<(), Fail> {
     let refusals = Refusals::new();

@@ -101,7 +101,8 @@ fn an_owned_pull_that_was_refused_is_asked_again(rt: HostRuntime) -> Result<(), 
     refusals.tell(&rt)
 }
 
-/// Where no page may be linked beside those that there are, a refusal is for the limit. Before, it is for memory.
+/// Where no page may be linked beside those that there are, a refusal is for the limit. Before, it
+/// is for memory.
 #[test]
 fn a_bounded_pull_tells_want_of_memory_from_its_limit(rt: HostRuntime) -> Result<(), Fail> {
     let refusals = Refusals::new();

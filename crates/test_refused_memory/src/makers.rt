@@ -1,14 +1,16 @@
-//! What makes values that take memory of their own: where that is refused, it is asked once, and the pull is refused.
+//! What makes values that take memory of their own: where that is refused, it is asked once, and
+//! the pull is refused.
 ghost use Rattle.std.specs.Prelude.{◌≡◌, []};
 
 use crate::assert_equal::assert_equal;
 use crate::refusals::Refusals;
 use lockfree_object_pool::clean::Empty;
 use lockfree_object_pool::closures::{Clear, WithCapacity};
-use lockfree_object_pool::recycling::{MutexPool, Recyclable};
+use lockfree_object_pool::recycling::{LazyPool, MutexPool, Recyclable};
 use lockfree_object_pool::{MutexObjectPool, PullError};
 use std::alloc::Global;
 use std::process::Abort;
+use std::sync::Arc;
 use std::test::Fail;
 
 /// A sheet that has its room from the start.
@@ -31,7 +33,8 @@ impl Recyclable for Sheet {
     }
 }
 
-/// What is pulled. Where it was refused, it comes by a second try: `Memory` for the room of its return, `Init` for the value.
+/// What is pulled. Where it was refused, it comes by a second try: `Memory` for the room of its
+/// return, `Init` for the value.
 fn pulled<X: Drop, F: Fn() -> Result<X, PullError>>(
     rt: &impl Abort,
     refusals: &Refusals,
@@ -49,7 +52,8 @@ fn pulled<X: Drop, F: Fn() -> Result<X, PullError>>(
     answer.expect(rt, "one request alone is refused")
 }
 
-/// A refusal that a maker hides is missed between those of the rooms: a second item is pulled while the first is held.
+/// A refusal that a maker hides is missed between those of the rooms: a second item is pulled while
+/// the first is held.
 #[test]
 fn a_recyclable_value_that_memory_was_refused_for_is_told(rt: HostRuntime) -> Result<(), Fail> {
     let refusals = Refusals::new();
@@ -72,5 +76,26 @@ fn a_vector_that_memory_was_refused_for_is_told(rt: HostRuntime) -> Result<(), F
     let first = pulled(&rt, &refusals, &|| pool.pull(&rt));
     let second = pulled(&rt, &refusals, &|| pool.pull(&rt));
     assert_equal(&rt, (first.len(), second.len()), (0, 0));
+    refusals.tell(&rt)
+}
+
+/// A lazy pool, and what makes its values when they are first needed: after a refusal the place is
+/// empty, and is pulled again.
+#[test]
+fn a_lazy_value_that_memory_was_refused_for_is_told(rt: HostRuntime) -> Result<(), Fail> {
+    let refusals = Refusals::new();
+    let pool = refusals.again(
+        &rt,
+        &|| {
+            let pool = LazyPool::<Sheet>::with_recycler(rt.alloc(), 33)?;
+            Ok(Arc::new(rt.alloc(), pool)?)
+        },
+    );
+    let first = pulled(&rt, &refusals, &|| pool.pull());
+    let second = pulled(&rt, &refusals, &|| pool.pull_owned());
+    let third = pulled(&rt, &refusals, &|| pool.pull_wait(&rt));
+    pulled(&rt, &refusals, &|| pool.fill(4));
+    let numbers = (first.number(), second.number(), third.number());
+    assert_equal(&rt, (numbers, pool.made()), ((0, 1, 2), 4));
     refusals.tell(&rt)
 }

@@ -1,4 +1,5 @@
-//! Players: a command that was refused is answered again as with ample memory, and a run goes on from the commands done.
+//! Players: a command that was refused is answered again as with ample memory, and a run goes on
+//! from the commands done.
 use crate::assert_equal::assert_equal;
 use crate::refusals::Refusals;
 use lockfree_object_pool::PullError;
@@ -135,7 +136,8 @@ fn a_fresh_player_answers_a_command_again_as_with_memory(rt: HostRuntime) -> Res
 /// How many pulls a run has.
 const PULLS: usize = 4;
 
-/// How many of the replies tell of a pull. The pulls count the holders from 0 on, and the others were refused for memory.
+/// How many of the replies tell of a pull. The pulls count the holders from 0 on, and the others
+/// were refused for memory.
 fn pulled(rt: &impl Abort, pool: Pool, replies: &[Reply<u32>]) -> usize {
     let mut pulled = 0usize;
     for reply in replies {
@@ -212,8 +214,8 @@ fn a_run_of_a_fresh_player_goes_on_from_the_commands_done(rt: HostRuntime) -> Re
 /// How many returns and pulls in turn there are.
 const TURNS: usize = 300;
 
-/// Pulls, and then returns and pulls in turn. A turn asks for no memory, so each is answered, whatever request is refused;
-/// a table that kept what was returned would have to grow.
+/// Pulls, and then returns and pulls in turn. A turn asks for no memory, so each is answered,
+/// whatever request is refused; a table that kept what was returned would have to grow.
 fn takes_turns<P: SequentialPool<u32> + Drop>(
     rt: &impl Abort,
     refusals: &Refusals,
@@ -304,7 +306,8 @@ fn a_run_that_was_refused_drops_the_commands_not_done(rt: HostRuntime) -> Result
     refusals.tell(&rt)
 }
 
-/// The table has room, so an attaching command is a reply in either case. Where memory is refused, the value is in it.
+/// The table has room, so an attaching command is a reply in either case. Where memory is refused,
+/// the value is in it.
 #[test]
 fn an_attach_that_was_refused_is_a_reply_with_the_value(rt: HostRuntime) -> Result<(), Fail> {
     let refusals = Refusals::new();

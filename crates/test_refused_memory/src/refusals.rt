@@ -14,18 +14,19 @@ pub struct Refusals {
 }
 
 impl Refusals {
+    /// Creates a record of no refusal.
     pub fn new() -> Refusals {
         Refusals {
             is_met: Cell::new(false),
         }
     }
 
-    /// Remembers that memory was refused.
+    /// Records that memory was refused.
     pub fn note(&self) {
         self.is_met.set(true);
     }
 
-    /// What is asked for. Where memory was refused, it comes by a second try.
+    /// Returns what is asked for. If memory was refused, it comes by a second try.
     pub fn again<X: Drop, F: Fn() -> Result<X, PullError>>(&self, rt: &impl Abort, ask: &F) -> X
         requires { F.pre ask.now }
     {
@@ -39,12 +40,13 @@ impl Refusals {
         answer.expect(rt, "one request alone is refused")
     }
 
-    /// A tally. Where memory was refused, it comes by a second try.
+    /// Creates a tally. If memory was refused, it comes by a second try.
     pub fn tally(&self, rt: &(impl Abort + AllocGlobal)) -> Arc<Tally> {
         self.again(rt, &|| new_tally(rt.alloc()))
     }
 
-    /// A list of so many entries, whose room is asked for at once. Where memory was refused, it comes by a second try.
+    /// Creates a list of so many entries, whose room is asked for at once. If memory was refused,
+    /// it comes by a second try.
     pub fn list_again<X: Drop, F: Fn() -> Result<X, PullError>>(
         &self,
         rt: &impl Abort,

@@ -242,8 +242,8 @@ fn an_attached_value_comes_back(rt: HostRuntime) -> Result<(), Fail> {
     refusals.tell(&rt)
 }
 
-/// A value that the pool keeps, and one that is attached to an owned item or comes back. The pool ends with its last owner, and
-/// drops what it keeps.
+/// A value that the pool keeps, and one that is attached to an owned item or comes back. The pool
+/// ends with its last owner, and drops what it keeps.
 fn ends_behind_attach<F: FreeList<Tallied, TrackedValues>, W: Abort + Wait + Copy>(
     rt: &W,
     refusals: &Refusals,

@@ -1,5 +1,5 @@
-//! The world of agents: an event that was refused changes nothing but drops its values, and is answered again as with
-//! ample memory.
+//! The world of agents: an event that was refused changes nothing but drops its values, and is
+//! answered again as with ample memory.
 use crate::assert_equal::assert_equal;
 use crate::refusals::Refusals;
 use lockfree_object_pool::PullError;
@@ -108,7 +108,8 @@ fn a_begin_that_was_refused_is_asked_again(rt: HostRuntime) -> Result<(), Fail> 
     refusals.tell(&rt)
 }
 
-/// Lets 33 agents each clear a bit of the first page, which has 32, and the last one read the link to the next page.
+/// Lets 33 agents each clear a bit of the first page, which has 32, and the last one read the link
+/// to the next page.
 fn find_no_item(refusals: &Refusals, world: &mut TalliedWorld) -> Seen {
     for agent in 0..33 {
         let _ = begin_again(refusals, world);
@@ -151,7 +152,8 @@ fn a_page_that_was_refused_is_asked_again(rt: HostRuntime) -> Result<(), Fail> {
 /// How many agents begin in a run.
 const AGENTS: usize = 6;
 
-/// How many of the answers tell that an agent began. The agents are numbered from 0 on, and the others were refused for memory.
+/// How many of the answers tell that an agent began. The agents are numbered from 0 on, and the
+/// others were refused for memory.
 fn agents_begun(rt: &impl Abort, refusals: &Refusals, seen: &[Seen]) -> usize {
     let mut agents = 0usize;
     for answer in seen {

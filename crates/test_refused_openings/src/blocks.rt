@@ -31,6 +31,11 @@ impl Blocks {
     /// How many choices of blocks there are. A choice has a bit for each block.
     pub const CHOICES: usize = 1 << 8;
 
+    /// Makes a block of each size.
+    ///
+    /// # Errors
+    ///
+    /// `Memory`.
     pub fn new(alloc: Global) -> Result<Blocks, PullError> {
         let mut blocks = Vec::with_capacity(alloc, 8)?;
         for size in SIZES {
@@ -51,7 +56,7 @@ impl Blocks {
         }
     }
 
-    /// Whether each block that was given back could be had again.
+    /// Returns whether each block that was given back could be had again.
     pub fn take_again(&mut self, alloc: Global) -> bool {
         for block in self.blocks.iter_mut() {
             if block.bytes.is_none() {

@@ -1,11 +1,12 @@
 //! Openings of pools that are refused memory, and whether they keep some of it.
 //!
-//! Some blocks of memory are given back, of each choice of sizes in turn, and pools are opened. An opening takes one of the
-//! blocks and then another one, or is refused that. What it took it lets go, so that each block can be had again. No clause tells
-//! of a block that an opening forgot, and no test sees it.
+//! Some blocks of memory are given back, of each choice of sizes in turn, and pools are opened. An
+//! opening takes one of the blocks and then another one, or is refused that. What it took it lets
+//! go, so that each block can be had again. No clause tells of a block that an opening forgot, and
+//! no test sees it.
 //!
-//! With the argument `filled` all other memory is taken first, so that openings are refused. It has to be limited then, as by
-//! `ulimit -v`.
+//! With the argument `filled` all other memory is taken first, so that openings are refused. It has
+//! to be limited then, as by `ulimit -v`.
 #![tactic(auto)]
 
 mod blocks;

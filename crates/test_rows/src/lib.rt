@@ -1,5 +1,5 @@
-//! Worked cases of the pools, each a test by the name of what it shows: what one thread pulls, writes, attaches and returns, what
-//! `init` refuses, and what a limit refuses.
+//! Worked cases of the pools, each a test by the name of what it shows: what one thread pulls,
+//! writes, attaches and returns, what `init` refuses, and what a limit refuses.
 #![tactic(auto)]
 
 #[cfg(test)]

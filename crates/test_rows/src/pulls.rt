@@ -1,4 +1,5 @@
-//! What is written once for each kind of pool, borrowed or owned: how an item is pulled, and what is done with it.
+//! What is written once for each kind of pool, borrowed or owned: how an item is pulled, and what
+//! is done with it.
 use lockfree_object_pool::clean::{AnyValue, Clean};
 use lockfree_object_pool::closures::{Init, Reset};
 use lockfree_object_pool::free_list::FreeList;
@@ -96,12 +97,12 @@ pub struct Opened<P> {
     pub calls: Arc<AtomicUsize>,
 }
 
-/// What an item reads that is pulled and dropped.
+/// Returns what an item reads that is pulled and dropped.
 pub fn read<P: Pulls<W>, W: Wait + Copy>(rt: &W, pool: &P) -> Result<u32, PullError> {
     Ok(*pool.item(rt)?)
 }
 
-/// A 5 is written to an item, which is dropped, and the next one reads this.
+/// Writes a 5 to an item, drops it, and returns what the next one reads.
 pub fn written_five<P: Pulls<W>, W: Wait + Copy>(rt: &W, pool: &P) -> Result<u32, PullError> {
     let mut item = pool.item(rt)?;
     *item = 5;
@@ -109,7 +110,7 @@ pub fn written_five<P: Pulls<W>, W: Wait + Copy>(rt: &W, pool: &P) -> Result<u32
     read(rt, pool)
 }
 
-/// What an item reads, to which 1 is added then, and the next one likewise.
+/// Returns what an item reads, to which 1 is added then, and what the next one reads likewise.
 pub fn one_added_twice<P: Pulls<W>, W: Wait + Copy>(
     rt: &W,
     pool: &P,
@@ -125,7 +126,7 @@ fn one_added<P: Pulls<W>, W: Wait + Copy>(rt: &W, pool: &P) -> Result<u32, PullE
     Ok(first)
 }
 
-/// So many items, held together.
+/// Pulls so many items, and holds them together.
 pub fn hold<P: Pulls<W>, W: Wait + Copy>(
     rt: &W,
     alloc: Global,

@@ -1,4 +1,5 @@
-//! Each of the 32 calls of `init` that a page takes is refused in turn: what was made is dropped, and nothing else changes.
+//! Each of the 32 calls of `init` that a page takes is refused in turn: what was made is dropped,
+//! and nothing else changes.
 use crate::assert_equal::assert_equal;
 use lockfree_object_pool::clean::AnyValue;
 use lockfree_object_pool::closures::Keep;
@@ -74,8 +75,8 @@ fn are_as_made(items: &[LinearReusable<'_, Tallied, TalliedValues, Keep, AnyValu
         .all(|(index, item)| item.number == index)
 }
 
-/// What is seen of a growth: its refusal, with the calls and drops then; whether the items that are held read as before; where the
-/// next pull's item lies, with the calls and drops then.
+/// What is seen of a growth: its refusal, with the calls and drops then; whether the items that are
+/// held read as before; where the next pull's item lies, with the calls and drops then.
 type Growth = (
     (Option<PullError>, (usize, usize)),
     bool,

@@ -9,14 +9,16 @@ use test_values::refused::again;
 /// A stack of numbers.
 type Numbers = Stack<u32, AnyValue>;
 
-/// Puts a value into a new room, which is asked for again where memory was refused. How many values are kept then.
+/// Puts a value into a new room, which is asked for again where memory was refused. How many values
+/// are kept then.
 fn put_in_new_room(rt: &impl Abort, alloc: Global, stack: &mut Numbers, value: u32) -> usize {
     let room = again(&|| Room::new(alloc)).expect(rt, "one request alone is refused");
     stack.put(room, value);
     stack.kept()
 }
 
-/// Takes a value and puts another into its room: the value that was taken, and how many are kept before and after the put.
+/// Takes a value and puts another into its room: the value that was taken, and how many are kept
+/// before and after the put.
 fn replace(stack: &mut Numbers, value: u32) -> Option<(u32, usize, usize)> {
     let (taken, room) = stack.take()?;
     let left = stack.kept();

@@ -1,5 +1,5 @@
-//! The mutex pool and the spin lock pool, borrowed and owned: which value a pull gives, and how often `init` is called. Each row is
-//! played on all four.
+//! The mutex pool and the spin lock pool, borrowed and owned: which value a pull gives, and how
+//! often `init` is called. Each row is played on all four.
 use crate::assert_equal::assert_equal;
 use crate::pulls::{Opened, Pulls, Zeros, one_added_twice, read, written_five};
 use lockfree_object_pool::clean::{AnyValue, Clean};
@@ -119,7 +119,8 @@ fn spin_lock_kept(
     Ok(Opened { pool, calls })
 }
 
-/// A row on pools that keep what was written: a mutex pool and a spin lock pool, each borrowed and owned.
+/// A row on pools that keep what was written: a mutex pool and a spin lock pool, each borrowed and
+/// owned.
 fn on_kept<X: Row, W: Wait + Copy>(
     rt: &W,
     alloc: Global,

@@ -9,7 +9,7 @@ pub struct Adds {
 }
 
 impl Adds {
-    /// What it leaves of a value.
+    /// Returns what it leaves of a value.
     pub fn sum(&self, value: u32) -> u32 {
         value.wrapping_add(self.number)
     }

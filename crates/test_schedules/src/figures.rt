@@ -20,6 +20,7 @@ pub struct Figures {
 }
 
 impl Figures {
+    /// Counts an answer.
     pub fn count(&mut self, step: Step, seen: Seen) {
         add_one(&mut self.events);
         if matches!((step, seen), (Step::ReadHinted(_), Seen::Word(_, _))) {
@@ -37,6 +38,7 @@ impl Figures {
         }
     }
 
+    /// Counts a schedule.
     pub fn count_schedule(&mut self) {
         add_one(&mut self.schedules);
     }

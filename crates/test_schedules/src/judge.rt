@@ -1,10 +1,11 @@
 //! A judge of runs: what agents do with one pool, told by the visible answers alone.
 //!
-//! An agent opens once. While it looks for an item it may link a page, be refused, or pull a free number, whose holder it
-//! then is. The holder may write its value, and returns it once, with what `reset` leaves. Nobody else holds the number in
-//! between. Before a link each number of the pages was found out since the agent opened, and so were those of the pages
-//! that there were at some moment since then, before a refusal. It asks each page once at most, so it reads no more words
-//! than there are pages.
+//! An agent opens once. While it looks for an item it may link a page, be refused, or pull a free
+//! number, whose holder it then is. The holder may write its value, and returns it once, with what
+//! `reset` leaves. Nobody else holds the number in between. Before a link its agent saw each number
+//! of the pages taken since it opened, and before a refusal those of the pages that there were at
+//! some moment since then. It asks each page once at most, so it reads no more words than there are
+//! pages.
 use crate::adds::Adds;
 use crate::step::Step;
 use object_pool_cores::interleave::{Seen, World};
@@ -24,8 +25,8 @@ pub enum Unlawful {
     NotFree,
     #[error("a page is linked past the limit")]
     PastLimit,
-    #[error("a number wasn't found out since the agent opened")]
-    NotFoundOut,
+    #[error("a number wasn't seen taken since the agent opened")]
+    NotSeenTaken,
     #[error("the limit is told where fewer pages are linked")]
     EarlyLimit,
     #[error("an agent is neither served nor refused within its steps")]
@@ -88,7 +89,11 @@ pub struct Judge {
 const ITEMS: usize = 32;
 
 impl Judge {
-    /// A pool of one page, whose first value is given.
+    /// Creates a pool of one page, whose first value is given.
+    ///
+    /// # Errors
+    ///
+    /// If memory is refused.
     pub fn new(
         alloc: Global,
         limit: Option<usize>,
@@ -124,6 +129,10 @@ impl Judge {
     }
 
     /// Takes the answer to a step into account.
+    ///
+    /// # Errors
+    ///
+    /// If memory is refused.
     pub fn hear(&mut self, step: Step, seen: Seen) -> Result<Result<(), Unlawful>, AllocError> {
         let judged = match (seen, step) {
             (Seen::NotEnabled, _) => return Ok(Ok(())),
@@ -141,6 +150,10 @@ impl Judge {
     }
 
     /// Counts a step that an agent took.
+    ///
+    /// # Errors
+    ///
+    /// The rule that is broken.
     pub fn count(&mut self, agent: usize) -> Result<(), Unlawful> {
         let limit = self.limit;
         let Some(agent) = self.agents.get_mut(agent) else {
@@ -268,8 +281,8 @@ impl Judge {
         if self.limit == Some(self.pages()) {
             return Ok(Err(Unlawful::PastLimit));
         }
-        if !self.found_out(&agent_then, self.pages()) {
-            return Ok(Err(Unlawful::NotFoundOut));
+        if !self.saw_taken(&agent_then, self.pages()) {
+            return Ok(Err(Unlawful::NotSeenTaken));
         }
         self.to_stage(agent, Stage::Looking);
         self.grow(agent_then.made)?;
@@ -286,16 +299,16 @@ impl Judge {
         if cause == PullError::Limit && self.limit != Some(pages) {
             return Err(Unlawful::EarlyLimit);
         }
-        if !self.found_out(&agent_then, pages) {
-            return Err(Unlawful::NotFoundOut);
+        if !self.saw_taken(&agent_then, pages) {
+            return Err(Unlawful::NotSeenTaken);
         }
         self.to_stage(agent, Stage::Done);
         Ok(())
     }
 
-    /// Whether each number of the first pages was out at some moment since the agent opened. One that is free now was out
-    /// before its last return.
-    fn found_out(&self, agent: &Agent, pages: usize) -> bool {
+    /// Whether each number of the first pages was out at some moment since the agent opened. One
+    /// that is free now was out before its last return.
+    fn saw_taken(&self, agent: &Agent, pages: usize) -> bool {
         let first = self.numbers.iter().take(pages.saturating_mul(ITEMS));
         for number in first {
             let found = match number.place {
@@ -309,7 +322,11 @@ impl Judge {
         true
     }
 
-    /// Whether an agent that has its item has the value of the run.
+    /// Returns whether an agent that has its item has the value of the run.
+    ///
+    /// # Errors
+    ///
+    /// The rule that is broken.
     pub fn agrees(&self, agent: usize, held: Option<u32>) -> Result<(), Unlawful> {
         match held {
             Some(shown) if self.holding(agent)?.1 != shown => Err(Unlawful::OtherValue),
@@ -317,7 +334,12 @@ impl Judge {
         }
     }
 
-    /// Whether the world reads as the pool in which the run ends, where each number that is out has one holder.
+    /// Returns whether the world reads as the pool in which the run ends, where each number that is
+    /// out has one holder.
+    ///
+    /// # Errors
+    ///
+    /// The rule that is broken.
     pub fn ends_as(&self, world: &World<u32, Adds>) -> Result<(), Unlawful> {
         if world.pages() != self.pages() {
             return Err(Unlawful::OtherPool);

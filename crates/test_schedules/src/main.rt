@@ -1,8 +1,8 @@
-//! Plays random schedules on the world of agents: each is compared with the table of its steps, and judged as a run of
-//! one pool.
+//! Plays random schedules on the world of agents: each is compared with the table of its steps, and
+//! judged as a run of one pool.
 //!
-//! The two arguments are a seed, a number below 2^64, and how many schedules are played. It prints a line of figures, and
-//! ends with status 1 where a schedule isn't as it has to be.
+//! The two arguments are a seed, a number below 2^64, and how many schedules are played. It prints
+//! a line of figures, and ends with status 1 where a schedule isn't as it has to be.
 #![tactic(auto)]
 
 mod adds;

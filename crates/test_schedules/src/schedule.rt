@@ -1,5 +1,5 @@
-//! A random schedule: any number of agents, some of which stop for good, on a world that is compared with the table and
-//! judged as a run after each event.
+//! A random schedule: any number of agents, some of which stop for good, on a world that is
+//! compared with the table and judged as a run after each event.
 use crate::adds::Adds;
 use crate::figures::Figures;
 use crate::judge::{Judge, Unlawful};
@@ -84,7 +84,8 @@ impl Schedule {
         })
     }
 
-    /// One step of the world, which has to answer and change as the table does, and to be legal in a run.
+    /// One step of the world, which has to answer and change as the table does, and to be legal in
+    /// a run.
     fn step(&mut self, figures: &mut Figures, agent: usize, step: Step) -> Result<(), Stopped> {
         let seen = self.world.step(event_of(self.alloc, agent, step)?);
         figures.count(step, seen);
@@ -227,7 +228,12 @@ fn made_or_refused(random: &mut Pcg32) -> Step {
     }
 }
 
-/// Plays one schedule. First so many agents take an item that one page, or a few, is nearly used up.
+/// Plays one schedule. First so many agents take an item that one page, or a few, is nearly used
+/// up.
+///
+/// # Errors
+///
+/// `Stopped` if the world differs from the table, or memory is refused.
 pub fn play(alloc: Global, figures: &mut Figures, random: &mut Pcg32) -> Result<(), Stopped> {
     let mut schedule = Schedule::new(alloc, random)?;
     let more_pages = random.next_u32() % 6 / 3 * (random.next_u32() % 2 + 1);

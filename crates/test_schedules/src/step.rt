@@ -23,7 +23,11 @@ pub enum Step {
     OrMask,
 }
 
-/// 32 values, of which each is greater by 1 than the one before.
+/// Makes 32 values, of which each is greater by 1 than the one before.
+///
+/// # Errors
+///
+/// `Memory`.
 pub fn values_from(alloc: Global, first: u32) -> Result<Prepared<u32>, PullError> {
     let next = Cell::new(first);
     Prepared::make(
@@ -36,7 +40,11 @@ pub fn values_from(alloc: Global, first: u32) -> Result<Prepared<u32>, PullError
     )
 }
 
-/// The step as an event of the world.
+/// Returns the step as an event of the world.
+///
+/// # Errors
+///
+/// `Memory`.
 pub fn event_of(alloc: Global, agent: usize, step: Step) -> Result<Event<u32>, PullError> {
     Ok(match step {
         Step::Begin => Event::Begin,

@@ -1,4 +1,5 @@
-//! A plain reading of the table: what each step of an agent answers at its point, and what it changes.
+//! A plain reading of the table: what each step of an agent answers at its point, and what it
+//! changes.
 use crate::adds::Adds;
 use crate::step::Step;
 use object_pool_cores::interleave::Seen;
@@ -42,7 +43,11 @@ pub struct Table {
 }
 
 impl Table {
-    /// One page, whose first value is given.
+    /// Creates one page, whose first value is given.
+    ///
+    /// # Errors
+    ///
+    /// If memory is refused.
     pub fn new(
         alloc: Global,
         limit: Option<usize>,
@@ -58,18 +63,22 @@ impl Table {
         })
     }
 
+    /// Returns how many agents have begun.
     pub fn agents(&self) -> usize {
         self.agents.len()
     }
 
+    /// Returns how many pages are linked.
     pub fn pages(&self) -> usize {
         self.words.len()
     }
 
+    /// Returns the point of an agent.
     pub fn point(&self, agent: usize) -> Option<Point> {
         self.agents.get(agent).copied()
     }
 
+    /// Returns the word of a page.
     pub fn word(&self, page: usize) -> u32 {
         self.words.get(page).copied().unwrap_or(0)
     }
@@ -81,7 +90,7 @@ impl Table {
         }
     }
 
-    /// The value that an agent holds.
+    /// Returns the value that an agent holds.
     pub fn held(&self, agent: usize) -> Option<u32> {
         match self.point(agent) {
             Some(Point::Holding(_, _, value)) => Some(value),
@@ -89,7 +98,11 @@ impl Table {
         }
     }
 
-    /// The answer to a step, which is done.
+    /// Does a step, and returns its answer.
+    ///
+    /// # Errors
+    ///
+    /// If memory is refused.
     pub fn step(&mut self, agent: usize, step: Step) -> Result<Seen, AllocError> {
         if step == Step::Begin {
             let begun = self.agents.len();

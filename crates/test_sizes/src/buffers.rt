@@ -9,8 +9,13 @@ use std::alloc::Global;
 
 type Pool = BufferPool<WithCapacity, Clear>;
 
-/// In two rounds each buffer is pulled, and no more. It comes empty, and shows what is written to it while it is held. The pool
-/// has a quarter of the pages, since its walks take longer than those of other pools.
+/// Pulls each buffer, and no more, in two rounds. It comes empty, and shows what is written to it
+/// while it is held. The pool has a quarter of the pages, since its walks take longer than those of
+/// other pools.
+///
+/// # Errors
+///
+/// `Wrong` names what was seen and may not be.
 pub fn bounded(alloc: Global, pages: u16) -> Result<(), Wrong>
     requires { 1 ≤ pages }
 {

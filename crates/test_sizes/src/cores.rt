@@ -16,7 +16,11 @@ type Stack = StackCore<u64, Numbers, Keep, AnyValue>;
 /// Its values have no bytes.
 type Bare = LinearCore<(), Copied<(), AnyValue>, Keep, AnyValue>;
 
-/// A linear core with a limit: the last number is given, and no more.
+/// Plays a linear core with a limit: the last number is given, and no more.
+///
+/// # Errors
+///
+/// `Wrong` names what was seen and may not be.
 pub fn bounded_linear(alloc: Global, pages: u16) -> Result<(), Wrong>
     requires { 1 ≤ pages }
 {
@@ -27,7 +31,11 @@ pub fn bounded_linear(alloc: Global, pages: u16) -> Result<(), Wrong>
     numbers.expect_made(items)
 }
 
-/// A linear core without a limit makes no page beside those that its items need.
+/// Plays a linear core without a limit, which makes no page beside those that its items need.
+///
+/// # Errors
+///
+/// `Wrong` names what was seen and may not be.
 pub fn linear(alloc: Global, pages: u16) -> Result<(), Wrong> {
     let numbers = Numbers::new(alloc)?;
     let core: Linear = LinearCore::new(alloc, numbers.share()?, Keep)?;
@@ -36,7 +44,11 @@ pub fn linear(alloc: Global, pages: u16) -> Result<(), Wrong> {
     numbers.expect_made(items)
 }
 
-/// A stack core keeps each value.
+/// Plays a stack core, which keeps each value.
+///
+/// # Errors
+///
+/// `Wrong` names what was seen and may not be.
 pub fn stack(alloc: Global, pages: u16) -> Result<(), Wrong> {
     let numbers = Numbers::new(alloc)?;
     let core: Stack = StackCore::new(alloc, numbers.share()?, Keep);
@@ -45,7 +57,11 @@ pub fn stack(alloc: Global, pages: u16) -> Result<(), Wrong> {
     numbers.expect_made(items)
 }
 
-/// A linear core hands out so many numbers, the least first, and each stays out.
+/// Pulls so many numbers of a linear core, the least first, each of which stays out.
+///
+/// # Errors
+///
+/// `Wrong` names what was seen and may not be.
 pub fn hand_out(alloc: Global, numbers: u64) -> Result<(), Wrong> {
     let mut core: Bare = LinearCore::new(alloc, Copied::new(()), Keep)?;
     for number in 0..numbers {
@@ -57,8 +73,8 @@ pub fn hand_out(alloc: Global, numbers: u64) -> Result<(), Wrong> {
     Ok(())
 }
 
-/// In two rounds so many items are pulled, held together and given back. Each comes once a round. A pool that has no more
-/// refuses a further pull so.
+/// In two rounds so many items are pulled, held together and given back. Each comes once a round. A
+/// pool that has no more refuses a further pull so.
 fn come_back<P: SequentialPool<u64> + Drop>(
     alloc: Global,
     items: u64,

@@ -14,7 +14,11 @@ type Pool = FixedObjectPool<u64, Numbers, Keep>;
 /// How many times the pages of another pool a fixed pool has.
 const TIMES: u64 = 4;
 
-/// Each item is pulled, and no more.
+/// Pulls each item, and no more.
+///
+/// # Errors
+///
+/// `Wrong` names what was seen and may not be.
 pub fn borrowed(alloc: Global, pages: u16) -> Result<(), Wrong>
     requires { 1 ≤ pages }
 {
@@ -25,7 +29,11 @@ pub fn borrowed(alloc: Global, pages: u16) -> Result<(), Wrong>
     numbers.expect_made(items)
 }
 
-/// As `borrowed`, by owned items.
+/// Pulls as `borrowed` does, by owned items.
+///
+/// # Errors
+///
+/// `Wrong` names what was seen and may not be.
 pub fn owned(alloc: Global, pages: u16) -> Result<(), Wrong>
     requires { 1 ≤ pages }
 {

@@ -11,7 +11,11 @@ use std::sync::Arc;
 
 type Pool = LinearObjectPool<u64, Numbers, Keep>;
 
-/// A pool with a limit: the last item is given, and no more.
+/// Pulls from a pool with a limit: the last item is given, and no more.
+///
+/// # Errors
+///
+/// `Wrong` names what was seen and may not be.
 pub fn bounded(alloc: Global, pages: u16) -> Result<(), Wrong>
     requires { 1 ≤ pages }
 {
@@ -27,7 +31,11 @@ pub fn bounded(alloc: Global, pages: u16) -> Result<(), Wrong>
     numbers.expect_made(items)
 }
 
-/// As `bounded`, by owned items.
+/// Pulls as `bounded` does, by owned items.
+///
+/// # Errors
+///
+/// `Wrong` names what was seen and may not be.
 pub fn bounded_owned(alloc: Global, pages: u16) -> Result<(), Wrong>
     requires { 1 ≤ pages }
 {
@@ -44,7 +52,11 @@ pub fn bounded_owned(alloc: Global, pages: u16) -> Result<(), Wrong>
     numbers.expect_made(items)
 }
 
-/// A pool without a limit makes no page beside those that its items need.
+/// Pulls from a pool without a limit, which makes no page beside those that its items need.
+///
+/// # Errors
+///
+/// `Wrong` names what was seen and may not be.
 pub fn unbounded(alloc: Global, pages: u16) -> Result<(), Wrong> {
     let numbers = Numbers::new(alloc)?;
     let pool: Pool = LinearObjectPool::new(alloc, numbers.share()?, Keep)?;

@@ -1,11 +1,14 @@
-//! Pools at sizes for which a test has no time: each item is out at one moment, comes back, and is pulled again.
+//! Pools at sizes for which a test has no time: each item is out at one moment, comes back, and is
+//! pulled again.
 //!
-//! The argument is how many pages of 32 items a pool has, 65,535 at most; a fixed pool has four times as many, a buffer pool a
-//! quarter. A line for each pool says that each item came back, or what was seen that may not be; then the status is 1.
+//! The argument is how many pages of 32 items a pool has, 65,535 at most; a fixed pool has four
+//! times as many, a buffer pool a quarter. A line for each pool says that each item came back, or
+//! what was seen that may not be; then the status is 1.
 //!
-//! `player` and a number of turns let one player pull and return so often. Its indexes are never used again, so 2^32 turns and
-//! more show them past 32 bits: that takes minutes, and is run by hand. `core` and a number let a linear core hand out so many
-//! numbers, each of which stays out. It takes some 90 bytes for each 32 of them.
+//! `player` and a number of turns let one player pull and return so often. Its indexes are never
+//! used again, so 2^32 turns and more show them past 32 bits: that takes minutes, and is run by
+//! hand. `core` and a number let a linear core hand out so many numbers, each of which stays out.
+//! It takes some 90 bytes for each 32 of them.
 #![tactic(auto)]
 
 ghost use Rattle.std.specs.Prelude.{◌≤◌};
@@ -13,6 +16,7 @@ ghost use Rattle.std.specs.Prelude.{◌≤◌};
 mod buffers;
 mod cores;
 mod fixed_pools;
+mod lazy;
 mod linear_pools;
 mod numbers;
 mod players;
@@ -80,6 +84,7 @@ enum Kind {
     Buffers,
     Fixed,
     FixedOwned,
+    Lazy,
     Mutex,
     SpinLock,
     BoundedLinearCore,
@@ -89,7 +94,7 @@ enum Kind {
 }
 
 /// Each kind of pool, with its name.
-const KINDS: [(&str, Kind); 12] = [
+const KINDS: [(&str, Kind); 13] = [
     ("linear pool with a limit", Kind::BoundedLinear),
     (
         "linear pool with a limit, owned items",
@@ -99,6 +104,7 @@ const KINDS: [(&str, Kind); 12] = [
     ("buffer pool", Kind::Buffers),
     ("fixed pool", Kind::Fixed),
     ("fixed pool, owned items", Kind::FixedOwned),
+    ("lazy pool", Kind::Lazy),
     ("mutex pool", Kind::Mutex),
     ("spin lock pool, owned items", Kind::SpinLock),
     ("linear core with a limit", Kind::BoundedLinearCore),
@@ -132,6 +138,7 @@ fn outcome_of<W: Wait + Copy>(rt: &W, alloc: Global, kind: Kind, pages: u16) -> 
         Kind::Buffers => buffers::bounded(alloc, pages),
         Kind::Fixed => fixed_pools::borrowed(alloc, pages),
         Kind::FixedOwned => fixed_pools::owned(alloc, pages),
+        Kind::Lazy => lazy::borrowed(alloc, pages),
         Kind::Mutex => stack_pools::mutex(rt, alloc, pages),
         Kind::SpinLock => stack_pools::spin_lock(rt, alloc, pages),
         Kind::BoundedLinearCore => cores::bounded_linear(alloc, pages),

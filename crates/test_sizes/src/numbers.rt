@@ -18,20 +18,33 @@ pub struct Numbers {
 }
 
 impl Numbers {
+    /// Creates the count of numbers, from 0 on.
+    ///
+    /// # Errors
+    ///
+    /// If memory is refused.
     pub fn new(alloc: Global) -> Result<Numbers, AllocError> {
         Ok(Numbers {
             made: Arc::new(alloc, AtomicU64::new(0))?,
         })
     }
 
-    /// The same numbers for one more.
+    /// Returns the same numbers for one more.
+    ///
+    /// # Errors
+    ///
+    /// If memory is refused.
     pub fn share(&self) -> Result<Numbers, AllocError> {
         Ok(Numbers {
             made: Arc::try_clone(&self.made)?,
         })
     }
 
-    /// Sees that so many numbers were made.
+    /// Checks that so many numbers were made.
+    ///
+    /// # Errors
+    ///
+    /// `Wrong` names what was seen and may not be.
     pub fn expect_made(&self, count: u64) -> Result<(), Wrong> {
         let made = self.made.load(SeqCst);
         if made == count {
@@ -55,14 +68,22 @@ pub struct SeenNumbers {
 }
 
 impl SeenNumbers {
-    /// None of so many numbers.
+    /// Creates a record that has seen none of so many numbers.
+    ///
+    /// # Errors
+    ///
+    /// If memory is refused.
     pub fn none(alloc: Global, count: u64) -> Result<SeenNumbers, AllocError> {
         Ok(SeenNumbers {
             is_seen: vec![in alloc; false; count as usize]?,
         })
     }
 
-    /// Sees a number for the first time.
+    /// Records a number that is seen for the first time.
+    ///
+    /// # Errors
+    ///
+    /// `Wrong` names what was seen and may not be.
     pub fn see(&mut self, number: u64) -> Result<(), Wrong> {
         let Some(is_seen) = self.is_seen.get_mut(number as usize) else {
             return Err(Wrong::Value(number));

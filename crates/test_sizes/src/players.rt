@@ -14,7 +14,11 @@ fn new_player(alloc: Global, numbers: &Numbers) -> Result<LinearPlayer, Wrong> {
     Ok(Player::new(alloc, core))
 }
 
-/// In two rounds a player pulls so many items, each at the next index, and returns them.
+/// Pulls so many items by a player in two rounds, each at the next index, and returns them.
+///
+/// # Errors
+///
+/// `Wrong` names what was seen and may not be.
 pub fn hold(alloc: Global, pages: u16) -> Result<(), Wrong> {
     let numbers = Numbers::new(alloc)?;
     let mut player = new_player(alloc, &numbers)?;
@@ -31,7 +35,11 @@ pub fn hold(alloc: Global, pages: u16) -> Result<(), Wrong> {
     numbers.expect_made(items)
 }
 
-/// In each turn a player pulls an item, at the turn's number, and returns it.
+/// Pulls an item by a player in each turn, at the turn's number, and returns it.
+///
+/// # Errors
+///
+/// `Wrong` names what was seen and may not be.
 pub fn take_turns(alloc: Global, turns: u64) -> Result<(), Wrong> {
     let numbers = Numbers::new(alloc)?;
     let mut player = new_player(alloc, &numbers)?;

@@ -8,8 +8,12 @@ use std::ops::DerefMut;
 /// How many rounds there are: in the second one each item comes again.
 const ROUNDS: u64 = 2;
 
-/// In each round so many items are pulled, held together and dropped. Each comes once, with what was written to it in the round
-/// before. A pool that has no more refuses a further pull so.
+/// Pulls so many items in each round, holds them together, and drops them. Each comes once, with
+/// what was written to it in the round before. A pool that has no more refuses a further pull so.
+///
+/// # Errors
+///
+/// `Wrong` names what was seen and may not be.
 pub fn come_back<A: DerefMut<Target = u64> + Drop, P: Fn() -> Result<A, PullError>>(
     alloc: Global,
     items: u64,

@@ -7,7 +7,11 @@ use lockfree_object_pool::{MutexObjectPool, SpinLockObjectPool};
 use std::alloc::Global;
 use std::sync::{Arc, Wait};
 
-/// The mutex pool, by borrowed items.
+/// Plays the mutex pool, by borrowed items.
+///
+/// # Errors
+///
+/// `Wrong` names what was seen and may not be.
 pub fn mutex<W: Wait + Copy>(rt: &W, alloc: Global, pages: u16) -> Result<(), Wrong> {
     let numbers = Numbers::new(alloc)?;
     let pool: MutexObjectPool<u64, Numbers, Keep> = MutexObjectPool::new(
@@ -20,7 +24,11 @@ pub fn mutex<W: Wait + Copy>(rt: &W, alloc: Global, pages: u16) -> Result<(), Wr
     numbers.expect_made(items)
 }
 
-/// The spin lock pool, by owned items.
+/// Plays the spin lock pool, by owned items.
+///
+/// # Errors
+///
+/// `Wrong` names what was seen and may not be.
 pub fn spin_lock<W: Wait + Copy>(rt: &W, alloc: Global, pages: u16) -> Result<(), Wrong> {
     let numbers = Numbers::new(alloc)?;
     let pool: SpinLockObjectPool<u64, Numbers, Keep> = SpinLockObjectPool::new(

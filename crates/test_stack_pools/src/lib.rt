@@ -1,4 +1,5 @@
-//! Tests of the mutex pool and the spin lock pool, of their parts, and of the pool that keeps nothing.
+//! Tests of the mutex pool and the spin lock pool, of their parts, and of the pool that keeps
+//! nothing.
 #![tactic(auto)]
 
 #[cfg(test)]

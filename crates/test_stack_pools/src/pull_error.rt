@@ -1,4 +1,5 @@
-//! The words and the numbers of the refusals, and what becomes of a value that memory was refused for.
+//! The words and the numbers of the refusals, and what becomes of a value that memory was refused
+//! for.
 use crate::assert_equal::assert_equal;
 use lockfree_object_pool::PullError;
 use std::alloc::AllocFailed;

@@ -126,7 +126,8 @@ impl Item for Tallied {
     }
 }
 
-/// How many calls there are to each that is refused. The first page of a pool is made by fewer, and so is a fixed pool.
+/// How many calls there are to each that is refused. The first page of a pool is made by fewer, and
+/// so is a fixed pool.
 const CALLS_TO_A_REFUSAL: usize = 50;
 
 /// Makes items, and refuses now and then.

@@ -1,19 +1,26 @@
-//! Hostile use of the pools: eight threads pull, write, check, drop and forget items and send owned ones to each other, on
-//! pools whose `init` refuses now and then and, where there is a limit, of fewer items than are asked for.
+//! Hostile use of the pools: eight threads pull, write, check, drop and forget items and send owned
+//! ones to each other, on pools whose `init` refuses now and then and, where there is a limit, of
+//! fewer items than are asked for.
+//!
+//! On lazy pools of 1 item and of 3 the threads wait for an item, in a tenth of the rounds. A wait
+//! that doesn't end is ended after half a minute, and told.
 //!
 //! The argument is how many rounds each thread has. A line for each pool and kind of item tells what was seen that may not
 //! be, which is the same in each schedule: nothing. Else the status is 1.
 //!
-//! Where each of as many threads as a fixed pool has items has one at a time, no pull may be refused: the last line tells.
+//! Where each of as many threads as a fixed pool has items has one at a time, no pull may be
+//! refused: the last line tells.
 //!
-//! Behind the threads each pool is asked for all its items: those that were not forgotten come, and of a pool that has a
-//! limit no more.
+//! Behind the threads each pool is asked for all its items: those that were not forgotten come, and
+//! of a pool that has a limit no more.
 #![tactic(auto)]
 
 mod item;
+mod lazy;
 mod one_each;
 mod pools;
 mod report;
+mod stacks;
 mod tally;
 mod worker;
 
@@ -24,6 +31,7 @@ use std::process::ExitCode;
 use std::rt::Env;
 use std::sync::Wait;
 use std::thread::Threads;
+use std::time::Clock;
 use std::{env, io};
 
 fn main(rt: HostRuntime) -> io::Result<ExitCode> {
@@ -43,8 +51,11 @@ fn rounds<R: Env + AllocGlobal>(rt: &R) -> Option<u32> {
     arguments.next()?.parse().ok()
 }
 
+/// How many rounds there are for one in which a thread waits.
+const WAITS: u32 = 10;
+
 /// Each pool with each kind of item.
-fn use_all<R: Print + AllocGlobal + Threads + Wait + Copy + Send + 'static>(
+fn use_all<R: Print + AllocGlobal + Threads + Wait + Clock + Copy + Send + 'static>(
     rt: &R,
     rounds: u32,
 ) -> io::Result<ExitCode> {
@@ -76,15 +87,24 @@ fn use_all<R: Print + AllocGlobal + Threads + Wait + Copy + Send + 'static>(
         ),
         (
             "spin lock, numbers",
-            pools::spin_lock::<Number, R>(rt, alloc, rounds),
+            stacks::spin_lock::<Number, R>(rt, alloc, rounds),
         ),
         (
             "spin lock, lists",
-            pools::spin_lock::<Numbers, R>(rt, alloc, rounds),
+            stacks::spin_lock::<Numbers, R>(rt, alloc, rounds),
         ),
         (
             "spin lock, counted",
-            pools::spin_lock::<Tallied, R>(rt, alloc, rounds),
+            stacks::spin_lock::<Tallied, R>(rt, alloc, rounds),
+        ),
+        ("lazy, counted", lazy::lazy(rt, alloc, rounds)),
+        (
+            "lazy of 1 item, which is waited for",
+            lazy::waited_for(rt, alloc, 1, rounds / WAITS),
+        ),
+        (
+            "lazy of 3 items, which are waited for",
+            lazy::waited_for(rt, alloc, 3, rounds / WAITS),
         ),
     ];
     let mut status = ExitCode::SUCCESS;

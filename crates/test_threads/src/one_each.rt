@@ -1,4 +1,5 @@
-//! Eight threads on a fixed pool of eight items, each with one item at a time: so an item is free whenever one pulls.
+//! Eight threads on a fixed pool of eight items, each with one item at a time: so an item is free
+//! whenever one pulls.
 use lockfree_object_pool::clean::AnyValue;
 use lockfree_object_pool::closures::Copied;
 use lockfree_object_pool::{FixedObjectPool, PullError};
@@ -28,7 +29,7 @@ fn refusals(pool: &Arc<Pool>, rounds: u32) -> u32 {
     refused
 }
 
-/// How many pulls of the eight threads were refused.
+/// Counts how many pulls of the eight threads were refused.
 pub fn refused<R: Threads>(rt: &R, alloc: Global, rounds: u32) -> Result<u32, PullError> {
     let pool: Pool = FixedObjectPool::new(alloc, Copied::new(0), Copied::new(0), THREADS)?;
     let pool = Arc::new(alloc, pool)?;

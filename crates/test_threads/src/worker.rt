@@ -1,4 +1,5 @@
-//! What one of the threads does: it pulls, writes, checks, drops and forgets items, and sends owned ones to the others.
+//! What one of the threads does: it pulls, writes, checks, drops and forgets items, and sends owned
+//! ones to the others.
 use crate::item::Item;
 use crate::report::Report;
 use crossbeam_channel::{Receiver, Sender};
@@ -51,7 +52,7 @@ pub struct Worker<A: Drop> {
 }
 
 impl<T: Item, A: DerefMut<Target = T> + Drop> Worker<A> {
-    /// A worker that holds nothing, of a number of its own from 1 on.
+    /// Creates a worker that holds nothing, of a number of its own from 1 on.
     pub fn new(alloc: Global, number: u32, post: Post<A>) -> Worker<A> {
         Worker {
             random: Pcg32::new(u64::from(number), 54),
@@ -62,7 +63,7 @@ impl<T: Item, A: DerefMut<Target = T> + Drop> Worker<A> {
         }
     }
 
-    /// What it does next, with a number of its own that it writes.
+    /// Returns what it does next, with a number of its own that it writes.
     pub fn next_turn(&mut self) -> Turn {
         self.mark = self.mark.wrapping_add(1);
         match self.random.next_u32() % 4 {
@@ -84,7 +85,7 @@ impl<T: Item, A: DerefMut<Target = T> + Drop> Worker<A> {
     }
 
     /// The item, where it wasn't refused by `init` or for the limit.
-    fn pulled<B: Drop>(&mut self, pulled: Result<B, PullError>) -> Option<B> {
+    pub fn pulled<B: Drop>(&mut self, pulled: Result<B, PullError>) -> Option<B> {
         match pulled {
             Ok(item) => return Some(item),
             Err(PullError::Memory) => self.report.count_without_memory(),
@@ -95,7 +96,7 @@ impl<T: Item, A: DerefMut<Target = T> + Drop> Worker<A> {
     }
 
     /// Writes to an item that was pulled now, and lets other threads run before it looks again.
-    fn mark(&mut self, item: &mut T) {
+    pub fn mark(&mut self, item: &mut T) {
         if !item.is_clear() {
             self.report.count_unclear();
         }
@@ -128,6 +129,13 @@ impl<T: Item, A: DerefMut<Target = T> + Drop> Worker<A> {
         }
     }
 
+    /// Uses an item and drops it.
+    pub fn use_once<B: DerefMut<Target = T> + Drop>(&mut self, pulled: Result<B, PullError>) {
+        if let Some(mut item) = self.pulled(pulled) {
+            self.mark(&mut *item);
+        }
+    }
+
     /// Uses an owned item, and holds it.
     pub fn use_owned(&mut self, pulled: Result<A, PullError>) {
         if let Some(mut item) = self.pulled(pulled) {
@@ -157,7 +165,7 @@ impl<T: Item, A: DerefMut<Target = T> + Drop> Worker<A> {
         }
     }
 
-    /// Receives an item, where one waits.
+    /// Receives an item, if one waits.
     pub fn receive<W: Wait>(&mut self, rt: &W) {
         if let Ok(marked) = self.post.receiver.try_recv(rt) {
             self.check(&marked);

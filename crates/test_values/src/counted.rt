@@ -1,4 +1,5 @@
-//! Values that borrow the tally which counts how often they are made and dropped, and what makes them for a pool.
+//! Values that borrow the tally which counts how often they are made and dropped, and what makes
+//! them for a pool.
 ghost use Rattle.std.specs.Prelude.{⊤};
 
 use crate::tally::Tally;
@@ -6,14 +7,14 @@ use pool_parts::clean::AnyValue;
 use pool_parts::closures::Init;
 
 impl Tally {
-    /// A value, by one more call.
+    /// Makes a value, by one more call.
     pub fn make(&self) -> Counted<'_> {
         let call = self.next_call();
         self.count_made();
         Counted { counts: self, call }
     }
 
-    /// As `make`, but for one call, counted from 0, which is refused.
+    /// Makes a value as `make` does, but for one call, counted from 0, which is refused.
     pub fn make_but(&self, refused: usize) -> Option<Counted<'_>> {
         let call = self.next_call();
         if call == refused {

@@ -1,8 +1,10 @@
-//! What tests of the pools share: a tally and the values that it counts, what makes and resets zeros, and asking again.
+//! What tests of the pools share: a tally and the values that it counts, what makes and resets
+//! zeros, the sizes to try, and asking again.
 #![tactic(auto)]
 
 pub mod counted;
 pub mod refused;
+pub mod sizes;
 pub mod tallied;
 pub mod tally;
 pub mod zeros;

@@ -1,7 +1,7 @@
 //! Asking again where memory was refused.
 use pool_parts::PullError;
 
-/// The answer, where memory was refused that of a second try.
+/// Returns the answer. If memory was refused, it is that of a second try.
 pub fn again<X: Drop, F: Fn() -> Result<X, PullError>>(ask: &F) -> Result<X, PullError>
     requires { F.pre ask.now }
 {

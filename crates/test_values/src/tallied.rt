@@ -1,5 +1,5 @@
-//! Values that count how often they are made and dropped. Each is an owner of its tally, so that its
-//! type names no lifetime and generic code serves for each kind of pool.
+//! Values that count how often they are made and dropped. Each is an owner of its tally, so that
+//! its type names no lifetime and generic code serves for each kind of pool.
 ghost use Rattle.std.specs.Prelude.{⊤};
 
 use crate::counted::NEVER;
@@ -16,12 +16,12 @@ pub struct Tallied {
 }
 
 impl Tallied {
-    /// A value, by one more call. It takes no memory.
+    /// Makes a value, by one more call. It takes no memory.
     pub fn new(tally: &Arc<Tally>) -> Option<Tallied> {
         Tallied::new_but(tally, NEVER)
     }
 
-    /// As `new`, but for one call, counted from 0, which is refused.
+    /// Makes a value as `new` does, but for one call, counted from 0, which is refused.
     pub fn new_but(tally: &Arc<Tally>, refused: usize) -> Option<Tallied> {
         let number = tally.next_call();
         if number == refused {
@@ -49,11 +49,19 @@ pub struct TalliedValues {
 
 impl TalliedValues {
     /// Makes values of this tally, and refuses at no call.
+    ///
+    /// # Errors
+    ///
+    /// `Memory` if the tally can have no more owners.
     pub fn new(tally: &Arc<Tally>) -> Result<TalliedValues, PullError> {
         TalliedValues::new_but(tally, NEVER)
     }
 
     /// Makes values of this tally, and refuses at one call.
+    ///
+    /// # Errors
+    ///
+    /// `Memory` if the tally can have no more owners.
     pub fn new_but(tally: &Arc<Tally>, refused: usize) -> Result<TalliedValues, PullError> {
         let tally = Arc::try_clone(tally)?;
         Ok(TalliedValues { tally, refused })

@@ -50,7 +50,11 @@ impl Reset<u32, Zero> for ToZero {
     }
 }
 
-/// A count of calls that begins at 0.
+/// Creates a count of calls that begins at 0.
+///
+/// # Errors
+///
+/// If memory is refused.
 pub fn new_calls(alloc: Global) -> Result<Arc<AtomicUsize>, AllocError> {
     Ok(Arc::new(alloc, AtomicUsize::new(0))?)
 }

@@ -1,9 +1,15 @@
 //! The original pools at the work of the program `test_original_times` of the workspace, with its arguments and its line of output.
+mod waiting;
+
 use lockfree_object_pool::{LinearObjectPool, MutexObjectPool, SpinLockObjectPool};
 use std::ops::DerefMut;
 use std::sync::Arc;
 use std::time::{Duration, Instant};
 use std::{env, fs, thread};
+use waiting::WaitingPool;
+
+/// How many items a pool that waits has, but for one whose items are all held or waited for.
+const ITEMS: usize = 65_536;
 
 /// What is done to the pool, turn by turn.
 #[derive(Clone, Copy)]
@@ -16,6 +22,8 @@ enum Work {
     Share { threads: usize, held: usize },
     /// An item is pulled and held.
     Hold,
+    /// So many threads wait for so few items, each in all turns.
+    Wait { threads: usize, items: usize },
 }
 
 /// What a task gave.
@@ -44,7 +52,12 @@ fn measure(words: &[&str]) -> Option<Measured> {
     let (work, turns) = (work_of(work)?, turns.parse().ok()?);
     let (init, reset) = (|| 0u64, |value: &mut u64| *value = 0);
     match *kind {
-        "linear" | "fixed" | "fixed_near" => {
+        "lazy_wait" => {
+            // an item borrows the pool: its owned pulls are the same
+            let pool = WaitingPool::new(items_of(work, turns));
+            Some(measure_pulls(work, turns, &|| pool.pull(), &|| pool.pull()))
+        }
+        "linear" | "fixed" | "fixed_near" | "lazy" => {
             let pool = Arc::new(LinearObjectPool::new(init, reset));
             Some(measure_pulls(work, turns, &|| pool.pull(), &|| {
                 pool.pull_owned()
@@ -66,6 +79,15 @@ fn measure(words: &[&str]) -> Option<Measured> {
     }
 }
 
+/// How many items a pool that waits has for a work.
+fn items_of(work: Work, turns: u64) -> usize {
+    match work {
+        Work::Hold => ITEMS.max(turns as usize),
+        Work::Wait { threads: _, items } => items,
+        _ => ITEMS,
+    }
+}
+
 fn work_of(words: &[&str]) -> Option<Work> {
     match words {
         ["pull", held] => Some(Work::Pull {
@@ -79,6 +101,10 @@ fn work_of(words: &[&str]) -> Option<Work> {
             held: held.parse().ok()?,
         }),
         ["hold"] => Some(Work::Hold),
+        ["wait", threads, items] => Some(Work::Wait {
+            threads: threads.parse().ok()?,
+            items: items.parse().ok()?,
+        }),
         _ => None,
     }
 }
@@ -96,11 +122,9 @@ where
         Work::PullOwned { held } => measure_turns(pull_owned, held, turns),
         Work::Share { threads, held } => {
             let _held = hold(pull, held);
-            let start = Instant::now();
-            let sum = share(pull, threads, turns);
-            let time = start.elapsed();
-            Measured { sum, time }
+            measure_share(pull, threads, turns)
         }
+        Work::Wait { threads, items: _ } => measure_share(pull, threads, turns),
         Work::Hold => {
             let start = Instant::now();
             let items = hold(pull, turns as usize);
@@ -109,6 +133,18 @@ where
             Measured { sum, time }
         }
     }
+}
+
+/// The turns of so many threads, beside each other.
+fn measure_share<A, P>(pull: &P, threads: usize, turns: u64) -> Measured
+where
+    A: DerefMut<Target = u64>,
+    P: Fn() -> A + Sync,
+{
+    let start = Instant::now();
+    let sum = share(pull, threads, turns);
+    let time = start.elapsed();
+    Measured { sum, time }
 }
 
 /// One thread's turns, while so many other items are held.

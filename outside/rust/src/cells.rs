@@ -1,8 +1,11 @@
 //! Values by their places, each of which only the holder of its place reaches.
-use crate::handle::Out;
+use crate::sys::Out;
 use std::cell::UnsafeCell;
 
-pub(crate) struct Cells<T>(Box<[UnsafeCell<T>]>);
+/// So many bytes behind the values stay free, so that nobody else's memory is on their cache lines.
+const APART: usize = 128;
+
+pub(crate) struct Cells<T>(Vec<UnsafeCell<T>>);
 
 // SAFETY: a value is reached only by the holder of its place, of whom there is one at a time. So to
 // share the cells is to send values from holder to holder.
@@ -12,9 +15,10 @@ impl<T> Cells<T> {
     /// Creates the cells of these values, in their order. `None` if memory is refused.
     pub(crate) fn new(values: impl ExactSizeIterator<Item = T>) -> Option<Cells<T>> {
         let mut cells = Vec::new();
-        cells.try_reserve_exact(values.len()).ok()?;
+        let room = values.len().checked_add(APART / size_of::<T>().max(1))?;
+        cells.try_reserve_exact(room).ok()?;
         cells.extend(values.map(UnsafeCell::new));
-        Some(Cells(cells.into_boxed_slice()))
+        Some(Cells(cells))
     }
 
     pub(crate) fn count(&self) -> usize {
@@ -22,23 +26,19 @@ impl<T> Cells<T> {
     }
 
     /// Returns where the value of a place lies, or `None` if there is no such place.
-    #[inline(always)]
     pub(crate) fn at(&self, place: usize) -> Option<*mut T> {
         self.0.get(place).map(UnsafeCell::get)
     }
 
     /// Borrows the value at a place, which is of this very pool.
-    #[inline(always)]
     pub(crate) fn item<'c>(&'c self, out: &'c Out) -> &'c T {
         // SAFETY: `out` holds the place, and who writes there borrows it to write.
         unsafe { &*self.0[out.place].get() }
     }
 
     /// Borrows the value at a place, which is of this very pool, to write.
-    #[inline(always)]
     pub(crate) fn item_mut<'c>(&'c self, out: &'c mut Out) -> &'c mut T {
-        // SAFETY: `out` holds the place, and is borrowed to write, so nobody else reaches the
-        // value.
+        // SAFETY: `out` holds the place, and nobody else borrows `out`.
         unsafe { &mut *self.0[out.place].get() }
     }
 }

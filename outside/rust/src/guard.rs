@@ -1,97 +1,101 @@
 //! Items, the handles by which they are pulled, and an item that is out.
 use crate::cells::Cells;
-use crate::handle::{Handle, NewError, Out, PAGE};
 use crate::lanes::Lanes;
+use crate::sys::{kdr_pool_new, kdr_pool_share, Handle, Out};
 use std::fmt::{self, Debug, Formatter};
 use std::marker::PhantomData;
 use std::ops::{Deref, DerefMut};
+use std::sync::{Mutex, MutexGuard, PoisonError};
 
-/// A fixed number of items, all made at first.
-pub struct Store<T> {
+/// Some items, all made at first, and their handles that no thread has, on cache lines of its own.
+#[repr(align(128))]
+pub struct Part<T> {
     pub(crate) cells: Cells<T>,
-    pub(crate) lanes: Lanes,
+    idle: Mutex<Idle>,
 }
 
-impl<T> Store<T> {
-    pub(crate) fn new(items: usize, mut init: impl FnMut() -> T) -> Result<Store<T>, NewError> {
-        let lanes = Lanes::new(Handle::first(items)?, items.div_ceil(PAGE));
-        let cells = Cells::new((0..items).map(|_| init()));
-        Ok(Store {
-            cells: cells.ok_or(NewError::Memory)?,
-            lanes: lanes.ok_or(NewError::Memory)?,
+/// Idle handles, with room for all that were made, and the first one, of which these are made.
+#[derive(Default)]
+pub(crate) struct Idle {
+    first: Option<Handle>,
+    made: usize,
+    pub(crate) handles: Vec<Handle>,
+}
+
+impl<T> Part<T> {
+    /// Creates a part of so many items, which isn't 0. `None` if memory is refused.
+    pub(crate) fn new(items: usize, mut init: impl FnMut() -> T) -> Option<Part<T>> {
+        let mut idle = Idle::default();
+        kdr_pool_new(items, &mut idle.first);
+        idle.first.as_ref()?;
+        let (cells, idle) = (Cells::new((0..items).map(|_| init()))?, Mutex::new(idle));
+        Some(Part { cells, idle })
+    }
+
+    /// Locks the idle handles. Nothing panics under the lock, so it isn't poisoned.
+    pub(crate) fn idle(&self) -> MutexGuard<'_, Idle> {
+        #[cfg(test)]
+        crate::tests::step();
+        self.idle.lock().unwrap_or_else(PoisonError::into_inner)
+    }
+}
+
+impl Idle {
+    /// Returns an idle handle, or a new one. `None` if memory is refused.
+    pub(crate) fn handle(&mut self) -> Option<Handle> {
+        self.handles.pop().or_else(|| {
+            self.handles.try_reserve(self.made + 1).ok()?;
+            self.made += 1;
+            let mut further = None;
+            kdr_pool_share(&mut self.first, &mut further);
+            further
         })
     }
 }
 
-/// A pool whose items lie in one store or in several.
-pub trait Source {
-    /// The items.
+/// A pool whose items lie in one part or in several.
+#[doc(hidden)]
+pub trait Source: Sized {
     type Item;
-    /// Which store.
-    type Part: Copy;
+    type Reset: Fn(&mut Self::Item);
 
-    /// Returns a store from which an item was pulled.
-    #[doc(hidden)]
-    fn store(&self, part: Self::Part) -> &Store<Self::Item>;
-
-    /// Resets an item that comes back.
-    #[doc(hidden)]
-    fn reset(&self, item: &mut Self::Item);
+    /// Returns the part of this number, which is there, the lanes and the reset. It calls nothing
+    /// of the user's.
+    fn at(&self, part: usize) -> (&Part<Self::Item>, &Lanes, &Self::Reset);
 }
 
 /// An item that is out, of a pool that is held by a borrow or by an owner. Its end resets the item
-/// and brings it back.
+/// and brings it back. Threads share a guard only if they may share its item:
 ///
-/// Threads share a guard only where they may share its item:
-///
-/// ```compile_fail
-/// # use kundratu_pool::Reusable;
-/// # use std::cell::Cell;
+/// ```compile_fail,E0277
 /// fn is_shared<S: Sync>() {}
-/// is_shared::<Reusable<'static, Cell<u32>>>();
+/// is_shared::<kundratu_pool::Reusable<'static, std::cell::Cell<u32>>>();
 /// ```
 pub struct Guard<P: Deref<Target: Source>> {
     pool: P,
-    part: <P::Target as Source>::Part,
-    /// It is taken at the guard's end, and nowhere else.
-    out: Option<Out>,
-    shared_as: PhantomData<<P::Target as Source>::Item>,
+    /// It is given back at the guard's end, and nowhere else.
+    pub(crate) out: Out,
+    item: PhantomData<<P::Target as Source>::Item>,
 }
 
-const HELD: &str = "an item is out until its guard ends";
-
 impl<P: Deref<Target: Source>> Guard<P> {
-    /// Creates the guard of an item of this store of the pool.
-    #[inline(always)]
-    pub(crate) fn new(pool: P, part: <P::Target as Source>::Part, out: Out) -> Self {
-        Guard {
-            pool,
-            part,
-            out: Some(out),
-            shared_as: PhantomData,
-        }
-    }
-
-    #[inline(always)]
-    pub(crate) fn out(&self) -> &Out {
-        self.out.as_ref().expect(HELD)
+    pub(crate) fn new(pool: P, out: Out) -> Self {
+        let item = PhantomData;
+        Guard { pool, out, item }
     }
 }
 
 impl<P: Deref<Target: Source>> Deref for Guard<P> {
     type Target = <P::Target as Source>::Item;
 
-    #[inline(always)]
     fn deref(&self) -> &Self::Target {
-        self.pool.store(self.part).cells.item(self.out())
+        self.pool.at(self.out.part).0.cells.item(&self.out)
     }
 }
 
 impl<P: Deref<Target: Source>> DerefMut for Guard<P> {
-    #[inline(always)]
     fn deref_mut(&mut self) -> &mut Self::Target {
-        let out = self.out.as_mut().expect(HELD);
-        self.pool.store(self.part).cells.item_mut(out)
+        self.pool.at(self.out.part).0.cells.item_mut(&mut self.out)
     }
 }
 
@@ -99,18 +103,13 @@ impl<P: Deref<Target: Source>> Drop for Guard<P> {
     /// Resets the item and brings it back. If the reset panics, the item is never pulled again.
     #[inline(always)]
     fn drop(&mut self) {
-        if let Some(mut out) = self.out.take() {
-            let store = self.pool.store(self.part);
-            self.pool.reset(store.cells.item_mut(&mut out));
-            store.lanes.give_back(out);
-        }
+        let (part, lanes, reset) = self.pool.at(self.out.part);
+        reset(part.cells.item_mut(&mut self.out));
+        lanes.give_back(&mut self.out, &*self.pool);
     }
 }
 
-impl<P: Deref<Target: Source>> Debug for Guard<P>
-where
-    <P::Target as Source>::Item: Debug,
-{
+impl<P: Deref<Target: Source<Item: Debug>>> Debug for Guard<P> {
     fn fmt(&self, f: &mut Formatter<'_>) -> fmt::Result {
         (**self).fmt(f)
     }

@@ -1,165 +1,154 @@
 //! The handles that hold no place. A thread has some in a lane, which no other thread reaches while
 //! it runs: it takes and keeps them by plain reads and writes. The others lie behind a lock.
 //!
-//! A lane knows the page where its thread's pulls begin. So threads keep to pages of their own,
-//! whichever handles they have.
+//! A lane is at one part of its pool: its handles are of that part, and its thread pulls there. It
+//! knows the page where its pulls begin. So threads keep to parts and pages of their own, whichever
+//! handles they have.
 use crate::cells::Cells;
-use crate::handle::{Handle, NewError, Out, PAGE};
+use crate::guard::Source;
+use crate::sys::{Handle, Out, PAGE};
 use crate::threads;
-use std::array::from_fn;
-use std::sync::{Mutex, MutexGuard, PoisonError};
+use std::mem::swap;
+use std::sync::{Mutex, PoisonError};
 
-/// How many handles move at once between a lane and the shared ones.
-const SOME: usize = 7;
+/// How many handles a lane has room for.
+const ROOMS: usize = 11;
+/// How many it keeps if it is full, and gets if it is empty.
+const SOME: usize = 6;
 
-/// The idle handles of one thread, on cache lines of their own. The first room has the one that was
-/// kept last, mostly.
+/// The idle handles of one thread, on cache lines of their own.
 #[repr(align(128))]
-struct Lane {
-    /// At which page the next pull begins.
+pub(crate) struct Lane {
+    part: usize,
+    /// At which page the next pull begins. Numbers of pages are counted round and round.
     page: usize,
-    /// How far from the first page the thread begins. Numbers of pages are counted round and round.
+    /// How far from the first page the thread begins.
     apart: usize,
-    /// The page is so far from one where others came too.
-    is_apart: bool,
-    idle: [Option<Handle>; 2 * SOME - 1],
+    /// How far it goes on from the next page that it comes to: `apart`, as far back, or 0.
+    step: isize,
+    count: usize,
+    idle: [Option<Handle>; ROOMS],
 }
 
-/// The idle handles of no thread, with room for all, and the first handle, of which these are made.
-struct Shared {
-    first: Handle,
-    made: usize,
-    idle: Vec<Handle>,
-}
-
-/// A pool's handles that hold no place.
-pub(crate) struct Lanes {
-    lanes: Cells<Lane>,
-    shared: Mutex<Shared>,
+/// The lanes of a pool, and one of all threads that have no number. As many of its first parts are
+/// the homes of threads.
+pub struct Lanes {
+    each: Cells<Lane>,
+    rest: Mutex<Lane>,
+    homes: usize,
 }
 
 impl Lanes {
-    /// Creates the lanes of a pool of so many pages. `None` if memory is refused.
-    pub(crate) fn new(first: Handle, pages: usize) -> Option<Lanes> {
+    /// Creates the lanes of a pool whose first parts have so many pages each. `None` if memory is
+    /// refused.
+    pub(crate) fn new(homes: usize, pages: usize) -> Option<Lanes> {
         // Threads begin so far apart that the words of their pages lie on cache lines of their own.
         let apart = if pages % 17 == 0 { 1 } else { 17 };
         let lane = |number| Lane {
+            part: number % homes,
             page: number * apart % pages,
             apart: number * apart,
-            is_apart: false,
-            idle: from_fn(|_| None),
+            step: (number * apart) as isize,
+            count: 0,
+            idle: Default::default(),
         };
-        let lanes = Cells::new((0..threads::NUMBERS).map(lane))?;
-        let (made, idle) = (0, Vec::new());
-        let shared = Mutex::new(Shared { first, made, idle });
-        Some(Lanes { lanes, shared })
+        let (each, rest) = ((0..threads::NUMBERS).map(lane), Mutex::new(lane(0)));
+        Cells::new(each).map(|each| Lanes { each, rest, homes })
     }
 
-    /// Makes this call with the thread's lane, if it has one. The call doesn't come here again.
+    /// Makes this call with the thread's lane. The call doesn't come here again.
     #[inline(always)]
-    fn own<A>(&self, call: impl FnOnce(&mut Lane) -> A) -> Option<A> {
-        let lane = self.lanes.at(threads::own())?;
-        // SAFETY: no other thread has this number, and no call of this thread is within another.
-        Some(call(unsafe { &mut *lane }))
+    pub(crate) fn own<A>(&self, call: impl FnOnce(&mut Lane) -> A) -> A {
+        match self.each.at(threads::own()) {
+            // SAFETY: no other thread has this number, and no call of this thread is within another.
+            Some(lane) => call(unsafe { &mut *lane }),
+            None => call(&mut self.rest.lock().unwrap_or_else(PoisonError::into_inner)),
+        }
     }
 
-    /// Pulls a place. `None` if all were out at one moment of the call, or memory for a further
-    /// handle is refused.
+    /// Pulls a place at the part where the thread is. There is none if all were out at one moment
+    /// of the call. `None` if memory for a handle is refused.
     #[inline(always)]
-    pub(crate) fn pull(&self) -> Option<Out> {
-        let pulled = self.own(|lane| lane.idle[0].take().map(|handle| lane.pull(handle)));
-        pulled.flatten().unwrap_or_else(|| self.try_pull().ok()?)
-    }
-
-    /// Pulls a place by any handle. `None` if all were out at one moment of the call.
-    #[cold]
-    pub(crate) fn try_pull(&self) -> Result<Option<Out>, NewError> {
-        let mut handle = Some(self.further().ok_or(NewError::Memory)?);
-        let pulled = self.own(|lane| lane.pull(handle.take()?));
-        let shared = |handle| self.shared().idle.push(handle);
-        Ok(pulled.unwrap_or_else(|| handle?.pull(None).map_err(shared).ok()))
-    }
-
-    /// Returns an idle handle, or a new one. If the lane has none, it gets some of the shared ones.
-    fn further(&self) -> Option<Handle> {
-        let own = self.own(|lane| lane.idle.iter_mut().find_map(Option::take));
-        own.flatten().or_else(|| {
-            let shared = &mut *self.shared();
-            let handle = shared.idle.pop().or_else(|| {
-                shared.idle.try_reserve(shared.made + 1).ok()?;
-                shared.made += 1;
-                shared.first.share()
-            });
-            self.own(|lane| lane.idle[1..=SOME].fill_with(|| shared.idle.pop()));
-            handle
-        })
+    pub(crate) fn pull(&self, pool: &impl Source) -> Option<Option<Out>> {
+        loop {
+            match self.own(Lane::pull) {
+                None => self.own(|lane| lane.go_to(lane.part, None, pool))?,
+                pulled => return pulled,
+            }
+        }
     }
 
     /// Returns a place, and keeps its handle.
     #[inline(always)]
-    pub(crate) fn give_back(&self, out: Out) {
-        let mut handle = Some(out.give_back());
+    pub(crate) fn give_back(&self, out: &mut Out, pool: &impl Source) {
+        let mut handle = out.give_back();
         self.own(|lane| {
-            if lane.idle[0].is_none() {
-                lane.idle[0] = handle.take();
+            if lane.part == out.part && lane.count < ROOMS {
+                swap(&mut lane.idle[lane.count], &mut handle);
+                lane.count += 1;
             }
         });
-        if let Some(handle) = handle {
-            self.keep_further(handle);
+        if handle.is_some() {
+            self.leave(handle, out.part, pool);
         }
     }
 
-    /// Keeps a handle in the lane. If there is no room, it goes to the shared ones, with some of
-    /// the lane.
+    /// Leaves a handle at its part, if the lane is full or elsewhere. The thread goes there, unless
+    /// it is at home and has handles.
     #[cold]
-    fn keep_further(&self, handle: Handle) {
-        let mut handle = Some(handle);
+    fn leave(&self, handle: Option<Handle>, part: usize, pool: &impl Source) {
+        let home = threads::own() % self.homes;
         self.own(|lane| {
-            if let Some(room) = lane.idle.iter_mut().find(|room| room.is_none()) {
-                *room = handle.take();
+            if lane.part != part && lane.part % self.homes == home && lane.count > 0 {
+                pool.at(part).0.idle().handles.extend(handle);
+            } else {
+                lane.go_to(part, handle, pool);
             }
         });
-        if let Some(handle) = handle {
-            let shared = &mut *self.shared();
-            shared.idle.push(handle);
-            self.own(|lane| {
-                let some = lane.idle[1..=SOME].iter_mut();
-                shared.idle.extend(some.filter_map(Option::take));
-            });
-        }
-    }
-
-    /// Locks the shared handles. Nothing panics under the lock, so it isn't poisoned.
-    fn shared(&self) -> MutexGuard<'_, Shared> {
-        self.shared.lock().unwrap_or_else(PoisonError::into_inner)
     }
 }
 
 impl Lane {
-    /// Pulls a place near the lane's page. A handle that gets none goes to the first room, which is
-    /// empty.
+    /// Pulls a place by a handle of the lane. `None` if it has none.
     #[inline(always)]
-    fn pull(&mut self, handle: Handle) -> Option<Out> {
-        match handle.pull(Some(self.page)) {
-            Ok(out) => {
-                if out.place / PAGE != self.page {
-                    self.go_on(out.place / PAGE);
-                }
-                Some(out)
-            }
-            Err(handle) => {
-                self.idle[0] = Some(handle);
-                None
+    pub fn pull(&mut self) -> Option<Option<Out>> {
+        let last = self.count.checked_sub(1)?;
+        let out = Out::pull(&mut self.idle[last], self.part, self.page);
+        if let Some(page) = out.as_ref().map(|out| out.place / PAGE) {
+            self.count = last;
+            if page != self.page {
+                // Others come there too, so the next pull begins apart from them, behind that page
+                // or before it. If it finds nothing there, the lane keeps to the page of its place.
+                self.page = page.wrapping_add_signed(self.step);
+                self.step = match self.step {
+                    0 => self.apart as isize,
+                    step => -step.max(0),
+                };
             }
         }
+        Some(out)
     }
 
-    /// Goes on from a full page, by way of this one. Others come here too, so the next pull begins
-    /// apart from them. If it finds nothing there, the lane keeps to the page of its next place.
+    /// Goes to this part, with a handle of it or none. The lane leaves its handles where it was.
+    /// Then it leaves here those that are too many, or gets some. `None` if there is none, and
+    /// memory for one is refused.
     #[cold]
-    fn go_on(&mut self, page: usize) {
-        let apart = if self.is_apart { 0 } else { self.apart };
-        self.page = page + apart;
-        self.is_apart = !self.is_apart;
+    pub fn go_to(&mut self, part: usize, own: Option<Handle>, pool: &impl Source) -> Option<()> {
+        if self.part != part {
+            let left = self.idle.iter_mut().filter_map(Option::take);
+            pool.at(self.part).0.idle().handles.extend(left);
+            (self.part, self.page, self.count) = (part, self.apart, 0);
+        }
+        let here = &mut *pool.at(part).0.idle();
+        let left = self.idle[SOME..].iter_mut().filter_map(Option::take);
+        here.handles.extend(own.into_iter().chain(left));
+        for room in &mut self.idle[self.count.min(SOME)..SOME] {
+            *room = here.handles.pop();
+        }
+        if self.idle[0].is_none() {
+            self.idle[0] = Some(here.handle()?);
+        }
+        self.count = self.idle.iter().flatten().count();
+        Some(())
     }
 }

@@ -1,14 +1,20 @@
 //! A pool that grows, by the names of lockfree-object-pool 0.1.6.
-use crate::guard::{Guard, Source, Store};
-use crate::handle::{Out, PAGE};
+use crate::guard::{Guard, Part, Source};
+use crate::lanes::Lanes;
 use crate::pool::Reset;
+use crate::sys::PAGE;
+use crate::threads;
 use std::alloc::{handle_alloc_error, Layout};
 use std::ops::Deref;
-use std::sync::atomic::{AtomicUsize, Ordering::Relaxed};
 use std::sync::{Arc, OnceLock};
 
 /// How many chunks a pool may have. The last would have 2^36 items, past the memory of any machine.
 const CHUNKS: usize = 32;
+/// How many parts a chunk has. So many threads pull and return without meeting.
+const PARTS: usize = 8;
+/// How often each part is asked before a chunk is made. An item that others return and pull may
+/// pass by one asking.
+const TIMES: usize = 32;
 
 /// An item that was pulled under a borrow of its [`LinearObjectPool`].
 pub type LinearReusable<'a, T> = Guard<&'a LinearObjectPool<T>>;
@@ -18,9 +24,9 @@ pub type LinearOwnedReusable<T> = Guard<Arc<LinearObjectPool<T>>>;
 
 /// A pool whose pulls are never refused. It has 32 items at first.
 ///
-/// Its items lie in chunks, each a fixed pool of twice as many items as the one before. Who holds
-/// which item of a chunk is decided by the proved library; that a chunk is made only after each
-/// earlier one answered that all its items were out is this module's part.
+/// Its items lie in chunks, each of twice as many items as the one before, and a chunk in eight
+/// parts, each a fixed pool. Who holds which item of a part is decided by the proved library. That a
+/// chunk is made only after each earlier part answered that all its items were out is this module's.
 ///
 /// ```
 /// use kundratu_pool::LinearObjectPool;
@@ -32,9 +38,8 @@ pub type LinearOwnedReusable<T> = Guard<Arc<LinearObjectPool<T>>>;
 /// assert_eq!(*pool.pull(), 0);
 /// ```
 pub struct LinearObjectPool<T> {
-    chunks: [OnceLock<Store<T>>; CHUNKS],
-    /// The chunk of some pull before. It promises nothing.
-    hint: AtomicUsize,
+    chunks: [OnceLock<Box<[Part<T>]>>; CHUNKS],
+    lanes: Lanes,
     init: Box<dyn Fn() -> T + Send + Sync>,
     reset: Reset<T>,
 }
@@ -48,79 +53,76 @@ impl<T> LinearObjectPool<T> {
     {
         let pool = LinearObjectPool {
             chunks: [const { OnceLock::new() }; CHUNKS],
-            hint: AtomicUsize::new(0),
+            lanes: Lanes::new(PARTS, 1).unwrap_or_else(Self::refused),
             init: Box::new(init),
             reset: Box::new(reset),
         };
-        pool.chunk(0);
+        pool.make(0);
         pool
     }
 
-    /// Returns an item that was free, or one of a new chunk. That is made only if each chunk before
-    /// it was full at one moment of the call.
+    /// Returns an item that was free, or one of a new chunk. That is made only if no part of an
+    /// earlier chunk had a free item, though each was asked many times.
     #[inline(always)]
     pub fn pull(&self) -> LinearReusable<'_, T> {
-        let hint = self.hint.load(Relaxed);
-        match self.hinted(hint) {
-            Some(out) => Guard::new(self, hint, out),
-            None => self.find(self),
+        match self.lanes.pull(self) {
+            Some(Some(out)) => Guard::new(self, out),
+            _ => self.find(self),
         }
     }
 
     /// As [`pull`](LinearObjectPool::pull), with a guard that keeps the pool.
     #[inline(always)]
     pub fn pull_owned(self: &Arc<Self>) -> LinearOwnedReusable<T> {
-        let hint = self.hint.load(Relaxed);
-        match self.hinted(hint) {
-            Some(out) => Guard::new(Arc::clone(self), hint, out),
-            None => self.find(Arc::clone(self)),
+        match self.lanes.pull(&**self) {
+            Some(Some(out)) => Guard::new(Arc::clone(self), out),
+            _ => self.find(Arc::clone(self)),
         }
     }
 
-    #[inline(always)]
-    fn hinted(&self, hint: usize) -> Option<Out> {
-        self.chunks[hint].get()?.lanes.pull()
-    }
-
-    /// Asks each chunk from the first one on. If all items of each are out, it creates the next
-    /// chunk.
+    /// Asks each part, from the thread's home on. If all items are out, it creates the next chunk.
     #[cold]
     fn find<P: Deref<Target = Self>>(&self, pool: P) -> Guard<P> {
-        for number in 0..CHUNKS {
-            match self.chunk(number).lanes.try_pull() {
-                Ok(Some(out)) => {
-                    self.hint.store(number, Relaxed);
-                    return Guard::new(pool, number, out);
+        let is_made = |chunk: &&OnceLock<_>| chunk.get().is_some();
+        let made = self.chunks.iter().take_while(is_made).count();
+        let home = threads::own() % PARTS;
+        for made in made..=CHUNKS {
+            self.make(made - 1);
+            for step in 0..made * PARTS * TIMES {
+                let part = step % made * PARTS + (home + step / made) % PARTS;
+                let pulled = self.lanes.own(|lane| {
+                    lane.go_to(part, None, self)?;
+                    lane.pull()
+                });
+                if let Some(out) = pulled.unwrap_or_else(Self::refused) {
+                    return Guard::new(pool, out);
                 }
-                Ok(None) => {}
-                Err(_) => break,
             }
         }
-        handle_alloc_error(Layout::new::<T>())
+        Self::refused()
     }
 
-    /// Returns the chunk of this number, which is created if it isn't there.
-    fn chunk(&self, number: usize) -> &Store<T> {
+    /// Creates the chunk of this number, if it isn't there.
+    fn make(&self, number: usize) {
         self.chunks[number].get_or_init(|| {
-            let made = Store::new(PAGE << number, &self.init);
-            made.unwrap_or_else(|_| handle_alloc_error(Layout::new::<T>()))
-        })
+            let parts = (0..PARTS).map(|_| Part::new((PAGE / PARTS) << number, &self.init));
+            let parts: Option<_> = parts.collect();
+            parts.unwrap_or_else(Self::refused)
+        });
+    }
+
+    fn refused<A>() -> A {
+        handle_alloc_error(Layout::new::<T>())
     }
 }
 
 impl<T> Source for LinearObjectPool<T> {
     type Item = T;
-    type Part = usize;
+    type Reset = Reset<T>;
 
-    #[inline(always)]
-    fn store(&self, number: usize) -> &Store<T> {
-        self.chunks[number]
-            .get()
-            .expect("it was made before a pull")
-    }
-
-    #[inline(always)]
-    fn reset(&self, item: &mut T) {
-        (self.reset)(item);
+    fn at(&self, part: usize) -> (&Part<T>, &Lanes, &Reset<T>) {
+        let chunk = self.chunks[part / PARTS].get();
+        let parts = chunk.expect("it was made before a pull");
+        (&parts[part % PARTS], &self.lanes, &self.reset)
     }
 }

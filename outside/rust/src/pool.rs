@@ -1,27 +1,27 @@
 //! The pool of a fixed number of items.
-use crate::guard::{Guard, Source, Store};
-use crate::handle::NewError;
-use std::fmt::{self, Debug, Formatter};
+use crate::guard::{Guard, Part, Source};
+use crate::lanes::Lanes;
+use crate::sys::PAGE;
+use std::error::Error;
+use std::fmt::{self, Debug, Display, Formatter};
 use std::ops::Deref;
 use std::sync::Arc;
 
 /// A reset of any closure.
 pub type Reset<T> = Box<dyn Fn(&mut T) + Send + Sync>;
-
 /// An item that was pulled under a borrow of its pool.
 pub type Reusable<'p, T, R = Reset<T>> = Guard<&'p Pool<T, R>>;
-
 /// An item that was pulled with an owner of its pool.
 pub type OwnedReusable<T, R = Reset<T>> = Guard<Arc<Pool<T, R>>>;
 
 /// A pool of a fixed number of items, all made at first.
 ///
-/// A pull waits for no other pull: it returns an item that was free, or `None`. A thread has
-/// handles of its own, which it takes and keeps by plain reads and writes. If these are too few or
-/// too many, it moves some under a short lock. A thread that comes while 64 others use pools takes
-/// that lock at each pull and return.
+/// A pull waits for no other pull. A thread has handles of its own, which it takes and keeps by
+/// plain reads and writes. If these are too few or too many, it moves some under a short lock. A
+/// thread that comes while 64 others use pools takes a lock at each pull and return.
 pub struct Pool<T, R = Reset<T>> {
-    store: Store<T>,
+    part: Part<T>,
+    lanes: Lanes,
     reset: R,
 }
 
@@ -36,7 +36,7 @@ impl<T> Pool<T> {
         items: usize,
         init: impl FnMut() -> T,
         reset: impl Fn(&mut T) + Send + Sync + 'static,
-    ) -> Result<Pool<T>, NewError> {
+    ) -> Result<Self, NewError> {
         Pool::with_reset(items, init, Box::new(reset))
     }
 }
@@ -51,68 +51,79 @@ impl<T, R: Fn(&mut T)> Pool<T, R> {
     /// assert!(pool.pull().expect("it came back").is_empty());
     /// # Ok::<(), kundratu_pool::NewError>(())
     /// ```
-    pub fn with_reset(
-        items: usize,
-        init: impl FnMut() -> T,
-        reset: R,
-    ) -> Result<Pool<T, R>, NewError> {
-        let store = Store::new(items, init)?;
-        Ok(Pool { store, reset })
+    pub fn with_reset(items: usize, init: impl FnMut() -> T, reset: R) -> Result<Self, NewError> {
+        if items == 0 {
+            return Err(NewError::NoItems);
+        }
+        let part = Part::new(items, init).ok_or(NewError::Memory)?;
+        let lanes = Lanes::new(1, items.div_ceil(PAGE)).ok_or(NewError::Memory)?;
+        Ok(Pool { part, lanes, reset })
     }
 
     /// Returns an item that was free. `None` if all were out at one moment of the call, or memory
-    /// for one more guard is refused.
-    ///
-    /// Memory is asked for only if more items are out than ever before.
+    /// for one more guard is refused, which is asked for only if more items are out than ever
+    /// before.
     ///
     /// ```
     /// # use kundratu_pool::Pool;
     /// let pool = Pool::<u32>::new(1, || 5, |number| *number = 5)?;
     /// let item = pool.pull().expect("none is held");
-    /// assert_eq!(*item, 5);
-    /// assert!(pool.pull().is_none());
+    /// assert!(*item == 5 && pool.pull().is_none());
     /// # Ok::<(), kundratu_pool::NewError>(())
     /// ```
     #[inline(always)]
     pub fn pull(&self) -> Option<Reusable<'_, T, R>> {
-        let out = self.store.lanes.pull()?;
-        Some(Guard::new(self, (), out))
+        Some(Guard::new(self, self.lanes.pull(self)??))
     }
 
     /// As [`pull`](Pool::pull), with a guard that keeps the pool.
     #[inline(always)]
     pub fn pull_owned(self: &Arc<Self>) -> Option<OwnedReusable<T, R>> {
-        let out = self.store.lanes.pull()?;
-        Some(Guard::new(Arc::clone(self), (), out))
+        let out = self.lanes.pull(&**self)??;
+        Some(Guard::new(Arc::clone(self), out))
     }
 }
 
 impl<T, R> Pool<T, R> {
     /// Returns the number of items.
     pub fn items(&self) -> usize {
-        self.store.cells.count()
+        self.part.cells.count()
     }
 }
 
 impl<T, R: Fn(&mut T)> Source for Pool<T, R> {
     type Item = T;
-    type Part = ();
+    type Reset = R;
 
-    #[inline(always)]
-    fn store(&self, (): ()) -> &Store<T> {
-        &self.store
-    }
-
-    #[inline(always)]
-    fn reset(&self, item: &mut T) {
-        (self.reset)(item);
+    fn at(&self, _: usize) -> (&Part<T>, &Lanes, &R) {
+        (&self.part, &self.lanes, &self.reset)
     }
 }
 
 impl<T, R: Fn(&mut T), P: Deref<Target = Pool<T, R>>> Guard<P> {
     /// Returns the item's number in its pool, counted from 0.
     pub fn number(&self) -> usize {
-        self.out().place
+        self.out.place
+    }
+}
+
+/// Why a pool wasn't made.
+#[derive(Clone, Copy, Debug, PartialEq, Eq)]
+pub enum NewError {
+    /// A pool of no items was asked for.
+    NoItems,
+    /// The pool's own memory was refused.
+    Memory,
+}
+
+impl Error for NewError {}
+
+impl Display for NewError {
+    fn fmt(&self, f: &mut Formatter<'_>) -> fmt::Result {
+        f.write_str(match self {
+            NewError::NoItems => "a pool has one item at least",
+            NewError::Memory => "memory was refused",
+        })
     }
 }
 

@@ -1,56 +1,49 @@
-//! Numbers of threads: while a thread runs, no other one has its number.
-//!
-//! A number is a place of one pool of the proved library. A thread holds it from its first pull to
-//! its end.
-use crate::handle::{Handle, Out};
-use std::cell::Cell;
-use std::sync::{LazyLock, Mutex, PoisonError};
+//! Numbers of threads: while a thread runs, no other one has its number. It is a place of one pool
+//! of the proved library, which a thread holds from its first pull to its end.
+use crate::guard::Part;
+use crate::sys::Out;
+use std::sync::LazyLock;
 
 /// How many threads have a number at a time.
 pub(crate) const NUMBERS: usize = 64;
-/// No number: of a thread that has none yet, that came when all were out, or that is at its end.
-const NONE: usize = usize::MAX;
+/// No number: of a thread that came when all were out, or that is at its end.
+pub(crate) const NONE: usize = usize::MAX;
 
-static FIRST: LazyLock<Option<Mutex<Handle>>> =
-    LazyLock::new(|| Some(Mutex::new(Handle::first(NUMBERS).ok()?)));
+pub(crate) static ALL: LazyLock<Option<Part<()>>> = LazyLock::new(|| Part::new(NUMBERS, || ()));
 
-/// A thread's number, which it returns at its end.
-struct Own(Option<Out>);
+thread_local! {
+    static OWN: Own = pull();
+}
+
+/// A thread's number, which is returned at the thread's end.
+struct Own {
+    number: usize,
+    out: Option<Out>,
+}
 
 impl Drop for Own {
     fn drop(&mut self) {
-        NUMBER.set(NONE);
-        drop(self.0.take().map(Out::give_back));
+        if let (Some(out), Some(all)) = (&mut self.out, &*ALL) {
+            all.idle().handles.extend(out.give_back());
+        }
     }
 }
 
-thread_local! {
-    static NUMBER: Cell<usize> = const { Cell::new(NONE) };
-    static OWN: Own = Own(pull());
-}
-
-fn pull() -> Option<Out> {
-    let first = FIRST.as_ref()?.lock();
-    let handle = first.unwrap_or_else(PoisonError::into_inner).share()?;
-    handle.pull(None).ok()
+/// Pulls the least number that is free.
+fn pull() -> Own {
+    let out = ALL.as_ref().and_then(|all| {
+        let idle = &mut *all.idle();
+        let mut handle = idle.handle();
+        let out = Out::pull(&mut handle, 0, 0);
+        idle.handles.extend(handle);
+        out
+    });
+    let number = out.as_ref().map_or(NONE, |out| out.place);
+    Own { number, out }
 }
 
 /// Returns this thread's number, or a greater one than any if it has none.
 #[inline(always)]
 pub(crate) fn own() -> usize {
-    match NUMBER.get() {
-        NONE => first(),
-        number => number,
-    }
+    OWN.try_with(|own| own.number).unwrap_or(NONE)
 }
-
-#[cold]
-fn first() -> usize {
-    let own = OWN.try_with(|own| own.0.as_ref().map(|out| out.place));
-    NUMBER.set(own.ok().flatten().unwrap_or(NONE));
-    NUMBER.get()
-}
-
-#[cfg(test)]
-#[path = "../unit_tests/threads.rs"]
-mod tests;

@@ -279,6 +279,25 @@ fn items_are_made_before_they_are_needed_and_dropped_with_their_pool() {
     assert_eq!(count.load(SeqCst), 0);
 }
 
+#[test]
+fn a_stack_pool_keeps_all_that_comes_back() {
+    fn made(pull_many: impl Fn()) -> usize {
+        let before = MADE.get();
+        pull_many();
+        MADE.get() - before
+    }
+    thread_local! {
+        static MADE: std::cell::Cell<usize> = const { std::cell::Cell::new(0) };
+    }
+    let init = || MADE.set(MADE.get() + 1);
+    let mutex = MutexObjectPool::<()>::new(init, |()| {});
+    let many = || drop((0..1_000).map(|_| mutex.pull()).collect::<Vec<_>>());
+    assert_eq!([made(many), made(many)], [1_000, 0]);
+    let spin_lock = SpinLockObjectPool::<()>::new(init, |()| {});
+    let many = || drop((0..1_000).map(|_| spin_lock.pull()).collect::<Vec<_>>());
+    assert_eq!([made(many), made(many)], [1_000, 0]);
+}
+
 /// What this crate does in another way.
 mod here {
     use super::*;

@@ -1,35 +1,134 @@
 //! What a pool asks of the allocator: nothing for a turn, little where items go from thread to
-//! thread, and all of it comes back. Where memory is refused, it says so.
-use kundratu_pool::{NewError, OwnedReusable, Pool};
-use std::alloc::{GlobalAlloc, Layout, System};
+//! thread, and all of it comes back. Where memory is refused, it says so, and nothing is left.
+use kundratu_pool::sys::{kdr_pool_new, kdr_pool_share};
+use kundratu_pool::{LinearObjectPool, NewError, OwnedReusable, Pool};
 use std::cell::Cell;
+use std::ffi::c_void;
 use std::fs::read_to_string;
 use std::process::Command;
+use std::ptr::null_mut;
 use std::sync::{mpsc, Arc, Mutex, PoisonError};
 use std::{env, iter, thread};
 
-/// Counts how often this thread asks for memory. The crate asks for some with each handle that it
-/// makes.
-struct Counting;
-
 thread_local! {
+    /// How often this thread asked for memory, for the crate or for the library under it.
     static ASKED: Cell<usize> = const { Cell::new(0) };
+    /// How many blocks it has.
+    static HELD: Cell<isize> = const { Cell::new(0) };
+    /// Which of its requests is refused.
+    static REFUSED: Cell<usize> = const { Cell::new(usize::MAX) };
 }
 
-// SAFETY: all is done by the system's allocator.
-unsafe impl GlobalAlloc for Counting {
-    unsafe fn alloc(&self, layout: Layout) -> *mut u8 {
-        ASKED.set(ASKED.get() + 1);
-        unsafe { System.alloc(layout) }
-    }
+unsafe extern "C" {
+    fn __libc_malloc(bytes: usize) -> *mut c_void;
+    fn __libc_realloc(block: *mut c_void, bytes: usize) -> *mut c_void;
+    fn __libc_memalign(align: usize, bytes: usize) -> *mut c_void;
+    fn __libc_free(block: *mut c_void);
+}
 
-    unsafe fn dealloc(&self, block: *mut u8, layout: Layout) {
-        unsafe { System.dealloc(block, layout) }
+/// Counts a request, or refuses it.
+fn ask(give: impl FnOnce() -> *mut c_void) -> *mut c_void {
+    let asked = ASKED.replace(ASKED.get() + 1);
+    if asked == REFUSED.get() {
+        return null_mut();
+    }
+    give()
+}
+
+#[unsafe(no_mangle)]
+extern "C" fn malloc(bytes: usize) -> *mut c_void {
+    HELD.set(HELD.get() + 1);
+    let block = ask(|| unsafe { __libc_malloc(bytes) });
+    HELD.set(HELD.get() - isize::from(block.is_null()));
+    block
+}
+
+#[unsafe(no_mangle)]
+extern "C" fn realloc(block: *mut c_void, bytes: usize) -> *mut c_void {
+    let moved = ask(|| unsafe { __libc_realloc(block, bytes) });
+    HELD.set(HELD.get() + isize::from(block.is_null() && !moved.is_null()));
+    moved
+}
+
+#[unsafe(no_mangle)]
+extern "C" fn posix_memalign(out: *mut *mut c_void, align: usize, bytes: usize) -> i32 {
+    const NO_MEMORY: i32 = 12;
+    let block = ask(|| unsafe { __libc_memalign(align, bytes) });
+    HELD.set(HELD.get() + isize::from(!block.is_null()));
+    unsafe { *out = block };
+    NO_MEMORY * i32::from(block.is_null())
+}
+
+#[unsafe(no_mangle)]
+extern "C" fn free(block: *mut c_void) {
+    HELD.set(HELD.get() - isize::from(!block.is_null()));
+    unsafe { __libc_free(block) }
+}
+
+/// Makes this call as often as it is refused memory, at each of its requests in turn, and once
+/// more. No refused call leaves a block behind. Returns how often it was refused.
+fn refuse_each<A>(call: impl Fn() -> Option<A>) -> usize {
+    for request in 0.. {
+        let held = HELD.get();
+        ASKED.set(0);
+        REFUSED.set(request);
+        let done = call().is_some();
+        REFUSED.set(usize::MAX);
+        assert_eq!(HELD.get(), held, "after request {request}");
+        if done {
+            return request;
+        }
+    }
+    unreachable!("some call has memory")
+}
+
+#[test]
+fn an_opening_that_is_refused_memory_says_so_and_leaves_nothing() {
+    let _alone = MEASURED.lock().unwrap_or_else(PoisonError::into_inner);
+    let open = || {
+        let pool = Pool::with_reset(100, || 0, |number| *number = 0);
+        assert!(pool.is_ok() || matches!(pool, Err(NewError::Memory)));
+        pool.ok()
+    };
+    assert!(5 <= refuse_each(open));
+}
+
+#[test]
+fn a_pull_that_is_refused_memory_answers_none_and_leaves_nothing() {
+    let _alone = MEASURED.lock().unwrap_or_else(PoisonError::into_inner);
+    drop(zeros(1).pull()); // the thread has its number from now on
+    for held in [0, 1, 8] {
+        let count = refuse_each(|| {
+            let refused = REFUSED.replace(usize::MAX);
+            let pool = zeros(20);
+            let items: Vec<_> = (0..held).map(|_| pool.pull()).collect();
+            ASKED.set(0);
+            REFUSED.set(refused);
+            let done = pool.pull().is_some();
+            REFUSED.set(usize::MAX);
+            assert!(items.iter().all(Option::is_some));
+            drop(items);
+            assert_eq!(iter::from_fn(|| pool.pull()).collect::<Vec<_>>().len(), 20);
+            done.then_some(())
+        });
+        assert!(1 <= count, "{count} requests with {held} held");
     }
 }
 
-#[global_allocator]
-static COUNTING: Counting = Counting;
+#[test]
+fn a_million_handles_are_opened_and_closed() {
+    let (mut first, held) = (None, HELD.get());
+    assert_eq!(kdr_pool_new(1, &mut first), 0);
+    let opened = HELD.get();
+    for _ in 0..1_000_000 {
+        let mut other = None;
+        assert_eq!(kdr_pool_share(&mut first, &mut other), 0);
+        drop(other);
+    }
+    assert_eq!(HELD.get(), opened);
+    drop(first);
+    assert_eq!(HELD.get(), held);
+}
 
 /// What glibc says of its heap.
 #[repr(C)]
@@ -86,18 +185,65 @@ fn turns_ask_for_no_memory() {
 }
 
 #[test]
+fn returns_ask_for_no_memory_whoever_makes_them() {
+    let _alone = MEASURED.lock().unwrap_or_else(PoisonError::into_inner);
+    let pool = zeros(200);
+    drop(pool.pull());
+    let held: Vec<_> = iter::from_fn(|| pool.pull()).collect();
+    let ask = |held: Vec<_>| {
+        let before = ASKED.get();
+        held.into_iter().for_each(drop);
+        ASKED.get() - before
+    };
+    assert_eq!(ask(held), 0);
+    let held: Vec<_> = iter::from_fn(|| pool.pull()).collect();
+    let other = thread::scope(|scope| {
+        let other = scope.spawn(|| {
+            drop(zeros(1).pull()); // the thread has its number
+            ask(held)
+        });
+        other.join().expect("it ends")
+    });
+    assert_eq!(other, 0);
+}
+
+#[test]
+fn turns_of_a_linear_pool_ask_for_no_memory() {
+    let _alone = MEASURED.lock().unwrap_or_else(PoisonError::into_inner);
+    let pool = Arc::new(LinearObjectPool::<u32>::new(|| 0, |number| *number = 0));
+    let mut held = Vec::with_capacity(500);
+    let mut turn = || {
+        for count in 0..=500 {
+            held.extend((0..count).map(|_| pool.pull_owned()));
+            held.clear();
+        }
+    };
+    (0..50).for_each(|_| turn());
+    let before = ASKED.get();
+    turn();
+    assert_eq!(ASKED.get(), before);
+}
+
+/// The thread that is refused has a handle, or not.
+#[test]
 fn a_refused_pull_asks_for_no_memory_and_answers_at_once() {
     let _alone = MEASURED.lock().unwrap_or_else(PoisonError::into_inner);
-    let pool = Arc::new(zeros(1));
-    let _item = pool.pull();
-    assert!(pool.pull().is_none());
-    let before = ASKED.get();
-    let begun = std::time::Instant::now();
-    for _ in 0..1_000 {
-        assert!(pool.pull().is_none() && pool.pull_owned().is_none());
+    for has_handle in [false, true] {
+        let pool = Arc::new(zeros(1));
+        if has_handle {
+            drop(pool.pull());
+        }
+        let other = thread::scope(|scope| scope.spawn(|| pool.pull_owned()).join());
+        let _item = other.expect("it ends");
+        assert!(pool.pull().is_none());
+        let before = ASKED.get();
+        let begun = std::time::Instant::now();
+        for _ in 0..1_000 {
+            assert!(pool.pull().is_none() && pool.pull_owned().is_none());
+        }
+        assert!(begun.elapsed().as_millis() < 1_000);
+        assert_eq!(ASKED.get(), before);
     }
-    assert!(begun.elapsed().as_millis() < 1_000);
-    assert_eq!(ASKED.get(), before);
 }
 
 /// One thread pulls, another drops.

@@ -1,10 +1,10 @@
 //! What threads see that share a pool, more of them than have numbers, and at their ends.
-use kundratu_pool::{OwnedReusable, Pool, Reusable};
+use kundratu_pool::*;
 use std::cell::{Cell, RefCell};
 use std::collections::HashSet;
 use std::rc::Rc;
 use std::sync::atomic::{AtomicUsize, Ordering::SeqCst};
-use std::sync::{Arc, Barrier, Mutex, PoisonError};
+use std::sync::{Arc, Barrier, Mutex, MutexGuard, PoisonError};
 use std::thread;
 
 /// It compiles only where the type isn't of the trait: else it couldn't be decided which of two
@@ -25,17 +25,39 @@ macro_rules! is_not {
 
 is_not!(Pool<Rc<u8>>: Sync);
 is_not!(Pool<Rc<u8>>: Send);
-is_not!(Reusable<'static, Rc<u8>>: Send);
-is_not!(OwnedReusable<Rc<u8>>: Send);
-is_not!(Reusable<'static, Cell<u32>>: Sync);
-is_not!(OwnedReusable<Cell<u32>>: Sync);
 is_not!(Pool<u32, Box<dyn Fn(&mut u32)>>: Sync);
+is_not!(Pool<u32, Box<dyn Fn(&mut u32)>>: Send);
+is_not!(LinearObjectPool<Rc<u8>>: Sync);
+is_not!(LinearObjectPool<Rc<u8>>: Send);
+is_not!(MutexObjectPool<Rc<u8>>: Sync);
+is_not!(MutexObjectPool<Rc<u8>>: Send);
+is_not!(SpinLockObjectPool<Rc<u8>>: Sync);
+is_not!(SpinLockObjectPool<Rc<u8>>: Send);
+
+/// A guard isn't sent if its item isn't, and isn't shared if its item isn't.
+macro_rules! is_not_more_than_its_item {
+    ($($guard:ident$(<$life:lifetime>)?),*) => { $(
+        is_not!($guard<$($life,)? Rc<u8>>: Send);
+        is_not!($guard<$($life,)? Rc<u8>>: Sync);
+        is_not!($guard<$($life,)? Cell<u32>>: Sync);
+        is_not!($guard<$($life,)? MutexGuard<'static, u32>>: Send);
+        const _: fn() = || is_sent_and_shared::<$guard<$($life,)? u32>>();
+    )* };
+}
+
+is_not_more_than_its_item!(Reusable<'static>, OwnedReusable, NoneReusable);
+is_not_more_than_its_item!(LinearReusable<'static>, LinearOwnedReusable);
+is_not_more_than_its_item!(MutexReusable<'static>, MutexOwnedReusable);
+is_not_more_than_its_item!(SpinLockReusable<'static>, SpinLockOwnedReusable);
+
+fn is_sent_and_shared<T: Send + Sync>() {}
 
 const _: fn() = || {
-    fn is_sent_and_shared<T: Send + Sync>() {}
     is_sent_and_shared::<Pool<Cell<u32>>>();
-    is_sent_and_shared::<Reusable<'static, u32>>();
-    is_sent_and_shared::<OwnedReusable<u32>>();
+    is_sent_and_shared::<LinearObjectPool<Cell<u32>>>();
+    is_sent_and_shared::<MutexObjectPool<Cell<u32>>>();
+    is_sent_and_shared::<SpinLockObjectPool<Cell<u32>>>();
+    is_sent_and_shared::<NoneObjectPool<Rc<u32>>>();
 };
 
 fn zeros(items: usize) -> Pool<u32> {
@@ -135,12 +157,12 @@ fn no_pull_is_refused_where_there_are_as_many_items_as_threads_hold() {
     assert_eq!(count_free(&pool), THREADS * 2);
 }
 
-/// The pages of two items that each of some threads pulls, one after the other, while all hold
+/// The pages of three items that each of some threads pulls, one after the other, while all hold
 /// theirs.
-fn pages_of_threads(pool: &Pool<u32>) -> [HashSet<usize>; 2] {
+fn pages_of_threads(pool: &Pool<u32>) -> [HashSet<usize>; 3] {
     let all_hold = Barrier::new(THREADS_WITH_PAGES);
     let hold = || {
-        let items = [pool.pull(), pool.pull()];
+        let items = [(); 3].map(|()| pool.pull());
         all_hold.wait();
         items.map(|item| item.expect("one is free").number() / 32)
     };
@@ -149,10 +171,11 @@ fn pages_of_threads(pool: &Pool<u32>) -> [HashSet<usize>; 2] {
         let pages = threads
             .into_iter()
             .map(|thread| thread.join().expect("it ends"));
-        let mut all = [HashSet::new(), HashSet::new()];
+        let mut all: [HashSet<_>; 3] = Default::default();
         for pages in pages {
-            all[0].insert(pages[0]);
-            all[1].insert(pages[1]);
+            for (all, page) in all.iter_mut().zip(pages) {
+                all.insert(page);
+            }
         }
         all
     })
@@ -164,11 +187,11 @@ const THREADS_WITH_PAGES: usize = 16;
 fn threads_keep_to_pages_of_their_own() {
     let _alone = NUMBERS.lock().unwrap_or_else(PoisonError::into_inner);
     let pages = pages_of_threads(&zeros(131_072));
-    assert_eq!(pages.map(|pages| pages.len()), [THREADS_WITH_PAGES; 2]);
+    assert_eq!(pages.map(|pages| pages.len()), [THREADS_WITH_PAGES; 3]);
 }
 
-/// Where the first half of the items is out, all come to the first page of the other half, and go
-/// on from there.
+/// If the first half of the items is out, all come to the hinted page, the last of the other half.
+/// They go on from there to full pages, and then back to pages of their own.
 #[test]
 fn threads_whose_pages_are_full_come_to_pages_of_their_own() {
     let _alone = NUMBERS.lock().unwrap_or_else(PoisonError::into_inner);
@@ -176,5 +199,5 @@ fn threads_whose_pages_are_full_come_to_pages_of_their_own() {
     let mut held: Vec<_> = std::iter::from_fn(|| pool.pull()).collect();
     held.retain(|item| item.number() < pool.items() / 2);
     let pages = pages_of_threads(&pool);
-    assert_eq!(pages[1].len(), THREADS_WITH_PAGES);
+    assert_eq!(pages[2].len(), THREADS_WITH_PAGES);
 }

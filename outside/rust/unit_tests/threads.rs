@@ -1,21 +1,22 @@
 //! Numbers of threads.
-use super::{own, NONE, NUMBERS};
+use super::TESTED;
+use crate::threads::{own, ALL, NONE, NUMBERS};
 use std::cell::RefCell;
 use std::collections::HashSet;
 use std::sync::mpsc::{channel, Sender};
-use std::sync::{Barrier, Mutex, PoisonError};
+use std::sync::{Barrier, PoisonError};
 use std::thread;
-
-/// One test at a time has the numbers.
-static TESTED: Mutex<()> = Mutex::new(());
 
 #[test]
 fn numbers_are_given_back_by_threads_that_end() {
     let _alone = TESTED.lock().unwrap_or_else(PoisonError::into_inner);
-    for _ in 0..NUMBERS * 3 {
+    for _ in 0..NUMBERS * 10 {
         let number = thread::spawn(own).join().expect("it ends");
         assert!(number < NUMBERS);
     }
+    // They keep few handles, for as many as run at once.
+    let room = ALL.as_ref().map(|all| all.idle().handles.capacity());
+    assert!(room < Some(NUMBERS * 5), "room for {room:?} handles");
 }
 
 #[test]

@@ -16,6 +16,7 @@ impl Clean<u32> for Zero {
 /// A mutex pool that makes zeros and resets to 0.
 type ClearedByMutex = MutexObjectPool<u32, Copied<u32, Zero>, Copied<u32, Zero>, Zero>;
 
+/// Attaches a 9 to a pool, and returns what the item shows.
 fn by_mutex<W: Wait + Copy>(rt: &W, pool: &ClearedByMutex) -> Result<u32, u32>
     ensures shown { IfOk result (λ shown. shown ≡ 9) }
     ensures back { IfErr result (λ back. back ≡ 9) }
@@ -24,7 +25,7 @@ fn by_mutex<W: Wait + Copy>(rt: &W, pool: &ClearedByMutex) -> Result<u32, u32>
     Ok(*item)
 }
 
-/// What the next pull shows: the attached item, reset.
+/// Returns what the next pull shows: the attached item, reset.
 fn pulled_next<W: Wait + Copy>(rt: &W, alloc: Global) -> Result<u32, PullError>
     ensures { IfOk result (λ value. value ≡ 0) }
 {

@@ -8,7 +8,7 @@ struct Basket {
     price: u64,
 }
 
-/// What is left of a use when the item comes again.
+/// Returns what is left of a use when the item comes again.
 fn price_left<I: InitBy<Basket>, R: ResetBy<Basket>>(
     alloc: Global,
     init: I,

@@ -6,7 +6,7 @@ use lockfree_object_pool::closures::{InitBy, Makes, ResetBy, Resets};
 use lockfree_object_pool::{LinearObjectPool, PullError};
 use std::alloc::Global;
 
-/// How long a used vector is when it comes again.
+/// Returns how long a used vector is when it comes again.
 fn length_left<I: InitBy<Vec<u8>>, R: ResetBy<Vec<u8>>>(
     alloc: Global,
     init: I,

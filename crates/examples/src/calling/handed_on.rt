@@ -9,14 +9,14 @@ use std::sync::Arc;
 /// A letter to be written, which any thread may send on.
 type Letter = OwnedReusable<Vec<u8>>;
 
-/// A letter that comes empty.
+/// Pulls a letter, which comes empty.
 fn new_letter(letters: &Arc<Pool<Vec<u8>>>) -> Result<Letter, PullError>
     ensures empty { IfOk result (λ letter. (owned_item letter).value.items ≡ []) }
 {
     letters.pull_owned()
 }
 
-/// How long a letter is with a greeting alone.
+/// Returns how long a letter is with only a greeting.
 fn greeted(letters: &Arc<Pool<Vec<u8>>>) -> Result<usize, PullError>
     ensures greeting { IfOk result (λ length. length ≡ 5) }
 {

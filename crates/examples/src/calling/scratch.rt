@@ -33,7 +33,7 @@ struct Worker {
 }
 
 impl Worker {
-    /// What a pulled value holds, which is then written.
+    /// Returns what a pulled value holds, which is then written.
     fn use_once(&self) -> Option<(usize, u64)>
         ensures { IfSome result (λ found. (found.0 ≡ 0) × (found.1 ≡ 0)) }
     {

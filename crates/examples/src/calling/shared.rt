@@ -4,7 +4,7 @@ use lockfree_object_pool::closures::{Copied, Keep};
 use std::thread;
 use std::thread::Threads;
 
-/// Two threads read one item.
+/// Reads one item by two threads.
 fn read_twice<R: Threads + Sync>(
     rt: &R,
     item: &LinearReusable<'_, u32, Copied<u32, AnyValue>, Keep>,

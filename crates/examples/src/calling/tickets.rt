@@ -7,6 +7,7 @@ use std::alloc::Global;
 use std::sync::atomic::AtomicUsize;
 use std::sync::atomic::Ordering::SeqCst;
 
+/// A ticket, which counts its uses.
 #[derive(Drop)]
 pub struct Ticket {
     uses: u32,
@@ -19,7 +20,7 @@ impl Clean<Ticket> for Unused {
     ghost meets = { λ ticket. ticket.uses ≡ 0 };
 }
 
-/// Makes 40 tickets, and refuses to make more.
+/// A press, which makes 40 tickets and refuses to make more.
 #[derive(Drop)]
 pub struct Press {
     made: AtomicUsize,
@@ -35,7 +36,7 @@ impl Init<Ticket, Unused> for Press {
     }
 }
 
-/// Leaves a ticket as if it were new.
+/// A reset that leaves a ticket as if it were new.
 #[derive(Drop)]
 pub struct Renew;
 
@@ -45,14 +46,16 @@ impl Reset<Ticket, Unused> for Renew {
     }
 }
 
+/// A pool of tickets.
 pub type Tickets = LinearObjectPool<Ticket, Press, Renew, Unused>;
 
+/// Creates a pool of tickets.
 pub fn new_tickets(alloc: Global) -> Result<Tickets, PullError> {
     let made = AtomicUsize::new(0);
     LinearObjectPool::new(alloc, Press { made }, Renew)
 }
 
-/// A pulled ticket is unused, whoever had it before.
+/// Pulls a ticket, which is unused, whoever had it before.
 pub fn use_one(tickets: &Tickets) -> Result<u32, PullError>
     ensures { IfOk result (λ uses. uses ≡ 0) }
 {
@@ -62,7 +65,8 @@ pub fn use_one(tickets: &Tickets) -> Result<u32, PullError>
     Ok(uses)
 }
 
-/// Why a pull is refused while 32 tickets are out: `Init`, since no second page can be filled.
+/// Returns why a pull is refused while 32 tickets are in use: `Init`, since no second page can be
+/// filled.
 pub fn past_a_page(alloc: Global, tickets: &Tickets) -> Result<Option<PullError>, PullError> {
     let mut held = Vec::with_capacity(alloc, 32)?;
     for _ in 0..32 {

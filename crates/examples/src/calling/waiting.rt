@@ -5,7 +5,8 @@ use lockfree_object_pool::recycling::LazyPool;
 use std::sync::Wait;
 use std::time::{Clock, Duration};
 
-/// Appends to a buffer, for which it waits a second at most where all are in use. How long the buffer was before.
+/// Appends to a buffer, for which it waits a second at most. Returns how long the buffer was
+/// before.
 fn length_before<R: Wait + Clock>(
     rt: &R,
     pool: &LazyPool<Vec<u8>>,

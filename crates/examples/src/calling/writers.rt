@@ -20,7 +20,7 @@ fn written(mut sheet: Sheet, letter: u8) -> Result<usize, PullError> {
     Ok(sheet.len())
 }
 
-/// How many letters four threads write, each on a sheet of a pool of one page.
+/// Counts the letters that four threads write, each on a sheet of a pool of one page.
 fn letters<R: Threads + Wait>(rt: &R, alloc: Global) -> Result<usize, PullError> {
     let pool: Sheets = LinearObjectPool::with_limit(alloc, WithCapacity::new(alloc, 10), Clear, 1)?;
     let pool = Arc::new(alloc, pool)?;

@@ -1,6 +1,8 @@
-//! A writer and a reader in two threads. The pool has one page, so sheets that the reader dropped are written on again.
+//! A writer and a reader in two threads. The pool has one page, so sheets that the reader dropped
+//! are written on again.
 use super::*;
 use crate::assert_equal::assert_equal;
+use crate::home::take_all;
 use crossbeam_channel::{Receiver, Sender, unbounded};
 use std::sync::Wait;
 use std::thread;
@@ -83,7 +85,8 @@ fn letters_reach_the_reader_and_their_sheets_come_home(rt: HostRuntime) {
     assert_equal(&rt, pool.pull_owned().err(), Some(PullError::Limit));
 }
 
-/// Whether a hundred letters with the text are whole, each of them dropped before the next is written.
+/// Whether a hundred letters with the text are whole, each of them dropped before the next is
+/// written.
 fn write_often(pool: &Arc<SheetPool>, text: &[u8]) -> bool {
     for _ in 0..100 {
         match Letter::new(pool, text) {
@@ -106,4 +109,24 @@ fn letters_of_any_length_are_whole_and_their_sheets_come_home(rt: HostRuntime) {
         let text = vec![in alloc; 7u8; len].expect(&rt, "memory is left");
         assert!(rt; write_often(&pool, &text), "letters of {len} bytes");
     }
+}
+
+/// Whichever request is refused, a letter is whole or refused for memory, and each sheet comes
+/// home.
+#[test]
+fn sheets_come_home_where_memory_was_refused(rt: HostRuntime) {
+    let alloc = rt.alloc();
+    let Ok(pool) = LinearObjectPool::with_limit(alloc, WithCapacity::new(alloc, 0), Clear, 1) else {
+        return;
+    };
+    let Ok(pool) = Arc::new(alloc, pool) else {
+        return;
+    };
+    for text in [b"four".as_slice(), b"five.", b"a longer text", b""] {
+        match Letter::new(&pool, text) {
+            Ok(letter) => assert_equal(&rt, letter.text(), text),
+            Err(cause) => assert_equal(&rt, cause, PullError::Memory),
+        }
+    }
+    assert_equal(&rt, take_all(&pool), 32);
 }

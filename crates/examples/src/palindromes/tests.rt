@@ -1,6 +1,9 @@
 //! Texts that threads look at, and what they answer.
 use super::*;
 use crate::assert_equal::assert_equal;
+use crate::home::take_all;
+use std::mem;
+use std::process::Abort;
 
 #[test]
 fn threads_answer_as_one_thread_does(rt: HostRuntime) {
@@ -93,4 +96,61 @@ fn long_texts_have_answers_and_their_scratches_come_home(rt: HostRuntime) {
         let expected = [yes, no, yes, no, yes, no, yes, no];
         assert_equal(&rt, answers.as_slice(), expected.as_slice());
     }
+}
+
+/// Whichever request is refused, an answer is right or missing, and each scratch comes home.
+#[test]
+fn scratches_come_home_where_memory_was_refused(rt: HostRuntime) {
+    let alloc = rt.alloc();
+    let Ok(pool) = LinearObjectPool::with_limit(alloc, WithCapacity::new(alloc, 0), Clear, 1) else {
+        return;
+    };
+    let cases = [
+        (b"noon".as_slice(), true),
+        (b"a longer text", false),
+        (b"", true),
+    ];
+    for (text, expected) in cases {
+        let answer = answered(&pool, text);
+        assert_equal(&rt, answer.unwrap_or(expected), expected);
+        assert!(rt; answer.is_some() || !text.is_empty());
+    }
+    if let Ok(texts) = even_and_odd(alloc) {
+        drop(palindromes(&rt, alloc, &pool, &texts));
+    }
+    assert_equal(&rt, take_all(&pool), 32);
+}
+
+/// How many of the scratches of a page have room for a long text.
+fn grown(rt: &impl Abort, pool: &ScratchPool) -> usize {
+    let mut grown = 0usize;
+    for _ in 0..32 {
+        let scratch = pool.pull().expect(rt, "32 scratches are home");
+        grown = grown.saturating_add(usize::from(scratch.capacity() >= 70_000));
+        mem::forget(scratch);
+    }
+    grown
+}
+
+/// Threads that look at texts at one time have a scratch each. One thread would take the same
+/// scratch for each text.
+#[test]
+fn texts_are_looked_at_by_several_threads(rt: HostRuntime) {
+    let alloc = rt.alloc();
+    let mut most = 0;
+    for _ in 0..1_000 {
+        let pool = LinearObjectPool::with_limit(alloc, WithCapacity::new(alloc, 8), Clear, 1);
+        let pool = pool.expect(&rt, "a pool is made");
+        let texts = vec![in alloc;
+            vec![in alloc; 7u8; 70_000].expect(&rt, "memory is left"),
+            vec![in alloc; 7u8; 70_000].expect(&rt, "memory is left"),
+        ]
+        .expect(&rt, "memory is left");
+        drop(palindromes(&rt, alloc, &pool, &texts));
+        most = grown(&rt, &pool);
+        if most > 1 {
+            break;
+        }
+    }
+    assert_equal(&rt, most, 2);
 }

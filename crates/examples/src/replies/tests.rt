@@ -2,7 +2,7 @@
 use super::*;
 use crate::assert_equal::assert_equal;
 use std::sync::Arc;
-use std::thread;
+use std::{mem, thread};
 
 /// Whether a hundred greetings were as they should be.
 fn greet_often(alloc: Global, replies: &Replies, name: &[u8], expected: &[u8]) -> bool {
@@ -42,15 +42,26 @@ fn threads_greet_each_by_its_name(rt: HostRuntime) {
     }
 }
 
+/// How many buffers are home. Each is taken out for good, so that it takes no memory to hold them.
+fn take_all_buffers(replies: &Replies) -> usize {
+    for taken in 0..1_000 {
+        match replies.pull() {
+            Ok(buffer) => mem::forget(buffer),
+            Err(_) => return taken,
+        }
+    }
+    1_000
+}
+
 #[test]
 fn a_page_of_replies_is_all_there_is(rt: HostRuntime) {
     let replies = new_replies(rt.alloc(), 16).expect(&rt, "memory is left");
-    let mut buffers = Vec::with_capacity(rt.alloc(), 32).expect(&rt, "memory is left");
-    for _ in 0..32 {
-        buffers
-            .push(replies.pull().expect(&rt, "an item is free"))
-            .expect(&rt, "memory is left");
+    for _ in 0..31 {
+        mem::forget(replies.pull().expect(&rt, "an item is free"));
     }
+    let last = greeting(rt.alloc(), &replies, b"Ada").expect(&rt, "a buffer is free");
+    assert_equal(&rt, last.as_slice(), b"hello, Ada\n".as_slice());
+    assert_equal(&rt, take_all_buffers(&replies), 1);
     assert_equal(
         &rt,
         greeting(rt.alloc(), &replies, b"Ada"),
@@ -58,7 +69,8 @@ fn a_page_of_replies_is_all_there_is(rt: HostRuntime) {
     );
 }
 
-/// Whether a name of so many bytes is greeted a hundred times, which is more often than a page has buffers.
+/// Whether a name of so many bytes is greeted a hundred times, which is more often than a page has
+/// buffers.
 fn greet_at_length(alloc: Global, replies: &Replies, len: usize) -> Result<bool, PullError> {
     let name = vec![in alloc; b'a'; len]?;
     let mut expected = Vec::from_slice(alloc, b"hello, ")?;
@@ -92,4 +104,20 @@ fn a_name_may_begin_with_any_byte(rt: HostRuntime) {
         let expected = [b'h', b'e', b'l', b'l', b'o', b',', b' ', byte, b'a', b'\n'];
         assert_equal(&rt, reply.as_slice(), expected.as_slice());
     }
+}
+
+/// Whichever request is refused, a greeting is whole or refused for memory, and each buffer comes
+/// home.
+#[test]
+fn buffers_come_home_where_memory_was_refused(rt: HostRuntime) {
+    let Ok(replies) = new_replies(rt.alloc(), 0) else {
+        return;
+    };
+    for _ in 0..2 {
+        match greeting(rt.alloc(), &replies, b"Ada") {
+            Ok(reply) => assert_equal(&rt, reply.as_slice(), b"hello, Ada\n".as_slice()),
+            Err(cause) => assert_equal(&rt, cause, PullError::Memory),
+        }
+    }
+    assert_equal(&rt, take_all_buffers(&replies), 32);
 }

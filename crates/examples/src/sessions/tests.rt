@@ -1,10 +1,17 @@
 //! Sessions that are opened, filled and closed, by one thread and by several that share a pool.
 use super::*;
 use crate::assert_equal::assert_equal;
+use crate::home::take_all;
+use std::process::Abort;
 use std::thread;
 
 fn new_pool(alloc: Global) -> Result<Arc<BasketPool>, PullError> {
-    let pool = LinearObjectPool::with_limit(alloc, WithCapacity::new(alloc, 4), Clear, 1)?;
+    pool_of(alloc, 4)
+}
+
+/// A pool of one page of baskets, each with room for so many products.
+fn pool_of(alloc: Global, room: usize) -> Result<Arc<BasketPool>, PullError> {
+    let pool = LinearObjectPool::with_limit(alloc, WithCapacity::new(alloc, room), Clear, 1)?;
     Ok(Arc::new(alloc, pool)?)
 }
 
@@ -15,8 +22,8 @@ fn holds(sessions: &Sessions, session: u64, products: &[u32]) -> bool {
     }
 }
 
-/// Opens a session, puts a product into its basket and closes it, a hundred times. Whether each basket was empty at
-/// first and then held the product.
+/// Opens a session, puts a product into its basket and closes it, a hundred times. Whether each
+/// basket was empty at first and then held the product.
 fn serve(alloc: Global, pool: Arc<BasketPool>, product: u32) -> bool {
     let mut sessions = Sessions::new(alloc, pool);
     for session in 0..100u64 {
@@ -79,8 +86,8 @@ fn a_session_that_is_opened_anew_gives_its_basket_back(rt: HostRuntime) {
     }
 }
 
-/// Opens a session, or opens it anew, and gathers as many products as are asked for. How many there are then, and the
-/// last of them.
+/// Opens a session, or opens it anew, and gathers as many products as are asked for. How many there
+/// are then, and the last of them.
 fn gather(
     sessions: &mut Sessions,
     session: u64,
@@ -110,7 +117,8 @@ fn baskets_of_seventy_thousand_products_come_home(rt: HostRuntime) {
     assert!(rt; all_baskets_are_home(&mut sessions));
 }
 
-/// Opens ten pages of sessions, each of which gathers one product: what is asked for and its own number together.
+/// Opens ten pages of sessions, each of which gathers one product: what is asked for and its own
+/// number together.
 fn open_each(sessions: &mut Sessions, product: u32) -> Result<(), PullError> {
     for session in 0..320u32 {
         sessions.open(u64::from(session))?;
@@ -213,4 +221,29 @@ fn the_basket_of_a_closed_session_comes_home(rt: HostRuntime) {
         sessions.close(1);
     }
     assert!(rt; all_baskets_are_home(&mut sessions));
+}
+
+/// Opens sessions, opens one of them anew, and fills their baskets. Each call that is refused was
+/// for memory, and changes nothing.
+fn use_baskets(rt: &impl Abort, sessions: &mut Sessions) {
+    for session in 0..16u64 {
+        if let Err(cause) = gather(sessions, session % 15, 5) {
+            assert_equal(rt, cause, PullError::Memory);
+        }
+    }
+    sessions.close(3);
+}
+
+/// Whichever request is refused, the baskets of a table are home when it ends, also those of
+/// sessions that are open.
+#[test]
+fn baskets_come_home_where_memory_was_refused(rt: HostRuntime) {
+    let Ok(pool) = pool_of(rt.alloc(), 0) else {
+        return;
+    };
+    let owner = Arc::try_clone(&pool).expect(&rt, "an owner takes no memory");
+    let mut sessions = Sessions::new(rt.alloc(), owner);
+    use_baskets(&rt, &mut sessions);
+    drop(sessions);
+    assert_equal(&rt, take_all(&pool), 32);
 }

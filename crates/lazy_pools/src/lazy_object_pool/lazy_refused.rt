@@ -1,5 +1,5 @@
-//! Why a pull of one pass gave no item of a lazy pool.
-use nonblocking_pools::fixed_object_pool::BusySeen;
+//! Why a pull gave no item of a lazy pool, where its error is no `PullError`.
+use nonblocking_pools::fixed_object_pool::{BusySeen, PoolNote};
 
 /// Why [`super::LazyObjectPool::try_pull`] gave no item.
 #[derive(Drop)]
@@ -8,4 +8,15 @@ pub enum LazyRefused<'p, T> {
     Busy(BusySeen<'p, Option<T>>),
     /// `init` returned `None`. The place is free again, and empty.
     NotMade,
+}
+
+/// Why [`super::LazyObjectPool::pull_with`] gave no item.
+#[derive(Drop)]
+pub enum PullWithError<T, E> {
+    /// The pool can have no more owners. Only of `pull_owned_with`.
+    Memory,
+    /// No item was free at one moment of the call, as this note knows.
+    Limit(PoolNote<Option<T>>),
+    /// The closure of the call failed. The place is free again, and empty.
+    Make(E),
 }

@@ -26,8 +26,8 @@ impl<T: Drop, I: Init<T, K>, R: Reset<T, K>, K: Clean<T>> LazyObjectPool<T, I, R
         }
     }
 
-    /// Takes a free place, or waits for `time` at most. `None` if the last try found no place free. A clock that can't be read ends
-    /// the wait.
+    /// Takes a free place, or waits for `time` at most. `None` if the last try found no place free.
+    /// A clock that can't be read ends the wait.
     pub(super) fn place_within<W: Wait + Clock>(
         &self,
         rt: &W,
@@ -55,7 +55,8 @@ impl<T: Drop, I: Init<T, K>, R: Reset<T, K>, K: Clean<T>> LazyObjectPool<T, I, R
         self.places.pull().ok()
     }
 
-    /// Waits for a place: the thread counts as waiting, and tries again each time that a return wakes it.
+    /// Waits for a place: the thread counts as waiting, and tries again each time that a return
+    /// wakes it.
     fn place_later<W: Wait>(&self, rt: &W) -> PulledItem<Option<T>>
         ensures pulled { IsPulledFrom (lazy_identity self.now) (lazy_opening self.now)
             (pulled_item result) }
@@ -98,7 +99,8 @@ impl<T: Drop, I: Init<T, K>, R: Reset<T, K>, K: Clean<T>> LazyObjectPool<T, I, R
     }
 }
 
-/// Returns what is left of a time since its start: `None` if nothing is, or if the clock can't be read.
+/// Returns what is left of a time since its start: `None` if nothing is, or if the clock can't be
+/// read.
 fn left_of<C: Clock>(clock: &C, start: Option<Instant>, time: Duration) -> Option<Duration> {
     let gone = start?.elapsed(clock).ok()?;
     let left = time.checked_sub(gone)?;

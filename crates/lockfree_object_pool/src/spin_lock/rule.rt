@@ -1,15 +1,16 @@
-//! The rule of a lock's table, and what each kind of step tells. No value of these types is made.
+//! The rule of a lock's table, and what is known after each kind of step. No value of these types
+//! is made.
 use atomic_table::{Play, TableRule};
 
-/// What one try to take the lock led to.
+/// The result of one try to take the lock.
 pub enum Visitor {
-    /// The lock was taken, or the turn is over.
+    /// The lock was already taken, or the turn is over.
     Passing,
-    /// The lock and its value were got, and aren't given back.
+    /// It has the lock and its value, and hasn't returned them yet.
     Holder,
 }
 
-/// The lock is taken just where a visitor holds it, and one holds it at a time.
+/// The lock is taken exactly if a visitor holds it, and at most one holds it.
 pub struct OneHolder;
 
 impl<T> TableRule<Option<T>, Visitor, ()> for OneHolder {

@@ -7,8 +7,9 @@ use crate::spin_lock::{FREE, PLACE, SpinLock, WORD};
 use atomic_table::Seat;
 use std::marker::Model;
 
-/// The right to one lock's place, which is empty: only [`Turn::end`] takes it back. In a clause it is the lock, and the
-/// holder's number.
+/// The right to one lock's place, which is empty. Only [`Turn::end`] takes it back.
+///
+/// In a clause it is the lock and the holder's number.
 pub struct Turn<'s, T> {
     pub(super) lock: &'s SpinLock<T>,
     pub(super) seat: Seat<Option<T>, Visitor>,
@@ -28,7 +29,7 @@ impl<'s, T> Model for Turn<'s, T> {
 }
 
 impl<'s, T> Turn<'s, T> {
-    /// The value goes home, and then the lock is free.
+    /// Puts the value back, and then frees the lock.
     pub(super) fn end(self, value: T) -> Seat<Option<T>, Visitor>
         ensures same { (result.table_id ≡ self.entry.0) × (result.id ≡ self.entry.1) }
         ensures over { HasNothing result.me }

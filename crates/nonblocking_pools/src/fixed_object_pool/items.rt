@@ -19,11 +19,14 @@ use std::sync::atomic::Ordering::SeqCst;
 
 mod at;
 mod full;
-mod low;
 pub mod order;
+mod pass;
 pub mod pulled_item;
 
-/// The word of one page of which so many items are free, and no other.
+/// How many words share a cache line.
+const WORDS_APART: usize = 8;
+
+/// Returns the word of a page of which the first `count` items are free.
 fn low_bits(count: usize) -> u64
     requires { count ≤ 32 }
     ensures { result ≡ 2 ^ count - 1 }
@@ -31,7 +34,7 @@ fn low_bits(count: usize) -> u64
     (1 << count) - 1
 }
 
-/// The words of so many free items.
+/// Returns the words of `count` free items.
 fn free_words(alloc: Global, count: usize) -> Result<Vec<u64>, AllocError>
     requires { 1 ≤ count }
     ensures pages { IfOk result (λ words. vec_len words ≡ (count + 31) / 32) }
@@ -50,8 +53,10 @@ pub struct FixedItems<T, K: Clean<T>> {
     count: usize,
     pages: usize,
     order: Order,
-    /// At which page the next pull starts. It promises nothing.
+    /// The page at which the next pull starts. It promises nothing.
     hint: AtomicU64,
+    /// How many pages were named by `next_own_page`. It promises nothing.
+    own_pages: AtomicU64,
     ghost counted: { count ≡ (items_identity shared).slots },
     ghost paged: { pages ≡ (items_identity shared).words },
     ghost counts_returns: { items_raise shared ≡ 1 },
@@ -71,9 +76,9 @@ impl<T, K: Clean<T>> FixedItems<T, K> {
     ghost use Rattle.pool_parts.specs.Refusal.{RefusesMaking};
     ghost use Rattle.pool_parts.specs.declared.page.history.Operation.TheVariants.{Return};
 
-    /// So many free items: item `i` is the answer of call `i` of `init`, counted from 0.
+    /// Creates `count` free items. Item `i` is the answer of call `i` of `init`, counted from 0.
     ///
-    /// It stops at the first `None`. Where it is refused, the items that were made are dropped.
+    /// It stops at the first `None`. If it fails, the items that were made are dropped.
     pub fn new<I: Fn() -> Option<T>>(
         alloc: Global,
         count: usize,
@@ -101,10 +106,11 @@ impl<T, K: Clean<T>> FixedItems<T, K> {
             pages: words.len(),
             order,
             hint: AtomicU64::new(0),
+            own_pages: AtomicU64::new(0),
         })
     }
 
-    /// How many items there are.
+    /// Returns the number of items.
     pub fn count(&self) -> usize
         ensures { result ≡ (fixed_identity self.now).slots }
     {
@@ -113,8 +119,9 @@ impl<T, K: Clean<T>> FixedItems<T, K> {
 
     /// Returns the page of this number, where the pages are counted round and round.
     ///
-    /// A division takes as long as an atomic step, so it is made only for a number that is past the pages.
-    pub(super) fn page_round(&self, page: usize) -> usize
+    /// A division takes as long as an atomic step, so it is made only for a number that is past the
+    /// pages.
+    pub fn page_round(&self, page: usize) -> usize
         ensures { result < (fixed_identity self.now).words }
     {
         if page < self.pages {
@@ -124,7 +131,7 @@ impl<T, K: Clean<T>> FixedItems<T, K> {
         }
     }
 
-    /// At which page a pull starts.
+    /// Returns the page at which a pull starts.
     pub(super) fn hinted(&self) -> usize
         ensures { result < (fixed_identity self.now).words }
     {
@@ -132,17 +139,33 @@ impl<T, K: Clean<T>> FixedItems<T, K> {
         if hint < self.pages { hint } else { 0 }
     }
 
-    /// Says that a page may have a free item. One that is said already costs a load alone.
+    /// Returns a page for one more user that begins at a page of its own.
+    ///
+    /// Each is a cache line further than the one before. Once the pages have come round, each is
+    /// one page further than the round before, so in a small pool users share a page only if there
+    /// are more users than pages.
+    pub fn next_own_page(&self) -> usize
+        ensures { result < (fixed_identity self.now).words }
+    {
+        let number = self.own_pages.fetch_add(1, SeqCst) as usize;
+        let lines = self.pages.div_ceil(WORDS_APART);
+        let page = WORDS_APART * (number % lines) + number / lines % WORDS_APART;
+        self.page_round(page)
+    }
+
+    /// Sets the hint to a page that may have a free item. If it names the page already, that costs
+    /// only a load.
     fn set_hint(&self, page: usize) {
         if self.hint.load(SeqCst) != page as u64 {
             self.hint.store(page as u64, SeqCst);
         }
     }
 
-    /// An item, or what the pull has seen where it observed each one taken. It makes one pass.
+    /// Pulls an item by one pass, or returns the evidence that each one was seen in use.
     ///
-    /// It begins at the hinted page, and goes on in the pool's order. Each word is read once at most, and each bit that was set
-    /// in it is cleared, lowest first, until one was still set. It hints at the page of its item.
+    /// It begins at the hinted page, and goes on in the pool's order. Each word is read once at
+    /// most, and each bit that was set in it is cleared, lowest first, until one was still set.
+    /// Beyond its first page it hints at the page of its item.
     pub fn try_pull<'p>(&self, pass: &'p PullPass) -> Result<PulledItem<T>, BusySeen<'p, T>>
         ensures pulled { IfOk result
             (λ pulled. IsPulledFrom (fixed_identity self.now) (fixed_opening self.now)
@@ -157,10 +180,9 @@ impl<T, K: Clean<T>> FixedItems<T, K> {
     {
         let page = self.hinted();
         let (word, mut seat) = self.shared.look(page);
-        let Some(taken) = self.take(&mut seat, page, word) else {
+        let Ok(taken) = self.take(&mut seat, page, word, self.order) else {
             return Err(BusySeen { seat, pass });
         };
-        self.set_hint(taken.number / PAGE_ITEMS);
         Ok(PulledItem {
             holding: Holding {
                 seat,
@@ -170,8 +192,51 @@ impl<T, K: Clean<T>> FixedItems<T, K> {
         })
     }
 
-    /// An item, or a note of a pool that was full at one moment. It begins at this page.
-    pub(super) fn pull_near(&self, start: usize) -> Result<PulledItem<T>, PoolNote<T>>
+    /// Pulls an item, or returns a note of a pool that was full at one moment. It begins at the
+    /// hinted page, and goes on in the pool's order.
+    pub fn pull(&self) -> Result<PulledItem<T>, PoolNote<T>>
+        ensures pulled { IfOk result
+            (λ pulled. IsPulledFrom (fixed_identity self.now) (fixed_opening self.now)
+            (pulled_item pulled)) }
+        ensures meets { IfOk result (λ pulled. K.meets pulled.value) }
+        ensures brief { IfOk result
+            (λ pulled. IsWithin
+            ((fixed_identity self.now).words * passes_to_take (returns_since (pulled_view pulled)))
+            no_steps (steps_of (pulled_view pulled))) }
+        ensures full { IfErr result
+            (IsFullNote (fixed_identity self.now) (fixed_opening self.now)) }
+        ensures full_brief { IfErr result
+            (λ note. IsWithin
+            ((fixed_identity self.now).words * passes_to_refuse (returns_since (note_view note)))
+            no_steps (note_steps note)) }
+    {
+        self.pull_in_order(self.hinted(), self.order)
+    }
+
+    /// Pulls an item as `pull` does, but begins at this page, and goes on at the hinted one. While
+    /// this page has a free item it neither reads nor sets the hint.
+    pub fn pull_near(&self, start: usize) -> Result<PulledItem<T>, PoolNote<T>>
+        requires { start < (fixed_identity self.now).words }
+        ensures pulled { IfOk result
+            (λ pulled. IsPulledFrom (fixed_identity self.now) (fixed_opening self.now)
+            (pulled_item pulled)) }
+        ensures meets { IfOk result (λ pulled. K.meets pulled.value) }
+        ensures brief { IfOk result
+            (λ pulled. IsWithin
+            ((fixed_identity self.now).words * passes_to_take (returns_since (pulled_view pulled)))
+            no_steps (steps_of (pulled_view pulled))) }
+        ensures full { IfErr result
+            (IsFullNote (fixed_identity self.now) (fixed_opening self.now)) }
+        ensures full_brief { IfErr result
+            (λ note. IsWithin
+            ((fixed_identity self.now).words * passes_to_refuse (returns_since (note_view note)))
+            no_steps (note_steps note)) }
+    {
+        self.pull_in_order(start, Order::Hinted)
+    }
+
+    /// Pulls an item as `pull` does, from this page on and in this order.
+    fn pull_in_order(&self, start: usize, order: Order) -> Result<PulledItem<T>, PoolNote<T>>
         requires { start < (fixed_identity self.now).words }
         ensures pulled { IfOk result
             (λ pulled. IsPulledFrom (fixed_identity self.now) (fixed_opening self.now)
@@ -189,7 +254,7 @@ impl<T, K: Clean<T>> FixedItems<T, K> {
             no_steps (note_steps note)) }
     {
         let (word, mut seat) = self.shared.look(start);
-        match self.take_or_full(&mut seat, start, word) {
+        match self.take_or_full(&mut seat, start, word, order) {
             Some(taken) => Ok(PulledItem {
                 holding: Holding {
                     seat,
@@ -201,29 +266,8 @@ impl<T, K: Clean<T>> FixedItems<T, K> {
         }
     }
 
-    /// As `pull_near`, which begins at the hinted page and hints at the page of its item.
-    pub fn pull(&self) -> Result<PulledItem<T>, PoolNote<T>>
-        ensures pulled { IfOk result
-            (λ pulled. IsPulledFrom (fixed_identity self.now) (fixed_opening self.now)
-            (pulled_item pulled)) }
-        ensures meets { IfOk result (λ pulled. K.meets pulled.value) }
-        ensures brief { IfOk result
-            (λ pulled. IsWithin
-            ((fixed_identity self.now).words * passes_to_take (returns_since (pulled_view pulled)))
-            no_steps (steps_of (pulled_view pulled))) }
-        ensures full { IfErr result
-            (IsFullNote (fixed_identity self.now) (fixed_opening self.now)) }
-        ensures full_brief { IfErr result
-            (λ note. IsWithin
-            ((fixed_identity self.now).words * passes_to_refuse (returns_since (note_view note)))
-            no_steps (note_steps note)) }
-    {
-        let pulled = self.pull_near(self.hinted())?;
-        self.set_hint(pulled.holding.number / PAGE_ITEMS);
-        Ok(pulled)
-    }
-
-    /// As `try_pull`, by a user that knows something of the pool: its pull stands after all that it knew.
+    /// Pulls as `try_pull` does, by a user that knows something of the pool. The pull comes after
+    /// all that it knew.
     pub(super) fn pull_from<'p>(
         &self,
         pass: &'p PullPass,
@@ -243,10 +287,9 @@ impl<T, K: Clean<T>> FixedItems<T, K> {
         let PageNote { mut seat } = note;
         let start = self.hinted();
         let word = self.shared.look_again(&mut seat, start);
-        let Some(taken) = self.take(&mut seat, start, word) else {
+        let Ok(taken) = self.take(&mut seat, start, word, self.order) else {
             return Err(BusySeen { seat, pass });
         };
-        self.set_hint(taken.number / PAGE_ITEMS);
         Ok(PulledItem {
             holding: Holding {
                 seat,
@@ -256,8 +299,8 @@ impl<T, K: Clean<T>> FixedItems<T, K> {
         })
     }
 
-    /// As `pull_near`, by a user that knows something of the pool: its pull stands after all that it knew. A refused pull
-    /// hands the note on, which knows what was found.
+    /// Pulls as `pull_near` does, by a user that knows something of the pool. The pull comes after
+    /// all that it knew. A refused pull returns the note, which knows what was found.
     pub(super) fn pull_onward(
         &self,
         page: usize,
@@ -280,7 +323,7 @@ impl<T, K: Clean<T>> FixedItems<T, K> {
     {
         let PageNote { mut seat } = note;
         let word = self.shared.look_again(&mut seat, page);
-        match self.take_or_full(&mut seat, page, word) {
+        match self.take_or_full(&mut seat, page, word, Order::Hinted) {
             Some(taken) => Ok(PulledItem {
                 holding: Holding {
                     seat,
@@ -292,7 +335,8 @@ impl<T, K: Clean<T>> FixedItems<T, K> {
         }
     }
 
-    /// Moves the value home and sets its bit, by the user that has the item. It hints at a page that was full.
+    /// Moves the value back and sets its bit, by the user that has the item. It hints at a page
+    /// that was full.
     pub fn give(&self, holding: Holding<T>, value: T) -> UserSeat<T>
         requires pool { holding_page holding ≡ fixed_identity self.now }
         requires in_pool { holding.number < (fixed_identity self.now).slots }
@@ -310,65 +354,5 @@ impl<T, K: Clean<T>> FixedItems<T, K> {
             self.set_hint(page);
         }
         seat
-    }
-
-    /// Takes an item that is free, by a user that has read the first word.
-    fn take(&self, seat: &mut UserSeat<T>, start: usize, word: u32) -> Option<TakenValue<T>>
-        requires pool { seat.old.table_id ≡ fixed_identity self.now }
-        requires in_pool { start < (fixed_identity self.now).words }
-        requires carries_none { seat.old.me.1 ≡ [] }
-        requires holds_none { seat.old.me.0.held ≡ None }
-        requires here { seat.old.me.0.gone ≡ false }
-        requires sound { IsSound seat.old.me.0 }
-        requires found { (bit : ℕ) → bit < 32 → bit_at word bit ≡ 0
-            → IsOutNow seat.old.me.0 (item_of start bit) }
-        ensures pool { seat.new.table_id ≡ seat.old.table_id }
-        ensures loads { seat.new.me.0.loads + 1 ≤ seat.old.me.0.loads +
-            (fixed_identity self.now).words }
-        ensures tries { seat.new.me.0.tries ≤ seat.old.me.0.tries + 32 *
-            (fixed_identity self.now).words }
-        ensures outcome { MatchOption result
-            (MissesAll 0 (fixed_identity self.now).slots seat.old.me seat.new.me) (λ taken.
-            TakesOne K.meets (fixed_identity self.now).slots taken.number taken.value seat.old.me
-            seat.new.me) }
-    {
-        if let Some(taken) = self.shared.take_lowest(seat, start, word) {
-            return Some(taken);
-        }
-        if let Order::LowFirst = self.order {
-            return self.take_low(seat, start);
-        }
-        if let Some(taken) = self.scan(seat, start + 1, self.pages) {
-            return Some(taken);
-        }
-        if let Some(taken) = self.scan(seat, 0, start) {
-            return Some(taken);
-        }
-        None
-    }
-
-    /// Reads the words from one page up to before another, and takes what is free in them.
-    fn scan(&self, seat: &mut UserSeat<T>, from: usize, to: usize) -> Option<TakenValue<T>>
-        requires pool { seat.old.table_id ≡ fixed_identity self.now }
-        requires ordered { from ≤ to }
-        requires in_pool { to ≤ (fixed_identity self.now).words }
-        requires carries_none { seat.old.me.1 ≡ [] }
-        requires holds_none { seat.old.me.0.held ≡ None }
-        requires here { seat.old.me.0.gone ≡ false }
-        requires sound { IsSound seat.old.me.0 }
-        ensures pool { seat.new.table_id ≡ seat.old.table_id }
-        ensures steps { IsWithin (to - from) (steps_of seat.old.me.0) (steps_of seat.new.me.0) }
-        ensures outcome { MatchOption result
-            (MissesAll (32 * from) (32 * to) seat.old.me seat.new.me) (λ taken.
-            TakesOne K.meets (fixed_identity self.now).slots taken.number taken.value seat.old.me
-            seat.new.me) }
-    {
-        for page in from..to {
-            let word = self.shared.look_on(seat, page);
-            if let Some(taken) = self.shared.take_lowest(seat, page, word) {
-                return Some(taken);
-            }
-        }
-        None
     }
 }

@@ -5,7 +5,8 @@ use pool_parts::clean::Clean;
 use pool_parts::closures::Init;
 use std::marker::PhantomData;
 
-/// What the pages of a pool open with: answers that an initializer of its type may give. Contracts alone name it.
+/// The condition of the values with which a pool's pages open: an initializer of its type may
+/// answer them. Only contracts name it.
 pub struct AnswerOf<I, K> {
     init: PhantomData<I>,
     condition: PhantomData<K>,

@@ -32,7 +32,8 @@ ReturnStep P = P → Item ℕ → P → Type 0
 abbrev AttachStep : Type 0 → Type 1
 AttachStep P = P → ℕ → Result (Item ℕ) (AttachError ℕ) → P → Type 0
 
--- A core shows a pool, as long as it is set so: each of its steps is a step of the pool, and it stays set.
+-- A core shows a pool, as long as it is set so: each of its steps is a step of the pool, and it
+-- stays set.
 module _ {C P : Type 0} (show : C → P) (IsSet : C → Type 0) (pulls : PullStep C) (gives : ReturnStep C)
     (attaches : AttachStep C)
     (shown_pulls : PullStep P) (shown_gives : ReturnStep P) (shown_attaches : AttachStep P)

@@ -1,6 +1,6 @@
 -- In each reachable world a step answers NotEnabled exactly where the event isn't enabled.
-use Rattle.std.proofs.Common.{◌≡◌, inl, inr, ℕ, true, Option, Some, None, [], ◌∷◌, slice_get, Ok}
-use Rattle.std.proofs.Common.{refl, ap, ◌∙◌}
+use Rattle.std.proofs.Common.{◌≡◌, inl, inr, ℕ, true, Option, Some, None, ◌∷◌, slice_get, Ok}
+use Rattle.std.proofs.Common.{ap, ◌∙◌}
 use Rattle.std.specs.Bool.{⊤}
 use Rattle.std.specs.Option.{option_and_then}
 use Rattle.object_pool_cores.specs.declared.interleave.event.Event.{Event}
@@ -14,7 +14,6 @@ use Rattle.object_pool_cores.specs.World.Machine.{Steps, MayGrow, MovesHome, poi
 use Rattle.object_pool_cores.specs.World.OwnSteps.{is_idle}
 use Rattle.object_pool_cores.specs.World.Enabled.{IsEnabled, IsExact}
 use Rattle.object_pool_cores.specs.World.Reachable.{IsReachable}
-use Rattle.object_pool_cores.specs.World.Headline.{IsNew}
 use Rattle.object_pool_cores.specs.World.Inside.Invariant.{AgentKnows}
 use Rattle.object_pool_cores.proofs.World.Invariant.{Agreement}
 use Rattle.object_pool_cores.proofs.World.Moves.{Happens, NotEnabled, NoMemory, Begins, Goes, move-enabled, move-named}
@@ -83,10 +82,6 @@ module _ {T : Type 0} where
   any-step Leaves old (event.MoveOut a) answer new (inl row) = inl row
   any-step Leaves old (event.Write a value) answer new (inl row) = inl row
   any-step Leaves old (event.OrMask a) answer new (inl row) = inl row
-
-  -- a new world is reached
-  pub reached-new : (world : WorldState T) → IsNew world → IsReachable world
-  reached-new world is_new = record { start = world; is_new = is_new; log = []; ran = refl }
 
   -- what the invariant knows of a world that can be reached
   pub reached-agrees : (world : WorldState T) (reached : IsReachable world)

@@ -101,7 +101,7 @@ module _ {T : Type 0} (Leaves : T → T → Type 0) (first : List T) (full : len
   opening-agrees limit allowed = record {
     reads = refl;
     run = tt;
-    found_out = tt;
+    saw_taken = tt;
     same = opening-reads limit;
     words = pushed-all (λ page. page.word < 2 ^ 32) [] (linked_page first) (lit< tt) (λ j page lookup. cc);
     places = pushed-all (λ page. length page.places ≡ 32) [] (linked_page first) (length-map first Some ∙ full)
@@ -166,7 +166,7 @@ module _ {T : Type 0} (Leaves : T → T → Type 0) (first : List T) (full : len
             (holders-run Leaves world.limit first full) acts agrees.run;
         held = λ a n value has. held-is log acts world agrees a n value (slice_get world.agents a) refl has;
         out = λ a n has. out-is log acts world agrees a n (slice_get world.agents a) refl has;
-        found_out = agrees.found_out;
+        saw_taken = agrees.saw_taken;
       }
 
 -- from a world in which no agent has begun the steps are a run

@@ -10,13 +10,13 @@ use Rattle.object_pool_cores.specs.declared.interleave.point.Point.TheVariants.{
 use Rattle.object_pool_cores.specs.declared.interleave.point.Point.TheVariants.{ClearingHinted, Making, Linking, Taken}
 use Rattle.object_pool_cores.specs.declared.interleave.point.Point.TheVariants.{Holding, Home, Ended}
 use Rattle.object_pool_cores.specs.Pool.{IsSame, IsOut, AllowsPages, number}
-use Rattle.object_pool_cores.specs.Run.{Act, Grows, agent_of, acts_of, pages_of, pool_of, Holds, FoundOut}
-use Rattle.object_pool_cores.specs.Run.{HadPages, MayCome, FoundOutBefore}
+use Rattle.object_pool_cores.specs.Run.{Act, Grows, agent_of, acts_of, pages_of, pool_of, Holds, SawTaken}
+use Rattle.object_pool_cores.specs.Run.{HadPages, MayCome, SawTakenBefore}
 use Rattle.object_pool_cores.specs.World.State.{WorldPageState, WorldState}
 use Rattle.object_pool_cores.specs.World.Machine.{page_value}
 use Rattle.object_pool_cores.specs.World.AbstractPool.{abstract_pool}
 use Rattle.object_pool_cores.specs.World.Trace.{Log, IsHidden, made_by, or_else, last_made, Shows}
-use Rattle.object_pool_cores.specs.World.Inside.Invariant.{FoundAsked, IsOn, IsAtLastPage, TriesBits}
+use Rattle.object_pool_cores.specs.World.Inside.Invariant.{SawAskedFull, IsOn, IsAtLastPage, TriesBits}
 use Rattle.object_pool_cores.specs.World.Inside.Invariant.{HoldsAt, AgentKnows, AgentKnowsIf, Agrees}
 use Rattle.object_pool_cores.specs.Laws.NumberedPlaces.{slice_get-set_same, slice_get-set_other}
 use Rattle.object_pool_cores.proofs.Runs.{since-later, other-opens, acts_of-other, holds-same}
@@ -32,7 +32,7 @@ module _ {T : Type 0} (first : List T) where
   -- what an agent knows is carried from one log, run and world to another
   pub record Carries (log later : Log T) (acts more : List (Act T)) (old new : WorldState T) (b : ℕ) : Type 0 where
     pub own : acts_of b more ≡ acts_of b acts
-    pub out : (n : ℕ) → FoundOut first acts b n → FoundOut first more b n
+    pub out : (n : ℕ) → SawTaken first acts b n → SawTaken first more b n
     pub had : (count : ℕ) → HadPages first acts b count → HadPages first more b count
     pub pages : length old.pages ≤ length new.pages
     pub limit : new.limit ≡ old.limit
@@ -42,12 +42,12 @@ module _ {T : Type 0} (first : List T) where
 
 module _ {T : Type 0} {first : List T} {log later : Log T} {acts more : List (Act T)} {old new : WorldState T} {b : ℕ}
     (carries : Carries first log later acts more old new b) where
-  asked-carried : (asked : Option ℕ) → FoundAsked first acts (length old.pages) b asked
-      → FoundAsked first more (length new.pages) b asked
+  asked-carried : (asked : Option ℕ) → SawAskedFull first acts (length old.pages) b asked
+      → SawAskedFull first more (length new.pages) b asked
   asked-carried None full = tt
   asked-carried (Some hint) full = record {
     linked = let below = full.linked in let more_pages = carries.pages in omega arith;
-    found_out = λ id within. carries.out (number hint id) (full.found_out id within);
+    saw_taken = λ id within. carries.out (number hint id) (full.saw_taken id within);
   }
 
   bits-carried : (k mask : ℕ) → TriesBits first acts b k mask → TriesBits first more b k mask
@@ -62,7 +62,7 @@ module _ {T : Type 0} {first : List T} {log later : Log T} {acts more : List (Ac
   on-carried k full asked on = record {
     looking = rw carries.own on.looking;
     linked = let below = on.linked in let more_pages = carries.pages in omega arith;
-    found_out = λ n below. carries.out n (on.found_out n below);
+    saw_taken = λ n below. carries.out n (on.saw_taken n below);
     asked_full = asked-carried asked on.asked_full;
   }
 
@@ -121,7 +121,8 @@ module _ {T : Type 0} where
   pages-some (act ∷ acts) = pages-some acts
 
 module _ {T : Type 0} (Leaves : T → T → Type 0) (first : List T) where
-  -- pages that an agent may leave by a step: they read as the pool, and what others left lies where it was
+  -- pages that an agent may leave by a step: they read as the pool, and what others left lies where
+  -- it was
   pub record StepsPages (acts more : List (Act T)) (world : WorldState T) (pages : List (WorldPageState T))
       (a : ℕ) : Type 0 where
     pub count : length world.pages ≤ length pages
@@ -184,7 +185,7 @@ module _ {T : Type 0} {Leaves : T → T → Type 0} {first : List T} {log : Log 
         agrees = record {
           reads = inl (hidden, agrees.reads);
           run = agrees.run;
-          found_out = agrees.found_out;
+          saw_taken = agrees.saw_taken;
           same = record { pages = left.same.pages; places = left.same.places };
           words = left.words;
           places = left.places;
@@ -207,18 +208,18 @@ module _ {T : Type 0} {Leaves : T → T → Type 0} {first : List T} {log : Log 
   -- a step whose answer shows an act
   pub visible-step : (act : Act T) (point : Point T) {e : Event T} {answer : Seen} {a : ℕ} {from : Point T}
       {pages : List (WorldPageState T)} → slice_get world.agents a ≡ Some from → Shows log e answer act
-      → MayCome Leaves world.limit first acts act → FoundOutBefore first acts act → agent_of act ≡ a
+      → MayCome Leaves world.limit first acts act → SawTakenBefore first acts act → agent_of act ≡ a
       → ((b : ℕ) → a ≢ b → made_by e answer b ≡ None)
       → StepsPages Leaves first acts (act ∷ acts) world pages a
       → AgentKnows Leaves first ((e, answer) ∷ log) (act ∷ acts) (moved world pages a point) a point
       → GoesOn Leaves first log e answer (moved world pages a point)
   visible-step act point {e = e} {answer = answer} {a = a} {from = from} {pages = pages} at shows may
-      found_out agent made left own = record {
+      saw_taken agent made left own = record {
         acts = act ∷ acts;
         agrees = record {
           reads = inr (act, acts, refl, shows, agrees.reads);
           run = (may, agrees.run);
-          found_out = (found_out, agrees.found_out);
+          saw_taken = (saw_taken, agrees.saw_taken);
           same = record { pages = left.same.pages; places = left.same.places };
           words = left.words;
           places = left.places;
@@ -256,7 +257,7 @@ module _ {T : Type 0} {Leaves : T → T → Type 0} {first : List T} {log : Log 
     agrees = record {
       reads = inl (hidden, agrees.reads);
       run = agrees.run;
-      found_out = agrees.found_out;
+      saw_taken = agrees.saw_taken;
       same = agrees.same;
       words = agrees.words;
       places = agrees.places;

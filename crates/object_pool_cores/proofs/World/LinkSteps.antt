@@ -14,12 +14,12 @@ use Rattle.object_pool_cores.specs.declared.interleave.point.Point.{Point}
 use Rattle.object_pool_cores.specs.declared.interleave.point.Point.TheVariants.{Reading, AtLink, Making, Linking, Ended}
 use Rattle.object_pool_cores.specs.Pool.{IsOut, AllowsPages, number}
 use Rattle.object_pool_cores.specs.Run.{Act, Opens, Grows, Refused, acts_of, pages_of, pool_of, Looks}
-use Rattle.object_pool_cores.specs.Run.{FoundPagesOut, HadPages, MayCome}
+use Rattle.object_pool_cores.specs.Run.{SawPagesTaken, HadPages, MayCome}
 use Rattle.object_pool_cores.specs.World.State.{WorldPageState, WorldState}
 use Rattle.object_pool_cores.specs.World.Machine.{is_limit, was_asked, comes_to}
 use Rattle.object_pool_cores.specs.World.Machine.{linked_page, value_in}
 use Rattle.object_pool_cores.specs.World.Trace.{Log, IsHidden, made_by, or_else, last_made}
-use Rattle.object_pool_cores.specs.World.Inside.Invariant.{FoundFull, IsPast, Agrees}
+use Rattle.object_pool_cores.specs.World.Inside.Invariant.{SawFull, IsPast, Agrees}
 use Rattle.object_pool_cores.specs.Laws.NumberedPlaces.{slice_get-append_front}
 use Rattle.object_pool_cores.proofs.Runs.{since-now, since-later, acts_of-own, pool-grown}
 use Rattle.object_pool_cores.proofs.World.AbstractPool.{pushed-all, same-grown}
@@ -57,10 +57,10 @@ module _ {T : Type 0} {Leaves : T → T → Type 0} {first : List T} {log : Log 
   refused : (e : Event T) (a k count : ℕ) (from : Point T) (cause : PullError) → slice_get old.agents a ≡ Some from
       → ((b : ℕ) → made_by e (seen.Refused a cause) b ≡ None)
       → MayCome Leaves old.limit first acts (Refused a cause)
-      → FoundPagesOut first acts a (k + 1) → HadPages first acts a (k + 1)
+      → SawPagesTaken first acts a (k + 1) → HadPages first acts a (k + 1)
       → GoesOn Leaves first log e (seen.Refused a cause) (moved old old.pages a Ended)
-  refused e a k count from cause at made may found_out had =
-      visible-step agrees (Refused a cause) _ at refl may (k + 1, omega arith, found_out, had) refl (λ b other. made b)
+  refused e a k count from cause at made may saw_taken had =
+      visible-step agrees (Refused a cause) _ at refl may (k + 1, omega arith, saw_taken, had) refl (λ b other. made b)
       (pages-stay agrees refl) tt
 
   pub at-limit : (a k : ℕ) (asked : Option ℕ) → slice_get old.agents a ≡ Some (AtLink k asked)
@@ -74,7 +74,7 @@ module _ {T : Type 0} {Leaves : T → T → Type 0} {first : List T} {log : Log 
       let count : length old.pages ≡ k + 1 = omega arith in
       let pages : pages_of acts ≡ k + 1 = agrees.same.pages ∙ count in
       refused (event.ReadNext a) a k (k + 1) (AtLink k asked) Limit at (λ b. refl)
-      (past.looking, (limit ∙ ap Some (sym pages), rw pages past.found_out)) past.found_out
+      (past.looking, (limit ∙ ap Some (sym pages), rw pages past.saw_taken)) past.saw_taken
       (had-now a (k + 1) past.looking count)
 
   pub at-end : (a k : ℕ) (asked : Option ℕ) → slice_get old.agents a ≡ Some (AtLink k asked)
@@ -87,7 +87,7 @@ module _ {T : Type 0} {Leaves : T → T → Type 0} {first : List T} {log : Log 
         past = record {
           looking = past.looking;
           linked = past.linked;
-          found_out = past.found_out;
+          saw_taken = past.saw_taken;
           asked_full = tt;
         };
         last = had-now a (k + 1) past.looking count;
@@ -106,7 +106,7 @@ module _ {T : Type 0} {Leaves : T → T → Type 0} {first : List T} {log : Log 
       (record {
         looking = past.looking;
         linked = omega arith;
-        found_out = past.found_out;
+        saw_taken = past.saw_taken;
         asked_full = past.asked_full;
       })
 
@@ -117,16 +117,16 @@ module _ {T : Type 0} {Leaves : T → T → Type 0} {first : List T} {log : Log 
       → GoesOn Leaves first log (event.ReadNext a) (seen.Next a true)
       (moved old old.pages a (AtLink (k + 1) asked))
   goes-past a k asked at past is =
-      let full : FoundFull first acts (length old.pages) a (k + 1) = rw is at past.asked_full in
+      let full : SawFull first acts (length old.pages) a (k + 1) = rw is at past.asked_full in
       stays agrees _ at tt (λ b other. refl)
       (record {
         looking = past.looking;
         linked = full.linked;
-        found_out = λ n below. elim (cases_lt n (32 * (k + 1))) [
-          | inl before ↦ past.found_out n before
+        saw_taken = λ n below. elim (cases_lt n (32 * (k + 1))) [
+          | inl before ↦ past.saw_taken n before
           | inr here ↦
               let same : number (k + 1) (n - 32 * (k + 1)) ≡ n = omega arith in
-              rw same at (full.found_out (n - 32 * (k + 1)) (omega arith))
+              rw same at (full.saw_taken (n - 32 * (k + 1)) (omega arith))
         ];
         asked_full = past.asked_full;
       })
@@ -161,14 +161,14 @@ module _ {T : Type 0} {Leaves : T → T → Type 0} {first : List T} {log : Log 
   lacks-memory a k at =
       let end = known agrees a (Making k) at in
       refused (event.MakePage a (Err Memory)) a k 0 (Making k) Memory at (λ b. refl)
-      (end.past.looking, tt) end.past.found_out end.last
+      (end.past.looking, tt) end.past.saw_taken end.last
 
   pub lacks-values : (a k : ℕ) → slice_get old.agents a ≡ Some (Making k)
       → GoesOn Leaves first log (event.MakePage a (Err Init)) (seen.Refused a Init) (moved old old.pages a Ended)
   lacks-values a k at =
       let end = known agrees a (Making k) at in
       refused (event.MakePage a (Err Init)) a k 0 (Making k) Init at (λ b. refl)
-      (end.past.looking, tt) end.past.found_out end.last
+      (end.past.looking, tt) end.past.saw_taken end.last
 
   -- the agent's own page is linked
   pub linked : length first ≡ 32 → (a k : ℕ) (values : List T) → slice_get old.agents a ≡ Some (Linking k values)
@@ -187,7 +187,7 @@ module _ {T : Type 0} {Leaves : T → T → Type 0} {first : List T} {log : Log 
         looking,
         (full, allows-fewer old.limit (pages_of acts + 1) (k + 1 + 1) (omega arith) end.allowed),
       )
-      (rw pool_pages end.past.found_out) refl (λ b other. refl)
+      (rw pool_pages end.past.saw_taken) refl (λ b other. refl)
       (record {
         count = omega arith;
         same =
@@ -204,8 +204,8 @@ module _ {T : Type 0} {Leaves : T → T → Type 0} {first : List T} {log : Log 
       (record {
         looking = rw (acts_of-own act acts a refl) looking;
         linked = omega arith;
-        found_out = λ n below. since-later first act acts a (λ pool. IsOut pool n) not_opens
-            (end.past.found_out n below);
+        saw_taken = λ n below. since-later first act acts a (λ pool. IsOut pool n) not_opens
+            (end.past.saw_taken n below);
         asked_full = tt;
       })
 

@@ -49,7 +49,8 @@ module _ {T : Type 0} where
   moved world pages a point = record { pages = pages; agents = slice_set world.agents a point; limit = world.limit }
 
 module _ {T : Type 0} (Leaves : T → T → Type 0) (old : WorldState T) (a : ℕ) where
-  -- an agent moves: from where, by which event, with which answer, which pages it leaves, and to where
+  -- an agent moves: from where, by which event, with which answer, which pages it leaves, and to
+  -- where
   pub data Moves : Point T → Event T → Seen → List (WorldPageState T) → Point T → Type 0 where
     Reads : (k : ℕ) (asked : Option ℕ)
         → Moves (Reading k asked) (event.ReadMask a) (seen.Word a (word_of old.pages k)) old.pages
@@ -97,7 +98,8 @@ module _ {T : Type 0} (Leaves : T → T → Type 0) (old : WorldState T) (a : �
         → Moves (Home k id) (event.OrMask a) (seen.Returned a (number k id))
         (with_word old.pages k (with_bit (word_of old.pages k) id)) Ended
 
--- what a step does: nothing, where the event isn't enabled or the world can't grow; an agent begins; or one moves
+-- what a step does: nothing, where the event isn't enabled or the world can't grow; an agent
+-- begins; or one moves
 pub data Happens {T : Type 0} (Leaves : T → T → Type 0) (old : WorldState T) (e : Event T) (point : Option (Point T))
     (answer : Seen) (new : WorldState T) : Type 0 where
   NotEnabled : (IsEnabled old e point → ⊥) → (answer ≡ seen.NotEnabled) → (new ≡ old)

@@ -17,7 +17,7 @@ use Rattle.object_pool_cores.specs.World.Machine.{IsOutcome, lowest, without_low
 use Rattle.object_pool_cores.specs.World.Machine.{point_of}
 use Rattle.object_pool_cores.specs.World.Trace.{Log}
 use Rattle.object_pool_cores.specs.World.OwnSteps.{is_idle, names, is_step_of}
-use Rattle.object_pool_cores.specs.World.Inside.Invariant.{FoundAsked, Agrees}
+use Rattle.object_pool_cores.specs.World.Inside.Invariant.{SawAskedFull, Agrees}
 use Rattle.object_pool_cores.specs.Laws.NumberedPlaces.{slice_get-set_same, slice_get-set_other}
 use Rattle.object_pool_cores.specs.Laws.NumberedPlaces.{slice_get-append_front, slice_get-append_last}
 use Rattle.object_pool_cores.proofs.World.Bits.{lowest-lt, without_lowest-lt}
@@ -47,7 +47,7 @@ module _ {T : Type 0} where
 module _ {T : Type 0} {Leaves : T → T → Type 0} {first : List T} {log : Log T} {acts : List (Act T)}
     {old : WorldState T} (agrees : Agrees Leaves first log acts old) where
   -- a page that a hint named lies before the end of the chain
-  early-end : (b k : ℕ) (asked : Option ℕ) → FoundAsked first acts (length old.pages) b asked
+  early-end : (b k : ℕ) (asked : Option ℕ) → SawAskedFull first acts (length old.pages) b asked
       → length old.pages ≡ k + 1 → taken_early asked k ≡ 0
   early-end b k None full last = refl
   early-end b k (Some hint) full last = let linked = full.linked in early-past hint k (omega arith)

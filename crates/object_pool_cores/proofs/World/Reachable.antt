@@ -1,5 +1,5 @@
 -- Steps one after another, from a world that can be reached.
-use Rattle.std.proofs.Common.{ℕ, Option, [], ◌∷◌, ◌++◌, slice_get}
+use Rattle.std.proofs.Common.{ℕ, Option, [], ◌∷◌, slice_get}
 use Rattle.object_pool_cores.specs.declared.interleave.point.Point.{Point}
 use Rattle.object_pool_cores.specs.World.State.{WorldState}
 use Rattle.object_pool_cores.specs.World.Trace.{Log}
@@ -11,14 +11,6 @@ use Rattle.object_pool_cores.specs.World.Inside.Progress.{MovesOn, Rises}
 use Rattle.object_pool_cores.proofs.World.OwnSteps.{AdvancedTo, effect-advances, none-advanced, step-does}
 
 module _ {T : Type 0} (Leaves : T → T → Type 0) where
-  -- steps that follow others
-  pub ran-append : (old between : WorldState T) (earlier : Log T) → Executes Leaves old earlier between
-      → (later : Log T) (new : WorldState T)
-      → Executes Leaves between later new → Executes Leaves old (later ++ earlier) new
-  ran-append old between earlier before [] new same = rw same before
-  ran-append old between earlier before ((e, answer) ∷ later) new (last, ran, step, exact) =
-      (last, ran-append old between earlier before later last ran, step, exact)
-
   -- what steps lead to can be reached
   pub ran-reached : (old : WorldState T) → IsReachable old → (log : Log T) (new : WorldState T)
       → Executes Leaves old log new → IsReachable new

@@ -297,7 +297,8 @@ module _ {T : Type 0} (Leaves : T → T → Type 0) (old : WorldState T) (reache
       (walk (λ none. (unhinted none).1) (λ last other. (brings last other).1)))
       log new ran alone
 
-  -- to a page with a free number; behind the last page, where a page may be linked, and where none may
+  -- to a page with a free number; behind the last page, where a page may be linked, and where none
+  -- may
   ran-takes : (extra k : ℕ) → (extra ≡ 0 → AsksNoHints log) → IsFirstFree old.pages k
       → 2 * k + 3 + extra ≤ own_steps log a
       → IsAnswered log (seen.MovedOut a)

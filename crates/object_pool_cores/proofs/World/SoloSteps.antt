@@ -326,7 +326,8 @@ module _ {T : Type 0} where
 
 module _ {T : Type 0} (Leaves : T → T → Type 0) (old : WorldState T) (reached : IsReachable old) (a : ℕ)
     (P : ℕ → Log T → WorldState T → Type 0) where
-  -- what holds at first, and goes on to hold at each step, holds where an agent ran solo, by the count of its steps
+  -- what holds at first, and goes on to hold at each step, holds where an agent ran solo, by the
+  -- count of its steps
   pub ran-alone : P 0 [] old
       → ((entry : Event T × Seen) (n : ℕ) (log : Log T) (world : WorldState T) → P n log world
       → P n (entry ∷ log) world)

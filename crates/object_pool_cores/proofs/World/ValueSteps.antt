@@ -159,7 +159,7 @@ module _ {T : Type 0} {Leaves : T → T → Type 0} {first : List T} {log : Log 
         agrees = record {
           reads = inr (act, acts, refl, refl, agrees.reads);
           run = (unknown a (omega arith), agrees.run);
-          found_out = (tt, agrees.found_out);
+          saw_taken = (tt, agrees.saw_taken);
           same = record { pages = agrees.same.pages; places = agrees.same.places };
           words = agrees.words;
           places = agrees.places;
@@ -180,7 +180,7 @@ module _ {T : Type 0} {Leaves : T → T → Type 0} {first : List T} {log : Log 
                       (record {
                         looking = rw (acts_of-own act acts b same, none) tt;
                         linked = omega arith;
-                        found_out = λ n below. absurd (omega arith);
+                        saw_taken = λ n below. absurd (omega arith);
                         asked_full = tt;
                       })
                   | inr other ↦

@@ -10,7 +10,7 @@ use Rattle.object_pool_cores.specs.declared.interleave.point.Point.{Point}
 use Rattle.object_pool_cores.specs.declared.interleave.point.Point.TheVariants.{Reading, Clearing, AtLink}
 use Rattle.object_pool_cores.specs.declared.interleave.point.Point.TheVariants.{ClearingHinted, Taken, Home, Ended}
 use Rattle.object_pool_cores.specs.Pool.{IsSame, IsFree, IsOut, number}
-use Rattle.object_pool_cores.specs.Run.{Act, Operates, acts_of, pages_of, pool_of, Looks, FoundOut}
+use Rattle.object_pool_cores.specs.Run.{Act, Operates, acts_of, pages_of, pool_of, Looks, SawTaken}
 use Rattle.object_pool_cores.specs.World.State.{WorldPageState, WorldState}
 use Rattle.object_pool_cores.specs.World.Machine.{has_bit, with_bit, without_bit}
 use Rattle.object_pool_cores.specs.World.Machine.{lowest, without_lowest, word_in, word_of, page_value, with_word}
@@ -32,14 +32,14 @@ module _ {T : Type 0} (Leaves : T → T → Type 0) (first : List T) where
   -- an agent that has some bits to try, or none
   tries-known : (later : Log T) (acts : List (Act T)) (world : WorldState T) (a k mask : ℕ) (asked : Option ℕ)
       → LooksOn first acts (length world.pages) a k asked
-      → mask < 2 ^ 32 → ((id : ℕ) → id < 32 → has_bit mask id ≡ false → FoundOut first acts a (number k id))
+      → mask < 2 ^ 32 → ((id : ℕ) → id < 32 → has_bit mask id ≡ false → SawTaken first acts a (number k id))
       → AgentKnows Leaves first later acts world a (tries k mask asked)
   tries-known later acts world a k mask asked looks fits others = elim (cases_eq mask 0) [
     | inl none ↦ rw (eq-eqb mask 0 none) (record {
       looking = looks.looking;
       linked = looks.linked;
-      found_out = λ n below. elim (cases_lt n (32 * k)) [
-        | inl before ↦ looks.found_out n before
+      saw_taken = λ n below. elim (cases_lt n (32 * k)) [
+        | inl before ↦ looks.saw_taken n before
         | inr here ↦
             let same : number k (n - 32 * k) ≡ n = omega arith in
             rw same at (others (n - 32 * k) (omega arith)
@@ -54,16 +54,16 @@ module _ {T : Type 0} (Leaves : T → T → Type 0) (first : List T) where
   tries_hinted-known : (later : Log T) (acts : List (Act T)) (world : WorldState T) (a hint mask : ℕ)
       → IsPast first acts (length world.pages) a 0 None
       → 0 < hint → hint < length world.pages → mask < 2 ^ 32
-      → ((id : ℕ) → id < 32 → has_bit mask id ≡ false → FoundOut first acts a (number hint id))
+      → ((id : ℕ) → id < 32 → has_bit mask id ≡ false → SawTaken first acts a (number hint id))
       → AgentKnows Leaves first later acts world a (tries_hinted hint mask)
   tries_hinted-known later acts world a hint mask past further linked fits others = elim (cases_eq mask 0) [
     | inl none ↦ rw (eq-eqb mask 0 none) (record {
       looking = past.looking;
       linked = past.linked;
-      found_out = past.found_out;
+      saw_taken = past.saw_taken;
       asked_full = record {
         linked = linked;
-        found_out = λ id within. others id within (ap (λ m. has_bit m id) none ∙ has_bit-none id);
+        saw_taken = λ id within. others id within (ap (λ m. has_bit m id) none ∙ has_bit-none id);
       };
     })
     | inr some ↦ rw (ne_eqb mask 0 some) (record {
@@ -195,11 +195,11 @@ module _ {T : Type 0} {Leaves : T → T → Type 0} {first : List T} {log : Log 
         value-word old.pages k word page here k id ∙ lies,
       )
 
-  -- the numbers that it has found out then
+  -- the numbers that it has seen taken then
   lost-others : (a k mask : ℕ) → Looks (acts_of a acts) → k < length old.pages → TriesBits first acts a k mask
       → has_bit (word_of old.pages k) (lowest mask) ≡ false → (id : ℕ) → id < 32
       → has_bit (without_lowest mask) id ≡ false
-      → FoundOut first acts a (number k id)
+      → SawTaken first acts a (number k id)
   lost-others a k mask looking linked bits clear id within gone =
       let (page, here) = slice_get-some old.pages k linked in
       let word_is : word_of old.pages k ≡ page.word = ap word_in here in

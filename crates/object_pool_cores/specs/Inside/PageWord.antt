@@ -1,4 +1,5 @@
--- What a sequential page keeps: a value at each free id, and a word whose set bits are the free ids.
+-- What a sequential page keeps: a value at each free id, and a word whose set bits are the free
+-- ids.
 use Rattle.std.specs.Prelude.{◌≡◌, ℕ, Option, List, length}
 use Rattle.std.specs.Int.{bit_at}
 use Rattle.object_pool_cores.specs.OnePage.{IsFreeId, IsOutId}

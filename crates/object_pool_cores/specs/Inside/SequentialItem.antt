@@ -1,4 +1,5 @@
--- What an item shows: its value, its number where its pool numbers its items, and whether it brings a room.
+-- What an item shows: its value, its number where its pool numbers its items, and whether it brings
+-- a room.
 use Rattle.std.specs.Prelude.{ℕ, Option, Some, None, Bool, true, false}
 use Rattle.object_pool_cores.specs.declared.sequential.item.Item.{Item}
 use Rattle.object_pool_cores.specs.declared.sequential.item.Home.{Home}

@@ -5,12 +5,12 @@ use Rattle.pool_parts.specs.declared.pull_error.PullError.{PullError}
 use Rattle.object_pool_cores.specs.declared.sequential.item.Item.{Item}
 use Rattle.object_pool_cores.specs.declared.sequential.none_core.NoneCore.{NoneCore}
 use Rattle.object_pool_cores.specs.Bag.{PullsFromBag, pulled_value}
-use Rattle.object_pool_cores.specs.NoPool.{Pulls}
+use Rattle.object_pool_cores.specs.NoPool.{NonePulls}
 
 module _ {T I : Type 0} where
-  pub Pulls-from_bag : (answers : Option T → Type 0) (old new : NoneCore T I)
-      (answer : Result (Item T) PullError) → Pulls answers old answer new
+  pub NonePulls-from_bag : (answers : Option T → Type 0) (old new : NoneCore T I)
+      (answer : Result (Item T) PullError) → NonePulls answers old answer new
       → PullsFromBag answers [] (pulled_value answer) []
-  Pulls-from_bag answers old new (Ok item) pulls =
+  NonePulls-from_bag answers old new (Ok item) pulls =
       inr (record { none = refl; answer = pulls.1.1; further = All-nil (λ w. answers (Some w)) })
-  Pulls-from_bag answers old new (Err cause) pulls = (refl, refl)
+  NonePulls-from_bag answers old new (Err cause) pulls = (refl, refl)

@@ -12,7 +12,7 @@ use Rattle.object_pool_cores.specs.Move.{after_growth}
 use Rattle.object_pool_cores.specs.LeastChoice.{IsExhausted, TakesLeast, GrowsFirst, PullsLeast, PullsItem}
 use Rattle.object_pool_cores.specs.Bag.{IsPutIn, IsFresh, PullsFromBag, ReturnsToBag, pulled_value}
 use Rattle.object_pool_cores.specs.Inside.Numbered.{Numbered, listed_pool, free_values}
-use Rattle.object_pool_cores.specs.Linear.{Pulls, Gives}
+use Rattle.object_pool_cores.specs.Linear.{LinearPulls, LinearGives}
 use Rattle.object_pool_cores.specs.Laws.PoolSteps.{at-with_place, free-grown}
 use Rattle.object_pool_cores.specs.Laws.NumberedPlaces.{place_of-free, place_of-out, listed_pool-set}
 use Rattle.object_pool_cores.specs.Laws.FreeValues.{same_places, free_values-taken, free_values-put, free_values-none}
@@ -82,17 +82,17 @@ module _ {T : Type 0} where
   )
 
 module _ {T I R K : Type 0} where
-  pub Pulls-from_bag : (answers : Option T → Type 0) (old new : LinearCore T I R K)
-      (answer : Result (Item T) PullError) → Pulls answers old answer new
+  pub LinearPulls-from_bag : (answers : Option T → Type 0) (old new : LinearCore T I R K)
+      (answer : Result (Item T) PullError) → LinearPulls answers old answer new
       → PullsFromBag answers (free_values old.items.places) (pulled_value answer)
       (free_values new.items.places)
-  Pulls-from_bag answers old new answer pulls =
+  LinearPulls-from_bag answers old new answer pulls =
       pulls_from_bag old.items.limit answers old.items new.items answer pulls.pulled
 
-  pub Gives-to_bag : (leaves : T → T → Type 0) (old new : LinearCore T I R K) (item : Item T)
-      → Gives leaves old item new → ReturnsToBag leaves (free_values old.items.places) (item_value item)
+  pub LinearGives-to_bag : (leaves : T → T → Type 0) (old new : LinearCore T I R K) (item : Item T)
+      → LinearGives leaves old item new → ReturnsToBag leaves (free_values old.items.places) (item_value item)
       (free_values new.items.places)
-  Gives-to_bag leaves old new item gives =
+  LinearGives-to_bag leaves old new item gives =
       let here = place_of-out (slice_get old.items.places gives.returned.n) gives.returned.was_out in
       let list = list_of-with_place old.items new.items gives.returned.n (Some gives.returned.kept)
       (within_places old.items gives.returned.n None here) gives.returned.returned in

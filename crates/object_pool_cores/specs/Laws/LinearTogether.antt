@@ -11,7 +11,7 @@ use Rattle.object_pool_cores.specs.Inside.SequentialItem.{item_value, item_numbe
 use Rattle.object_pool_cores.specs.Pool.{Pool, Absent, Free, Out, IsFree, IsOut, IsPool, IsSame, with_place}
 use Rattle.object_pool_cores.specs.Move.{after_growth}
 use Rattle.object_pool_cores.specs.LeastChoice.{PullsLeast}
-use Rattle.object_pool_cores.specs.Linear.{core_pool, limit_of, Pulls, Gives, HeldTogether, IsOutOf}
+use Rattle.object_pool_cores.specs.Linear.{core_pool, limit_of, LinearPulls, LinearGives, HeldTogether, IsOutOf}
 use Rattle.object_pool_cores.specs.Laws.PoolSteps.{with_place-same, with_place-other, grown-old}
 use Rattle.object_pool_cores.specs.Laws.HeldItems.{slice_get-from_set, slice_get-from_push}
 
@@ -119,7 +119,7 @@ module _ {T I R K : Type 0} where
 
   pub HeldTogether-pulled : (answers : Option T → Type 0) (old new : LinearCore T I R K)
       (held : List (Option (Item T))) (item : Item T) → HeldTogether old held
-      → Pulls answers old (Ok item) new → HeldTogether new (held ++ Some item ∷ [])
+      → LinearPulls answers old (Ok item) new → HeldTogether new (held ++ Some item ∷ [])
   HeldTogether-pulled answers old new held item together pulls =
       let pulled = pulls.pulled in
       HeldTogether-push old new held item pulled.0 together pulled.1
@@ -128,7 +128,7 @@ module _ {T I R K : Type 0} where
 
   pub HeldTogether-refused : (answers : Option T → Type 0) (old new : LinearCore T I R K)
       (held : List (Option (Item T))) (cause : PullError) → HeldTogether old held
-      → Pulls answers old (Err cause) new → HeldTogether new held
+      → LinearPulls answers old (Err cause) new → HeldTogether new held
   HeldTogether-refused answers old new held cause together pulls =
       HeldTogether-fewer old new held held together (λ index item e. (item, e, refl))
       (λ index item e out. IsOutOf-kept old new item (λ n _ was. pulls.pulled.same.places n ∙ was) out)
@@ -139,7 +139,7 @@ module _ {T I R K : Type 0} where
 
   pub HeldTogether-given : (leaves : T → T → Type 0) (old new : LinearCore T I R K)
       (held : List (Option (Item T))) (index : ℕ) (item : Item T) → HeldTogether old held
-      → slice_get held index ≡ Some (Some item) → Gives leaves old item new
+      → slice_get held index ≡ Some (Some item) → LinearGives leaves old item new
       → HeldTogether new (slice_set held index None)
   HeldTogether-given leaves old new held index item together here gives =
       HeldTogether-fewer old new held (slice_set held index None) together

@@ -11,7 +11,7 @@ use Rattle.object_pool_cores.specs.declared.sequential.stack_core.StackCore.{Sta
 use Rattle.object_pool_cores.specs.Inside.SequentialItem.{item_value, has_room, with_value}
 use Rattle.object_pool_cores.specs.Bag.{PullsFromBag, ReturnsToBag, pulled_value}
 use Rattle.object_pool_cores.specs.LastIn.{TakesLast, PullsLast}
-use Rattle.object_pool_cores.specs.Stack.{Pulls, Gives, HoldRooms, kept_of}
+use Rattle.object_pool_cores.specs.Stack.{StackPulls, StackGives, HoldRooms, kept_of}
 use Rattle.object_pool_cores.specs.Laws.HeldItems.{slice_get-from_set, slice_get-from_push}
 
 module _ {T : Type 0} where
@@ -60,15 +60,15 @@ module _ {T : Type 0} where
       ]
 
 module _ {T I R K : Type 0} where
-  pub Pulls-from_bag : (answers : Option T → Type 0) (old new : StackCore T I R K)
-      (answer : Result (Item T) PullError) → Pulls answers old answer new
+  pub StackPulls-from_bag : (answers : Option T → Type 0) (old new : StackCore T I R K)
+      (answer : Result (Item T) PullError) → StackPulls answers old answer new
       → PullsFromBag answers (kept_of old) (pulled_value answer) (kept_of new)
-  Pulls-from_bag answers old new answer pulls =
+  StackPulls-from_bag answers old new answer pulls =
       pulled_from_bag answers (kept_of old) answer (kept_of new) pulls.pulled
 
-  pub Gives-to_bag : (leaves : T → T → Type 0) (old new : StackCore T I R K) (item : Item T)
-      → Gives leaves old item new → ReturnsToBag leaves (kept_of old) (item_value item) (kept_of new)
-  Gives-to_bag leaves old new item gives =
+  pub StackGives-to_bag : (leaves : T → T → Type 0) (old new : StackCore T I R K) (item : Item T)
+      → StackGives leaves old item new → ReturnsToBag leaves (kept_of old) (item_value item) (kept_of new)
+  StackGives-to_bag leaves old new item gives =
       let returned = gives.returned in
       inl (
         returned.0,

@@ -17,7 +17,8 @@ pub record KeepsCapacity (old new : Capacity) : Type 0 where
   pub pages : old.pages ≤ new.pages
 
 module _ {T : Type 0} where
-  -- there is room for what the event may add: for one agent more, or for the page that an agent makes
+  -- there is room for what the event may add: for one agent more, or for the page that an agent
+  -- makes
   abbrev pub HasCapacityFor : Capacity → WorldState T → Event T → Type 0
   HasCapacityFor capacity world event.Begin = length world.agents < capacity.agents
   HasCapacityFor capacity world (event.MakePage a (Ok values)) = length world.pages < capacity.pages

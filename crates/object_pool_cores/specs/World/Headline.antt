@@ -1,25 +1,24 @@
--- The main theorem: under every interleaving of their steps, what agents do in a world is a run of one pool.
--- Begin here, with `IsRun`; `SinceNew` and `RunsEvents` say of which events it holds.
-use Rattle.std.specs.Prelude.{◌≡◌, ℕ, ◌-◌, ◌*◌, ◌<◌, Option, Some, None, List, [], ◌∷◌, ◌++◌, map, reverse, length}
+-- The main theorem: under every interleaving of their steps, what agents do in a world is a run of
+-- one pool. Begin here, with `IsRun`; `Past` and `RunsEvents` say of which events it holds. How
+-- many steps of its own an agent needs is a second theorem, in `World.StepBounds`.
+use Rattle.std.specs.Prelude.{◌≡◌, ℕ, Some, List, [], ◌∷◌, ◌++◌, map, reverse, length}
 use Rattle.std.specs.Prelude.{slice_get, Result, OnOk}
 use Rattle.object_pool_cores.specs.declared.interleave.event.Event.{Event}
 use Rattle.object_pool_cores.specs.declared.interleave.event.Seen.{Seen}
-use Rattle.object_pool_cores.specs.declared.interleave.point.Point.TheVariants.{Reading, AtLink}
 use Rattle.object_pool_cores.specs.declared.run_error.RunError.{RunError}
 use Rattle.object_pool_cores.specs.Pool.{IsSame, AllowsPages}
-use Rattle.object_pool_cores.specs.Run.{Act, ledger_of, opened, pool_of, Holds, Run, FoundOutBeforeEach, HasHolders}
+use Rattle.object_pool_cores.specs.Run.{Act, ledger_of, opened, pool_of, Holds, Run, SawTakenBeforeEach, HasHolders}
 use Rattle.object_pool_cores.specs.Run.{IsWhole, AtEachPlace}
 use Rattle.object_pool_cores.specs.World.State.{WorldState}
 use Rattle.object_pool_cores.specs.World.Machine.{Steps, agent_item, number_out, opening_world}
 use Rattle.object_pool_cores.specs.World.Enabled.{IsExact}
 use Rattle.object_pool_cores.specs.World.AbstractPool.{abstract_pool}
 use Rattle.object_pool_cores.specs.World.Trace.{Log, IsTraceOf}
-use Rattle.object_pool_cores.specs.World.Solo.{IsSolo, AsksNoHints, RunsSolo, RunsSoloByHint, StepsInOrder}
-use Rattle.object_pool_cores.specs.World.OwnSteps.{own_steps, IsAtPage, IsAtHintedPage, IsLooking}
 use Rattle.pool_parts.specs.declared.page.TheConstants.{PAGE_ITEMS}
 use Rattle.nonblocking_pools.specs.Ledger.{IsLegal}
 
--- what the events did, from a world of these first values in which no agent had begun, is a run of one pool
+-- what the events did, from a world of these first values in which no agent had begun, is a run of
+-- one pool
 pub record IsRun {T : Type 0} (Leaves : T → T → Type 0) (first : List T) (log : Log T)
     (world : WorldState T) : Type 0 where
   -- the answers that show something of the pool, one after another, are acts
@@ -41,9 +40,9 @@ pub record IsRun {T : Type 0} (Leaves : T → T → Type 0) (first : List T) (lo
       (a n : ℕ) (value : T) → agent_item (slice_get world.agents a) ≡ Some (n, value) → Holds acts a n value
   -- so it is of its number from its pull to its return
   pub out : (a n : ℕ) → number_out (slice_get world.agents a) ≡ Some n → (value : T) × Holds acts a n value
-  -- since it began, the agent had found out each number at each growth, and at each refusal
-  -- each number of as many pages as there were at some place since then
-  pub found_out : FoundOutBeforeEach first acts
+  -- at each growth its agent had seen each number taken since it began, and at each
+  -- refusal each number of as many pages as there were at some place since then
+  pub saw_taken : SawTakenBeforeEach first acts
 
 -- a world of one page of 32 values, in which no agent has begun
 pub record IsNew {T : Type 0} (world : WorldState T) : Type 0 where
@@ -51,12 +50,6 @@ pub record IsNew {T : Type 0} (world : WorldState T) : Type 0 where
   pub full : length first ≡ PAGE_ITEMS
   pub allowed : AllowsPages world.limit 1
   pub same : world ≡ opening_world first world.limit
-
--- events with their answers, between two worlds
-pub record Segment (T : Type 0) : Type 0 where
-  pub from : WorldState T
-  pub log : Log T
-  pub to : WorldState T
 
 -- what a call of `run` is given: the world, the events, and the answers that were there
 pub record RunStart (T : Type 0) : Type 0 where
@@ -85,69 +78,13 @@ module _ {T : Type 0} (Leaves : T → T → Type 0) where
     pub log : Log T
     pub ran : Executes start log world
 
-  -- steps among others: those before them and those after them
-  pub record IsPart (part whole : Segment T) : Type 0 where
-    pub earlier : Log T
-    pub later : Log T
-    pub logs : later ++ part.log ++ earlier ≡ whole.log
-    pub before : Executes whole.from earlier part.from
-    pub steps : Executes part.from part.log part.to
-    pub after : Executes part.to later whole.to
-
-  -- what an agent's own steps come to, on each part of a segment
-  pub record Advances (whole : Segment T) : Type 0 where
-    -- an agent that reads page k is off it by its 33rd own step: while it is on the page it took fewer
-    pub per_page :
-        (part : Segment T) → IsPart part whole → (a k : ℕ) (asked : Option ℕ)
-        → slice_get part.from.agents a ≡ Some (Reading k asked) → IsAtPage k (slice_get part.to.agents a)
-        → own_steps part.log a < 33
-    -- so it is of the page that a hint names: an agent at the first link is off it by its 33rd own step
-    pub per_hint :
-        (part : Segment T) → IsPart part whole → (a : ℕ)
-        → slice_get part.from.agents a ≡ Some (AtLink 0 None) → IsAtHintedPage (slice_get part.to.agents a)
-        → own_steps part.log a < 33
-    -- under a limit an agent that begins is pulled or refused by its own step 36 * limit - 2: while it looks
-    -- it took fewer
-    pub bounded :
-        (part : Segment T) → IsPart part whole → (a limit : ℕ)
-        → slice_get part.from.agents a ≡ None → part.to.limit ≡ Some limit
-        → IsLooking (slice_get part.to.agents a)
-        → own_steps part.log a < 36 * limit - 2
-    -- an agent that has begun, and runs solo without a hint, has an item or is refused after so many steps
-    pub alone :
-        (part : Segment T) → IsPart part whole → (a : ℕ)
-        → slice_get part.from.agents a ≡ Some (Reading 0 None) → IsSolo a part.log → AsksNoHints part.log
-        → RunsSolo part.from part.log part.to a
-    -- so it is where its events come one after another as its points allow them
-    pub in_order :
-        (part : Segment T) → IsPart part whole → (a : ℕ)
-        → slice_get part.from.agents a ≡ Some (Reading 0 None) → IsSolo a part.log → AsksNoHints part.log
-        → StepsInOrder part.from part.log part.to a
-    -- an agent that runs solo, and may ask a page by a hint, has an item or is refused by one step more
-    pub alone_by_hint :
-        (part : Segment T) → IsPart part whole → (a : ℕ)
-        → slice_get part.from.agents a ≡ Some (Reading 0 None) → IsSolo a part.log
-        → RunsSoloByHint part.from part.log a
-
-  -- all that was done since the world was new
-  pub record SinceNew (first : List T) (whole : Segment T) : Type 0 where
-    -- it is a run of one pool
-    pub headline : IsRun Leaves first whole.log whole.to
-    -- under a limit an agent is pulled or refused by its
-    -- own step 36 * limit - 2: while it looks it took fewer
-    pub bounded :
-        (a limit : ℕ) → whole.to.limit ≡ Some limit → IsLooking (slice_get whole.to.agents a)
-        → own_steps whole.log a < 36 * limit - 2
-    pub advances : Advances whole
-
   -- the events were done from the first on, all of them unless memory ran out
   pub record RunsEvents (before : RunStart T) (after : RunEnd T) : Type 0 where
     -- the events that were done, with their answers
     pub log : Log T
     -- whatever was done before, it and they together are a run since the world was new
-    pub since_new :
-        (past : Past before.world)
-        → SinceNew past.is_new.first (record { from = past.start; log = log ++ past.log; to = after.world })
+    pub headline :
+        (past : Past before.world) → IsRun Leaves past.is_new.first (log ++ past.log) after.world
     -- they are a prefix of the list, and after Ok the whole list
     pub rest : List (Event T)
     pub done : map (λ entry. entry.0) (reverse log) ++ rest ≡ before.events
@@ -156,4 +93,3 @@ module _ {T : Type 0} (Leaves : T → T → Type 0) where
     pub answers : before.seen ++ map (λ entry. entry.1) (reverse log) ≡ after.seen
     -- each is a step of the machine, and exactly an event that isn't enabled is answered so
     pub steps : Executes before.world log after.world
-    pub advances : Advances (record { from = before.world; log = log; to = after.world })

@@ -65,7 +65,8 @@ module _ {T : Type 0} where
   HasMovedOut (Some (Holding k id value)) = ⊤
   HasMovedOut _ = ⊥
 
-  -- the agent moves its value out by its own step of this count at the latest, and has it after just so many
+  -- the agent moves its value out by its own step of this count at the latest, and has it after
+  -- just so many
   pub record MovesOutBy (count : ℕ) (log : Log T) (new : WorldState T) (a : ℕ) : Type 0 where
     pub answered : count ≤ own_steps log a → IsAnswered log (seen.MovedOut a)
     pub held : own_steps log a ≡ count → HasMovedOut (slice_get new.agents a)

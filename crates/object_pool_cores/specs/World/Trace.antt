@@ -37,7 +37,8 @@ module _ {T : Type 0} where
   last_made [] a = None
   last_made ((e, answer) ∷ log) a = or_else (made_by e answer a) (last_made log a)
 
-  -- the answer shows this act, with the value of the event, or the values that the agent made before
+  -- the answer shows this act, with the value of the event, or the values that the agent made
+  -- before
   abbrev pub Shows : Log T → Event T → Seen → Act T → Type 0
   Shows log e (seen.Began a) act = act ≡ Opens a
   Shows log e (seen.Pulled a n) act = (value : T) × (act ≡ Operates (Pull a n value))

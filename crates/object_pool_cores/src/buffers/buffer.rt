@@ -8,9 +8,17 @@ use nonblocking_pools::page::PageId;
 use nonblocking_pools::{LinearReusable, PullError};
 use std::fmt::{self, Debug, Formatter, Write};
 
-/// A pulled buffer. When it is dropped it is reset, and goes back to its pool.
+/// A pulled buffer. Its drop resets it and returns it to its pool.
 ///
 /// `T` and `K` are always as they stand here, as in [`BufferPool`](crate::buffers::BufferPool).
+///
+/// # Examples
+///
+/// ```rust
+/// let mut buffer = pool.pull()?;
+/// buffer.append(b"hello")?;
+/// assert_eq!(rt; buffer.as_slice(), b"hello".as_slice());
+/// ```
 #[derive(Drop)]
 pub struct Buffer<'p, I: Init<T, K>, R: Reset<T, K>, T: Drop = Vec<u8>, K: Clean<T> = Empty> {
     item: LinearReusable<'p, T, I, R, K>,
@@ -21,24 +29,26 @@ impl<'p, I: Init<Vec<u8>, Empty>, R: Reset<Vec<u8>, Empty>> Buffer<'p, I, R> {
     ghost use Rattle.pool_parts.specs.declared.pull_error.PullError.TheVariants.{Memory};
     ghost use Rattle.object_pool_cores.specs.Buffers.{buffer_item, bytes_of, capacity_of, page_of, buffer_id};
 
+    /// Makes a buffer of a pulled item.
     pub(super) fn new(item: LinearReusable<'p, Vec<u8>, I, R, Empty>) -> Buffer<'p, I, R>
         ensures { buffer_item result ≡ item.entry }
     {
         Buffer { item }
     }
 
-    /// The bytes in the buffer.
+    /// Returns the bytes in the buffer.
     pub fn as_slice(&self) -> &[u8]
         ensures { result.now ≡ bytes_of self.now }
     {
         self.item.as_slice()
     }
 
-    /// Puts bytes behind those that are there.
+    /// Appends bytes to those that are there.
     ///
     /// # Errors
     ///
-    /// `Memory`, where the buffer has too little room for them and can't grow. Its bytes stay as they were.
+    /// `Memory` if the buffer has too little room for them and can't grow. Its bytes stay as they
+    /// were.
     pub fn append(&mut self, bytes: &[u8]) -> Result<(), PullError>
         ensures ok { OnOk result (bytes_of self.new ≡ bytes_of self.old ++ bytes.now) }
         ensures err { OnErr result (bytes_of self.new ≡ bytes_of self.old) }
@@ -56,14 +66,14 @@ impl<'p, I: Init<Vec<u8>, Empty>, R: Reset<Vec<u8>, Empty>> Buffer<'p, I, R> {
         }
     }
 
-    /// The number of the buffer's page in the pool, counted from 0.
+    /// Returns the number of the buffer's page in the pool, counted from 0.
     pub fn page_number(&self) -> usize
         ensures { result ≡ page_of self.now }
     {
         self.item.page_number()
     }
 
-    /// The number of the buffer in its page.
+    /// Returns the number of the buffer in its page.
     pub fn page_id(&self) -> PageId
         ensures value { result ≡ buffer_id self.now }
         ensures in_page { result < PAGE_ITEMS }

@@ -1,13 +1,18 @@
 //! The answer to a command: it is played, and its reply becomes a text.
 ghost use Rattle.std.specs.Prelude.{◌≡◌, IfOk, OnErr};
+ghost use Rattle.object_pool_cores.specs.ReplyText.{command_index};
 ghost use Rattle.object_pool_cores.specs.Transcript.{AnswersCommand};
 
 use crate::engine::reply_text::{
-    ReplyText, attach_refusal, holder_line, indexed_line, plain_line, pulled_line, refusal,
+    ReplyText, attach_refusal, indexed_line, plain_line, pulled_line, refusal,
 };
 use crate::sequential::{Command, Player, Reply, RunError, SequentialPool};
 
-/// Plays a command, and makes its reply's text.
+/// Plays a command, and makes its reply's text. That of a pull shows the value of the item.
+///
+/// # Errors
+///
+/// `Memory`, which leaves the player as it was.
 pub(super) fn answer_of<P: SequentialPool<u32>>(
     player: &mut Player<u32, P>,
     command: Command<u32>,
@@ -16,53 +21,30 @@ pub(super) fn answer_of<P: SequentialPool<u32>>(
         text.bytes player.new) }
     ensures err { OnErr result (player.new ≡ player.old) }
 {
-    match command {
-        Command::Pull => pull(player),
-        Command::Write(index, value) => {
-            let reply = player.play(Command::Write(index, value))?;
-            Ok(holder_line("written ", index, &reply))
-        }
-        Command::Return(index) => {
-            let reply = player.play(Command::Return(index))?;
-            Ok(holder_line("returned ", index, &reply))
-        }
-        Command::Forget(index) => {
-            let reply = player.play(Command::Forget(index))?;
-            Ok(holder_line("forgotten ", index, &reply))
-        }
-        Command::Attach(value) => attach(player, value),
-    }
-}
-
-/// Plays a pull. Its text shows the value of the item that was pulled.
-fn pull<P: SequentialPool<u32>>(player: &mut Player<u32, P>) -> Result<ReplyText, RunError>
-    ensures ok { IfOk result
-        (λ text. AnswersCommand P.pulls P.gives P.attaches player.old Command.Pull
-        text.bytes player.new) }
-    ensures err { OnErr result (player.new ≡ player.old) }
-{
-    match player.play(Command::Pull)? {
+    let index = index_of(&command);
+    match player.play(command)? {
         Reply::Pulled(holder, number) => match player.held(holder) {
             Some(value) => Ok(pulled_line(holder, number, *value)),
             None => unreachable!(),
         },
         Reply::Refused(cause) => Ok(plain_line(refusal(cause))),
-        _ => unreachable!(),
+        Reply::Written => Ok(indexed_line("written ", index)),
+        Reply::Returned => Ok(indexed_line("returned ", index)),
+        Reply::Forgotten => Ok(indexed_line("forgotten ", index)),
+        Reply::Attached(holder) => Ok(indexed_line("attached ", holder)),
+        Reply::AttachRefused(error) => Ok(plain_line(attach_refusal(&error))),
+        Reply::NoSuchHolder => Ok(plain_line("no such holder")),
     }
 }
 
-/// Plays an attach.
-fn attach<P: SequentialPool<u32>>(
-    player: &mut Player<u32, P>,
-    value: u32,
-) -> Result<ReplyText, RunError>
-    ensures ok { IfOk result (λ text. AnswersCommand P.pulls P.gives P.attaches player.old
-        (Command.Attach value) text.bytes player.new) }
-    ensures err { OnErr result (player.new ≡ player.old) }
+/// Returns the index that a command names, and 0 for a pull and an attach, which name none.
+fn index_of(command: &Command<u32>) -> usize
+    ensures { result ≡ command_index command.now }
 {
-    match player.play(Command::Attach(value))? {
-        Reply::Attached(holder) => Ok(indexed_line("attached ", holder)),
-        Reply::AttachRefused(error) => Ok(plain_line(attach_refusal(&error))),
-        _ => unreachable!(),
+    match command {
+        Command::Write(index, _) => *index,
+        Command::Return(index) => *index,
+        Command::Forget(index) => *index,
+        Command::Pull | Command::Attach(_) => 0,
     }
 }

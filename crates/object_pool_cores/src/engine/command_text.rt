@@ -10,7 +10,7 @@ use crate::sequential::Command;
 /// The most digits that a number may have.
 const MOST_DIGITS: usize = 10;
 
-/// The command that a line writes, without its line feed.
+/// Reads the command of a line without its line feed, or returns `None` if it is a bad line.
 pub(super) fn command_of(line: &[u8]) -> Option<Command<u32>>
     ensures { MatchOption result (IsBadLine line.now) (IsCommand line.now) }
 {
@@ -33,7 +33,7 @@ pub(super) fn command_of(line: &[u8]) -> Option<Command<u32>>
     }
 }
 
-/// What stands behind a word that the line begins with.
+/// Returns what comes after a word that the line begins with.
 fn rest_after<'a>(line: &'a [u8], word: &[u8]) -> Option<&'a [u8]>
     ensures { MatchOption result ((rest : List ℕ) → line.now ≡ word.now ++ rest → ⊥)
         (λ rest. line.now ≡ word.now ++ rest.now) }
@@ -41,7 +41,7 @@ fn rest_after<'a>(line: &'a [u8], word: &[u8]) -> Option<&'a [u8]>
     line.strip_prefix(word)
 }
 
-/// Two numbers with one space between them.
+/// Reads two numbers with one space between them.
 fn numbers_of(text: &[u8]) -> Option<(u32, u32)>
     ensures { MatchOption result ((first second : ℕ) → AreNumbers text.now first second → ⊥)
         (λ both. AreNumbers text.now both.0 both.1) }
@@ -50,7 +50,7 @@ fn numbers_of(text: &[u8]) -> Option<(u32, u32)>
     Some((number_of(first)?, number_of(second)?))
 }
 
-/// What stands before the first space and behind it.
+/// Splits a text into what comes before its first space and what comes after it.
 fn around_space(text: &[u8]) -> Option<(&[u8], &[u8])>
     ensures { MatchOption result (HasNoSpace text.now)
         (λ both. HasNoSpace both.0.now × (text.now ≡ both.0.now ++ 32 ∷ both.1.now)) }
@@ -63,8 +63,11 @@ fn around_space(text: &[u8]) -> Option<(&[u8], &[u8])>
     None
 }
 
-/// The number that a text of one to ten decimal digits writes, or `None` where it is another text or the number is above
-/// `u32::MAX`.
+/// Reads the number that a text of one to ten decimal digits writes.
+///
+/// # Errors
+///
+/// `None` if it is another text, or the number is above `u32::MAX`.
 pub fn number_of(text: &[u8]) -> Option<u32>
     ensures { MatchOption result ((n : ℕ) → IsNumber text.now n → ⊥) (λ n. IsNumber text.now n) }
 {
@@ -74,7 +77,7 @@ pub fn number_of(text: &[u8]) -> Option<u32>
     u32::try_from(value_of(text)).ok()
 }
 
-/// The value of at most ten digits.
+/// Returns the value of at most ten digits.
 fn value_of(digits: &[u8]) -> u64
     requires digits { All IsAsciiDigit digits.now }
     requires most { length digits.now ≤ MOST_DIGITS }

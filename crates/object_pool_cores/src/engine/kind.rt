@@ -1,6 +1,13 @@
 //! Which pool an engine plays on, and how its items are reset.
 
 /// The pool that an engine plays on.
+///
+/// # Examples
+///
+/// ```rust
+/// let (kind, reset) = (Kind::Linear, Reset::Keep);
+/// engine::run(&rt, alloc, kind, reset, &mut input, &mut output)?;
+/// ```
 #[derive(Clone, Copy, Debug, PartialEq, Eq)]
 pub enum Kind {
     /// A linear pool of any number of pages.
@@ -14,6 +21,12 @@ pub enum Kind {
 }
 
 /// What a return leaves of an item.
+///
+/// # Examples
+///
+/// ```rust
+/// let (kind, reset) = (Kind::Linear, Reset::Keep);
+/// ```
 #[derive(Clone, Copy, Debug, PartialEq, Eq)]
 pub enum Reset {
     /// The item becomes 0.

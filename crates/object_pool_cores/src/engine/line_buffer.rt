@@ -10,7 +10,7 @@ use arrayvec::ArrayVec;
 /// The most bytes that a line may have.
 const LONGEST_LINE: usize = 64;
 
-/// The bytes of a line so far, or that it has more than the engine keeps.
+/// The bytes of a line so far, or the fact that it has more than the engine keeps.
 #[derive(Drop)]
 pub(super) enum LineBuffer {
     Short(ArrayVec<u8, LONGEST_LINE>),
@@ -18,14 +18,14 @@ pub(super) enum LineBuffer {
 }
 
 impl LineBuffer {
-    /// An empty line.
+    /// Begins a line, which is empty.
     pub(super) fn new() -> LineBuffer
         ensures { IsBuffered [] result }
     {
         LineBuffer::Short(ArrayVec::new())
     }
 
-    /// One byte more.
+    /// Appends a byte.
     pub(super) fn push(&mut self, byte: u8)
         ensures { (line : List ℕ) → IsBuffered line self.old
             → IsBuffered (line ++ byte ∷ []) self.new }
@@ -37,7 +37,7 @@ impl LineBuffer {
         }
     }
 
-    /// The command that the line writes.
+    /// Reads the command of the line, or returns `None` if it is a bad line.
     pub(super) fn command(&self) -> Option<Command<u32>>
         ensures { (line : List ℕ) → IsBuffered line self.now
             → MatchOption result (IsBadLine line) (IsCommand line) }
@@ -48,7 +48,7 @@ impl LineBuffer {
         }
     }
 
-    /// Whether the line has no byte.
+    /// Returns whether the line has no byte.
     pub(super) fn is_empty(&self) -> bool
         ensures { (line : List ℕ) → IsBuffered line self.now → (IsTrue result ↔ (line ≡ [])) }
     {

@@ -5,11 +5,15 @@ ghost use Rattle.object_pool_cores.specs.Served.{AppendsPart};
 
 use std::io::Write;
 
-/// A write failed, or took nothing.
+/// The error of a write that failed or took nothing.
 #[derive(Clone, Copy, Debug)]
 pub(super) struct WriteFailed;
 
-/// Writes all the bytes. A writer that fails, an interrupted one too, or that takes nothing ends it.
+/// Writes all the bytes.
+///
+/// # Errors
+///
+/// `WriteFailed` if a write fails, also if it is interrupted, or takes nothing.
 pub(super) fn write_whole<W: Write>(output: &mut W, bytes: &[u8]) -> Result<(), WriteFailed>
     ensures ok { OnOk result (Appends (W.contents output.old) (W.contents output.new) bytes.now) }
     ensures err { OnErr result

@@ -2,9 +2,9 @@
 ghost use Rattle.std.specs.Prelude.{◌≡◌, ◌≤◌, ◌+◌, ◌++◌, length};
 ghost use Rattle.std.specs.Fmt.{decimal};
 ghost use Rattle.object_pool_cores.specs.Lines.{ended};
-ghost use Rattle.object_pool_cores.specs.ReplyText.{refusal_text, attach_refusal_text, holder_text, pulled_text};
+ghost use Rattle.object_pool_cores.specs.ReplyText.{refusal_text, attach_refusal_text, pulled_text};
 
-use crate::sequential::{AttachError, Reply};
+use crate::sequential::AttachError;
 use arrayvec::ArrayString;
 use itoa::Buffer;
 use nonblocking_pools::PullError;
@@ -12,10 +12,10 @@ use nonblocking_pools::PullError;
 /// The length of the longest reply, with its line feed.
 pub(super) const LONGEST_REPLY: usize = 92;
 
-/// A reply with its line feed.
+/// The text of a reply with its line feed.
 pub(super) type ReplyText = ArrayString<LONGEST_REPLY>;
 
-/// A text that has no number in it.
+/// Makes a reply that has no number in it.
 pub(super) fn plain_line(words: &str) -> ReplyText
     requires { length words.now ≤ 20 }
     ensures { result.bytes ≡ ended words.now }
@@ -26,7 +26,7 @@ pub(super) fn plain_line(words: &str) -> ReplyText
     line
 }
 
-/// Why a pull was refused.
+/// Returns the words for the cause of a pull's refusal.
 pub(super) fn refusal(cause: PullError) -> &'static str
     ensures text { result.now ≡ refusal_text cause }
     ensures short { length result.now ≤ 20 }
@@ -38,7 +38,7 @@ pub(super) fn refusal(cause: PullError) -> &'static str
     }
 }
 
-/// Why an attach was refused.
+/// Returns the words for the cause of an attach's refusal.
 pub(super) fn attach_refusal(error: &AttachError<u32>) -> &'static str
     ensures text { result.now ≡ attach_refusal_text error.now }
     ensures short { length result.now ≤ 20 }
@@ -49,18 +49,7 @@ pub(super) fn attach_refusal(error: &AttachError<u32>) -> &'static str
     }
 }
 
-/// What a command to a holder is answered: what was done there, or that there is none.
-pub(super) fn holder_line(done: &str, index: usize, reply: &Reply<u32>) -> ReplyText
-    requires { length done.now ≤ 20 }
-    ensures { result.bytes ≡ ended (holder_text done.now index reply.now) }
-{
-    match reply {
-        Reply::NoSuchHolder => plain_line("no such holder"),
-        _ => indexed_line(done, index),
-    }
-}
-
-/// A word and an index.
+/// Makes a reply of a word and an index.
 pub(super) fn indexed_line(word: &str, index: usize) -> ReplyText
     requires { length word.now ≤ 20 }
     ensures { result.bytes ≡ ended (word.now ++ decimal index) }
@@ -72,7 +61,7 @@ pub(super) fn indexed_line(word: &str, index: usize) -> ReplyText
     line
 }
 
-/// The holder, the item's number and its value.
+/// Makes a reply of the holder, the item's number and its value.
 pub(super) fn pulled_line(holder: usize, number: Option<u128>, value: u32) -> ReplyText
     ensures { result.bytes ≡ ended (pulled_text holder number value) }
 {

@@ -17,10 +17,10 @@ use arrayvec::ArrayVec;
 use std::io::{Read, Write};
 use std::sync::Wait;
 
-/// How many bytes are read at most at a time.
+/// The most bytes that are read at a time.
 const CHUNK: usize = 1024;
 
-/// How many bytes the replies to the lines of one read have at most: a longest reply for each byte.
+/// The most bytes of the replies to the lines of one read: a longest reply for each byte.
 const GATHERED: usize = CHUNK * LONGEST_REPLY;
 
 /// The replies to the lines of one read.
@@ -29,6 +29,10 @@ type Replies = ArrayVec<u8, GATHERED>;
 const LINE_FEED: u8 = b'\n';
 
 /// Plays the lines of all that there is to read, and writes a reply for each.
+///
+/// # Errors
+///
+/// `Read`, `Write` or `Memory`, as of [`run`](crate::engine::run).
 pub(super) fn serve<H: Wait, P: SequentialPool<u32>, R: Read, W: Write>(
     rt: &H,
     player: &mut Player<u32, P>,
@@ -69,7 +73,12 @@ pub(super) fn serve<H: Wait, P: SequentialPool<u32>, R: Read, W: Write>(
     unreachable!()
 }
 
-/// Takes more bytes, and answers the lines that they end. The replies are gathered, and written as one.
+/// Takes more bytes, and answers the lines that they end. The replies are gathered, and written as
+/// one.
+///
+/// # Errors
+///
+/// `Memory` if a command finds none, after the replies before it are written. `Write`.
 fn serve_chunk<P: SequentialPool<u32>, W: Write>(
     player: &mut Player<u32, P>,
     line: &mut LineBuffer,
@@ -104,6 +113,10 @@ fn serve_chunk<P: SequentialPool<u32>, W: Write>(
 }
 
 /// Takes more bytes, and gathers the replies to the lines that they end.
+///
+/// # Errors
+///
+/// `Memory` if a command finds none. The replies before it are gathered.
 fn feed<P: SequentialPool<u32>>(
     player: &mut Player<u32, P>,
     line: &mut LineBuffer,
@@ -134,7 +147,11 @@ fn feed<P: SequentialPool<u32>>(
     Ok(())
 }
 
-/// Answers what stands behind the last line feed, where there is anything.
+/// Answers what comes after the last line feed, if there is anything.
+///
+/// # Errors
+///
+/// `Write` or `Memory`.
 fn serve_last<P: SequentialPool<u32>, W: Write>(
     player: &mut Player<u32, P>,
     line: &LineBuffer,
@@ -157,6 +174,10 @@ fn serve_last<P: SequentialPool<u32>, W: Write>(
 }
 
 /// Answers one line.
+///
+/// # Errors
+///
+/// `Write` or `Memory`. If it is `Memory`, nothing was written.
 fn serve_line<P: SequentialPool<u32>, W: Write>(
     player: &mut Player<u32, P>,
     line: &LineBuffer,
@@ -183,6 +204,10 @@ fn serve_line<P: SequentialPool<u32>, W: Write>(
 }
 
 /// Plays the command of a line, and makes its reply's text.
+///
+/// # Errors
+///
+/// `Memory`, which leaves the player as it was.
 fn answer<P: SequentialPool<u32>>(
     player: &mut Player<u32, P>,
     line: &LineBuffer,

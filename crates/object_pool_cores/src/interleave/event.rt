@@ -2,7 +2,14 @@
 use crate::interleave::Prepared;
 use nonblocking_pools::PullError;
 
-/// One atomic step. All but `Begin` name their agent.
+/// One atomic step of an agent. All but `Begin` name their agent.
+///
+/// # Examples
+///
+/// ```rust
+/// world.step(Event::Begin); // agent 0
+/// world.step(Event::ReadMask(0));
+/// ```
 #[derive(Drop)]
 pub enum Event<T> {
     /// A new agent begins its pull.
@@ -13,7 +20,7 @@ pub enum Event<T> {
     ReadHinted(usize, usize),
     /// The agent clears in the word the lowest bit that it hasn't tried yet.
     ClearBit(usize),
-    /// The agent reads its page's link. It doesn't ask the next page where its hint led there in vain.
+    /// The agent reads its page's link. It doesn't ask the next page if its hint led there in vain.
     ReadNext(usize),
     /// The agent makes the 32 values of a new page, or is refused.
     MakePage(usize, Result<Prepared<T>, PullError>),
@@ -29,7 +36,14 @@ pub enum Event<T> {
     OrMask(usize),
 }
 
-/// What a step answers. The first number is the agent's.
+/// The answer to a step. The first number is the agent's.
+///
+/// # Examples
+///
+/// ```rust
+/// let seen = world.step(Event::ClearBit(0)); // it has pulled the item with number 0
+/// assert_eq!(rt; seen, Seen::Pulled(0, 0));
+/// ```
 #[derive(Clone, Copy, Debug, PartialEq, Eq)]
 pub enum Seen {
     Began(usize),
@@ -51,7 +65,8 @@ pub enum Seen {
     MovedHome(usize),
     /// The bit is set; the item's number.
     Returned(usize, u128),
-    /// The agent's point doesn't allow the event, and nothing changed; the event's values are dropped.
+    /// The agent's point doesn't allow the event, and nothing changed; the event's values are
+    /// dropped.
     NotEnabled,
     /// The world's tables couldn't grow, and nothing changed; the event's values are dropped.
     NoMemory,

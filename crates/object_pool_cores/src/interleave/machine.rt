@@ -61,7 +61,7 @@ impl<T> Model for Machine<T> {
         machine.agents.items };
 }
 
-/// The word of a page, 0 where there is no such page.
+/// Returns the word of a page, or 0 if there is no such page.
 fn word_of<T: Drop>(pages: &Vec<WorldPage<T>>, page: usize) -> u32
     ensures { result ≡ word_of pages.now.items page }
 {
@@ -81,7 +81,7 @@ fn set_word<T: Drop>(pages: &mut Vec<WorldPage<T>>, page: usize, word: u32)
     }
 }
 
-/// The value at a place, if one lies there.
+/// Returns the value at a place, if one lies there.
 fn page_value<T: Drop>(pages: &Vec<WorldPage<T>>, page: usize, id: PageId) -> Option<&T>
     ensures { option_copied result ≡ page_value pages.now.items page id }
 {
@@ -113,7 +113,7 @@ fn put_value<T: Drop>(pages: &mut Vec<WorldPage<T>>, page: usize, id: PageId, va
     }
 }
 
-/// Moves an agent to the next page; what comes back is the values that it had for a page of its own.
+/// Moves an agent to the next page, and returns the values that it had for a page of its own.
 fn pass_link<T: Drop>(agents: &mut Vec<Point<T>>, agent: usize, next: usize) -> Option<Prepared<T>>
     requires { agent < vec_len agents.old }
     ensures values { result ≡ prepared_by (slice_get agents.old.items agent) }
@@ -136,7 +136,7 @@ fn link_last<T: Drop>(pages: &mut Vec<WorldPage<T>>, values: Prepared<T>)
     let _ = pages.push(WorldPage::new(values));
 }
 
-/// What `reset` leaves of a value.
+/// Resets a value, and returns what `reset` left.
 fn reset_of<T: Drop, R: Reset<T, AnyValue>>(reset: &R, mut value: T) -> T
     ensures { R.leaves reset.now value result }
 {
@@ -145,7 +145,7 @@ fn reset_of<T: Drop, R: Reset<T, AnyValue>>(reset: &R, mut value: T) -> T
 }
 
 impl<T: Drop> Machine<T> {
-    /// One page of these values, and no agent.
+    /// Creates one page of these values, and no agent. It fails if memory is refused.
     pub fn new(
         alloc: Global,
         first: Prepared<T>,
@@ -163,19 +163,21 @@ impl<T: Drop> Machine<T> {
         })
     }
 
+    /// Returns the number of pages.
     pub fn pages(&self) -> usize
         ensures { result ≡ length self.now.state.pages }
     {
         self.pages.len()
     }
 
+    /// Returns how many pages may be linked, if there is a limit.
     pub fn limit(&self) -> Option<usize>
         ensures { result ≡ self.now.state.limit }
     {
         self.limit
     }
 
-    /// The page's word, if there is such a page.
+    /// Returns the word of a page, if there is such a page.
     pub fn word(&self, page: usize) -> Option<u32>
         ensures { result ≡ option_map (λ page. page.word) (slice_get self.now.state.pages page) }
     {
@@ -185,14 +187,14 @@ impl<T: Drop> Machine<T> {
         }
     }
 
-    /// The value at a place, if one lies there.
+    /// Returns the value at a place, if one lies there.
     pub fn place(&self, page: usize, id: PageId) -> Option<&T>
         ensures { option_copied result ≡ page_value self.now.state.pages page id }
     {
         page_value(&self.pages, page, id)
     }
 
-    /// The agent's value, from its `MoveOut` until its `MoveHome`.
+    /// Returns the value of an agent, from its `MoveOut` until its `MoveHome`.
     pub fn held(&self, agent: usize) -> Option<&T>
         ensures { option_copied result ≡ held_by (slice_get self.now.state.agents agent) }
     {
@@ -202,7 +204,7 @@ impl<T: Drop> Machine<T> {
         }
     }
 
-    /// One step. Only `MoveHome` uses `reset`.
+    /// Does one step. Only `MoveHome` uses `reset`.
     pub fn step<R: Reset<T, AnyValue>>(&mut self, reset: &R, event: Event<T>) -> Seen
         ensures step { Steps (R.leaves reset.now) self.old.state event result self.new.state }
         ensures room_is_there { HasCapacityFor self.old.capacity self.old.state event
@@ -263,7 +265,8 @@ impl<T: Drop> Machine<T> {
         Seen::Word(agent, word)
     }
 
-    /// A hint may name any linked page but the first, to an agent at the first link.
+    /// Returns whether a hint may name this page to an agent: any linked page but the first, if the
+    /// agent is at the first page.
     fn may_name(&self, page: usize, hint: usize) -> bool
         ensures { result ≡ may_name self.now.state page hint }
     {
@@ -319,7 +322,7 @@ impl<T: Drop> Machine<T> {
         self.clear(agent, hint, id, tries_hinted(hint, rest))
     }
 
-    /// Clears a bit that is set in the word; where it isn't, the agent goes on to `next`.
+    /// Clears a bit that is set in the word. If it isn't, the agent goes on to `next`.
     fn clear(&mut self, agent: usize, page: usize, id: PageId, next: Point<T>) -> Seen
         requires begun { agent < length self.old.state.agents }
         requires in_page { id < PAGE_ITEMS }

@@ -8,7 +8,7 @@ ghost use Rattle.object_pool_cores.specs.World.Inside.LinkCapacity.{LinksNoPage}
 use crate::interleave::point::Point;
 use nonblocking_pools::page::{PAGE_ITEMS, PageId, take_least};
 
-/// There is a limit, and it is the count after `page`.
+/// Returns whether there is a limit, and it is the count after `page`.
 pub fn is_last_allowed(limit: Option<usize>, page: usize) -> bool
     ensures { result ≡ is_limit limit (page + 1) }
 {
@@ -18,14 +18,14 @@ pub fn is_last_allowed(limit: Option<usize>, page: usize) -> bool
     }
 }
 
-/// The page is the last of so many.
+/// Returns whether the page is the last of so many.
 pub fn is_last(pages: usize, page: usize) -> bool
     ensures { result ≡ (pages == page + 1) }
 {
     pages > page && pages - page == 1
 }
 
-/// Where an agent on a page goes next with these bits to try.
+/// Returns the point to which an agent on a page goes next, with these bits to try.
 pub fn tries<T>(page: usize, mask: u32, asked: Option<usize>) -> Point<T>
     ensures value { result ≡ tries page mask asked }
     ensures room { LinksNoPage result }
@@ -37,7 +37,8 @@ pub fn tries<T>(page: usize, mask: u32, asked: Option<usize>) -> Point<T>
     }
 }
 
-/// Where an agent on a page that a hint named goes next with these bits to try.
+/// Returns the point to which an agent on a page that a hint named goes next, with these bits to
+/// try.
 pub fn tries_hinted<T>(hint: usize, mask: u32) -> Point<T>
     ensures value { result ≡ tries_hinted hint mask }
     ensures room { LinksNoPage result }
@@ -49,7 +50,7 @@ pub fn tries_hinted<T>(hint: usize, mask: u32) -> Point<T>
     }
 }
 
-/// Where an agent goes next that comes to a page: past it, if a hint led there in vain.
+/// Returns the point of an agent that comes to a page: past it, if a hint led there in vain.
 pub fn comes_to<T>(page: usize, asked: Option<usize>) -> Point<T>
     ensures value { result ≡ comes_to page asked }
     ensures room { LinksNoPage result }
@@ -61,7 +62,7 @@ pub fn comes_to<T>(page: usize, asked: Option<usize>) -> Point<T>
     }
 }
 
-/// A mask without its lowest set bit, and that bit's place.
+/// Returns a mask without its lowest set bit, and that bit's place.
 pub fn split_lowest(mask: u32) -> (u32, PageId)
     requires { 0 < mask }
     ensures rest { result.0 ≡ without_lowest mask }

@@ -4,15 +4,15 @@ use nonblocking_pools::page::PageId;
 
 /// The point of an agent, between two of its steps. The first number is a page's.
 ///
-/// Where there is an optional number, it is the page that a hint named and that the agent asked in vain. An
-/// agent that makes a page has passed each page that was linked, and so that one.
+/// An optional number is the page that a hint named and that the agent asked in vain. An agent that
+/// makes a page has passed each page that was linked, and so that one.
 #[derive(Drop)]
 pub enum Point<T> {
     /// It reads the page's word next.
     Reading(usize, Option<usize>),
     /// It clears next; the set bits that it hasn't tried yet.
     Clearing(usize, u32, Option<usize>),
-    /// It has found each number of the page out, and reads the link next.
+    /// It has seen each number of the page taken, and reads the link next.
     AtLink(usize, Option<usize>),
     /// It clears next, on a page that a hint named; the set bits that it hasn't tried yet.
     ClearingHinted(usize, u32),

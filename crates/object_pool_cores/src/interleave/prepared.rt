@@ -8,6 +8,13 @@ use std::alloc::Global;
 use std::marker::Model;
 
 /// 32 values for a new page.
+///
+/// # Examples
+///
+/// ```rust
+/// let first = Prepared::make(alloc, &|| Some(0u32))?;
+/// let mut world = World::new(alloc, first, Keep)?;
+/// ```
 #[derive(Drop)]
 pub struct Prepared<T> {
     places: Vec<Option<T>>,
@@ -25,11 +32,17 @@ impl<T> Model for Prepared<T> {
 }
 
 impl<T: Drop> Prepared<T> {
-    /// The 32 values that `init` makes, in order.
+    /// Makes 32 values by `init`, in order.
     ///
     /// # Errors
     ///
     /// `Memory`, or `Init` at the first `None` of `init`. The values that were made are dropped.
+    ///
+    /// # Examples
+    ///
+    /// ```rust
+    /// let first = Prepared::make(alloc, &|| Some(0u32))?;
+    /// ```
     pub fn make<I: Fn() -> Option<T>>(alloc: Global, init: &I) -> Result<Prepared<T>, PullError>
         requires { I.pre init.now }
         ensures values { IfOk result (All (λ value. I.post init.now (Some value))) }
@@ -49,7 +62,7 @@ impl<T: Drop> Prepared<T> {
         Ok(Prepared { places })
     }
 
-    /// The values, each at its place.
+    /// Returns the values, each at its place.
     pub(super) fn into_places(self) -> Vec<Option<T>>
         ensures places { result.items ≡ map Some self }
         ensures count { length self ≡ PAGE_ITEMS }

@@ -3,6 +3,7 @@ ghost use Rattle.std.specs.Prelude.{◌≡◌, ◌≢◌, ◌≤◌, ◌+◌, Op
 ghost use Rattle.object_pool_cores.specs.Pool.{AllowsPages};
 ghost use Rattle.object_pool_cores.specs.World.Headline.{IsNew, RunsEvents};
 ghost use Rattle.object_pool_cores.specs.World.Machine.{held_by, opening_world, page_value, Steps};
+ghost use Rattle.object_pool_cores.specs.World.StepBounds.{BoundsOwnSteps};
 ghost use Rattle.object_pool_cores.specs.World.Reachable.{IsReachable};
 ghost use Rattle.object_pool_cores.specs.World.Enabled.{IsExact};
 ghost use Rattle.object_pool_cores.specs.World.Capacity.{HasCapacityFor, HasCapacityForMade, KeepsCapacity};
@@ -34,7 +35,11 @@ impl<T> Model for ReachableWorld<T> {
 }
 
 impl<T: Drop> ReachableWorld<T> {
-    /// One page of these values, and no agent.
+    /// Creates one page of these values, and no agent.
+    ///
+    /// # Errors
+    ///
+    /// `AllocError` if there is no memory for the page.
     pub fn new(
         alloc: Global,
         first: Prepared<T>,
@@ -49,37 +54,42 @@ impl<T: Drop> ReachableWorld<T> {
         })
     }
 
+    /// Returns the number of pages.
     pub fn pages(&self) -> usize
         ensures { result ≡ length self.now.state.pages }
     {
         self.machine.pages()
     }
 
+    /// Returns how many pages may be linked, if there is a limit.
     pub fn limit(&self) -> Option<usize>
         ensures { result ≡ self.now.state.limit }
     {
         self.machine.limit()
     }
 
+    /// Returns the word of a page, if there is such a page.
     pub fn word(&self, page: usize) -> Option<u32>
         ensures { result ≡ option_map (λ page. page.word) (slice_get self.now.state.pages page) }
     {
         self.machine.word(page)
     }
 
+    /// Returns the value at a place, if one lies there.
     pub fn place(&self, page: usize, id: PageId) -> Option<&T>
         ensures { option_copied result ≡ page_value self.now.state.pages page id }
     {
         self.machine.place(page, id)
     }
 
+    /// Returns the value of an agent, from its `MoveOut` until its `MoveHome`.
     pub fn held(&self, agent: usize) -> Option<&T>
         ensures { option_copied result ≡ held_by (slice_get self.now.state.agents agent) }
     {
         self.machine.held(agent)
     }
 
-    /// One step. Only `MoveHome` uses `reset`.
+    /// Does one step. Only `MoveHome` uses `reset`.
     pub fn step<R: Reset<T, AnyValue>>(&mut self, reset: &R, event: Event<T>) -> Seen
         ensures step { Steps (R.leaves reset.now) self.old.state event result self.new.state }
         ensures exact { IsExact self.old.state event result self.new.state }
@@ -96,7 +106,8 @@ impl<T: Drop> ReachableWorld<T> {
     ///
     /// # Errors
     ///
-    /// `Memory`, where `seen` can't grow. The events that were done stay done, with their answers, and the others are dropped.
+    /// `Memory` if `seen` can't grow. The events that were done stay done, with their answers,
+    /// and the others are dropped.
     pub fn run<R: Reset<T, AnyValue>>(
         &mut self,
         reset: &R,
@@ -106,6 +117,8 @@ impl<T: Drop> ReachableWorld<T> {
         ensures run { RunsEvents (R.leaves reset.now)
             (record { world = self.old.state; events = events.items; seen = seen.old.items })
             (record { world = self.new.state; seen = seen.new.items; result = result }) }
+        ensures own_steps { BoundsOwnSteps (R.leaves reset.now) self.new.state }
+        ensures reachable { IsReachable self.old.state }
         ensures room_is_there { vec_len seen.old + vec_len events ≤ vec_capacity seen.old
             → IsOk result }
         ensures room_stays { KeepsCapacity self.old.capacity self.new.capacity }

@@ -5,6 +5,7 @@ ghost use Rattle.pool_parts.specs.declared.pull_error.PullError.TheVariants.{Mem
 ghost use Rattle.object_pool_cores.specs.World.Headline.{IsNew, RunsEvents};
 ghost use Rattle.object_pool_cores.specs.World.Machine.{held_by, opening_world, page_value, Steps};
 ghost use Rattle.object_pool_cores.specs.World.Reachable.{IsReachable};
+ghost use Rattle.object_pool_cores.specs.World.StepBounds.{BoundsOwnSteps};
 ghost use Rattle.object_pool_cores.specs.World.Enabled.{IsExact};
 ghost use Rattle.object_pool_cores.specs.World.AbstractPool.{abstract_pool};
 ghost use Rattle.object_pool_cores.specs.World.Capacity.{HasCapacityFor, HasCapacityForMade, KeepsCapacity};
@@ -20,12 +21,24 @@ use nonblocking_pools::page::PageId;
 use std::alloc::Global;
 
 /// The linear core with any number of agents. What an agent returns is reset by `R`.
+///
+/// # Examples
+///
+/// ```rust
+/// let first = Prepared::make(alloc, &|| Some(0u32))?;
+/// let mut world = World::new(alloc, first, Keep)?;
+/// world.step(Event::Begin); // agent 0
+/// world.step(Event::ReadMask(0));
+/// let seen = world.step(Event::ClearBit(0)); // it has pulled the item with number 0
+/// assert_eq!(rt; seen, Seen::Pulled(0, 0));
+/// ```
 pub struct World<T, R: Reset<T, AnyValue>> {
     reachable: ReachableWorld<T>,
     reset: R,
 }
 
-/// Not derived: the proof of a caller that drops it has one call here, and a derived drop has that of each field.
+/// Not derived: the proof of a caller that drops it has one call here, and a derived drop has that
+/// of each field.
 impl<T: Drop, R: Reset<T, AnyValue>> Drop for World<T, R> {
     fn drop(self) {
         let World {
@@ -36,11 +49,17 @@ impl<T: Drop, R: Reset<T, AnyValue>> Drop for World<T, R> {
 }
 
 impl<T: Drop, R: Reset<T, AnyValue>> World<T, R> {
-    /// A world of one page, in which no agent has begun.
+    /// Creates a world of one page, in which no agent has begun.
     ///
     /// # Errors
     ///
-    /// `Memory`, where there is none for the page. The values are dropped.
+    /// `Memory` if there is none for the page. The values are dropped.
+    ///
+    /// # Examples
+    ///
+    /// ```rust
+    /// let mut world = World::new(alloc, first, Keep)?;
+    /// ```
     pub fn new(alloc: Global, first: Prepared<T>, reset: R) -> Result<World<T, R>, PullError>
         ensures world { IfOk result (λ world. world_state world ≡ opening_world first None) }
         ensures is_new { IfOk result (λ world. IsNew (world_state world)) }
@@ -53,11 +72,18 @@ impl<T: Drop, R: Reset<T, AnyValue>> World<T, R> {
         }
     }
 
-    /// A world of one page, which never has more pages than this, and in which no agent has begun.
+    /// Creates a world of one page, which never has more than `pages` pages, and in which no agent
+    /// has begun.
     ///
     /// # Errors
     ///
-    /// `Memory`, where there is none for the page. The values are dropped.
+    /// `Memory` if there is none for the page. The values are dropped.
+    ///
+    /// # Examples
+    ///
+    /// ```rust
+    /// let mut world = World::with_limit(alloc, first, Keep, 1)?;
+    /// ```
     pub fn with_limit(
         alloc: Global,
         first: Prepared<T>,
@@ -77,21 +103,21 @@ impl<T: Drop, R: Reset<T, AnyValue>> World<T, R> {
         }
     }
 
-    /// How many pages may be linked, if there is a limit.
+    /// Returns how many pages may be linked, if there is a limit.
     pub fn limit(&self) -> Option<usize>
         ensures { result ≡ (world_state self.now).limit }
     {
         self.reachable.limit()
     }
 
-    /// How many pages are linked.
+    /// Returns how many pages are linked.
     pub fn pages(&self) -> usize
         ensures { result ≡ (abstract_pool (world_state self.now)).pages }
     {
         self.reachable.pages()
     }
 
-    /// The word of a page, if there is such a page.
+    /// Returns the word of a page, if there is such a page.
     pub fn word(&self, page: usize) -> Option<u32>
         ensures { result ≡ option_map (λ page. page.word)
             (slice_get (world_state self.now).pages page) }
@@ -99,28 +125,33 @@ impl<T: Drop, R: Reset<T, AnyValue>> World<T, R> {
         self.reachable.word(page)
     }
 
-    /// The value that lies at a place, if one does.
+    /// Returns the value that lies at a place, if one does.
     pub fn place(&self, page: usize, id: PageId) -> Option<&T>
         ensures { option_copied result ≡ page_value (world_state self.now).pages page id }
     {
         self.reachable.place(page, id)
     }
 
-    /// The value of an agent, from its `MoveOut` until its `MoveHome`.
+    /// Returns the value of an agent, from its `MoveOut` until its `MoveHome`.
     pub fn held(&self, agent: usize) -> Option<&T>
         ensures { option_copied result ≡ held_by (slice_get (world_state self.now).agents agent) }
     {
         self.reachable.held(agent)
     }
 
-    /// One atomic step of the agent that the event names.
+    /// Does one atomic step of the agent that the event names.
+    ///
+    /// # Errors
+    ///
+    /// `NotEnabled` if the agent's point doesn't allow the event. `NoMemory` if the world's tables
+    /// can't grow. Then nothing changes, and the event's values are dropped.
     pub fn step(&mut self, event: Event<T>) -> Seen
         ensures step { Steps (R.leaves (world_reset self.old))
             (world_state self.old) event result (world_state self.new) }
         ensures exact { IsExact (world_state self.old) event result (world_state self.new) }
         ensures reachable { IsReachable (world_state self.old) }
         ensures reset { world_reset self.new ≡ world_reset self.old }
-        // A step is refused for memory only where the room is missing. A page that is made has its
+        // A step is refused for memory only if the room is missing. A page that is made has its
         // room before it is linked, and no room is given up.
         ensures room_is_there { HasCapacityFor (world_capacity self.old) (world_state self.old)
             event → result ≢ NoMemory }
@@ -131,17 +162,29 @@ impl<T: Drop, R: Reset<T, AnyValue>> World<T, R> {
         self.reachable.step(&self.reset, event)
     }
 
-    /// Does the events, one after another, and puts each answer at the end of `seen`. What was done before,
-    /// by other runs or by steps, and these events together are one run.
+    /// Does the events, one after another, and puts each answer at the end of `seen`.
+    ///
+    /// What was done before, by other runs or by steps, and these events together are one run. In
+    /// all of it an agent's own steps are bounded, whatever the others do.
     ///
     /// # Errors
     ///
-    /// `Memory`, where `seen` can't grow. The events that were done stay done, with their answers, and the
-    /// others are dropped; a later run goes on from there.
+    /// `Memory` if `seen` can't grow. The events that were done stay done, with their answers, and
+    /// the others are dropped. A later run goes on from there.
+    ///
+    /// # Examples
+    ///
+    /// ```rust
+    /// let events = Vec::from_array(alloc, [Event::Begin, Event::ReadMask(0)])?;
+    /// let mut seen = Vec::new(alloc);
+    /// world.run(events, &mut seen)?;
+    /// ```
     pub fn run(&mut self, events: Vec<Event<T>>, seen: &mut Vec<Seen>) -> Result<(), RunError>
         ensures run { RunsEvents (R.leaves (world_reset self.old))
             (record { world = world_state self.old; events = events.items; seen = seen.old.items })
             (record { world = world_state self.new; seen = seen.new.items; result = result }) }
+        ensures own_steps { BoundsOwnSteps (R.leaves (world_reset self.old)) (world_state self.new) }
+        ensures reachable { IsReachable (world_state self.old) }
         ensures reset { world_reset self.new ≡ world_reset self.old }
         ensures room_is_there { vec_len seen.old + vec_len events ≤ vec_capacity seen.old
             → IsOk result }

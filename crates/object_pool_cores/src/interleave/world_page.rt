@@ -25,7 +25,7 @@ impl<T> Model for WorldPage<T> {
 }
 
 impl<T: Drop> WorldPage<T> {
-    /// The page of these values, all of whose items are free.
+    /// Creates the page of these values, all of whose items are free.
     pub fn new(values: Prepared<T>) -> WorldPage<T>
         ensures value { result ≡ linked_page values }
         ensures whole { length values ≡ PAGE_ITEMS }
@@ -36,19 +36,21 @@ impl<T: Drop> WorldPage<T> {
         }
     }
 
+    /// Returns the word.
     pub fn word(&self) -> u32
         ensures { result ≡ self.now.word }
     {
         self.word
     }
 
+    /// Sets the word.
     pub fn set_word(&mut self, word: u32)
         ensures { self.new ≡ record { word = word; places = self.old.places } }
     {
         self.word = word;
     }
 
-    /// The value at a place, if one lies there.
+    /// Returns the value at a place, if one lies there.
     pub fn value(&self, id: PageId) -> Option<&T>
         ensures { option_copied result ≡ option_and_then (λ place. place)
             (slice_get self.now.places id) }

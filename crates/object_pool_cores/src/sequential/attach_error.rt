@@ -1,7 +1,7 @@
 //! Why a pool refused a value from outside.
 
-/// Why a pool didn't make an item of a value that was handed
-/// in. The value comes back, and the pool is as before.
+/// Why a pool didn't make an item of a value from outside. The value comes back, and the pool is as
+/// before.
 #[derive(Debug, PartialEq, Eq, Drop)]
 pub enum AttachError<T> {
     /// There is no memory for the item.

@@ -13,6 +13,15 @@ use std::marker::{Model, PhantomData};
 use std::sync::Mutex;
 
 /// A page of 32 items. The least free id is taken first.
+///
+/// # Examples
+///
+/// ```rust
+/// let mut page: CorePage<u32, AnyValue> = CorePage::new(alloc, &|| Some(0))?;
+/// if let Some((id, value)) = page.alloc() {
+///     page.free(id, value);
+/// }
+/// ```
 #[derive(Drop)]
 pub struct CorePage<T, K: Clean<T>> {
     word: u32,
@@ -32,11 +41,18 @@ impl<T, K: Clean<T>> Model for CorePage<T, K> {
 }
 
 impl<T: Drop, K: Clean<T>> CorePage<T, K> {
-    /// A page of 32 free items: item `i` is the answer of call `i` of `init`, counted from 0.
+    /// Creates a page of 32 free items. Item `i` is the answer of call `i` of `init`, counted from
+    /// 0.
     ///
     /// # Errors
     ///
     /// `Memory`, or `Init` at the first `None` of `init`. The items that were made are dropped.
+    ///
+    /// # Examples
+    ///
+    /// ```rust
+    /// let mut page: CorePage<u32, AnyValue> = CorePage::new(alloc, &|| Some(0))?;
+    /// ```
     pub fn new<I: Fn() -> Option<T>>(alloc: Global, init: &I) -> Result<CorePage<T, K>, PullError>
         requires { MayMake I.pre I.post K.meets init.now }
         ensures made { IfOk result (IsMadePage (λ answer. I.post init.now answer) K.meets) }
@@ -50,6 +66,10 @@ impl<T: Drop, K: Clean<T>> CorePage<T, K> {
     }
 
     /// Takes the least free id, with its value.
+    ///
+    /// # Errors
+    ///
+    /// `None` if no id is free.
     pub fn alloc(&mut self) -> Option<(PageId, T)>
         ensures least { MatchOption result (HasNoFreeId self.old)
             (λ taken. TakesLeastId self.old taken.0 taken.1 self.new) }
@@ -64,7 +84,7 @@ impl<T: Drop, K: Clean<T>> CorePage<T, K> {
         }
     }
 
-    /// Frees an id that is out, with this value.
+    /// Frees an id that is in use, with this value.
     pub fn free(&mut self, id: PageId, value: T)
         requires out { IsOutId self.old id }
         requires meets { K.meets value }
@@ -74,7 +94,7 @@ impl<T: Drop, K: Clean<T>> CorePage<T, K> {
         self.places[usize::from(id)] = Some(value);
     }
 
-    /// Whether the id is out. `false` from 32 on.
+    /// Returns whether the id is in use. It is `false` from 32 on.
     pub fn is_out(&self, id: PageId) -> bool
         ensures { IsTrue result ↔ IsOutId self.now id }
     {
@@ -84,14 +104,14 @@ impl<T: Drop, K: Clean<T>> CorePage<T, K> {
         }
     }
 
-    /// Whether no id is free.
+    /// Returns whether no id is free.
     pub fn is_full(&self) -> bool
         ensures { IsTrue result ↔ HasNoFreeId self.now }
     {
         self.word == 0
     }
 
-    /// The word whose set bits are the free ids.
+    /// Returns the word whose set bits are the free ids.
     pub fn get_mask(&self) -> u32
         ensures { IsMask self.now result }
     {
@@ -99,7 +119,7 @@ impl<T: Drop, K: Clean<T>> CorePage<T, K> {
     }
 }
 
-/// The items of a new page, each free. It stops at the first `None`.
+/// Makes the items of a new page, each free. It stops at the first `None`.
 fn made_items<T: Drop, I: Fn() -> Option<T>, K: Clean<T>>(
     alloc: Global,
     init: &I,

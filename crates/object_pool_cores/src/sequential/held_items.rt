@@ -12,7 +12,7 @@ use std::alloc::Global;
 use std::collections::HashMap;
 use std::marker::Model;
 
-/// A table of what is held. An index is never used again, and what was taken out of it takes no place.
+/// A table of what is held. An index is never used again, and what was taken out takes no place.
 #[derive(Drop)]
 pub(crate) struct HeldItems<T> {
     items: HashMap<usize, Item<T>>,
@@ -33,7 +33,7 @@ impl<T> Model for HeldItems<T> {
 }
 
 impl<T: Drop> HeldItems<T> {
-    /// Nothing is held yet.
+    /// Creates a table in which nothing is held yet.
     pub(crate) fn new(alloc: Global) -> HeldItems<T>
         ensures { result.items ≡ [] }
     {
@@ -43,7 +43,7 @@ impl<T: Drop> HeldItems<T> {
         }
     }
 
-    /// The value that is held at an index.
+    /// Returns the value that is held at an index, if one is.
     pub(crate) fn get(&self, index: usize) -> Option<&T>
         ensures { option_copied result ≡ value_of (held_at self.now.items index) }
     {
@@ -53,7 +53,11 @@ impl<T: Drop> HeldItems<T> {
         }
     }
 
-    /// Makes room for one item more. There is none where the table can't grow or the indexes are used up.
+    /// Makes room for one item more.
+    ///
+    /// # Errors
+    ///
+    /// `Memory` if the table can't grow or the indexes are used up.
     pub(crate) fn reserve(&mut self) -> Result<(), RunError>
         ensures same { self.new.items ≡ self.old.items }
         ensures room { OnOk result (0 < self.new.spare) }
@@ -65,7 +69,7 @@ impl<T: Drop> HeldItems<T> {
         Ok(())
     }
 
-    /// Holds an item at the next index, which it answers.
+    /// Holds an item at the next index, which it returns.
     pub(crate) fn hold(&mut self, item: Item<T>) -> usize
         requires { 0 < self.old.spare }
         ensures held { self.new.items ≡ self.old.items ++ Some item ∷ [] }
@@ -79,7 +83,7 @@ impl<T: Drop> HeldItems<T> {
         index
     }
 
-    /// Takes the item at an index out of the table.
+    /// Takes the item at an index out of the table, if one is held there.
     pub(crate) fn let_go(&mut self, index: usize) -> Option<Item<T>>
         ensures item { result ≡ held_at self.old.items index }
         ensures held { OnSome result (self.new.items ≡ slice_set self.old.items index None) }
@@ -88,7 +92,7 @@ impl<T: Drop> HeldItems<T> {
         self.items.remove(&index)
     }
 
-    /// Replaces the value that is held at an index, and answers whether there is one.
+    /// Replaces the value that is held at an index, and returns whether there is one.
     pub(crate) fn replace(&mut self, index: usize, value: T) -> bool
         ensures { IsReplaced self.old.items index value (held_at self.old.items index)
             result self.new.items }
@@ -97,7 +101,7 @@ impl<T: Drop> HeldItems<T> {
     }
 }
 
-/// Replaces the value of the item at an index of a map, and answers whether there is one.
+/// Replaces the value of the item at an index of a map, and returns whether there is one.
 fn replace_value<T: Drop>(items: &mut HashMap<usize, Item<T>>, index: usize, value: T) -> bool
     ensures there { result ≡ is_some (get nat_eq items.old index) }
     ensures here { get nat_eq items.new index ≡ option_map (λ item. with_value item value)

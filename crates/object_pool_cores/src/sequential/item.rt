@@ -1,4 +1,4 @@
-//! One item, while it is out of its pool.
+//! One item, while it is in use.
 ghost use Rattle.std.specs.Prelude.{◌≡◌, IsTrue, IsSome, Some, None};
 ghost use Rattle.std.specs.Borrow.{Lends, sem};
 ghost use Rattle.object_pool_cores.specs.Inside.SequentialItem.{item_value, item_number, has_room, with_value};
@@ -6,7 +6,15 @@ ghost use Rattle.object_pool_cores.specs.Inside.SequentialItem.{item_value, item
 use nonblocking_pools::stack::Room;
 use std::ops::{Deref, DerefMut};
 
-/// An item that a sequential pool gave.
+/// An item that was pulled from a sequential pool.
+///
+/// # Examples
+///
+/// ```rust
+/// let item = core.pull()?;
+/// assert_eq!(rt; item.number(), Some(0));
+/// core.give(item); // a later pull gives it again
+/// ```
 #[derive(Drop)]
 pub struct Item<T> {
     value: T,
@@ -25,6 +33,7 @@ enum Home<T> {
 }
 
 impl<T> Item<T> {
+    /// Makes an item with a number.
     pub(crate) fn numbered(value: T, number: u128) -> Item<T>
         ensures value { item_value result ≡ value }
         ensures number { item_number result ≡ Some number }
@@ -35,6 +44,7 @@ impl<T> Item<T> {
         }
     }
 
+    /// Makes an item with the room for its return.
     pub(crate) fn with_room(value: T, room: Room<T>) -> Item<T>
         ensures value { item_value result ≡ value }
         ensures number { item_number result ≡ None }
@@ -46,6 +56,7 @@ impl<T> Item<T> {
         }
     }
 
+    /// Makes an item that doesn't come back.
     pub(crate) fn fresh(value: T) -> Item<T>
         ensures value { item_value result ≡ value }
         ensures number { item_number result ≡ None }
@@ -56,7 +67,7 @@ impl<T> Item<T> {
         }
     }
 
-    /// Whether the item brings a room.
+    /// Returns whether the item brings a room.
     pub(crate) fn has_room(&self) -> bool
         ensures { result ≡ has_room self.now }
     {
@@ -66,7 +77,8 @@ impl<T> Item<T> {
         }
     }
 
-    /// The item's number, where its pool numbers its items: 32 times its page, and its place there.
+    /// Returns the item's number, if its pool numbers its items: 32 times its page, and its place
+    /// there.
     pub fn number(&self) -> Option<u128>
         ensures { result ≡ item_number self.now }
     {
@@ -78,13 +90,14 @@ impl<T> Item<T> {
 }
 
 impl<T: Drop> Item<T> {
+    /// Returns the value.
     pub(crate) fn into_value(self) -> T
         ensures { result ≡ item_value self }
     {
         self.value
     }
 
-    /// The value, and the room that the item brings.
+    /// Returns the value, and the room that the item brings.
     pub(crate) fn into_parts(self) -> (T, Option<Room<T>>)
         ensures value { result.0 ≡ item_value self }
         ensures room { IsTrue (has_room self) → IsSome result.1 }

@@ -1,11 +1,11 @@
-//! A sequential linear pool: the least free number first, and a page more where none is free.
+//! A sequential linear pool: the least free number first, and a page more if none is free.
 ghost use Rattle.std.specs.Prelude.{◌≡◌, ◌≢◌, ◌≤◌, Option, Some, None, Result, Ok, Err, IfOk, OnErr};
 ghost use Rattle.std.specs.Prelude.{[]};
 ghost use Rattle.object_pool_cores.specs.Inside.SequentialItem.{item_value};
 ghost use Rattle.object_pool_cores.specs.Attach.{RefusesAttach};
 ghost use Rattle.object_pool_cores.specs.PageProbes.{ProbesFew};
-ghost use Rattle.object_pool_cores.specs.Linear.{core_pool, limit_of, looked_of, start_page_of, init_of, reset_of};
-ghost use Rattle.object_pool_cores.specs.Linear.{IsOpening, Pulls, Gives, ProbesUpTo, ProbesTheRest, StartsNoFurther};
+ghost use Rattle.object_pool_cores.specs.Linear.{core_pool, limit_of, looked_of, start_page_of, linear_init, linear_reset};
+ghost use Rattle.object_pool_cores.specs.Linear.{IsOpening, LinearPulls, LinearGives, ProbesUpTo, ProbesTheRest, StartsNoFurther};
 ghost use Rattle.object_pool_cores.specs.Linear.{HeldTogether, IsOutOf};
 
 use crate::sequential::numbered_items::NumberedItems;
@@ -15,14 +15,25 @@ use nonblocking_pools::clean::Clean;
 use nonblocking_pools::closures::{Init, Reset};
 use std::alloc::Global;
 
-/// A pool of pages of 32 items each, which are known by their numbers. A pull gives the least free number.
+/// A pool of pages of 32 items each, which are known by their numbers. A pull gives the least free
+/// number.
+///
+/// # Examples
+///
+/// ```rust
+/// let mut core = LinearCore::<u32, _, _, AnyValue>::new(alloc, Copied::new(0), Keep)?;
+/// let item = core.pull()?;
+/// assert_eq!(rt; item.number(), Some(0));
+/// core.give(item); // a later pull gives it again
+/// ```
 pub struct LinearCore<T, I: Init<T, K>, R: Reset<T, K>, K: Clean<T>> {
     init: I,
     reset: R,
     items: NumberedItems<T, K>,
 }
 
-/// Not derived: the proof of a caller that drops it has one call here, and a derived drop has that of each field.
+/// Not derived: the proof of a caller that drops it has one call here, and a derived drop has that
+/// of each field.
 impl<T: Drop, I: Init<T, K>, R: Reset<T, K>, K: Clean<T>> Drop for LinearCore<T, I, R, K> {
     fn drop(self) {
         let LinearCore {
@@ -34,15 +45,21 @@ impl<T: Drop, I: Init<T, K>, R: Reset<T, K>, K: Clean<T>> Drop for LinearCore<T,
 }
 
 impl<T: Drop, I: Init<T, K>, R: Reset<T, K>, K: Clean<T>> LinearCore<T, I, R, K> {
-    /// A pool of one page. It may have any number of pages.
+    /// Creates a pool of one page. It may have any number of pages.
     ///
     /// # Errors
     ///
     /// `Memory`, or `Init` at the first `None` of `init`. The values that were made are dropped.
+    ///
+    /// # Examples
+    ///
+    /// ```rust
+    /// let mut core = LinearCore::<u32, _, _, AnyValue>::new(alloc, Copied::new(0), Keep)?;
+    /// ```
     pub fn new(alloc: Global, init: I, reset: R) -> Result<LinearCore<T, I, R, K>, PullError>
         ensures opening { IfOk result (λ core. IsOpening (I.answers init) None core) }
-        ensures init { IfOk result (λ core. init_of core ≡ init) }
-        ensures reset { IfOk result (λ core. reset_of core ≡ reset) }
+        ensures init { IfOk result (λ core. linear_init core ≡ init) }
+        ensures reset { IfOk result (λ core. linear_reset core ≡ reset) }
         ensures start { IfOk result (λ core. start_page_of core ≡ 0) }
         ensures looked { IfOk result (λ core. looked_of core ≡ 0) }
         ensures refused { result ≡ Err PullError.Init → I.answers init None }
@@ -51,11 +68,18 @@ impl<T: Drop, I: Init<T, K>, R: Reset<T, K>, K: Clean<T>> LinearCore<T, I, R, K>
         LinearCore::with_first_page(NumberedItems::new(alloc, None), init, reset)
     }
 
-    /// A pool of one page, which never has more pages than this.
+    /// Creates a pool of one page, which never has more than `pages` pages.
     ///
     /// # Errors
     ///
     /// `Memory`, or `Init` at the first `None` of `init`. The values that were made are dropped.
+    ///
+    /// # Examples
+    ///
+    /// ```rust
+    /// let core = LinearCore::<u32, _, _, AnyValue>::with_limit(alloc, Copied::new(0), Keep, 2)?;
+    /// assert_eq!(rt; core.limit(), Some(2));
+    /// ```
     pub fn with_limit(
         alloc: Global,
         init: I,
@@ -64,8 +88,8 @@ impl<T: Drop, I: Init<T, K>, R: Reset<T, K>, K: Clean<T>> LinearCore<T, I, R, K>
     ) -> Result<LinearCore<T, I, R, K>, PullError>
         requires { 1 ≤ pages }
         ensures opening { IfOk result (λ core. IsOpening (I.answers init) (Some pages) core) }
-        ensures init { IfOk result (λ core. init_of core ≡ init) }
-        ensures reset { IfOk result (λ core. reset_of core ≡ reset) }
+        ensures init { IfOk result (λ core. linear_init core ≡ init) }
+        ensures reset { IfOk result (λ core. linear_reset core ≡ reset) }
         ensures start { IfOk result (λ core. start_page_of core ≡ 0) }
         ensures looked { IfOk result (λ core. looked_of core ≡ 0) }
         ensures refused { result ≡ Err PullError.Init → I.answers init None }
@@ -84,8 +108,8 @@ impl<T: Drop, I: Init<T, K>, R: Reset<T, K>, K: Clean<T>> LinearCore<T, I, R, K>
         requires start { items.start ≡ 0 }
         requires looked { items.looked ≡ 0 }
         ensures opening { IfOk result (λ core. IsOpening (I.answers init) items.limit core) }
-        ensures init { IfOk result (λ core. init_of core ≡ init) }
-        ensures reset { IfOk result (λ core. reset_of core ≡ reset) }
+        ensures init { IfOk result (λ core. linear_init core ≡ init) }
+        ensures reset { IfOk result (λ core. linear_reset core ≡ reset) }
         ensures start { IfOk result (λ core. start_page_of core ≡ 0) }
         ensures looked { IfOk result (λ core. looked_of core ≡ 0) }
         ensures refused { result ≡ Err PullError.Init → I.answers init None }
@@ -95,21 +119,21 @@ impl<T: Drop, I: Init<T, K>, R: Reset<T, K>, K: Clean<T>> LinearCore<T, I, R, K>
         Ok(LinearCore { init, reset, items })
     }
 
-    /// How many pages the pool may have, where there is a limit.
+    /// Returns how many pages the pool may have, if there is a limit.
     pub fn limit(&self) -> Option<usize>
         ensures { result ≡ limit_of self.now }
     {
         self.items.limit()
     }
 
-    /// How many pages the pool has.
+    /// Returns how many pages the pool has.
     pub fn pages(&self) -> usize
         ensures { result ≡ (core_pool self.now).pages }
     {
         self.items.pages()
     }
 
-    /// How many pages the pulls have probed. A pull probes each page once, from the one at
+    /// Returns how many pages the pulls have probed. A pull probes each page once, from the one at
     /// which it starts up to the one that it takes from. At `u64::MAX` the count stays.
     pub fn pages_looked(&self) -> u64
         ensures { result ≡ looked_of self.now }
@@ -122,9 +146,9 @@ impl<T: Drop, I: Init<T, K>, R: Reset<T, K>, K: Clean<T>> SequentialPool<T>
     for LinearCore<T, I, R, K> {
     ghost use Rattle.object_pool_cores.specs.Inside.Numbered.{free_values};
 
-    ghost pulls = { λ old answer new. Pulls (I.answers (init_of old)) old answer new };
+    ghost pulls = { λ old answer new. LinearPulls (I.answers (linear_init old)) old answer new };
 
-    ghost gives = { λ old item new. Gives (R.leaves (reset_of old)) old item new };
+    ghost gives = { λ old item new. LinearGives (R.leaves (linear_reset old)) old item new };
 
     ghost attaches = { λ old value answer new. RefusesAttach old value answer new };
 
@@ -134,12 +158,12 @@ impl<T: Drop, I: Init<T, K>, R: Reset<T, K>, K: Clean<T>> SequentialPool<T>
 
     ghost kept = { λ core. free_values core.items.places };
 
-    ghost answers = { λ core answer. I.answers (init_of core) answer };
+    ghost answers = { λ core answer. I.answers (linear_init core) answer };
 
-    ghost leaves = { λ core old new. R.leaves (reset_of core) old new };
+    ghost leaves = { λ core old new. R.leaves (linear_reset core) old new };
 
     fn pull(&mut self) -> Result<Item<T>, PullError>
-        ensures step { Pulls (I.answers (init_of self.old)) self.old result self.new }
+        ensures step { LinearPulls (I.answers (linear_init self.old)) self.old result self.new }
         ensures meets { IfOk result (λ item. K.meets (item_value item)) }
         ensures probes { ProbesFew (core_pool self.old) (looked_of self.old) (looked_of self.new) }
         ensures probes_up_to { IfOk result (λ item. ProbesUpTo self.old item self.new) }
@@ -157,7 +181,7 @@ impl<T: Drop, I: Init<T, K>, R: Reset<T, K>, K: Clean<T>> SequentialPool<T>
 
     fn give(&mut self, item: Item<T>)
         requires { IsOutOf self.old item }
-        ensures step { Gives (R.leaves (reset_of self.old)) self.old item self.new }
+        ensures step { LinearGives (R.leaves (linear_reset self.old)) self.old item self.new }
         ensures starts { StartsNoFurther self.old item self.new }
         ensures looked { looked_of self.new ≡ looked_of self.old }
     {
@@ -182,7 +206,7 @@ impl<T: Drop, I: Init<T, K>, R: Reset<T, K>, K: Clean<T>> SequentialPool<T>
         }
     }
 
-    ghost use Rattle.object_pool_cores.specs.Laws.LinearBag.{Pulls-from_bag, Gives-to_bag};
+    ghost use Rattle.object_pool_cores.specs.Laws.LinearBag.{LinearPulls-from_bag, LinearGives-to_bag};
     ghost use Rattle.object_pool_cores.specs.Laws.LinearTogether.{HeldTogether-none, HeldTogether-pulled};
     ghost use Rattle.object_pool_cores.specs.Laws.LinearTogether.{HeldTogether-refused, HeldTogether-attached};
     ghost use Rattle.object_pool_cores.specs.Laws.LinearTogether.{HeldTogether-given, HeldTogether-forgotten};
@@ -190,10 +214,10 @@ impl<T: Drop, I: Init<T, K>, R: Reset<T, K>, K: Clean<T>> SequentialPool<T>
     ghost use Rattle.std.proofs.Common.{ap};
 
     ghost pull_from_bag = { λ old new answer pulls.
-        Pulls-from_bag (I.answers (init_of old)) old new answer pulls };
+        LinearPulls-from_bag (I.answers (linear_init old)) old new answer pulls };
 
     ghost return_to_bag = { λ old new item owned gives.
-        Gives-to_bag (R.leaves (reset_of old)) old new item gives };
+        LinearGives-to_bag (R.leaves (linear_reset old)) old new item gives };
 
     ghost attach_beside_bag = { λ old new value answer refused.
         ap (λ core. free_values core.items.places) refused.1 };
@@ -204,16 +228,16 @@ impl<T: Drop, I: Init<T, K>, R: Reset<T, K>, K: Clean<T>> SequentialPool<T>
         together.out index item here };
 
     ghost together_after_pull = { λ old new held item together pulls.
-        HeldTogether-pulled (I.answers (init_of old)) old new held item together pulls };
+        HeldTogether-pulled (I.answers (linear_init old)) old new held item together pulls };
 
     ghost together_after_refusal = { λ old new held cause together pulls.
-        HeldTogether-refused (I.answers (init_of old)) old new held cause together pulls };
+        HeldTogether-refused (I.answers (linear_init old)) old new held cause together pulls };
 
     ghost together_after_attach = { λ old new held value item together refused.
         HeldTogether-attached old new held value item refused };
 
     ghost together_after_give = { λ old new held index item together here gives.
-        HeldTogether-given (R.leaves (reset_of old)) old new held index item together here gives };
+        HeldTogether-given (R.leaves (linear_reset old)) old new held index item together here gives };
 
     ghost together_after_forget = { λ core held index together.
         HeldTogether-forgotten core held index together };

@@ -2,7 +2,7 @@
 ghost use Rattle.std.specs.Prelude.{◌≡◌, [], ⊤};
 ghost use Rattle.std.proofs.Common.{inr, refl};
 ghost use Rattle.object_pool_cores.specs.Attach.{RefusesAttach};
-ghost use Rattle.object_pool_cores.specs.NoPool.{init_of, Pulls};
+ghost use Rattle.object_pool_cores.specs.NoPool.{none_init, NonePulls};
 
 use crate::sequential::{AttachError, Item, SequentialPool};
 use nonblocking_pools::PullError;
@@ -12,6 +12,14 @@ use std::marker::PhantomData;
 use std::sync::Mutex;
 
 /// A pool whose items are fresh. A return drops the item.
+///
+/// # Examples
+///
+/// ```rust
+/// let mut core = NoneCore::<u32, _>::new(Copied::new(0));
+/// let item = core.pull()?;
+/// core.give(item); // drops it
+/// ```
 #[derive(Drop)]
 pub struct NoneCore<T, I: Init<T, AnyValue>> {
     init: I,
@@ -19,9 +27,15 @@ pub struct NoneCore<T, I: Init<T, AnyValue>> {
 }
 
 impl<T: Drop, I: Init<T, AnyValue>> NoneCore<T, I> {
-    /// A pool of what `init` makes.
+    /// Creates a pool of what `init` makes.
+    ///
+    /// # Examples
+    ///
+    /// ```rust
+    /// let mut core = NoneCore::<u32, _>::new(Copied::new(0));
+    /// ```
     pub fn new(init: I) -> NoneCore<T, I>
-        ensures { init_of result ≡ init }
+        ensures { none_init result ≡ init }
     {
         NoneCore {
             init,
@@ -31,7 +45,7 @@ impl<T: Drop, I: Init<T, AnyValue>> NoneCore<T, I> {
 }
 
 impl<T: Drop, I: Init<T, AnyValue>> SequentialPool<T> for NoneCore<T, I> {
-    ghost pulls = { λ old answer new. Pulls (I.answers (init_of old)) old answer new };
+    ghost pulls = { λ old answer new. NonePulls (I.answers (none_init old)) old answer new };
 
     ghost gives = { λ old _ new. new ≡ old };
 
@@ -43,12 +57,12 @@ impl<T: Drop, I: Init<T, AnyValue>> SequentialPool<T> for NoneCore<T, I> {
 
     ghost kept = { λ _. [] };
 
-    ghost answers = { λ core answer. I.answers (init_of core) answer };
+    ghost answers = { λ core answer. I.answers (none_init core) answer };
 
     ghost leaves = { λ _ _ _. ⊥ };
 
     fn pull(&mut self) -> Result<Item<T>, PullError>
-        ensures { Pulls (I.answers (init_of self.old)) self.old result self.new }
+        ensures { NonePulls (I.answers (none_init self.old)) self.old result self.new }
     {
         match self.init.make() {
             Some(value) => Ok(Item::fresh(value)),
@@ -73,10 +87,10 @@ impl<T: Drop, I: Init<T, AnyValue>> SequentialPool<T> for NoneCore<T, I> {
         true
     }
 
-    ghost use Rattle.object_pool_cores.specs.Laws.FreshBag.{Pulls-from_bag};
+    ghost use Rattle.object_pool_cores.specs.Laws.FreshBag.{NonePulls-from_bag};
 
     ghost pull_from_bag = { λ old new answer pulls.
-        Pulls-from_bag (I.answers (init_of old)) old new answer pulls };
+        NonePulls-from_bag (I.answers (none_init old)) old new answer pulls };
 
     ghost return_to_bag = { λ old new item owned gives. inr refl };
 

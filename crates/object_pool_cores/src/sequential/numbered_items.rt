@@ -19,7 +19,7 @@ use nonblocking_pools::page::PAGE_ITEMS;
 use std::alloc::Global;
 use std::marker::Model;
 
-/// Pages in order. No page in front of `start` has a free number.
+/// Pages in order. No page before `start` has a free number.
 #[derive(Drop)]
 pub(crate) struct NumberedItems<T, K: Clean<T>> {
     pages: Vec<CorePage<T, K>>,
@@ -52,7 +52,7 @@ impl<T, K: Clean<T>> Model for NumberedItems<T, K> {
 impl<T: Drop, K: Clean<T>> NumberedItems<T, K> {
     ghost use Rattle.object_pool_cores.specs.Inside.Numbered.{listed_pool, FindsNone, Grows, ProbesPages, TakesLeastOf};
 
-    /// No items yet.
+    /// Creates a table of no items.
     pub(crate) fn new(alloc: Global, limit: Option<usize>) -> NumberedItems<T, K>
         ensures places { result.places ≡ [] }
         ensures limit { result.limit ≡ limit }
@@ -67,25 +67,29 @@ impl<T: Drop, K: Clean<T>> NumberedItems<T, K> {
         }
     }
 
+    /// Returns how many pages there may be, if there is a limit.
     pub(crate) fn limit(&self) -> Option<usize>
         ensures { result ≡ self.now.limit }
     {
         self.limit
     }
 
+    /// Returns how many pages there are.
     pub(crate) fn pages(&self) -> usize
         ensures { result ≡ (listed_pool self.now).pages }
     {
         self.pages.len()
     }
 
+    /// Returns how many pages were probed.
     pub(crate) fn pages_looked(&self) -> u64
         ensures { result ≡ self.now.looked }
     {
         self.looked
     }
 
-    /// Takes the item at the least free number, which is out from then on.
+    /// Takes the item at the least free number, which is in use from then on, or returns `None` if
+    /// no number is free.
     pub(crate) fn take_least(&mut self) -> Option<Item<T>>
         ensures before { IsPool self.old.limit (listed_pool self.old) }
         ensures after { IsPool self.new.limit (listed_pool self.new) }
@@ -106,7 +110,7 @@ impl<T: Drop, K: Clean<T>> NumberedItems<T, K> {
         }
     }
 
-    /// Whether the item at a number is out.
+    /// Returns whether the item at a number is in use.
     pub(crate) fn is_out(&self, number: u128) -> bool
         ensures { IsTrue result ↔ IsOut (listed_pool self.now) number }
     {
@@ -116,7 +120,7 @@ impl<T: Drop, K: Clean<T>> NumberedItems<T, K> {
         }
     }
 
-    /// Puts a value at a number that is out, which is free from then on.
+    /// Puts a value at a number that is in use, which is free from then on.
     pub(crate) fn put(&mut self, number: u128, value: T)
         requires out { IsOut (listed_pool self.old) number }
         requires meets { K.meets value }
@@ -135,7 +139,11 @@ impl<T: Drop, K: Clean<T>> NumberedItems<T, K> {
         self.start = self.start.min(page);
     }
 
-    /// Adds a page of values that `init` makes, or changes nothing. The room in the table is made first.
+    /// Adds a page of values that `init` makes. The room in the table is made first.
+    ///
+    /// # Errors
+    ///
+    /// `Memory`, `Init`, or `Limit` if there may be no more pages. Nothing changes.
     pub(crate) fn grow<I: Init<T, K>>(&mut self, init: &I) -> Result<(), PullError>
         ensures ok { OnOk result (Grows self.old.limit (I.answers init.now) (listed_pool self.old)
             (listed_pool self.new)) }
@@ -159,7 +167,7 @@ impl<T: Drop, K: Clean<T>> NumberedItems<T, K> {
     }
 }
 
-/// A page of values that `init` makes.
+/// Makes a page of values by `init`.
 fn made_page<T: Drop, I: Init<T, K>, K: Clean<T>>(
     alloc: Global,
     init: &I,
@@ -170,8 +178,8 @@ fn made_page<T: Drop, I: Init<T, K>, K: Clean<T>>(
     CorePage::new(alloc, &|| init.make())
 }
 
-/// The first page from `start` on that isn't full, or the count of pages. Each probe of a page is counted,
-/// from `looked` on.
+/// Returns the first page from `start` on that isn't full, or the count of pages. Each probe of a
+/// page is counted, from `looked` on.
 fn first_open<T: Drop, K: Clean<T>>(
     pages: &[CorePage<T, K>],
     start: usize,

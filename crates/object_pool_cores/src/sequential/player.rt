@@ -10,12 +10,23 @@ use std::alloc::Global;
 use std::marker::Model;
 
 /// A pool with the table of the items that are held of it.
+///
+/// # Examples
+///
+/// ```rust
+/// let mut player = Player::new(alloc, core);
+/// let reply = player.play(Command::Pull)?; // item 0 is held at index 0
+/// assert_eq!(rt; reply, Reply::Pulled(0, Some(0)));
+/// player.play(Command::Write(0, 5))?;
+/// assert_eq!(rt; player.held(0), Some(&5));
+/// ```
 pub struct Player<T, P: SequentialPool<T>> {
     pool: P,
     held: HeldItems<T>,
 }
 
-/// Not derived: the proof of a caller that drops it has one call here, and a derived drop has that of each field.
+/// Not derived: the proof of a caller that drops it has one call here, and a derived drop has that
+/// of each field.
 impl<T: Drop, P: SequentialPool<T> + Drop> Drop for Player<T, P> {
     fn drop(self) {
         let Player { pool: _, held: _ } = self;
@@ -34,7 +45,13 @@ impl<T, P: SequentialPool<T>> Model for Player<T, P> {
 }
 
 impl<T: Drop, P: SequentialPool<T>> Player<T, P> {
-    /// A player that holds nothing yet.
+    /// Creates a player that holds nothing yet.
+    ///
+    /// # Examples
+    ///
+    /// ```rust
+    /// let mut player = Player::new(alloc, core);
+    /// ```
     pub fn new(alloc: Global, pool: P) -> Player<T, P>
         ensures pool { result.pool ≡ pool }
         ensures held { result.held ≡ [] }
@@ -45,7 +62,7 @@ impl<T: Drop, P: SequentialPool<T>> Player<T, P> {
         }
     }
 
-    /// The value that is held at an index, if there is one.
+    /// Returns the value that is held at an index, if there is one.
     pub fn held(&self, index: usize) -> Option<&T>
         ensures { option_copied result ≡ value_of (held_at self.now.held index) }
     {
@@ -56,7 +73,8 @@ impl<T: Drop, P: SequentialPool<T>> Player<T, P> {
     ///
     /// # Errors
     ///
-    /// `Memory`, where a pull or an attach finds no room in the player's table. Nothing changes then; the value of an attach is dropped.
+    /// `Memory` if a pull or an attach finds no room in the player's table. Nothing changes then,
+    /// and the value of an attach is dropped.
     pub fn play(&mut self, command: Command<T>) -> Result<Reply<T>, RunError>
         ensures ok { IfOk result
             (λ reply. Plays P.pulls P.gives P.attaches self.old command reply self.new) }
@@ -72,13 +90,13 @@ impl<T: Drop, P: SequentialPool<T>> Player<T, P> {
         }
     }
 
-    /// Does the commands in order, and puts each reply behind those that are there. After an error
-    /// the commands that were done stay done, with their replies, and the others are dropped.
+    /// Does the commands in order, and puts each reply at the end of `replies`.
     ///
     /// # Errors
     ///
-    /// `Memory`, where the player's table or `replies` can't grow. That a pool refuses is a reply, and
-    /// no error.
+    /// `Memory` if the player's table or `replies` can't grow. The commands that were done stay
+    /// done, with their replies, and the others are dropped. A pool's refusal is a reply and no
+    /// error.
     pub fn run(
         &mut self,
         commands: Vec<Command<T>>,

@@ -3,9 +3,16 @@ use crate::sequential::AttachError;
 use nonblocking_pools::PullError;
 
 /// The reply to one command.
+///
+/// # Examples
+///
+/// ```rust
+/// let reply = player.play(Command::Pull)?; // item 0 is held at index 0
+/// assert_eq!(rt; reply, Reply::Pulled(0, Some(0)));
+/// ```
 #[derive(Debug, PartialEq, Eq, Drop)]
 pub enum Reply<T> {
-    /// The index of the new holder, and the number of its item where the pool numbers its items.
+    /// The index of the new holder, and the number of its item if the pool numbers its items.
     Pulled(usize, Option<u128>),
     /// The pool refused a pull, for this cause.
     Refused(PullError),
@@ -16,6 +23,7 @@ pub enum Reply<T> {
     Attached(usize),
     /// The pool refused an attach, for this cause, and the value comes back.
     AttachRefused(AttachError<T>),
-    /// The command names an index that nothing is held at. Nothing changed; the value of a write is dropped.
+    /// The command names an index at which nothing is held. Nothing changed, and the value of a
+    /// write is dropped.
     NoSuchHolder,
 }

@@ -1,4 +1,4 @@
-//! What a sequential pool does, whichever way it chooses its items.
+//! The calls of a sequential pool, whichever way it chooses its items.
 ghost use Rattle.std.specs.Prelude.{◌≡◌, ◌∷◌, [], ◌++◌, ◌↔◌, ℕ, Option, Some, None, List, Result, Ok, Err, IsTrue};
 ghost use Rattle.std.specs.Prelude.{OnErr, MatchResult, slice_get, slice_set};
 ghost use Rattle.pool_parts.specs.declared.pull_error.PullError.{PullError};
@@ -11,7 +11,15 @@ ghost use Rattle.object_pool_cores.specs.Bag.{PullsFromBag, ReturnsToBag, pulled
 use crate::sequential::{AttachError, Item};
 use nonblocking_pools::PullError;
 
-/// A pool that one owner uses. Its ghost members say what it gives and takes; its laws tie them together.
+/// A pool that one owner uses. Its ghost members say what it gives and takes, and its laws tie them
+/// together.
+///
+/// # Examples
+///
+/// ```rust
+/// let item = core.pull()?;
+/// core.give(item); // drops it
+/// ```
 pub trait SequentialPool<T> {
     /// The step of a pull: the pool before, the answer, the pool after.
     ghost pulls: { Self → Result (Item T) PullError → Self → Type 0 };
@@ -37,7 +45,7 @@ pub trait SequentialPool<T> {
     /// What the pool's `reset` may make of a value.
     ghost leaves: { Self → T → T → Type 0 };
 
-    /// An item of the pool.
+    /// Pulls an item.
     ///
     /// # Errors
     ///
@@ -45,7 +53,7 @@ pub trait SequentialPool<T> {
     fn pull(&mut self) -> Result<Item<T>, PullError>
         ensures { pulls self.old result self.new };
 
-    /// Gives an item back.
+    /// Returns an item to the pool.
     fn give(&mut self, item: Item<T>)
         requires { owns self.old item }
         ensures { gives self.old item self.new };
@@ -54,15 +62,15 @@ pub trait SequentialPool<T> {
     ///
     /// # Errors
     ///
-    /// `Memory`, or `NotOffered` by a pool that takes no values from outside. The value comes back, and
-    /// the pool is left as it was.
+    /// `Memory`, or `NotOffered` by a pool that takes no values from outside. The value comes back,
+    /// and the pool is left as it was.
     fn attach(&mut self, value: T) -> Result<Item<T>, AttachError<T>>
         ensures step { attaches self.old value result self.new }
         ensures value { MatchResult result (λ item. item_value item ≡ value)
             (λ error. refused_value error ≡ value) }
         ensures err { OnErr result (self.new ≡ self.old) };
 
-    /// Whether the item may be given back to this pool.
+    /// Returns whether the item may be given back to this pool.
     fn is_mine(&self, item: &Item<T>) -> bool
         ensures { IsTrue result ↔ owns self.now item.now };
 
@@ -80,7 +88,7 @@ pub trait SequentialPool<T> {
         (answer : Result (Item T) (AttachError T))
         → attaches old value answer new → kept new ≡ kept old };
 
-    /// Where no items are held, they may be held together.
+    /// If no items are held, they may be held together.
     ghost together_at_first: { (pool : Self) → together pool [] };
 
     /// Items that are held together are each the pool's own.

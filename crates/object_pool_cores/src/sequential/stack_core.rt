@@ -1,7 +1,7 @@
 //! A sequential stack pool: the value that was returned last comes first.
 ghost use Rattle.std.specs.Prelude.{◌≡◌, [], IfOk, IsTrue};
 ghost use Rattle.object_pool_cores.specs.Inside.SequentialItem.{item_value, has_room};
-ghost use Rattle.object_pool_cores.specs.Stack.{kept_of, init_of, reset_of, Pulls, Gives, Attaches, HoldRooms};
+ghost use Rattle.object_pool_cores.specs.Stack.{kept_of, stack_init, stack_reset, StackPulls, StackGives, StackAttaches, HoldRooms};
 
 use crate::sequential::{AttachError, Item, SequentialPool};
 use nonblocking_pools::PullError;
@@ -11,6 +11,15 @@ use nonblocking_pools::stack::{Room, Stack};
 use std::alloc::Global;
 
 /// A pool that keeps what was returned. An item brings its own room, so a return takes no memory.
+///
+/// # Examples
+///
+/// ```rust
+/// let mut core = StackCore::<u32, _, _, AnyValue>::new(alloc, Copied::new(0), Keep);
+/// let item = core.attach(5)?;
+/// core.give(item); // the next pull gives it
+/// assert_eq!(rt; *core.pull()?, 5);
+/// ```
 pub struct StackCore<T: Drop, I: Init<T, K>, R: Reset<T, K>, K: Clean<T>> {
     alloc: Global,
     init: I,
@@ -18,7 +27,8 @@ pub struct StackCore<T: Drop, I: Init<T, K>, R: Reset<T, K>, K: Clean<T>> {
     kept: Stack<T, K>,
 }
 
-/// Not derived: the proof of a caller that drops it has one call here, and a derived drop has that of each field.
+/// Not derived: the proof of a caller that drops it has one call here, and a derived drop has that
+/// of each field.
 impl<T: Drop, I: Init<T, K>, R: Reset<T, K>, K: Clean<T>> Drop for StackCore<T, I, R, K> {
     fn drop(self) {
         let StackCore {
@@ -31,11 +41,17 @@ impl<T: Drop, I: Init<T, K>, R: Reset<T, K>, K: Clean<T>> Drop for StackCore<T, 
 }
 
 impl<T: Drop, I: Init<T, K>, R: Reset<T, K>, K: Clean<T>> StackCore<T, I, R, K> {
-    /// A pool that keeps nothing yet.
+    /// Creates a pool that keeps nothing yet.
+    ///
+    /// # Examples
+    ///
+    /// ```rust
+    /// let mut core = StackCore::<u32, _, _, AnyValue>::new(alloc, Copied::new(0), Keep);
+    /// ```
     pub fn new(alloc: Global, init: I, reset: R) -> StackCore<T, I, R, K>
         ensures kept { kept_of result ≡ [] }
-        ensures init { init_of result ≡ init }
-        ensures reset { reset_of result ≡ reset }
+        ensures init { stack_init result ≡ init }
+        ensures reset { stack_reset result ≡ reset }
     {
         StackCore {
             alloc,
@@ -48,11 +64,11 @@ impl<T: Drop, I: Init<T, K>, R: Reset<T, K>, K: Clean<T>> StackCore<T, I, R, K> 
 
 impl<T: Drop, I: Init<T, K>, R: Reset<T, K>, K: Clean<T>> SequentialPool<T>
     for StackCore<T, I, R, K> {
-    ghost pulls = { λ old answer new. Pulls (I.answers (init_of old)) old answer new };
+    ghost pulls = { λ old answer new. StackPulls (I.answers (stack_init old)) old answer new };
 
-    ghost gives = { λ old item new. Gives (R.leaves (reset_of old)) old item new };
+    ghost gives = { λ old item new. StackGives (R.leaves (stack_reset old)) old item new };
 
-    ghost attaches = { λ old value answer new. Attaches old value answer new };
+    ghost attaches = { λ old value answer new. StackAttaches old value answer new };
 
     ghost owns = { λ _ item. IsTrue (has_room item) };
 
@@ -60,12 +76,12 @@ impl<T: Drop, I: Init<T, K>, R: Reset<T, K>, K: Clean<T>> SequentialPool<T>
 
     ghost kept = { λ core. kept_of core };
 
-    ghost answers = { λ core answer. I.answers (init_of core) answer };
+    ghost answers = { λ core answer. I.answers (stack_init core) answer };
 
-    ghost leaves = { λ core old new. R.leaves (reset_of core) old new };
+    ghost leaves = { λ core old new. R.leaves (stack_reset core) old new };
 
     fn pull(&mut self) -> Result<Item<T>, PullError>
-        ensures step { Pulls (I.answers (init_of self.old)) self.old result self.new }
+        ensures step { StackPulls (I.answers (stack_init self.old)) self.old result self.new }
         ensures meets { IfOk result (λ item. K.meets (item_value item)) }
     {
         if let Some((value, room)) = self.kept.take() {
@@ -80,7 +96,7 @@ impl<T: Drop, I: Init<T, K>, R: Reset<T, K>, K: Clean<T>> SequentialPool<T>
 
     fn give(&mut self, item: Item<T>)
         requires { IsTrue (has_room item) }
-        ensures { Gives (R.leaves (reset_of self.old)) self.old item self.new }
+        ensures { StackGives (R.leaves (stack_reset self.old)) self.old item self.new }
     {
         let (mut value, room) = item.into_parts();
         let Some(room) = room else { unreachable!() };
@@ -89,7 +105,7 @@ impl<T: Drop, I: Init<T, K>, R: Reset<T, K>, K: Clean<T>> SequentialPool<T>
     }
 
     fn attach(&mut self, value: T) -> Result<Item<T>, AttachError<T>>
-        ensures { Attaches self.old value result self.new }
+        ensures { StackAttaches self.old value result self.new }
     {
         match Room::new(self.alloc) {
             Ok(room) => Ok(Item::with_room(value, room)),
@@ -101,15 +117,15 @@ impl<T: Drop, I: Init<T, K>, R: Reset<T, K>, K: Clean<T>> SequentialPool<T>
         item.has_room()
     }
 
-    ghost use Rattle.object_pool_cores.specs.Laws.StackLaws.{Pulls-from_bag, Gives-to_bag, HoldRooms-push};
+    ghost use Rattle.object_pool_cores.specs.Laws.StackLaws.{StackPulls-from_bag, StackGives-to_bag, HoldRooms-push};
     ghost use Rattle.object_pool_cores.specs.Laws.StackLaws.{HoldRooms-less, HoldRooms-written};
     ghost use Rattle.std.proofs.Common.{ap};
 
     ghost pull_from_bag = { λ old new answer pulls.
-        Pulls-from_bag (I.answers (init_of old)) old new answer pulls };
+        StackPulls-from_bag (I.answers (stack_init old)) old new answer pulls };
 
     ghost return_to_bag = { λ old new item owned gives.
-        Gives-to_bag (R.leaves (reset_of old)) old new item gives };
+        StackGives-to_bag (R.leaves (stack_reset old)) old new item gives };
 
     ghost attach_beside_bag = { λ old new value answer attached.
         ap (λ core. kept_of core) attached.same };

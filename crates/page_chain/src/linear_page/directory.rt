@@ -1,5 +1,7 @@
-//! Where the links of a chain lie: row `b` has the links to the pages `2^b` to `2^(b+1) - 1`, and is made when the first of them is needed.
-//! Beside its link each page has a hint, which is set where the page may have a free item.
+//! Where the links of a chain lie.
+//!
+//! Row `b` has the links to the pages `2^b` to `2^(b+1) - 1`, and is made when the first of them is
+//! needed. Beside its link each page has a hint, which is set if the page may have a free item.
 ghost use Rattle.std.specs.Prelude.{◌≡◌, ◌^◌, ◌<◌, length, IfOk, IfErr, IfSome};
 ghost use Rattle.once_cell.specs.Once.{cell_name};
 ghost use Rattle.pool_parts.specs.Refusal.{RefusesMaking};
@@ -26,7 +28,7 @@ pub(super) struct Row<T, K: Clean<T>, O: Clean<T>> {
 }
 
 impl<T: Drop, K: Clean<T>, O: Clean<T>> Row<T, K, O> {
-    /// A row of links that lead nowhere yet, with this number.
+    /// Creates the row of this number, whose links lead nowhere yet.
     fn new(alloc: Global, number: u32) -> Result<Box<Row<T, K, O>>, PullError>
         requires { number < 64 }
         ensures len { IfOk result (λ row. length row.value.links.items ≡ 2 ^ number) }
@@ -41,7 +43,7 @@ impl<T: Drop, K: Clean<T>, O: Clean<T>> Row<T, K, O> {
         Ok(Box::new(alloc, Row { links, hints })?)
     }
 
-    /// The first hint that is set, by its page's offset in the row.
+    /// Returns the first hint that is set, by its page's offset in the row.
     fn first_hint(&self) -> Option<usize> {
         for (index, word) in self.hints.iter().enumerate() {
             if let Some(place) = word.first_from(0) {
@@ -52,7 +54,7 @@ impl<T: Drop, K: Clean<T>, O: Clean<T>> Row<T, K, O> {
     }
 }
 
-/// Words in which no hint is set.
+/// Returns words in which no hint is set.
 fn no_hints(alloc: Global, words: usize) -> Result<Vec<HintWord>, PullError>
     ensures refused { IfErr result (RefusesMaking ⊥) }
 {
@@ -68,7 +70,7 @@ fn no_hints(alloc: Global, words: usize) -> Result<Vec<HintWord>, PullError>
 pub(super) struct Directory<T, K: Clean<T>, O: Clean<T>> {
     alloc: Global,
     rows: Vec<OnceBox<Row<T, K, O>>>,
-    /// A hint a row, which is set where a hint of the row may be set.
+    /// A hint for each row, which is set if a hint of the row may be set.
     hinted_rows: HintWord,
 }
 
@@ -91,6 +93,11 @@ impl<T: Drop, K: Clean<T>, O: Clean<T>> Directory<T, K, O> {
     ghost use Rattle.pool_parts.specs.Holding.{holding_page};
     ghost use Rattle.page_chain.specs.Walk.{IsKnownAt, IsLinkedAt};
 
+    /// Creates a directory of no links.
+    ///
+    /// # Errors
+    ///
+    /// `Memory`.
     pub(super) fn new(alloc: Global) -> Result<Directory<T, K, O>, PullError>
         ensures refused { IfErr result (RefusesMaking ⊥) }
     {
@@ -105,11 +112,12 @@ impl<T: Drop, K: Clean<T>, O: Clean<T>> Directory<T, K, O> {
         })
     }
 
+    /// Returns the allocator of the rows.
     pub(super) fn allocator(&self) -> Global {
         self.alloc
     }
 
-    /// The page with this number, where one is linked, and a note of its link.
+    /// Returns the page with this number, if it is linked, and a note of its link.
     pub(super) fn linked(&self, number: usize) -> Option<(&OpenedPage<T, K, O>, LinkNote<T, K, O>)>
         requires { 0 < number }
         ensures { IfSome result
@@ -122,7 +130,7 @@ impl<T: Drop, K: Clean<T>, O: Clean<T>> Directory<T, K, O> {
         Some((page, note))
     }
 
-    /// The page of an item, to which the notes of the page's number lead.
+    /// Returns the page of an item, to which the notes of the page's number lead.
     pub(super) fn linked_page(
         &self,
         number: PageNumber<T, K, O>,
@@ -139,7 +147,7 @@ impl<T: Drop, K: Clean<T>, O: Clean<T>> Directory<T, K, O> {
         page
     }
 
-    /// The number of the first page that a hint names.
+    /// Returns the number of the first page that a hint names.
     pub(super) fn hinted(&self) -> Option<usize>
         ensures { IfSome result (λ number. 0 < number) }
     {
@@ -158,7 +166,7 @@ impl<T: Drop, K: Clean<T>, O: Clean<T>> Directory<T, K, O> {
         None
     }
 
-    /// The number of the first page of a row that a hint names.
+    /// Returns the number of the first page of a row that a hint names.
     fn hinted_in(&self, row: u32) -> Option<usize>
         requires { row < 64 }
         ensures { IfSome result (λ number. 0 < number) }
@@ -167,7 +175,8 @@ impl<T: Drop, K: Clean<T>, O: Clean<T>> Directory<T, K, O> {
         (1usize << row).checked_add(offset)
     }
 
-    /// Says that a page may have a free item. It has to be called once the item is free.
+    /// Sets the hint of a page that may have a free item. It has to be called once the item is
+    /// free.
     pub(super) fn set_hint(&self, number: usize)
         requires { 0 < number }
     {
@@ -178,7 +187,7 @@ impl<T: Drop, K: Clean<T>, O: Clean<T>> Directory<T, K, O> {
         }
     }
 
-    /// Says that a page was found full.
+    /// Clears the hint of a page that was found full.
     pub(super) fn clear_hint(&self, number: usize)
         requires { 0 < number }
     {
@@ -187,7 +196,7 @@ impl<T: Drop, K: Clean<T>, O: Clean<T>> Directory<T, K, O> {
         }
     }
 
-    /// Where the link to a page lies.
+    /// Returns where the link to a page lies.
     pub(super) fn place(&self, number: usize) -> LinkPlace<'_, T, K, O>
         requires { 0 < number }
         ensures { IsLinkTo self.now number (link_at result) }
@@ -232,7 +241,7 @@ impl<'c, T: Drop, K: Clean<T>, O: Clean<T>> LinkPlace<'c, T, K, O> {
     ghost use Rattle.page_chain.specs.LinkNote.{IsNewNoteOf, known_link, known_next, link_cell};
     ghost use Rattle.pool_parts.specs.Page.{page_identity};
 
-    /// The word of the page's hint, and the hint's place in it, where the row is there.
+    /// Returns the word of the page's hint and the hint's place in it, if the row exists.
     fn hint(&self) -> Option<(&'c HintWord, u32)>
         ensures { IfSome result (λ hint. hint.1 < 64) }
     {
@@ -241,7 +250,7 @@ impl<'c, T: Drop, K: Clean<T>, O: Clean<T>> LinkPlace<'c, T, K, O> {
         Some((word, (self.offset % HINTS) as u32))
     }
 
-    /// A note of the link, where the row is there.
+    /// Returns a note of the link, if the row exists.
     pub(super) fn known_row(&self) -> Option<LinkNote<T, K, O>>
         ensures { IfSome result (IsNewNoteOf (link_at self.now)) }
     {
@@ -255,7 +264,11 @@ impl<'c, T: Drop, K: Clean<T>, O: Clean<T>> LinkPlace<'c, T, K, O> {
         })
     }
 
-    /// A note of the link. The row is made where it isn't there.
+    /// Returns a note of the link. It makes the row if there is none.
+    ///
+    /// # Errors
+    ///
+    /// `Memory`.
     pub(super) fn new_note(&self) -> Result<LinkNote<T, K, O>, PullError>
         ensures note { IfOk result (IsNewNoteOf (link_at self.now)) }
         ensures refused { IfErr result (RefusesMaking ⊥) }
@@ -266,7 +279,7 @@ impl<'c, T: Drop, K: Clean<T>, O: Clean<T>> LinkPlace<'c, T, K, O> {
         }
     }
 
-    /// As `new_note`, where the row wasn't there.
+    /// Makes the row, and returns a note of the link.
     #[cold]
     fn made_row(&self) -> Result<LinkNote<T, K, O>, PullError>
         ensures note { IfOk result (IsNewNoteOf (link_at self.now)) }
@@ -274,11 +287,11 @@ impl<'c, T: Drop, K: Clean<T>, O: Clean<T>> LinkPlace<'c, T, K, O> {
     {
         let (alloc, number) = (self.alloc, self.row_number);
         self.row.get_or_try_init(move || Row::new(alloc, number))?;
-        // The row is there now, and long enough. No contract can say so of a set-once cell.
+        // The row exists now, and is long enough. No contract can say so of a set-once cell.
         self.known_row().ok_or(PullError::Memory)
     }
 
-    /// The page that is linked here, if one is. The note knows it then.
+    /// Returns the page that is linked here, if one is. Then the note knows it.
     pub(super) fn get_as(&self, note: &mut LinkNote<T, K, O>) -> Option<&'c OpenedPage<T, K, O>>
         requires { known_link note.old ≡ link_at self.now }
         ensures link { known_link note.new ≡ known_link note.old }
@@ -293,7 +306,7 @@ impl<'c, T: Drop, K: Clean<T>, O: Clean<T>> LinkPlace<'c, T, K, O> {
         self.link(note).get_as(&mut note.link)
     }
 
-    /// The link, by a note of it.
+    /// Returns the link, by a note of it.
     pub(super) fn link(&self, note: &mut LinkNote<T, K, O>) -> &'c OnceBox<OpenedPage<T, K, O>>
         requires { known_link note.old ≡ link_at self.now }
         ensures row { note.new.row.cell ≡ note.old.row.cell }

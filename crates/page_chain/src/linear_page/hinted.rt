@@ -1,12 +1,16 @@
-//! A pull from a chain: from its first page, else from a page that a hint names, else by the walk behind the first page.
+//! A pull from a chain: from its first page, or a page that a hint names, or by the walk along the
+//! links.
 //!
-//! A page's hint is set where the page may have a free item. The first page has none, since each pull asks it first. Who
-//! frees an item of a page that was full sets the hint after that, and so does who links a page. A pull that leaves the page
-//! full that a hint named clears the hint, looks at the page again, and sets the hint again where an item came back. So an
-//! item that came back before the clearing is seen by that look, and one that came back after it sets the hint itself: once
-//! those calls have ended, each page with a free item has its hint. Between them a hint may be missing, which costs a walk,
-//! or be left over, which costs a look. Neither decides anything: a page is linked and a limit is answered by the walk
-//! alone, with the evidence of each page that it was full in this very pull.
+//! A page's hint is set if the page may have a free item. The first page has no hint, since each
+//! pull asks it first. A return to a page that was full sets the page's hint after the return, and
+//! a call that links a page sets it too. A pull that takes the last item of a hinted page clears
+//! the hint, looks at the page again, and sets the hint again if an item came back. So a return
+//! before the clearing is seen by that look, and a return after it sets the hint itself. Once those
+//! calls have ended, each page with a free item has its hint.
+//!
+//! Until then a hint may be missing, which costs a walk, or be left over, which costs a look.
+//! Neither decides anything. Only the walk links a page or ends at a limit, with the evidence of
+//! each page that it was full in this very pull.
 ghost use Rattle.std.specs.Prelude.{◌≡◌, ◌≤◌, ◌<◌, None, IfSome, IsSome, IfOk, IfErr};
 ghost use Rattle.std.specs.Arc.{arc_value};
 ghost use Rattle.pool_parts.specs.Answers.{MayOpen};
@@ -25,7 +29,7 @@ use pool_parts::clean::Clean;
 use pool_parts::page::{Allocated, FullSeen, Page, PageNote, PullPass};
 
 impl<T: Drop, K: Clean<T>, O: Clean<T>> Chain<T, K, O> {
-    /// What the first page answers to a pull.
+    /// Pulls from the first page.
     pub fn ask_first<'s, 'p>(&'s self, pass: &'p PullPass) -> Allocated<'s, 'p, T, K>
         ensures answer { IsAnsweredBy K.meets O.meets (first_page self.now) result }
         ensures opening { IsOpenedWith (first_opening self.now) result }
@@ -33,7 +37,8 @@ impl<T: Drop, K: Clean<T>, O: Clean<T>> Chain<T, K, O> {
         self.first.take(pass).answer
     }
 
-    /// The same, by a user that knows something of the first page: its pull stands after all that the note knew.
+    /// Pulls from the first page, by a user that knows something of it. The pull comes after all
+    /// that the note knew.
     pub fn ask_first_from<'s, 'p>(
         &'s self,
         pass: &'p PullPass,
@@ -48,15 +53,19 @@ impl<T: Drop, K: Clean<T>, O: Clean<T>> Chain<T, K, O> {
         answer
     }
 
-    /// The number of the first page.
+    /// Returns the number of the first page.
     pub fn first_number(&self) -> PageNumber<T, K, O>
         ensures { number_of result ≡ 0 }
     {
         PageNumber::of_start(self.directory.allocator(), 0)
     }
 
-    /// An item of a page that a hint names, or of the first page that has one, where the first page of the chain was found full
-    /// in this pull.
+    /// Pulls from a page that a hint names, or from the first page along the links that has an
+    /// item. The chain's first page was found full in this pull.
+    ///
+    /// # Errors
+    ///
+    /// Why the walk took no item: see [`WalkRefusal`].
     pub fn pull_further<'s, 'p, I: Fn() -> Option<T>>(
         &'s self,
         seen: FullSeen<'p, T>,
@@ -102,7 +111,8 @@ impl<T: Drop, K: Clean<T>, O: Clean<T>> Chain<T, K, O> {
         self.first().walk_on(seen, known, limit, init)
     }
 
-    /// The first page that a hint names within the limit, its number, and a note of the link to it.
+    /// Returns the first page that a hint names within the limit, its number, and a note of the
+    /// link to it.
     fn hinted_page(
         &self,
         limit: Option<usize>,
@@ -123,9 +133,10 @@ impl<T: Drop, K: Clean<T>, O: Clean<T>> Chain<T, K, O> {
         Some((number, linked, note))
     }
 
-    /// Clears the hint of a page that was left full, and sets it again where an item came back meanwhile.
+    /// Clears the hint of a page that was left full, and sets it again if an item came back
+    /// meanwhile.
     ///
-    /// The look at the page's word is for the hint alone: it decides nothing in this pull.
+    /// The look at the page's word is only for the hint. It decides nothing in this pull.
     fn left_full(&self, number: usize, page: &Page<T, K>)
         requires { 0 < number }
     {
@@ -135,8 +146,9 @@ impl<T: Drop, K: Clean<T>, O: Clean<T>> Chain<T, K, O> {
         }
     }
 
-    /// Sets the hint of a page that has a free item now and may have been full before. Apart, so that a drop is short enough to be
-    /// inlined.
+    /// Sets the hint of a page that has a free item now and may have been full before.
+    ///
+    /// It isn't inlined, so that a drop is short enough to be.
     #[inline(never)]
     pub fn no_longer_full(&self, number: usize) {
         if number > 0 {

@@ -1,4 +1,5 @@
-//! Hints: bits that are set where a free item may lie. They save steps and promise nothing.
+//! Hints: bits that are set for pages that may have a free item. They save steps and promise
+//! nothing.
 ghost use Rattle.std.specs.Prelude.{◌≤◌, ◌<◌, IfSome};
 
 use std::sync::atomic::AtomicU64;
@@ -14,14 +15,14 @@ pub(super) struct HintWord {
 }
 
 impl HintWord {
-    /// A word in which no hint is set.
+    /// Creates a word in which no hint is set.
     pub(super) fn new() -> HintWord {
         HintWord {
             bits: AtomicU64::new(0),
         }
     }
 
-    /// The first hint from this place on that is set.
+    /// Returns the first hint from this place on that is set.
     pub(super) fn first_from(&self, from: u32) -> Option<u32>
         requires { from < 64 }
         ensures { IfSome result (λ place. (from ≤ place) × (place < 64)) }
@@ -31,7 +32,7 @@ impl HintWord {
         if place < u64::BITS { Some(place) } else { None }
     }
 
-    /// Sets a hint. One that is set already costs a load alone.
+    /// Sets a hint. Setting a hint that is already set costs only a load.
     pub(super) fn set(&self, place: u32)
         requires { place < 64 }
     {

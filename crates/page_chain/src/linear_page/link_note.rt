@@ -1,4 +1,4 @@
-//! What a caller has learned of the link behind a page.
+//! What a caller has learned of the link from a page to the next.
 ghost use Rattle.std.specs.Prelude.{◌≡◌, Some, IfSome};
 ghost use Rattle.page_chain.specs.LinkRow.{cell_in_row};
 ghost use Rattle.pool_parts.specs.OneProof.{same_holding};
@@ -9,8 +9,8 @@ use once_cell::race::Note;
 use pool_parts::clean::{AnyValue, Clean};
 use std::snapshot::Snapshot;
 
-/// What a caller has learned of one link. It has no bytes, and is for proofs: two notes of one link that know a page know the same one,
-/// whichever threads made them.
+/// What a caller has learned of one link. It has no bytes, and is for proofs. Two notes of one link
+/// that know a page know the same one, whichever threads made them.
 #[derive(Drop)]
 pub struct LinkNote<T, K: Clean<T>, O: Clean<T> = AnyValue> {
     pub(super) row: Note<Row<T, K, O>>,
@@ -22,7 +22,7 @@ pub struct LinkNote<T, K: Clean<T>, O: Clean<T> = AnyValue> {
 impl<T, K: Clean<T>, O: Clean<T>> LinkNote<T, K, O> {
     ghost use Rattle.page_chain.specs.LinkNote.{known_link, known_next};
 
-    /// Two notes of one link that know a page know the same one.
+    /// Compares this note with another of the same link: if both know a page, it is the same one.
     pub fn compare(&mut self, other: LinkNote<T, K, O>)
         requires { known_link other ≡ known_link self.old }
         ensures link { known_link self.new ≡ known_link self.old }

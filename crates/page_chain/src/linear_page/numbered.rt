@@ -1,4 +1,5 @@
-//! The return of an item whose holder has no reference to its page: the page is found by its number.
+//! The return of an item whose holder has no reference to its page. The page is found by its
+//! number.
 ghost use Rattle.std.specs.Prelude.{◌≡◌, ◌<◌};
 ghost use Rattle.pool_parts.specs.Holding.{holding_page, held_item};
 ghost use Rattle.pool_parts.specs.Note.{IsReturned};
@@ -12,8 +13,8 @@ use pool_parts::page::holding::Holding;
 use pool_parts::page::{Page, PageNote, Returned};
 
 impl<T: Drop, K: Clean<T>, O: Clean<T>> Chain<T, K, O> {
-    /// The value of an item goes home to the page of this number, and its id is free again. Where the page was full, the next pulls are
-    /// told of it. The note knows the page's history up to the return.
+    /// Returns the value of an item to the page of this number, and frees its id. If the page was
+    /// full, it sets the page's hint. The note knows the page's history up to the return.
     pub fn free(&self, number: PageNumber<T, K, O>, holding: Holding<T>, value: T) -> PageNote<T>
         requires on_page { ∥ IsWalkedTo (start_of self.now) number (holding_page holding) ∥₁ }
         requires in_page { holding.number < PAGE_ITEMS }
@@ -29,7 +30,7 @@ impl<T: Drop, K: Clean<T>, O: Clean<T>> Chain<T, K, O> {
         note
     }
 
-    /// The page of an item that stays out, by the page's number.
+    /// Returns the page of an item that stays in use, by the page's number.
     pub fn page_at<'s>(
         &'s self,
         number: &mut PageNumber<T, K, O>,
@@ -42,7 +43,7 @@ impl<T: Drop, K: Clean<T>, O: Clean<T>> Chain<T, K, O> {
         self.page_of(number.again(), holding)
     }
 
-    /// The page of an item, by the page's number. The first one needs no look.
+    /// Returns the page of an item, by the page's number. The first page needs no look at a link.
     fn page_of(&self, number: PageNumber<T, K, O>, holding: &Holding<T>) -> &Page<T, K>
         requires { ∥ IsWalkedTo (start_of self.now) number (holding_page holding.now) ∥₁ }
         ensures { page_identity result.now ≡ holding_page holding.now }

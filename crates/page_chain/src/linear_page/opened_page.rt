@@ -1,4 +1,4 @@
-//! A page of a chain, which opened with values of one kind.
+//! A page of a chain, and the condition that its first values met.
 ghost use Rattle.std.specs.Prelude.{◌≡◌};
 ghost use Rattle.std.specs.Arc.{arc_value};
 ghost use Rattle.pool_parts.specs.Page.{page_identity, page_opening, OpensWith};
@@ -34,6 +34,7 @@ impl<T, K: Clean<T>, O: Clean<T>> Model for OpenedPage<T, K, O> {
 }
 
 impl<T, K: Clean<T>, O: Clean<T>> OpenedPage<T, K, O> {
+    /// Records that the page opened with values that meet the condition.
     pub(super) fn new(page: Arc<Page<T, K>>) -> OpenedPage<T, K, O>
         requires { OpensWith O.meets (arc_value page) }
         ensures { result ≡ page }
@@ -44,7 +45,7 @@ impl<T, K: Clean<T>, O: Clean<T>> OpenedPage<T, K, O> {
         }
     }
 
-    /// The page, with its owners.
+    /// Returns the page, with its owners.
     pub(super) fn owner(&self) -> &Arc<Page<T, K>>
         ensures page { result.now ≡ self.now }
         ensures opened { OpensWith O.meets (arc_value result.now) }
@@ -52,7 +53,7 @@ impl<T, K: Clean<T>, O: Clean<T>> OpenedPage<T, K, O> {
         &self.page
     }
 
-    /// What the page answers to a pull.
+    /// Pulls from the page.
     pub(super) fn take<'s, 'p>(&'s self, pass: &'p PullPass) -> Taken<'s, 'p, T, K>
         ensures answer { IsAnsweredBy K.meets O.meets (page_identity (arc_value self.now)) result.answer }
         ensures opening { IsOpenedWith (page_opening (arc_value self.now)) result.answer }

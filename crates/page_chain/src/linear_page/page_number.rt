@@ -16,7 +16,8 @@ use pool_parts::clean::Clean;
 use std::alloc::Global;
 use std::snapshot::Snapshot;
 
-/// The number of a page in its chain, and what was learned of the link to it: at run time the number alone.
+/// The number of a page in its chain, and what was learned of the link to it. At run time it is
+/// only the number.
 #[derive(Drop)]
 pub struct PageNumber<T, K: Clean<T>, O: Clean<T>> {
     number: usize,
@@ -24,11 +25,12 @@ pub struct PageNumber<T, K: Clean<T>, O: Clean<T>> {
     link: Note<OpenedPage<T, K, O>>,
 }
 
-// What a note owns names no thread: `proofs/ReusableShared` proves it, and each call that asks for `Sync` has that proof.
+// What a note owns names no thread: `proofs/ReusableShared` proves it, for each call that requires
+// `Sync`.
 unsafe impl<T, K: Clean<T>, O: Clean<T>> Sync for PageNumber<T, K, O> {}
 
 impl<T: Drop, K: Clean<T>, O: Clean<T>> PageNumber<T, K, O> {
-    /// The number of a page to which no link was passed. Its notes are of no link of a chain.
+    /// Returns the number of a page at which a walk starts. Its notes are of no link of a chain.
     pub(super) fn of_start(alloc: Global, number: usize) -> PageNumber<T, K, O>
         ensures { number_of result ≡ number }
     {
@@ -39,7 +41,7 @@ impl<T: Drop, K: Clean<T>, O: Clean<T>> PageNumber<T, K, O> {
         }
     }
 
-    /// The number of a page to which the link of this note leads.
+    /// Returns the number of the page to which the link of this note leads.
     pub(super) fn of_link(number: usize, note: LinkNote<T, K, O>) -> PageNumber<T, K, O>
         ensures number { number_of result ≡ number }
         ensures linked { (links : Cells) (page : TableId) →
@@ -53,7 +55,8 @@ impl<T: Drop, K: Clean<T>, O: Clean<T>> PageNumber<T, K, O> {
         PageNumber { number, row, link }
     }
 
-    /// The note of the link at this place, where its row and the link are those of the number's notes.
+    /// Returns the note of the link at this place, whose row and link are those of the number's
+    /// notes.
     pub(super) fn into_note(self, place: &LinkPlace<'_, T, K, O>) -> LinkNote<T, K, O>
         requires { cell_in_row self.row.known place.now.offset ≡ Some self.link.cell }
         ensures row { (known_link result).0 ≡ self.row.cell }
@@ -73,7 +76,7 @@ impl<T: Drop, K: Clean<T>, O: Clean<T>> PageNumber<T, K, O> {
         }
     }
 
-    /// A second one of the same page.
+    /// Returns a second number of the same page.
     pub(super) fn again(&mut self) -> PageNumber<T, K, O>
         ensures same { self.new ≡ self.old }
         ensures again { result ≡ self.old }
@@ -85,7 +88,7 @@ impl<T: Drop, K: Clean<T>, O: Clean<T>> PageNumber<T, K, O> {
         }
     }
 
-    /// How many links the page lies behind its chain's first one.
+    /// Returns how many links lead to the page from the first page of its chain.
     pub fn get(&self) -> usize
         ensures { result ≡ number_of self.now }
     {

@@ -29,7 +29,8 @@ pub struct WalkEnd<'c, T, K: Clean<T>, O: Clean<T>> {
     pub number: PageNumber<T, K, O>,
 }
 
-/// The last page of a limit, which was found full in this pull, and its number. Each page before it was found full too.
+/// The last page within a limit, which was found full in this pull, and its number. Each page
+/// before it was found full too.
 #[derive(Drop)]
 pub struct LimitSeen<'p, T, K: Clean<T>, O: Clean<T>> {
     /// The page's number, with what was learned of the link to it.
@@ -37,7 +38,7 @@ pub struct LimitSeen<'p, T, K: Clean<T>, O: Clean<T>> {
     pub seen: FullSeen<'p, T>,
 }
 
-/// Why a walk has no item.
+/// Why a walk took no item.
 #[derive(Drop)]
 pub enum WalkRefusal<'p, T, K: Clean<T>, O: Clean<T>> {
     /// Each page up to the limit was found full.
@@ -63,7 +64,7 @@ impl<T, K: Clean<T>, O: Clean<T>> From<PullError> for WalkRefusal<'_, T, K, O> {
 }
 
 impl<T: Drop, K: Clean<T>, O: Clean<T>> WalkRefusal<'_, T, K, O> {
-    /// The refusal's name, without its evidence.
+    /// Returns the refusal's name, without its evidence.
     pub fn cause(self) -> PullError
         ensures { result ≡ cause_of self.entry }
     {
@@ -75,14 +76,15 @@ impl<T: Drop, K: Clean<T>, O: Clean<T>> WalkRefusal<'_, T, K, O> {
 }
 
 impl<'c, T: Drop, K: Clean<T>, O: Clean<T>> LinearPage<'c, T, K, O> {
-    /// An item of the first page from this one on that has one, and that page's number, counted from this one.
+    /// Pulls from the first page that has an item, from this one on. It returns that page's number
+    /// too, counted from this one.
     ///
-    /// It goes on only from a page that said in this call that each of its ids was observed taken. Behind the last page it
-    /// links a new one.
+    /// It goes on only from a page that it found full in this call: each of its items was seen in
+    /// use. After the last page it links a new one.
     ///
     /// # Errors
     ///
-    /// `Memory`, or `Init` at the first `None`, where a page is made; it isn't linked then.
+    /// `Memory`, or `Init` at the first `None`, if it has to make a page. Then no page is linked.
     pub fn alloc<I: Fn() -> Option<T>>(
         &self,
         init: &I,
@@ -101,11 +103,12 @@ impl<'c, T: Drop, K: Clean<T>, O: Clean<T>> LinearPage<'c, T, K, O> {
         Ok((reached.slot, passed))
     }
 
-    /// As `alloc`, over the first `pages` pages from this one on alone. It links no page past them.
+    /// Pulls as `alloc` does, from the first `pages` pages from this one on. It links no page past
+    /// them.
     ///
     /// # Errors
     ///
-    /// As `alloc`; `Limit`, where each item of these pages was observed taken in this call.
+    /// As `alloc`, and `Limit` if each item of these pages was seen in use in this call.
     pub fn alloc_within<I: Fn() -> Option<T>>(
         &self,
         pages: usize,
@@ -127,11 +130,12 @@ impl<'c, T: Drop, K: Clean<T>, O: Clean<T>> LinearPage<'c, T, K, O> {
         Ok((reached.slot, passed))
     }
 
-    /// As `alloc`, with an item that owns its page with others. The page's owners grow by one once the item is taken.
+    /// Pulls as `alloc` does. The item owns its page with others: it becomes one more owner once
+    /// the item is taken.
     ///
     /// # Errors
     ///
-    /// As `alloc`; `Memory` too where the page can have no more owners, and then the item is free again.
+    /// As `alloc`, and `Memory` if the page can have no more owners. Then the item is free again.
     pub fn alloc_owned<I: Fn() -> Option<T>>(
         &self,
         init: &I,
@@ -150,11 +154,12 @@ impl<'c, T: Drop, K: Clean<T>, O: Clean<T>> LinearPage<'c, T, K, O> {
         Ok((slot, number.get() - self.number))
     }
 
-    /// As `alloc_owned`, over the first `pages` pages from this one on alone. It links no page past them.
+    /// Pulls as `alloc_owned` does, from the first `pages` pages from this one on. It links no page
+    /// past them.
     ///
     /// # Errors
     ///
-    /// As `alloc_owned`; `Limit`, where each item of these pages was observed taken in this call.
+    /// As `alloc_owned`, and `Limit` if each item of these pages was seen in use in this call.
     pub fn alloc_owned_within<I: Fn() -> Option<T>>(
         &self,
         pages: usize,
@@ -177,6 +182,10 @@ impl<'c, T: Drop, K: Clean<T>, O: Clean<T>> LinearPage<'c, T, K, O> {
     }
 
     /// Goes from page to page, within the limit, until one has an item.
+    ///
+    /// # Errors
+    ///
+    /// `Memory`, `Init`, or `Limit` if each page within the limit was found full.
     pub fn walk<I: Fn() -> Option<T>>(
         &self,
         limit: Option<usize>,
@@ -210,9 +219,14 @@ impl<'c, T: Drop, K: Clean<T>, O: Clean<T>> LinearPage<'c, T, K, O> {
         }
     }
 
-    /// As `walk`, where this page was found full in this pull, and maybe one that a hint named, which isn't asked again.
+    /// Walks on from this page, which was found full in this pull. A hinted page that was found
+    /// full too isn't asked again.
     ///
-    /// Each link is read once, from the one behind this page on, and each other page is asked once.
+    /// Each link from this page on is read once, and each other page is asked once.
+    ///
+    /// # Errors
+    ///
+    /// Why it took no item: see [`WalkRefusal`].
     pub(super) fn walk_on<'p, I: Fn() -> Option<T>>(
         &self,
         seen: FullSeen<'p, T>,
@@ -268,7 +282,8 @@ impl<'c, T: Drop, K: Clean<T>, O: Clean<T>> LinearPage<'c, T, K, O> {
         }
     }
 
-    /// The page with this number, which is linked behind the page before it or is made and linked there, and a note of its link.
+    /// Returns the page with this number and a note of its link. If the page before it has no link
+    /// yet, it makes the page and links it.
     fn behind<I: Fn() -> Option<T>>(
         &self,
         number: usize,
@@ -290,7 +305,8 @@ impl<'c, T: Drop, K: Clean<T>, O: Clean<T>> LinearPage<'c, T, K, O> {
         Ok((next.page, note))
     }
 
-    /// What a page that the walk came to answers: what it did already in this pull, or what it does now.
+    /// Pulls from a page that the walk came to, or returns what the page answered already in this
+    /// pull.
     fn ask<'p>(
         &self,
         page: &'c OpenedPage<T, K, O>,
@@ -317,7 +333,7 @@ impl<'c, T: Drop, K: Clean<T>, O: Clean<T>> LinearPage<'c, T, K, O> {
     }
 }
 
-/// What was found of the page with this number, where the hinted one is that page; else what was found of the hinted one.
+/// Splits what was found of the hinted page: first if it has this number, second otherwise.
 fn known_at<'p, T, K: Clean<T>, O: Clean<T>>(
     hinted: Option<KnownFull<'p, T, K, O>>,
     number: usize,
@@ -339,7 +355,7 @@ fn known_at<'p, T, K: Clean<T>, O: Clean<T>>(
     }
 }
 
-/// Whether the page behind so many links is the last that the limit allows.
+/// Returns whether the page after so many links is the last that the limit allows.
 fn is_last(limit: Option<usize>, passed: usize) -> bool
     requires within { IfSome limit (λ pages. passed < pages) }
     ensures last { IsTrue result → limit ≡ Some (passed + 1) }
@@ -352,9 +368,12 @@ fn is_last(limit: Option<usize>, passed: usize) -> bool
 }
 
 impl<T: Drop, K: Clean<T>, O: Clean<T>> WalkEnd<'_, T, K, O> {
-    /// The same item, with an owner of its page in place of the borrow, and its page's number.
+    /// Returns the same item with an owner of its page in place of the borrow, and its page's
+    /// number.
     ///
-    /// Where the page can have no more owners, the item goes home again.
+    /// # Errors
+    ///
+    /// `Memory` if the page can have no more owners. Then the item is returned to its page.
     pub fn into_owned(self) -> Result<(OwnedSlot<T, K>, PageNumber<T, K, O>), PullError>
         requires of_page { (slot_item self.slot).page ≡ page_identity (arc_value self.page.now) }
         requires meets { K.meets (slot_item self.slot).value }

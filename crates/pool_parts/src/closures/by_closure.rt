@@ -1,5 +1,5 @@
-//! Closures as what makes and resets values: two traits that every fitting closure meets, and an adapter for each
-//! that keeps what a pool has to know of it.
+//! Closures as initializers and resets: two traits that every fitting closure implements, and an
+//! adapter for each, which keeps what a pool has to know of it.
 ghost use Rattle.std.specs.Prelude.{◌≡◌, Option, IfSome};
 ghost use Rattle.pool_parts.specs.Answers.{LeavesByLoan};
 
@@ -9,6 +9,18 @@ use std::marker::{Model, PhantomData};
 use std::sync::Mutex;
 
 /// A closure that makes values. Each `Fn() -> Option<T>` is one.
+///
+/// # Examples
+///
+/// ```rust
+/// fn price_left<I: InitBy<Basket>, R: ResetBy<Basket>>(
+///     alloc: Global,
+///     init: I,
+///     reset: R,
+/// ) -> Result<u64, PullError>
+///     requires may_make { I.may_make init }
+///     requires may_reset { R.may_reset reset }
+/// ```
 pub trait InitBy<T>: Drop {
     /// It may be called at any time.
     ghost may_make: { Self → Type 0 };
@@ -16,7 +28,7 @@ pub trait InitBy<T>: Drop {
     /// The answers that may come.
     ghost makes: { Self → Option T → Type 0 };
 
-    /// A new value, or `None` as a refusal.
+    /// Makes a value, or returns `None` as a refusal.
     fn make_by(&self) -> Option<T>
         requires { may_make self.now }
         ensures { makes self.now result };
@@ -33,11 +45,23 @@ impl<T, F: Fn() -> Option<T>> InitBy<T> for F {
 }
 
 /// A closure that resets values. Each `Fn(&mut T)` is one.
+///
+/// # Examples
+///
+/// ```rust
+/// fn price_left<I: InitBy<Basket>, R: ResetBy<Basket>>(
+///     alloc: Global,
+///     init: I,
+///     reset: R,
+/// ) -> Result<u64, PullError>
+///     requires may_make { I.may_make init }
+///     requires may_reset { R.may_reset reset }
+/// ```
 pub trait ResetBy<T>: Drop {
     /// It may be called on every value.
     ghost may_reset: { Self → Type 0 };
 
-    /// What may be made of a value: the old one, then the new one.
+    /// The values that the reset may leave: the old one, then the new one.
     ghost resets: { Self → T → T → Type 0 };
 
     /// Makes a value ready to be kept.
@@ -56,7 +80,18 @@ impl<T, F: Fn(&mut T)> ResetBy<T> for F {
     }
 }
 
-/// A closure as an [`Init`]: it may be called at any time, and each value that it makes meets the condition.
+/// A closure as an [`Init`]: it may be called at any time, and each value that it makes meets the
+/// condition.
+///
+/// # Examples
+///
+/// ```rust
+/// let pool: LinearObjectPool<Basket, _, _> = LinearObjectPool::new(
+///     alloc,
+///     Makes::new(init),
+///     Resets::new(reset),
+/// )?;
+/// ```
 #[derive(Drop)]
 pub struct Makes<T, F: InitBy<T>, K: Clean<T>> {
     closure: F,
@@ -74,7 +109,17 @@ impl<T, F: InitBy<T>, K: Clean<T>> Model for Makes<T, F, K> {
 }
 
 impl<T, F: InitBy<T>, K: Clean<T>> Makes<T, F, K> {
-    /// An initializer by this closure.
+    /// Creates an initializer that calls this closure.
+    ///
+    /// # Examples
+    ///
+    /// ```rust
+    /// let pool: LinearObjectPool<Basket, _, _> = LinearObjectPool::new(
+    ///     alloc,
+    ///     Makes::new(init),
+    ///     Resets::new(reset),
+    /// )?;
+    /// ```
     pub fn new(closure: F) -> Makes<T, F, K>
         requires may { F.may_make closure }
         requires makes { (answer : Option T) → F.makes closure answer → IfSome answer K.meets }
@@ -95,7 +140,18 @@ impl<T, F: InitBy<T>, K: Clean<T>> Init<T, K> for Makes<T, F, K> {
     }
 }
 
-/// A closure as a [`Reset`]: it may be called on every value, and what it leaves meets the condition.
+/// A closure as a [`Reset`]: it may be called on every value, and what it leaves meets the
+/// condition.
+///
+/// # Examples
+///
+/// ```rust
+/// let pool: LinearObjectPool<Basket, _, _> = LinearObjectPool::new(
+///     alloc,
+///     Makes::new(init),
+///     Resets::new(reset),
+/// )?;
+/// ```
 #[derive(Drop)]
 pub struct Resets<T, F: ResetBy<T>, K: Clean<T>> {
     closure: F,
@@ -113,7 +169,17 @@ impl<T, F: ResetBy<T>, K: Clean<T>> Model for Resets<T, F, K> {
 }
 
 impl<T, F: ResetBy<T>, K: Clean<T>> Resets<T, F, K> {
-    /// A reset by this closure.
+    /// Creates a reset that calls this closure.
+    ///
+    /// # Examples
+    ///
+    /// ```rust
+    /// let pool: LinearObjectPool<Basket, _, _> = LinearObjectPool::new(
+    ///     alloc,
+    ///     Makes::new(init),
+    ///     Resets::new(reset),
+    /// )?;
+    /// ```
     pub fn new(closure: F) -> Resets<T, F, K>
         requires may { F.may_reset closure }
         requires leaves { (old new : T) → F.resets closure old new → K.meets new }

@@ -1,21 +1,36 @@
-//! Ready-made function objects for vectors, whose condition is [`Empty`].
+//! Ready-made initializers and resets for vectors, whose condition is [`Empty`].
 ghost use Rattle.std.specs.Prelude.{◌≡◌, ◌≤◌, IfSome, vec_capacity};
 
 use crate::clean::Empty;
 use crate::closures::{Init, Reset};
 use std::alloc::Global;
 
-/// Makes empty vectors with room for a number of items. Where there is no memory for one it answers `None`, and a pull `Init`.
+/// An initializer that makes empty vectors with room for a number of items.
+///
+/// If there is no memory for one it returns `None`, and the pull is refused with `Init`.
+///
+/// # Examples
+///
+/// ```rust
+/// let room = WithCapacity::new(alloc, 4096);
+/// let pool = LinearObjectPool::<Vec<u8>, _, _, Empty>::new(alloc, room, Clear)?;
+/// ```
 #[derive(Clone, Copy, Debug)]
 pub struct WithCapacity {
-    /// Where the room is taken.
+    /// The allocator that gives the room.
     pub alloc: Global,
-    /// For how many items each vector has room at first.
+    /// The number of items for which each vector has room at first.
     pub capacity: usize,
 }
 
 impl WithCapacity {
-    /// Makes vectors with room for so many items.
+    /// Creates an initializer that makes vectors with room for `capacity` items.
+    ///
+    /// # Examples
+    ///
+    /// ```rust
+    /// let room = WithCapacity::new(alloc, 4096);
+    /// ```
     pub fn new(alloc: Global, capacity: usize) -> WithCapacity
         ensures { result.capacity ≡ capacity }
     {
@@ -32,7 +47,14 @@ impl<X> Init<Vec<X>, Empty> for WithCapacity {
     }
 }
 
-/// Drops the items of a vector, which keeps its room.
+/// A reset that drops the items of a vector, which keeps its room.
+///
+/// # Examples
+///
+/// ```rust
+/// let pool = LinearObjectPool::<Vec<u8>, _, _, Empty>::new(alloc, room, Clear)?;
+/// pool.pull()?.push(5)?; // its drop empties the vector, which keeps its room
+/// ```
 #[derive(Clone, Copy, Debug)]
 pub struct Clear;
 

@@ -1,4 +1,4 @@
-//! What a pull has when each id of a page, or each item of a fixed pool, was observed taken.
+//! What a pull has once it has seen each item of a page, or of a fixed pool, in use.
 ghost use Rattle.std.specs.Prelude.{ℕ, ◌<◌};
 ghost use Rattle.pool_parts.specs.PageRule.{KnowsOut};
 
@@ -7,34 +7,65 @@ use super::user_view::UserSeat;
 use crate::clean::Clean;
 
 /// One pull, from page to page. It has no bytes.
+///
+/// # Examples
+///
+/// ```rust
+/// let pass = PullPass::new();
+/// let pulled = match page.try_alloc(&pass)? {
+///     Allocated::Slot(mut slot) => {
+///         *slot = 5;
+///         Some(slot.id())
+///     }
+///     Allocated::Full(_) => None,
+/// };
+/// ```
 #[derive(Default, Drop)]
 pub struct PullPass;
 
 impl PullPass {
-    /// A new pull. The evidence that a page was full borrows it, and so ends with it at the latest.
+    /// Begins a pull. The evidence that a page was full borrows it, so it can't outlive the pull.
+    ///
+    /// # Examples
+    ///
+    /// ```rust
+    /// let pass = PullPass::new();
+    /// ```
     pub fn new() -> PullPass {
         PullPass
     }
 }
 
-/// Each id of one page was observed taken since the pass was made: by the word that was read, or by a step of its own.
-/// Of a fixed pool each item was.
+/// The evidence that each item of one page, or of one fixed pool, was seen in use since the pass
+/// was made: by a word that was read, or by a try of its own bit.
 ///
 /// It borrows its pass, so it can't be kept past the pull.
 #[derive(Drop)]
 pub struct FullSeen<'p, T> {
     pub seat: UserSeat<T>,
-    /// Kept for its lifetime alone.
+    /// Only its lifetime is needed.
     pub pass: &'p PullPass,
     ghost found: { ∥ ((id : ℕ) → id < seat.table_id.slots → KnowsOut seat.me.0 id) ∥₁ },
 }
 
 /// What a page answers to a pull.
+///
+/// # Examples
+///
+/// ```rust
+/// let pulled = match page.try_alloc(&pass)? {
+///     Allocated::Slot(mut slot) => {
+///         *slot = 5;
+///         Some(slot.id())
+///     }
+///     Allocated::Full(_) => None,
+/// };
+/// ```
 #[derive(Drop)]
 pub enum Allocated<'s, 'p, T, K: Clean<T>> {
     /// An item of the page.
     Slot(PageSlot<'s, T, K>),
-    /// No item: each id was observed taken.
+    /// No item: each was seen in use.
     Full(FullSeen<'p, T>),
 }
 
@@ -42,6 +73,6 @@ pub enum Allocated<'s, 'p, T, K: Clean<T>> {
 #[derive(Drop)]
 pub struct Taken<'s, 'p, T, K: Clean<T>> {
     pub answer: Allocated<'s, 'p, T, K>,
-    /// Whether no item was free behind that step. It decides nothing.
+    /// Whether no item was free after that step. It decides nothing.
     pub left_full: bool,
 }

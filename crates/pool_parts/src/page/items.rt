@@ -95,7 +95,7 @@ impl<T, K: Clean<T>> Items<T, K> {
         Ok(items)
     }
 
-    /// A note, which knows the history up to now.
+    /// Returns a note, by a user that did nothing, which knows some prefix of the history.
     pub fn note(&self) -> PageNote<T>
         ensures { IsNoteOf (items_identity self.now) (items_opening self.now) result }
     {

@@ -1,5 +1,5 @@
 //! A slot that owns its page with others, in place of a borrow.
-ghost use Rattle.std.specs.Prelude.{◌≡◌, ◌<◌};
+ghost use Rattle.std.specs.Prelude.{◌≡◌, ◌≢◌, ◌<◌};
 ghost use Rattle.std.specs.Arc.{arc_value};
 ghost use Rattle.pool_parts.specs.OneProof.{same_page};
 ghost use Rattle.pool_parts.specs.Holding.{holding_page};
@@ -24,6 +24,13 @@ pub(super) struct OwnedTakenId<T, K: Clean<T>> {
 /// An item that is out of a page, with its value and an owner of the page.
 ///
 /// A slot that is dropped drops its value, and its id stays out. [`OwnedSlot::free`] brings both back.
+///
+/// # Examples
+///
+/// ```rust
+/// let (slot, _) = chain.first().alloc_owned(&|| Some(0))?;
+/// slot.free(); // from any thread: it owns its page with others
+/// ```
 #[derive(Drop)]
 pub struct OwnedSlot<T, K: Clean<T>> {
     pub(super) taken: OwnedTakenId<T, K>,
@@ -40,6 +47,21 @@ impl<T, K: Clean<T>> OwnedSlot<T, K> {
         ensures in_page { result < PAGE_ITEMS }
     {
         self.taken.holding.number as PageId
+    }
+
+    /// Ensures that this item and another that is held of the page are two: their numbers differ.
+    ///
+    /// It costs seven loads, and changes neither item.
+    pub fn differs_from(&mut self, other: &mut OwnedSlot<T, K>)
+        requires page { (owned_slot_item other.old).page ≡ (owned_slot_item self.old).page }
+        ensures differ { (owned_slot_item self.old).id ≢ (owned_slot_item other.old).id }
+        ensures same_item { owned_slot_item self.new ≡ owned_slot_item self.old }
+        ensures same_other { owned_slot_item other.new ≡ owned_slot_item other.old }
+    {
+        let taken = &mut self.taken;
+        let other = &mut other.taken;
+        let items = &taken.page.items;
+        items.are_two(&mut taken.holding, &mut other.holding);
     }
 
     /// The value goes home, and the id is free again. The note knows the page's history up to the return.

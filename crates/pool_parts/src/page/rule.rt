@@ -91,6 +91,26 @@ impl<T> Join<UserView<T>> for Tells {
     ghost spent = { gone_view };
 }
 
+/// A user introduces itself to another.
+pub struct Introduces;
+
+impl<T> Split<UserView<T>> for Introduces {
+    ghost use Rattle.pool_parts.specs.Meeting.{introduction_of};
+
+    ghost left = { λ known. known };
+
+    ghost right = { introduction_of };
+}
+
+/// A load of one word by a user to whom another was introduced.
+pub struct Meet;
+
+impl<T> Play<Option<T>, UserView<T>> for Meet {
+    ghost use Rattle.pool_parts.specs.Meeting.{Meets};
+
+    ghost then = { λ _ old _ new. Meets old new };
+}
+
 /// A step that clears one bit of the word.
 pub struct ClearBit<K> {
     condition: PhantomData<K>,

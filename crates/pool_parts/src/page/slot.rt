@@ -1,5 +1,5 @@
-//! A slot: an item that is out of its page.
-ghost use Rattle.std.specs.Prelude.{◌≡◌, ◌<◌};
+//! A slot: an item in use, with a borrow of its page.
+ghost use Rattle.std.specs.Prelude.{◌≡◌, ◌≢◌, ◌<◌};
 ghost use Rattle.std.specs.Arc.{arc_value};
 ghost use Rattle.pool_parts.specs.OneProof.{same_page};
 ghost use Rattle.pool_parts.specs.Holding.{holding_page};
@@ -27,6 +27,7 @@ impl<'s, T, K: Clean<T>> TakenId<'s, T, K> {
     ghost use Rattle.pool_parts.specs.Slot.{taken_id, taken_page, taken_view, taken_item};
     ghost use Rattle.pool_parts.specs.Note.{note_page, note_opening, witness_page, witness_history, IsNoteOf, IsReturned, HasLearned};
 
+    /// Returns the number of the item in its page.
     pub fn id(&self) -> PageId
         ensures value { result ≡ taken_id self.now }
         ensures in_page { result < PAGE_ITEMS }
@@ -34,7 +35,7 @@ impl<'s, T, K: Clean<T>> TakenId<'s, T, K> {
         self.holding.number as PageId
     }
 
-    /// What the holder knows of the page, for another to be told. It costs one load.
+    /// Returns what the holder knows of the page, for another user. It costs one load.
     pub fn witness(&mut self) -> Witness<T>
         ensures page { witness_page result ≡ taken_page self.old }
         ensures history { witness_history result ≡ (taken_view self.old).operations }
@@ -46,14 +47,26 @@ impl<'s, T, K: Clean<T>> TakenId<'s, T, K> {
         self.holding.witness(&page.items)
     }
 
-    /// A note of the page, by a user that did nothing. It costs one load.
+    /// Ensures that this id and another of the page are two. It costs seven loads.
+    pub fn differs_from(&mut self, other: &mut TakenId<'_, T, K>)
+        requires page { taken_page other.old ≡ taken_page self.old }
+        ensures differ { taken_id self.old ≢ taken_id other.old }
+        ensures same_item { (value : T) → taken_item self.new value ≡ taken_item self.old value }
+        ensures same_other { (value : T) → taken_item other.new value ≡ taken_item other.old value }
+    {
+        let page = self.page;
+        page.items.are_two(&mut self.holding, &mut other.holding);
+    }
+
+    /// Returns a note of the page, by a user that did nothing. It costs one load.
     pub fn note(&self) -> PageNote<T>
         ensures { IsNoteOf (taken_page self.now) (note_opening result) result }
     {
         self.page.note()
     }
 
-    /// As [`Page::tell`], of the page that the id was taken from.
+    /// Adds what a witness knows to what a note knows, as [`Page::tell`] does, of the page that the
+    /// id was taken from.
     pub fn tell(&self, note: &mut PageNote<T>, other: Witness<T>)
         requires note { note_page note.old ≡ taken_page self.now }
         requires other { witness_page other ≡ taken_page self.now }
@@ -62,7 +75,7 @@ impl<'s, T, K: Clean<T>> TakenId<'s, T, K> {
         self.page.tell(note, other);
     }
 
-    /// The value goes home, and the id is free again.
+    /// Returns the item to its page, with this value.
     pub fn free(self, value: T) -> Returned<T>
         requires { K.meets value }
         ensures { IsReturned (taken_item self.entry value) result.note }
@@ -72,9 +85,18 @@ impl<'s, T, K: Clean<T>> TakenId<'s, T, K> {
     }
 }
 
-/// An item that is out of a page, with its value.
+/// An item in use, with its value.
 ///
-/// A slot that is dropped drops its value, and its id stays out. [`Page::free`] brings both back.
+/// A slot that is dropped drops its value, and its item never becomes free again. [`Page::free`]
+/// returns it.
+///
+/// # Examples
+///
+/// ```rust
+/// if let Some(slot) = page.alloc()? {
+///     Page::free(slot);
+/// }
+/// ```
 #[derive(Drop)]
 pub struct PageSlot<'s, T, K: Clean<T>> {
     lender: Lender,
@@ -99,7 +121,7 @@ impl<'s, T, K: Clean<T>> PageSlot<'s, T, K> {
         }
     }
 
-    /// The number of the item in its page.
+    /// Returns the number of the item in its page.
     pub fn id(&self) -> PageId
         ensures value { result ≡ (slot_item self.now).id }
         ensures in_page { result < PAGE_ITEMS }
@@ -107,7 +129,7 @@ impl<'s, T, K: Clean<T>> PageSlot<'s, T, K> {
         self.taken.id()
     }
 
-    /// What the holder knows of the page, for another to be told. It costs one load.
+    /// Returns what the holder knows of the page, for another user. It costs one load.
     pub fn witness(&mut self) -> Witness<T>
         ensures page { witness_page result ≡ (slot_item self.old).page }
         ensures history { witness_history result ≡ (slot_item self.old).history }
@@ -116,7 +138,32 @@ impl<'s, T, K: Clean<T>> PageSlot<'s, T, K> {
         self.taken.witness()
     }
 
-    /// The id and the value by themselves.
+    /// Ensures that this item and another that is held of the page are two: their numbers differ.
+    ///
+    /// It costs seven loads, and changes neither item.
+    pub fn differs_from(&mut self, other: &mut PageSlot<'_, T, K>)
+        requires page { (slot_item other.old).page ≡ (slot_item self.old).page }
+        ensures differ { (slot_item self.old).id ≢ (slot_item other.old).id }
+        ensures same_item { slot_item self.new ≡ slot_item self.old }
+        ensures same_other { slot_item other.new ≡ slot_item other.old }
+    {
+        self.taken.differs_from(&mut other.taken);
+    }
+
+    /// Ensures the same of this item and one that owns the page.
+    pub fn differs_from_owned(&mut self, other: &mut OwnedSlot<T, K>)
+        requires page { (owned_slot_item other.old).page ≡ (slot_item self.old).page }
+        ensures differ { (slot_item self.old).id ≢ (owned_slot_item other.old).id }
+        ensures same_item { slot_item self.new ≡ slot_item self.old }
+        ensures same_other { owned_slot_item other.new ≡ owned_slot_item other.old }
+    {
+        let taken = &mut self.taken;
+        let other = &mut other.taken;
+        let page = taken.page;
+        page.items.are_two(&mut taken.holding, &mut other.holding);
+    }
+
+    /// Splits the slot into its id and its value.
     pub fn into_parts(self) -> (TakenId<'s, T, K>, T)
         ensures { taken_item result.0 result.1 ≡ slot_item self.entry }
     {
@@ -128,7 +175,7 @@ impl<'s, T, K: Clean<T>> PageSlot<'s, T, K> {
         (taken, value)
     }
 
-    /// What the holder has, and the value, without the borrow of the page.
+    /// Splits the slot into what its holder has and its value, without the borrow of the page.
     pub fn into_holding(self) -> (Holding<T>, T)
         ensures item { held_item result.0 result.1 ≡ slot_item self.entry }
         ensures in_page { result.0.number < PAGE_ITEMS }
@@ -137,7 +184,7 @@ impl<'s, T, K: Clean<T>> PageSlot<'s, T, K> {
         (holding, value)
     }
 
-    /// The same item, with an owner of the page in place of the borrow.
+    /// Returns the same item with an owner of the page in place of the borrow.
     pub fn into_owned(self, page: Arc<Page<T, K>>) -> OwnedSlot<T, K>
         requires { (slot_item self).page ≡ page_identity (arc_value page) }
         ensures { owned_slot_item result ≡ slot_item self.entry }

@@ -1,4 +1,4 @@
-//! The steps on the words of a page or of a fixed pool, and the move of a value out and home.
+//! The steps on the words of a page or of a fixed pool, and the move of a value out and back.
 ghost use Rattle.std.specs.Prelude.{◌≡◌, ◌<◌, ◌≤◌, [], ◌∷◌, Some, None, MatchOption, false};
 ghost use Rattle.pool_parts.specs.declared.page.history.Operation.TheVariants.{Return};
 
@@ -14,7 +14,7 @@ impl<T, K: Clean<T>> Items<T, K> {
     ghost use Rattle.pool_parts.specs.Items.{items_identity, items_opening, items_raise};
     ghost use Rattle.pool_parts.specs.PageRule.{Loads, LoadsAgain, LoadsOn, Counts, Misses, MovesOut, GoesOn, first_view, item_of};
 
-    /// The bits of a word at this moment, and a new user that knows of the items that are out in it.
+    /// Reads the bits of a word, by a new user, which then knows the items of it that are in use.
     pub fn look(&self, page: usize) -> (u32, UserSeat<T>)
         requires { page < (items_identity self.now).words }
         ensures items { result.1.table_id ≡ items_identity self.now }
@@ -25,7 +25,7 @@ impl<T, K: Clean<T>> Items<T, K> {
         (low_half(word), seat)
     }
 
-    /// The bits of a further word at this moment, for the same user.
+    /// Reads the bits of a further word, by the same user.
     pub fn look_on(&self, seat: &mut UserSeat<T>, page: usize) -> u32
         requires items { seat.old.table_id ≡ items_identity self.now }
         requires in_items { page < (items_identity self.now).words }
@@ -36,7 +36,7 @@ impl<T, K: Clean<T>> Items<T, K> {
         low_half(self.table.shared.load::<LookOn>(seat, page))
     }
 
-    /// The bits of a word at this moment, for a user that knows something of the items already.
+    /// Reads the bits of a word, by a user that knows something of the items already.
     pub fn look_again(&self, seat: &mut UserSeat<T>, page: usize) -> u32
         requires items { seat.old.table_id ≡ items_identity self.now }
         requires in_items { page < (items_identity self.now).words }
@@ -47,7 +47,7 @@ impl<T, K: Clean<T>> Items<T, K> {
         low_half(self.table.shared.load::<LookAgain>(seat, page))
     }
 
-    /// The bits of a further word at this moment, and its count, for the same user.
+    /// Reads the bits and the count of a further word, by the same user.
     pub fn count(&self, seat: &mut UserSeat<T>, page: usize) -> (u32, u32)
         requires items { seat.old.table_id ≡ items_identity self.now }
         requires in_items { page < (items_identity self.now).words }
@@ -61,7 +61,8 @@ impl<T, K: Clean<T>> Items<T, K> {
         (low_half(word), count_of(word))
     }
 
-    /// Clears one bit. The value of that item, where it was free, and whether no other bit of its word was set then.
+    /// Clears one bit. If it was set, it takes the value of that item out, and returns whether no
+    /// other bit of the word was set.
     pub fn clear(&self, seat: &mut UserSeat<T>, page: usize, bit: PageId) -> Option<(T, bool)>
         requires items { seat.old.table_id ≡ items_identity self.now }
         requires in_items { page < (items_identity self.now).words }
@@ -85,11 +86,11 @@ impl<T, K: Clean<T>> Items<T, K> {
         }
     }
 
-    /// Moves the value home, then sets its bit and raises its word's count in one step. Whether no other bit of its word was
-    /// set then.
+    /// Moves the value back, then sets its bit and raises its word's count in one step. It returns
+    /// whether no other bit of the word was set.
     ///
-    /// The bit of an item that is out is clear, so to add it sets it: an addition that answers the old word is one locked
-    /// instruction, where an or that does is a loop.
+    /// The bit of an item in use is clear, so adding it sets it. An addition that returns the old
+    /// word is one locked instruction, while an `or` that does is a loop.
     pub fn give(&self, holding: Holding<T>, value: T, raise: u64) -> (UserSeat<T>, bool)
         requires items { holding_page holding ≡ items_identity self.now }
         requires in_items { holding.number < (items_identity self.now).slots }

@@ -25,6 +25,10 @@ pub struct UserView<T> {
     pub loads: u64,
     /// How many bits the user has cleared, or found clear at that.
     pub tries: u64,
+    /// The user that was introduced to this one last, and how often that one had met before.
+    pub met: Option<(u64, u64)>,
+    /// How often this user has met another.
+    pub meetings: u64,
 }
 
 /// By what a user steps on its page.

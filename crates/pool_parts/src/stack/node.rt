@@ -1,14 +1,14 @@
-//! One place of a stack, and the link to the place behind it.
+//! One place of a stack, and the link to the next one.
 
 /// A place for one value.
 pub struct Node<T> {
-    /// The value, `None` where the place is empty.
+    /// The value, or `None` if the place is empty.
     pub value: Option<T>,
-    /// The place behind this one.
+    /// The place below this one.
     pub next: Option<Box<Node<T>>>,
 }
 
-/// The places are dropped one after another, so that the drop of a long stack takes no deep recursion.
+/// Drops the places one after another, so that the drop of a long stack needs no deep recursion.
 impl<T: Drop> Drop for Node<T> {
     fn drop(mut self) {
         loop {

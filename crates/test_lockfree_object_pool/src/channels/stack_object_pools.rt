@@ -135,8 +135,8 @@ fn five_threads_send_what_they_wrote(rt: HostRuntime) {
     );
 }
 
-/// An owned item of the mutex pool goes to another thread, by the pool's own name. One of the spin lock pool does so above, in
-/// code that is generic in the free list.
+/// An owned item of the mutex pool goes to another thread, by the pool's own name. One of the spin
+/// lock pool does so above, in code that is generic in the free list.
 #[test]
 fn an_owned_item_is_dropped_elsewhere(rt: HostRuntime) {
     let calls = count_of_calls(&rt, rt.alloc());

@@ -1,4 +1,5 @@
-//! Pools of one line: ready-made function objects, no condition to name, and types that a user's struct can keep and show.
+//! Pools of one line: ready-made function objects, no condition to name, and types that a user's
+//! struct can keep and show.
 ghost use Rattle.std.specs.Prelude.{◌≡◌, [], IfOk};
 
 use super::*;

@@ -1,4 +1,5 @@
-//! Pools by closures, of values that may be sent and not shared: threads send and share such a pool.
+//! Pools by closures, of values that may be sent and not shared: threads send and share such a
+//! pool.
 use super::*;
 use crate::assert_equal::assert_equal;
 use lockfree_object_pool::{

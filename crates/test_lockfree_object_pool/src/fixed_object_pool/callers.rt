@@ -1,4 +1,5 @@
-//! Callers that rest on a pool's history: what stands before what, what a refusal shows, and which refusals may come.
+//! Callers that rest on a pool's history: what stands before what, what a refusal shows, and which
+//! refusals may come.
 ghost use Rattle.std.specs.Prelude.{◌≡◌, ◌<◌, ◌⊎◌, ◌↔◌, ℕ, ◌∷◌, IfSome, IfErr, IsTrue};
 ghost use Rattle.lockfree_object_pool.specs.FullSeen.{full_since, full_history};
 ghost use Rattle.lockfree_object_pool.specs.FixedPool.{pool_identity, pool_items, pool_opening};
@@ -18,7 +19,7 @@ use std::sync::Arc;
 use std::thread;
 use std::thread::Threads;
 
-/// A pull by a note stands after all that the note knew.
+/// Pulls by a note. The pull comes after all that the note knew.
 pub fn pulled_after<'p>(pool: &'p NumberPool, note: PoolNote<usize>) -> Option<NumberItem<'p>>
     requires { note_page note ≡ pool_identity pool.now }
     ensures pool { IfSome result (λ item. (reusable_item item).page ≡ pool_identity pool.now) }
@@ -32,7 +33,8 @@ pub fn pulled_after<'p>(pool: &'p NumberPool, note: PoolNote<usize>) -> Option<N
     }
 }
 
-/// Writes a number to an item near a page and returns it: the return of that number is the last operation that the note knows.
+/// Writes a number to an item near a page and returns it: the return of that number is the last
+/// operation that the note knows.
 pub fn returned_near(pool: &NumberPool, page: usize, number: usize) -> Option<PoolNote<usize>>
     ensures pool { IfSome result (λ note. note_page note ≡ pool_identity pool.now) }
     ensures last { IfSome result (λ note. EndsWithReturn number (note_history note)) }
@@ -42,7 +44,8 @@ pub fn returned_near(pool: &NumberPool, page: usize, number: usize) -> Option<Po
     Some(item.give_back())
 }
 
-/// Writes a number to the item of a pool of one and returns it: this return is the last operation that the note knows.
+/// Writes a number to the item of a pool of one and returns it: this return is the last operation
+/// that the note knows.
 fn returned_alone(pool: &NumberPool, number: usize) -> Option<PoolNote<usize>>
     requires { pool_items pool.now ≡ 1 }
     ensures pool { IfSome result (λ note. note_page note ≡ pool_identity pool.now) }
@@ -53,8 +56,9 @@ fn returned_alone(pool: &NumberPool, number: usize) -> Option<PoolNote<usize>>
     Some(item.give_back())
 }
 
-/// The item of a pool of one, pulled after a return of it, and whether it has the number that was returned then. It has that
-/// number, unless somebody had the item in between; what it has was returned in either case.
+/// The item of a pool of one, pulled after a return of it, and whether it has the number that was
+/// returned then. It has that number, unless somebody had the item in between; what it has was
+/// returned in either case.
 fn pulled_again<'p>(
     pool: &'p NumberPool,
     note: PoolNote<usize>,
@@ -109,8 +113,8 @@ fn work(pool: &NumberPool, rounds: usize) -> Result<usize, PullError>
     Ok(last)
 }
 
-/// One thread returns 5 on page 0, another 6 on page 2, each with a note. A pull by the first note, then told the second,
-/// stands after both returns.
+/// One thread returns 5 on page 0, another 6 on page 2, each with a note. A pull by the first note,
+/// then told the second, stands after both returns.
 fn handed_on<'p, R: Threads + Sync>(rt: &R, pool: &'p NumberPool) -> Option<NumberItem<'p>>
     ensures first { IfSome result (λ item. (user id : ℕ) × (before : History ℕ)
         × IsPrefixOf (Return user id 5 ∷ before) (reusable_item item).history) }
@@ -131,7 +135,7 @@ fn handed_on<'p, R: Threads + Sync>(rt: &R, pool: &'p NumberPool) -> Option<Numb
     pulled_after_both(pool, first?, second?)
 }
 
-/// A pull after all that two notes knew.
+/// Pulls after all that two notes knew.
 pub fn pulled_after_both<'p>(
     pool: &'p NumberPool,
     first: PoolNote<usize>,

@@ -36,7 +36,8 @@ fn receive<W: Wait>(rt: &W, from: &Receiver<Message>) -> Option<Message> {
     None
 }
 
-/// Pulls after all that the sender of a message knew, returns the item, and tells so by a message of its own.
+/// Pulls after all that the sender of a message knew, returns the item, and tells so by a message
+/// of its own.
 fn answered(message: Message) -> Option<Message>
     ensures pool { IfSome result (λ answer.
         pool_identity (arc_value answer.pool) ≡ pool_identity (arc_value message.pool)) }

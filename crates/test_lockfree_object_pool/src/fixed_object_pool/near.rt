@@ -43,8 +43,8 @@ fn a_pull_near_a_page_finds_the_last_item(rt: HostRuntime) {
     assert_equal(&rt, number_near(&pool, 3), None);
 }
 
-/// With the first two pages held but item 63, which came back: the numbers of two pulls that are held together, and of one once the
-/// first of these came back.
+/// With the first two pages held but item 63, which came back: the numbers of two pulls that are
+/// held together, and of one once the first of these came back.
 fn numbers_at_a_full_page(alloc: Global, pool: &NumberPool) -> Result<[usize; 3], PullError> {
     let mut first_pages = held(alloc, pool, 64)?;
     drop(first_pages.pop());
@@ -62,7 +62,8 @@ fn a_pull_begins_where_an_item_came_back_to_a_full_page(rt: HostRuntime) {
     assert_equal(&rt, numbers, Ok([63, 64, 63]));
 }
 
-/// Whether pulls near pages of any number begin at the page that has this number, counted round and round.
+/// Whether pulls near pages of any number begin at the page that has this number, counted round and
+/// round.
 fn begin_round(alloc: Global, pages: usize) -> Result<bool, PullError>
     requires some_page { 1 ≤ pages }
     requires few { pages ≤ 1_000 }
@@ -99,7 +100,8 @@ fn a_pull_near_a_page_leaves_the_hint(rt: HostRuntime) {
     assert_equal(&rt, next_number(&pool), Some(0));
 }
 
-/// The number of an item that an owner pulled near a page, and the number of one that was pulled then.
+/// The number of an item that an owner pulled near a page, and the number of one that was pulled
+/// then.
 fn numbers_by_owner(pool: &Arc<NumberPool>, page: usize) -> Result<(usize, usize), PullError> {
     let owner = Arc::try_clone(pool)?;
     let note = owner.note();
@@ -115,14 +117,70 @@ fn a_pull_by_an_owner_leaves_the_hint(rt: HostRuntime) {
     assert_equal(&rt, numbers_by_owner(&pool, 2), Ok((64, 0)));
 }
 
-/// Pages 0, 2 and 3 are free, and a pull near page 1 finds the first item behind that page.
+/// Takes an item near a page and returns it while the page has no other, so that the hint names the
+/// page.
+fn hint_at(pool: &NumberPool, page: usize) -> bool {
+    for _ in 0..31 {
+        if number_near(pool, page).is_none() {
+            return false;
+        }
+    }
+    pool.pull_near(page).is_ok()
+}
+
+/// Pages 0 and 3 are free, and so is the hinted page 2: a pull near page 1, which is full, asks
+/// page 2 next, then page 3 behind it, and page 0 last.
 #[test]
-fn a_pull_looks_behind_its_page_before_it_goes_round(rt: HostRuntime) {
+fn a_pull_near_a_full_page_asks_the_hinted_page_and_then_goes_round(rt: HostRuntime) {
     let pool = opened(&rt, rt.alloc(), 97);
+    assert!(rt; hint_at(&pool, 2));
     for item in 32..64 {
         assert_equal(&rt, number_near(&pool, 1), Some(item));
     }
-    assert_equal(&rt, number_near(&pool, 1), Some(64));
+    let numbers = [
+        number_near(&pool, 1),
+        number_near(&pool, 1),
+        number_near(&pool, 1),
+    ];
+    assert_equal(&rt, numbers, [Some(95), Some(96), Some(0)]);
+}
+
+/// The hint names page 2, which is full: a pull that begins there asks page 3 behind it before page
+/// 0.
+#[test]
+fn a_pull_looks_behind_its_page_before_it_goes_round(rt: HostRuntime) {
+    let pool = opened(&rt, rt.alloc(), 97);
+    assert!(rt; hint_at(&pool, 2));
+    assert_equal(&rt, number_near(&pool, 2), Some(95));
+    assert_equal(&rt, next_number(&pool), Some(96));
+}
+
+/// The pages at which so many places begin, one after the other.
+fn page_numbers(pool: &NumberPool) -> [usize; 5] {
+    [
+        pool.near().page_number(),
+        pool.near().page_number(),
+        pool.near().page_number(),
+        pool.near().page_number(),
+        pool.near().page_number(),
+    ]
+}
+
+#[test]
+fn places_begin_eight_pages_apart_and_then_between(rt: HostRuntime) {
+    let small = opened(&rt, rt.alloc(), 97);
+    assert_equal(&rt, page_numbers(&small), [0, 1, 2, 3, 0]);
+    let large = opened(&rt, rt.alloc(), 640);
+    assert_equal(&rt, page_numbers(&large), [0, 8, 16, 1, 9]);
+}
+
+#[test]
+fn a_place_pulls_at_its_page(rt: HostRuntime) {
+    let pool = opened(&rt, rt.alloc(), 97);
+    let (first, second) = (pool.near(), pool.near());
+    let one = second.pull().expect(&rt, "an item is free");
+    let other = first.pull().expect(&rt, "an item is free");
+    assert_equal(&rt, (one.number(), other.number()), (32, 0));
 }
 
 /// Takes so many items out for good.
@@ -133,8 +191,8 @@ fn keep_out(pool: &NumberPool, items: usize) -> Result<(), PullError> {
     Ok(())
 }
 
-/// The numbers of two items, which come back in turn. So many are taken out for good before the first, between them, and behind
-/// the second.
+/// The numbers of two items, which come back in turn. So many are taken out for good before the
+/// first, between them, and behind the second.
 fn two_came_back(
     pool: &NumberPool,
     before: usize,
@@ -152,7 +210,8 @@ fn two_came_back(
     Ok(numbers)
 }
 
-/// Items 160 and 64,000 come back to full pages, in this order. The next pull begins at the page of the latter.
+/// Items 160 and 64,000 come back to full pages, in this order. The next pull begins at the page of
+/// the latter.
 #[test]
 fn a_pull_begins_at_page_2000_where_an_item_came_back(rt: HostRuntime) {
     let pool = opened(&rt, rt.alloc(), 70_000);

@@ -4,6 +4,7 @@ ghost use Rattle.lockfree_object_pool.specs.FixedPool.{pool_items};
 
 use lockfree_object_pool::clean::AnyValue;
 use lockfree_object_pool::closures::{Init, Keep};
+use lockfree_object_pool::fixed_object_pool::near::Near;
 use lockfree_object_pool::{FixedObjectPool, FixedOwnedReusable, FixedReusable, PullError};
 use std::alloc::Global;
 use std::process::Abort;
@@ -30,10 +31,17 @@ pub type NumberPool = FixedObjectPool<usize, Numbers, Keep, AnyValue>;
 /// A pulled number.
 pub type NumberItem<'p> = FixedReusable<'p, usize, Numbers, Keep, AnyValue>;
 
+/// A place at which pulls of numbers begin.
+pub type NumberNear<'p> = Near<'p, usize, Numbers, Keep, AnyValue>;
+
 /// A pulled number that keeps an owner of its pool.
 pub type NumberOwnedItem = FixedOwnedReusable<usize, Numbers, Keep, AnyValue>;
 
-/// A pool of so many numbers, of which item `i` is `i`.
+/// Creates a pool of so many numbers, of which item `i` is `i`.
+///
+/// # Errors
+///
+/// As of the pool's `new`.
 pub fn new_pool(alloc: Global, items: usize) -> Result<NumberPool, PullError>
     requires { 1 ≤ items }
     ensures { IfOk result (λ pool. pool_items pool ≡ items) }
@@ -41,7 +49,11 @@ pub fn new_pool(alloc: Global, items: usize) -> Result<NumberPool, PullError>
     counted_pool(alloc, &new_calls(alloc)?, items)
 }
 
-/// Such a pool, whose calls of `init` are counted.
+/// Creates such a pool, whose calls of `init` are counted.
+///
+/// # Errors
+///
+/// As of the pool's `new`.
 pub fn counted_pool(
     alloc: Global,
     calls: &Arc<AtomicUsize>,
@@ -54,7 +66,7 @@ pub fn counted_pool(
     FixedObjectPool::new(alloc, Numbers { calls }, Keep, items)
 }
 
-/// Such a pool. The test ends where memory isn't there.
+/// Creates such a pool. The test ends if memory is refused.
 pub fn opened(rt: &impl Abort, alloc: Global, items: usize) -> NumberPool
     requires { 1 ≤ items }
     ensures { pool_items result ≡ items }
@@ -62,14 +74,15 @@ pub fn opened(rt: &impl Abort, alloc: Global, items: usize) -> NumberPool
     new_pool(alloc, items).expect(rt, "a pool is made")
 }
 
-/// The same, in an `Arc`.
+/// Creates the same in an `Arc`.
 pub fn opened_shared(rt: &impl Abort, alloc: Global, items: usize) -> Arc<NumberPool>
     requires { 1 ≤ items }
 {
     Arc::new(alloc, opened(rt, alloc, items)).expect(rt, "memory is left")
 }
 
-/// So many items, in the order of their pulls. The test ends where one is refused.
+/// Pulls so many items, and returns them in the order of their pulls. The test ends if one is
+/// refused.
 pub fn hold<'p>(
     rt: &impl Abort,
     alloc: Global,
@@ -79,7 +92,11 @@ pub fn hold<'p>(
     held(alloc, pool, items).expect(rt, "nothing is refused")
 }
 
-/// As many items as a list has room for, in the order of their pulls.
+/// Pulls as many items as a list has room for, and returns them in the order of their pulls.
+///
+/// # Errors
+///
+/// As of the pool's pull.
 pub fn held<'p>(
     alloc: Global,
     pool: &'p NumberPool,

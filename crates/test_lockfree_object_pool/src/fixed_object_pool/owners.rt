@@ -20,7 +20,8 @@ fn pulled_by(
     owner.pull_by_owner(page, note)
 }
 
-/// The number of an item that an owner pulls near a page and returns, twice: the second pull is by the note of the first return.
+/// The number of an item that an owner pulls near a page and returns, twice: the second pull is by
+/// the note of the first return.
 fn pulled_twice(owner: Arc<NumberPool>, page: usize) -> Option<(usize, usize)> {
     let Ok(first) = pulled_by(owner, page) else {
         return None;

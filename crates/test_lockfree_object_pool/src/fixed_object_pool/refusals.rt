@@ -1,12 +1,63 @@
-//! As many threads as items: at each moment an item is free for the thread that pulls, so no pull is ever refused.
+//! As many threads as items: at each moment an item is free for the thread that pulls, so no pull
+//! is ever refused.
 ghost use Rattle.std.specs.Prelude.{◌≤◌};
 
-use super::numbers::{NumberPool, new_pool};
+use super::numbers::{NumberNear, NumberPool, new_pool};
 use crate::assert_equal::assert_equal;
+use crate::threads::{Work, told_by};
+use lockfree_object_pool::PullError;
 use std::alloc::Global;
 use std::sync::Arc;
+use std::sync::atomic::AtomicUsize;
+use std::sync::atomic::Ordering::SeqCst;
 use std::thread;
 use std::thread::{JoinHandle, Threads};
+
+/// As many permits as a pool has items, and the pool. Who has a permit holds one item at most, so a
+/// pull with one never fails.
+#[derive(Drop)]
+struct Permitted {
+    pool: NumberPool,
+    free_permits: AtomicUsize,
+}
+
+impl Permitted {
+    /// Takes a permit, and waits for one within a limit. Whether there was one.
+    fn acquire(&self) -> bool {
+        for _ in 0..10_000_000u32 {
+            let free = self.free_permits.load(SeqCst);
+            if free > 0
+                && self
+                    .free_permits
+                    .compare_exchange(free, free - 1, SeqCst, SeqCst)
+                    .is_ok()
+            {
+                return true;
+            }
+            thread::yield_now();
+        }
+        false
+    }
+
+    fn release(&self) {
+        self.free_permits.fetch_add(1, SeqCst);
+    }
+}
+
+impl Work for Permitted {
+    /// How many items were pulled, each with a permit. `None` if a pull failed.
+    fn work(&self, _index: usize) -> Option<usize> {
+        for _ in 0..10_000u32 {
+            if !self.acquire() {
+                return None;
+            }
+            let item = self.pool.pull().ok()?;
+            drop(item);
+            self.release();
+        }
+        Some(10_000)
+    }
+}
 
 /// Pulls an item by a borrow and returns it. Whether there was one.
 fn pulls_borrowed(pool: &NumberPool) -> bool {
@@ -23,6 +74,11 @@ fn pulls_owned(pool: &Arc<NumberPool>) -> bool {
     pool.pull_owned().is_ok()
 }
 
+/// So it does at a place of its own.
+fn pulls_at_place(near: &NumberNear<'_>) -> bool {
+    near.pull().is_ok()
+}
+
 /// And by an owner that has a note of the pool.
 fn pulls_by_owner(pool: &Arc<NumberPool>, page: usize) -> bool {
     let Ok(owner) = Arc::try_clone(pool) else {
@@ -34,8 +90,12 @@ fn pulls_by_owner(pool: &Arc<NumberPool>, page: usize) -> bool {
 
 /// Pulls and returns so often in each way, one item at a time. Whether there was one each time.
 fn is_never_refused(pool: &Arc<NumberPool>, rounds: usize) -> bool {
+    let near = pool.near();
     for round in 0..rounds {
         if !pulls_borrowed(pool) {
+            return false;
+        }
+        if !pulls_at_place(&near) {
             return false;
         }
         if !pulls_near(pool, round) {
@@ -49,6 +109,14 @@ fn is_never_refused(pool: &Arc<NumberPool>, rounds: usize) -> bool {
         }
     }
     true
+}
+
+fn new_permitted(alloc: Global, items: usize) -> Result<Arc<Permitted>, PullError>
+    requires { 1 ≤ items }
+{
+    let pool = new_pool(alloc, items)?;
+    let free_permits = AtomicUsize::new(items);
+    Ok(Arc::new(alloc, Permitted { pool, free_permits })?)
 }
 
 /// As many threads as a pool has items, each of which pulls one item at a time.
@@ -111,4 +179,17 @@ fn thirty_two_threads_are_never_refused_of_a_full_word(rt: HostRuntime) {
 #[test]
 fn thirty_three_threads_are_never_refused_of_two_words(rt: HostRuntime) {
     assert_equal(&rt, refused(&rt, rt.alloc(), 33, 5_000), Some(0));
+}
+
+#[test]
+fn sixty_four_threads_are_never_refused_of_two_full_words(rt: HostRuntime) {
+    assert_equal(&rt, refused(&rt, rt.alloc(), 64, 2_000), Some(0));
+}
+
+/// Eight threads take turns at three permits.
+#[test]
+fn a_pull_with_a_permit_never_fails(rt: HostRuntime) {
+    let shared = new_permitted(rt.alloc(), 3).expect(&rt, "a pool is made");
+    let told = told_by(&rt, rt.alloc(), &shared, 8).expect(&rt, "no pull fails");
+    assert_equal(&rt, told.as_slice(), [10_000; 8].as_slice());
 }

@@ -1,5 +1,5 @@
-//! Callers that need a pool and its reusables to be sent and shared, each under the least that its parts have to allow: the
-//! pool keeps no `init`, so nothing is asked of it.
+//! Callers that need a pool and its reusables to be sent and shared, each under the least that its
+//! parts have to allow: the pool keeps no `init`, so nothing is asked of it.
 use crate::assert_equal::assert_equal;
 use lockfree_object_pool::clean::{AnyValue, Clean};
 use lockfree_object_pool::closures::{Copied, Init, Reset};

@@ -7,6 +7,7 @@ use lockfree_object_pool::PullError;
 use std::alloc::Global;
 use std::mem::size_of;
 use std::sync::atomic::Ordering::SeqCst;
+use test_values::sizes::SIZES;
 use test_values::zeros::new_calls;
 
 /// Whether item `i` of the list has the number `i`, and the value of call `i`.
@@ -20,7 +21,8 @@ fn are_in_order(items: &[NumberItem<'_>]) -> bool {
     true
 }
 
-/// Whether what was returned last is what a pull of a pool gives all of whose items are held, and no other.
+/// Whether what was returned last is what a pull of a pool gives all of whose items are held, and
+/// no other.
 fn comes_back_alone(pool: &NumberPool, last: NumberItem<'_>) -> Result<bool, PullError> {
     let mut last = last;
     let number = last.number();
@@ -50,13 +52,12 @@ fn hands_out_each_once(alloc: Global, items: usize) -> Result<bool, PullError>
 
 #[test]
 fn pools_of_many_sizes_hand_out_each_item_once(rt: HostRuntime) {
-    assert!(rt; hands_out_each_once(rt.alloc(), 1).expect(&rt, "nothing is refused"));
-    assert!(rt; hands_out_each_once(rt.alloc(), 31).expect(&rt, "nothing is refused"));
-    assert!(rt; hands_out_each_once(rt.alloc(), 32).expect(&rt, "nothing is refused"));
-    assert!(rt; hands_out_each_once(rt.alloc(), 33).expect(&rt, "nothing is refused"));
-    assert!(rt; hands_out_each_once(rt.alloc(), 64).expect(&rt, "nothing is refused"));
-    assert!(rt; hands_out_each_once(rt.alloc(), 65).expect(&rt, "nothing is refused"));
-    assert!(rt; hands_out_each_once(rt.alloc(), 70_000).expect(&rt, "nothing is refused"));
+    for items in SIZES {
+        if items > 0 {
+            let is_whole = hands_out_each_once(rt.alloc(), items);
+            assert!(rt; is_whole.expect(&rt, "nothing is refused"), "{items} items");
+        }
+    }
 }
 
 /// What a pulled value knows of the history costs nothing: it has a borrow, a number and the value.

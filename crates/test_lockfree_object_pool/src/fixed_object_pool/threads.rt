@@ -88,8 +88,8 @@ fn four_threads_are_refused_while_all_is_held(rt: HostRuntime) {
     hold(&rt, rt.alloc(), &shared.pool, 33);
 }
 
-/// Pulls and returns often, and writes its own number to each item that it holds: this number, where nobody else wrote to the item
-/// then.
+/// Pulls and returns often, and writes its own number to each item that it holds: this number,
+/// where nobody else wrote to the item then.
 fn write_often(pool: &NumberPool, own: usize) -> Option<usize> {
     for _ in 0..5_000 {
         let Ok(mut item) = pool.pull() else {
@@ -104,7 +104,8 @@ fn write_often(pool: &NumberPool, own: usize) -> Option<usize> {
     Some(own)
 }
 
-/// How many of eight threads had their items alone, where all items came back, in a pool of so many.
+/// How many of eight threads had their items alone, where all items came back, in a pool of so
+/// many.
 fn writers_meet<R: Threads>(rt: &R, alloc: Global, items: usize) -> Option<usize>
     requires { 1 ≤ items }
 {

@@ -8,7 +8,7 @@ use crate::assert_equal::assert_equal;
 use crate::made::count_of_calls;
 use lockfree_object_pool::closures::{InitBy, Makes, ResetBy, Resets};
 
-/// Whatever other threads do, a pulled value meets the condition.
+/// Pulls a value, which meets the condition, whatever other threads do.
 pub fn pulled<K: Clean<u32>, I: Init<u32, K>, R: Reset<u32, K>>(
     pool: &LinearObjectPool<u32, I, R, K>,
 ) -> Option<u32>
@@ -17,6 +17,7 @@ pub fn pulled<K: Clean<u32>, I: Init<u32, K>, R: Reset<u32, K>>(
     Some(*pool.pull().ok()?)
 }
 
+/// Pulls a value as `pulled` does, with an owner of the pool.
 pub fn pulled_owned<K: Clean<u32>, I: Init<u32, K>, R: Reset<u32, K>>(
     pool: &Arc<LinearObjectPool<u32, I, R, K>>,
 ) -> Option<u32>

@@ -15,7 +15,8 @@ type NumberPool = LinearObjectPool<u32, Copied<u32, AnyValue>, Keep>;
 /// A pulled number.
 type NumberItem<'p> = LinearReusable<'p, u32, Copied<u32, AnyValue>, Keep>;
 
-/// Writes a number to item 0 of the first page and returns it: this return is the last operation that the note knows.
+/// Writes a number to item 0 of the first page and returns it: this return is the last operation
+/// that the note knows.
 fn returned_first(pool: &NumberPool, number: u32) -> Option<PageNote<u32>>
     ensures page { IfSome result (λ note. note_page note ≡ pool_first_page pool.now) }
     ensures last { IfSome result (λ note. EndsWithReturnOf 0 number (note_history note)) }
@@ -28,8 +29,9 @@ fn returned_first(pool: &NumberPool, number: u32) -> Option<PageNote<u32>>
     Some(item.give_back())
 }
 
-/// Item 0 of the first page, pulled after a return of it, and whether it has the number that was returned then. It has that
-/// number, unless somebody had the item in between; what it has was returned in either case.
+/// Item 0 of the first page, pulled after a return of it, and whether it has the number that was
+/// returned then. It has that number, unless somebody had the item in between; what it has was
+/// returned in either case.
 fn pulled_again<'p>(
     pool: &'p NumberPool,
     note: PageNote<u32>,

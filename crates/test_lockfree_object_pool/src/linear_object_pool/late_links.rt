@@ -1,5 +1,5 @@
-//! A pull that comes too late with its page: while it makes the page another thread links one, and takes all of that page's
-//! items but one.
+//! A pull that comes too late with its page: while it makes the page another thread links one, and
+//! takes all of that page's items but one.
 ghost use Rattle.std.specs.Prelude.{⊤};
 
 use super::*;
@@ -105,8 +105,8 @@ fn late_pool(alloc: Global, steps: &Arc<Steps>) -> Result<Arc<LatePool>, PullErr
     Ok(Arc::new(alloc, pool)?)
 }
 
-/// The late pull drops the page that it made, and takes the last item of the page that is linked. A walk led it there, so that
-/// page's hint is left over, and the next pull has to pass by it.
+/// The late pull drops the page that it made, and takes the last item of the page that is linked. A
+/// walk led it there, so that page's hint is left over, and the next pull has to pass by it.
 #[test]
 fn a_page_that_comes_too_late_is_dropped_and_leaves_a_hint(rt: HostRuntime) {
     let steps = Arc::new(rt.alloc(), Steps::new()).expect(&rt, "memory is left");

@@ -32,7 +32,8 @@ fn a_limit_is_told(rt: HostRuntime) {
     assert_equal(&rt, (unlimited, limited), (None, Some(3)));
 }
 
-/// The number of the last page, where a pull is refused at the limit: each page up to it was found full.
+/// The number of the last page, where a pull is refused at the limit: each page up to it was found
+/// full.
 fn last_full_page(pool: &ClearedPool) -> Option<usize>
     ensures limit { IfSome result (λ last. pool_limit pool.now ≡ Some (last + 1)) }
     ensures each_full { IfSome result (λ last. (number : ℕ) → number ≤ last

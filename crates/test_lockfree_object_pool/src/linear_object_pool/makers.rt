@@ -47,7 +47,8 @@ fn cleared(alloc: Global) -> Result<(u32, u32), PullError> {
     Ok((first, *again))
 }
 
-/// Any two closures: the code that names the pool is generic in them, and whoever has them calls it.
+/// Any two closures: the code that names the pool is generic in them, and whoever has them calls
+/// it.
 fn first_item<I: InitBy<u32>, R: ResetBy<u32>>(
     alloc: Global,
     init: I,

@@ -1,10 +1,11 @@
-//! Owners of a pool and of its pages: each owned item lets its own go, so that the pool ends with the last of them and
-//! drops each value.
+//! Owners of a pool and of its pages: each owned item lets its own go, so that the pool ends with
+//! the last of them and drops each value.
 use super::*;
 use crate::assert_equal::assert_equal;
 use crate::made::empty_tally;
 
-/// The refusal of an owned pull while a page of items is held. The pool's last owner but these lets it go.
+/// The refusal of an owned pull while a page of items is held. The pool's last owner but these lets
+/// it go.
 fn refusal_past_a_page(alloc: Global, pool: Arc<Tracked>) -> Result<Option<PullError>, PullError> {
     let mut items = Vec::with_capacity(alloc, 32)?;
     for _ in 0..32 {

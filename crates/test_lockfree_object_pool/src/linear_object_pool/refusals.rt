@@ -1,10 +1,12 @@
-//! Pools that are refused values or memory: nothing is lost, and what was refused can be asked for again.
+//! Pools that are refused values or memory: nothing is lost, and what was refused can be asked for
+//! again.
 use super::*;
 use crate::assert_equal::assert_equal;
 use std::process::Abort;
 use test_values::refused::again;
 
-/// What is seen of an item: its place, the number of its value, and how many values live while it is out.
+/// What is seen of an item: its place, the number of its value, and how many values live while it
+/// is out.
 type Seen = ((usize, u8), usize, usize);
 
 /// A reference to a pool, which pulls borrowed items, or an owner of one, which pulls owned items.
@@ -39,8 +41,8 @@ impl Pulls for Arc<Tracked> {
     }
 }
 
-/// Past a page of items that stay out, a pull is met or refused for memory. Behind it the second page's first item is there, twice
-/// the same.
+/// Past a page of items that stay out, a pull is met or refused for memory. Behind it the second
+/// page's first item is there, twice the same.
 fn goes_on<P: Pulls>(rt: &impl Abort, pool: &P, tally: &Tally) {
     let refusal = pool.refusal();
     let expected = match refusal {

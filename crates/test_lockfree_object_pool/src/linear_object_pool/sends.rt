@@ -1,4 +1,5 @@
-//! Callers that need a pool and its reusables to be sent and shared, each under the least that its parts have to allow.
+//! Callers that need a pool and its reusables to be sent and shared, each under the least that its
+//! parts have to allow.
 use super::*;
 use crate::assert_equal::assert_equal;
 use std::thread;

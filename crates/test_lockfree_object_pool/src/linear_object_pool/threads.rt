@@ -12,6 +12,7 @@ use std::thread;
 enum Turn {
     HoldsOne,
     HoldsEight,
+    HoldsForty,
     PullsOften,
     MarksOften,
 }
@@ -30,6 +31,7 @@ impl Work for Shared {
         match self.turn {
             Turn::HoldsOne => hold_one(self),
             Turn::HoldsEight => hold_eight(self),
+            Turn::HoldsForty => hold_forty(self),
             Turn::PullsOften => pull_often(&self.pool),
             Turn::MarksOften => mark_often(&self.pool, u32::try_from(index).ok()?.wrapping_add(1)),
         }
@@ -90,7 +92,8 @@ fn five_threads_hold_the_first_five_items(rt: HostRuntime) {
     );
 }
 
-/// Pulls and drops, and writes to each item. How many items had the value of a reset, where each had it.
+/// Pulls and drops, and writes to each item. How many items had the value of a reset, where each
+/// had it.
 fn pull_often(pool: &ClearedPool) -> Option<usize> {
     for _ in 0..10_000 {
         let mut item = pool.pull().ok()?;
@@ -110,8 +113,8 @@ fn eight_threads_see_reset_values(rt: HostRuntime) {
     assert_equal(&rt, told.as_slice(), [10_000; 8].as_slice());
 }
 
-/// Pulls, writes its own mark and drops, many times. How many items had the value of a reset, and then the mark alone, where each
-/// had.
+/// Pulls, writes its own mark and drops, many times. How many items had the value of a reset, and
+/// then the mark alone, where each had.
 fn mark_often(pool: &ClearedPool, mark: u32) -> Option<usize> {
     for _ in 0..10_000 {
         let mut item = pool.pull().ok()?;
@@ -159,8 +162,8 @@ fn eight_threads_share_what_ten_full_pages_got_back(rt: HostRuntime) {
     assert_equal(&rt, (told.len(), are_zero(&kept)), (8, true));
 }
 
-/// How many of eight pulls gave an item, where the others were refused by the limit. The items are held until five threads hold
-/// theirs.
+/// How many of eight pulls gave an item, where the others were refused by the limit. The items are
+/// held until five threads hold theirs.
 fn hold_eight(shared: &Shared) -> Option<usize> {
     let mut items = Vec::with_capacity(shared.alloc, 8).ok()?;
     for _ in 0..8 {
@@ -184,4 +187,29 @@ fn five_threads_share_one_page(rt: HostRuntime) {
     let given = told_by(&rt, rt.alloc(), &shared, 5).expect(&rt, "the limit alone refuses");
     let sum: usize = given.iter().fold(0, |sum, given| sum.wrapping_add(*given));
     assert_equal(&rt, (sum, calls.load(SeqCst)), (32, 32));
+}
+
+/// Waits until four threads are here, and then holds more items than a page has. How many, where
+/// none was refused.
+fn hold_forty(shared: &Shared) -> Option<usize> {
+    let mut items = Vec::with_capacity(shared.alloc, 40).ok()?;
+    if !shared.holding.wait_for(4) {
+        return None;
+    }
+    for _ in 0..40 {
+        items.push(shared.pool.pull().ok()?).ok()?;
+    }
+    Some(items.len())
+}
+
+/// The pages that hold their items are linked by all of them at one time. Who comes late takes an
+/// item of the page that is there.
+#[test]
+fn four_threads_make_a_pool_grow_at_one_time(rt: HostRuntime) {
+    for _ in 0..50 {
+        let calls = count_of_calls(&rt, rt.alloc());
+        let shared = unbounded(rt.alloc(), &calls, Turn::HoldsForty).expect(&rt, "a pool is made");
+        let told = told_by(&rt, rt.alloc(), &shared, 4).expect(&rt, "no pull is refused");
+        assert_equal(&rt, told.as_slice(), [40; 4].as_slice());
+    }
 }

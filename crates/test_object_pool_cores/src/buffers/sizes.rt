@@ -56,7 +56,8 @@ fn a_buffer_of_a_mebibyte_takes_more(rt: HostRuntime) {
     assert_equal(&rt, takes, Ok(true));
 }
 
-/// How many bytes a new buffer of a pool has, and whether they are those that were appended, once so many were appended at once.
+/// How many bytes a new buffer of a pool has, and whether they are those that were appended, once
+/// so many were appended at once.
 fn appended_at_once(alloc: Global, count: usize) -> Result<(usize, bool), PullError> {
     let pool = one_page(alloc)?;
     let mut buffer = pool.pull()?;

@@ -11,6 +11,7 @@ pub(super) struct Source<'a> {
 }
 
 impl<'a> Source<'a> {
+    /// Creates a reader of these bytes, at most so many a call.
     pub(super) fn new(bytes: &'a [u8], most: usize) -> Source<'a> {
         Source { bytes, most }
     }
@@ -37,6 +38,7 @@ pub(super) struct Lines {
 }
 
 impl Lines {
+    /// Creates a reader of a line, so many times.
     pub(super) fn new(line: &'static [u8], left: usize) -> Lines {
         Lines { line, left }
     }
@@ -54,7 +56,8 @@ impl Read for Lines {
     }
 }
 
-/// Gives one part a read. Behind them it fails once, where it has a cause for that, and then ends. Counts its reads.
+/// Gives one part a read. Behind them it fails once, where it has a cause for that, and then ends.
+/// Counts its reads.
 #[derive(Drop)]
 pub(super) struct Parts<'a> {
     parts: &'a [&'a [u8]],
@@ -63,6 +66,7 @@ pub(super) struct Parts<'a> {
 }
 
 impl<'a> Parts<'a> {
+    /// Creates a reader of these parts, with the cause of its failure, if any.
     pub(super) fn new(parts: &'a [&'a [u8]], cause: Option<ErrorKind>) -> Parts<'a> {
         Parts {
             parts,
@@ -71,7 +75,7 @@ impl<'a> Parts<'a> {
         }
     }
 
-    /// How often it was read.
+    /// Returns how often it was read.
     pub(super) fn reads(&self) -> usize {
         self.reads
     }
@@ -106,6 +110,7 @@ pub(super) struct Device {
 }
 
 impl Device {
+    /// Creates a device with this room, which takes at most so many bytes a call.
     pub(super) fn new(room: usize, most: usize) -> Device {
         Device {
             bytes: ArrayVec::new(),
@@ -115,11 +120,12 @@ impl Device {
         }
     }
 
+    /// Returns the bytes that were written.
     pub(super) fn bytes(&self) -> &[u8] {
         &self.bytes
     }
 
-    /// How often it was written to.
+    /// Returns how often it was written to.
     pub(super) fn calls(&self) -> usize {
         self.calls
     }
@@ -153,11 +159,12 @@ pub(super) struct FailsOnce {
 }
 
 impl FailsOnce {
+    /// Creates a device that fails once for this cause.
     pub(super) fn new(cause: ErrorKind) -> FailsOnce {
         FailsOnce { cause, writes: 0 }
     }
 
-    /// How often it was written to.
+    /// Returns how often it was written to.
     pub(super) fn writes(&self) -> usize {
         self.writes
     }

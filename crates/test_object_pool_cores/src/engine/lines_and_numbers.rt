@@ -1,10 +1,12 @@
-//! Lines of any length and of any bytes, the greatest numbers, and each kind of pool with a reset to zero.
+//! Lines of any length and of any bytes, the greatest numbers, and each kind of pool with a reset
+//! to zero.
 use super::*;
 
 /// How many bytes the lines have: about the longest that is kept, about one read, and many reads.
 const LENGTHS: [usize; 9] = [1, 63, 64, 65, 1023, 1024, 1025, 2048, 100_000];
 
-/// What is answered to a line of so many letters and a pull behind it, and to such a line that the input ends in.
+/// What is answered to a line of so many letters and a pull behind it, and to such a line that the
+/// input ends in.
 fn answers_to_letters<H: Abort + Wait>(rt: &H, alloc: Global, length: usize) -> (Vec<u8>, Vec<u8>) {
     let mut input = String::new(alloc);
     for _ in 0..length {

@@ -1,4 +1,5 @@
-//! An agent that comes too late to link its page, after one page or many were linked there in the meantime.
+//! An agent that comes too late to link its page, after one page or many were linked there in the
+//! meantime.
 use super::*;
 use crate::assert_equal::assert_equal;
 
@@ -32,7 +33,8 @@ fn take(
     Ok(())
 }
 
-/// A world in which an agent has made a page, and so many others took an item each before it links that page.
+/// A world in which an agent has made a page, and so many others took an item each before it links
+/// that page.
 fn before_its_link(
     alloc: Global,
     shared: &Rc<u32>,
@@ -50,8 +52,8 @@ fn before_its_link(
     Ok(world)
 }
 
-/// How many pages there are once the agent has tried to link its page, what it sees, how many values are dropped by that,
-/// and how many live when the world has ended.
+/// How many pages there are once the agent has tried to link its page, what it sees, how many
+/// values are dropped by that, and how many live when the world has ended.
 fn late_link(alloc: Global, others: usize) -> Result<(usize, Seen, usize, usize), PullError> {
     let shared = Rc::new(alloc, 7u32)?;
     let mut world = before_its_link(alloc, &shared, others)?;
@@ -77,8 +79,8 @@ fn a_page_that_comes_too_late_is_dropped_at_once(rt: HostRuntime) {
     }
 }
 
-/// What an agent sees that makes its page behind one that was linked after it had looked, and how many values are dropped
-/// when it tries to link its own.
+/// What an agent sees that makes its page behind one that was linked after it had looked, and how
+/// many values are dropped when it tries to link its own.
 fn late_page(alloc: Global) -> Result<(Seen, Seen, usize, usize), PullError> {
     let shared = Rc::new(alloc, 7u32)?;
     let mut world = World::new(alloc, owners(alloc, &shared)?, Keep)?;
@@ -100,7 +102,8 @@ fn a_page_may_be_made_behind_one_that_is_linked_and_is_dropped_then(rt: HostRunt
     assert_equal(&rt, found, Ok((Seen::Made(LATE), Seen::Lost(LATE), 32, 2)));
 }
 
-/// How many values live when a world has ended in which an agent has made a page and hasn't linked it.
+/// How many values live when a world has ended in which an agent has made a page and hasn't linked
+/// it.
 fn left_unlinked(alloc: Global) -> Result<(usize, usize), PullError> {
     let shared = Rc::new(alloc, 7u32)?;
     let world = before_its_link(alloc, &shared, 0)?;

@@ -1,4 +1,5 @@
-//! Worlds that outgrow a byte and two bytes: their pages, their agents, the events of a run, and the greatest limit.
+//! Worlds that outgrow a byte and two bytes: their pages, their agents, the events of a run, and
+//! the greatest limit.
 use super::*;
 use crate::assert_equal::assert_equal;
 
@@ -8,7 +9,8 @@ const PAGES: usize = 300;
 /// How many agents begin in one run.
 const AGENTS: usize = 70_000;
 
-/// An agent begins and steps alone until it has cleared a bit, and links a page where each one is full.
+/// An agent begins and steps alone until it has cleared a bit, and links a page where each one is
+/// full.
 fn pull_alone(
     alloc: Global,
     world: &mut World<u32, Keep>,
@@ -79,7 +81,8 @@ fn crowd_events(alloc: Global, begins: bool) -> Result<Vec<Event<u32>>, AllocErr
     Ok(events)
 }
 
-/// Two runs, whose answers stand in one list, in a world whose limit allows far fewer items than there are agents.
+/// Two runs, whose answers stand in one list, in a world whose limit allows far fewer items than
+/// there are agents.
 #[test]
 fn a_world_of_one_page_takes_three_hundred_agents_in_two_runs(rt: HostRuntime) {
     let mut world = World::with_limit(

@@ -1,8 +1,10 @@
-//! Calls that find their room, and are never refused for memory: that their callers need no answer for it is proved.
+//! Calls that find their room, and are never refused for memory: that their callers need no answer
+//! for it is proved.
 use super::*;
 use crate::assert_equal::assert_equal;
 
-/// Agent 32 makes a page, and agent 33 one right behind it. What the first is answered where it couldn't, and else the second.
+/// Agent 32 makes a page, and agent 33 one right behind it. What the first is answered where it
+/// couldn't, and else the second.
 fn make_two(world: &mut World<u32, Keep>, first: Prepared<u32>, second: Prepared<u32>) -> Seen {
     let made = world.step(Event::MakePage(32, Ok(first)));
     if made != Seen::Made(32) {

@@ -18,7 +18,8 @@ fn passes(alloc: Global, agent: usize, pages: usize) -> Result<Vec<Event<u32>>, 
     Ok(events)
 }
 
-/// The events of an agent that alone steps until it has an item, where as many are out as its number says.
+/// The events of an agent that alone steps until it has an item, where as many are out as its
+/// number says.
 fn takes(alloc: Global, agent: usize) -> Result<Vec<Event<u32>>, PullError> {
     let mut events = passes(alloc, agent, agent / PAGE_ITEMS)?;
     if agent > 0 && agent % PAGE_ITEMS == 0 {
@@ -31,7 +32,8 @@ fn takes(alloc: Global, agent: usize) -> Result<Vec<Event<u32>>, PullError> {
     Ok(events)
 }
 
-/// Lets an agent take an item alone, as the next one, in one run. Whether its number is the agent's, and it holds the item.
+/// Lets an agent take an item alone, as the next one, in one run. Whether its number is the
+/// agent's, and it holds the item.
 fn takes_its_number(
     alloc: Global,
     world: &mut World<u32, Keep>,

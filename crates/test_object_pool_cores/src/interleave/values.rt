@@ -114,7 +114,8 @@ fn what_cannot_be_written_or_linked_is_dropped_at_once(rt: HostRuntime) {
         Keep,
     )
     .expect(&rt, "a world is made");
-    // What a write is answered in front of each event of an agent's life, which begins with the first.
+    // What a write is answered in front of each event of an agent's life, which begins with the
+    // first.
     let not = Seen::NotEnabled;
     for (answer, event) in [
         (not, Event::Begin),

@@ -27,7 +27,8 @@ fn pull_and_give<T: Drop, P: SequentialPool<T>>(
     Ok(())
 }
 
-/// Each pull that finds an item kept leaves `init` alone, and a value is attached beside those that are kept.
+/// Each pull that finds an item kept leaves `init` alone, and a value is attached beside those that
+/// are kept.
 #[test]
 fn a_hundred_kept_items_are_pulled_before_init_is_asked(rt: HostRuntime) {
     let tally = new_tally(rt.alloc()).expect(&rt, "memory is left");

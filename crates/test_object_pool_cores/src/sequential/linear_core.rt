@@ -1,4 +1,5 @@
-//! What a linear core makes at its opening, how many pages it looks at, and what it holds past the first few pages.
+//! What a linear core makes at its opening, how many pages it looks at, and what it holds past the
+//! first few pages.
 use super::tracked;
 use crate::assert_equal::assert_equal;
 use object_pool_cores::sequential::{Item, LinearCore, SequentialPool};
@@ -99,7 +100,8 @@ fn number_and_looks(held: &mut Held) -> Result<(Option<u128>, u64), PullError> {
 #[test]
 fn a_pull_counts_each_page_that_it_looks_at(rt: HostRuntime) {
     let mut held = pulled(rt.alloc(), 12 * 32).expect(&rt, "nothing is refused");
-    // An item of page 0, 1, 9 or 11 comes back. One pull takes it, and the next one passes all full pages from there on.
+    // An item of page 0, 1, 9 or 11 comes back. One pull takes it, and the next one passes all full
+    // pages from there on.
     for (number, looks, further) in [
         (0u32, 13u64, 384u128),
         (40, 12, 385),
@@ -124,8 +126,8 @@ fn a_core_with_a_limit_makes_one_page_at_its_opening(rt: HostRuntime) {
     assert_equal(&rt, (tally.calls(), core.pages()), (32, 1));
 }
 
-/// How often `init` was called, and how many pages there are, once each item of ten pages was pulled and none came back, and
-/// what the next pull answers.
+/// How often `init` was called, and how many pages there are, once each item of ten pages was
+/// pulled and none came back, and what the next pull answers.
 fn ten_pages(
     alloc: Global,
     limit: Option<usize>,
@@ -159,8 +161,8 @@ fn each_of_ten_pages_takes_32_calls_of_init(rt: HostRuntime) {
     );
 }
 
-/// With a page held, a pull asks `init` for the next page, and is refused by the eighth call: how it is answered, and how often
-/// `init` was called, with a limit or without.
+/// With a page held, a pull asks `init` for the next page, and is refused by the eighth call: how
+/// it is answered, and how often `init` was called, with a limit or without.
 fn refused_once(
     alloc: Global,
     limit: Option<usize>,

@@ -1,4 +1,5 @@
-//! Cores and players that outgrow a byte and two bytes, the greatest limit, and what a pull looks at after a return.
+//! Cores and players that outgrow a byte and two bytes, the greatest limit, and what a pull looks
+//! at after a return.
 use crate::assert_equal::assert_equal;
 use object_pool_cores::sequential::*;
 use pool_parts::clean::AnyValue;

@@ -10,10 +10,11 @@ fn counted_walks(
     alloc: Global,
     counts: &Arc<Tally>,
 ) -> Result<Vec<OwnedSlot<Tallied, AnyValue>>, PullError> {
-    let chain = Chain::<_, _, AnyValue>::new(alloc, &|| Tallied::new(counts))?;
+    let make = || Tallied::new(counts);
+    let chain = Chain::<_, _, AnyValue>::new(alloc, &make)?;
     let mut slots = Vec::new(alloc);
     for _ in 0..33 {
-        let (slot, _) = chain.first().alloc_owned(&|| Tallied::new(counts))?;
+        let (slot, _) = chain.first().alloc_owned(&make)?;
         slots.push(slot)?;
     }
     Ok(slots)

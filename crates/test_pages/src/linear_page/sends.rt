@@ -1,9 +1,6 @@
 //! Callers that need a chain and its pages to be sent and shared, each where the items may be sent.
 use super::*;
-
-fn sent<X: Send>(_value: &X) {}
-
-fn shared<X: Sync>(_value: &X) {}
+use crate::page::sharing::{sent, shared};
 
 fn chain_and_page<T: Send, K: Clean<T>>(chain: &Chain<T, K>, page: &LinearPage<'_, T, K>) {
     sent(chain);

@@ -1,4 +1,5 @@
-//! Callers that need a page's history: what comes before what, and that two histories are of one page.
+//! Callers that need a page's history: what comes before what, and that two histories are of one
+//! page.
 ghost use Rattle.std.specs.Prelude.{◌≡◌, ◌⊎◌, ℕ, ◌∷◌, IfSome};
 ghost use Rattle.page_chain.specs.Note.{note_page, note_history};
 ghost use Rattle.page_chain.specs.OwnedSlot.{owned_slot_item};
@@ -7,6 +8,7 @@ ghost use Rattle.page_chain.specs.Ledger.{History, IsPrefixOf};
 ghost use Rattle.page_chain.specs.Slot.{slot_item};
 ghost use Rattle.pool_parts.specs.declared.page.history.Operation.TheVariants.{Return};
 
+use super::sharing::{sent, threes};
 use super::{item, owned_item};
 use crate::assert_equal::assert_equal;
 use pool_parts::clean::{AnyValue, Clean};
@@ -17,8 +19,6 @@ use std::thread;
 use std::thread::Threads;
 
 type NumberPage = Page<u32, AnyValue>;
-
-fn sent<X: Send>(_value: &X) {}
 
 fn sent_notes<T: Send>(note: &PageNote<T>, witness: &Witness<T>) {
     sent(note);
@@ -53,8 +53,9 @@ fn returned_five(page: &NumberPage) -> Option<PageNote<u32>>
     Some(Page::free(slot))
 }
 
-/// Two threads return an item each, and hand their notes on. A pull by the first note stands after the first return;
-/// what the two threads saw is of one history, so that of one is a prefix of the other's.
+/// Two threads return an item each, and hand their notes on. A pull by the first note stands after
+/// the first return; what the two threads saw is of one history, so that of one is a prefix of the
+/// other's.
 fn handed_on<'s, R: Threads + Sync>(
     rt: &R,
     page: &'s NumberPage,
@@ -79,7 +80,8 @@ fn handed_on<'s, R: Threads + Sync>(
     Some((slot, second?))
 }
 
-/// What two users of one page know are prefixes of one history, so one of them is a prefix of the other.
+/// What two users of one page know are prefixes of one history, so one of them is a prefix of the
+/// other.
 fn compared(page: &NumberPage, one: PageNote<u32>, other: PageNote<u32>) -> PageNote<u32>
     requires one { note_page one ≡ page_identity page.now }
     requires other { note_page other ≡ page_identity page.now }
@@ -92,7 +94,8 @@ fn compared(page: &NumberPage, one: PageNote<u32>, other: PageNote<u32>) -> Page
     both
 }
 
-/// A holder leaves a witness of what it knows, and a note is told: the pull stands in the note's history.
+/// A holder leaves a witness of what it knows, and a note is told: the pull stands in the note's
+/// history.
 fn told_of_pull(page: &NumberPage, slot: &mut PageSlot<'_, u32, AnyValue>) -> PageNote<u32>
     requires { (slot_item slot.old).page ≡ page_identity page.now }
     ensures page { note_page result ≡ page_identity page.now }
@@ -114,7 +117,7 @@ fn owned_returned<K: Clean<u32>>(slot: OwnedSlot<u32, K>) -> PageNote<u32>
 
 #[test]
 fn a_pull_stands_after_a_return_of_another_thread(rt: HostRuntime) {
-    let page = NumberPage::new(rt.alloc(), &|| Some(3)).expect(&rt, "a page is made");
+    let page = threes(rt.alloc()).expect(&rt, "a page is made");
     let Some((mut slot, other)) = handed_on(&rt, &page) else {
         panic!(rt; "an item is free")
     };
@@ -132,7 +135,7 @@ fn a_pull_stands_after_a_return_of_another_thread(rt: HostRuntime) {
 
 #[test]
 fn an_owned_return_is_told_too(rt: HostRuntime) {
-    let page = NumberPage::new(rt.alloc(), &|| Some(3)).expect(&rt, "a page is made");
+    let page = threes(rt.alloc()).expect(&rt, "a page is made");
     let page = Arc::new(rt.alloc(), page).expect(&rt, "memory is left");
     let mut owned = owned_item(&page).expect(&rt, "an item is free");
     *owned = 8;
@@ -143,8 +146,11 @@ fn an_owned_return_is_told_too(rt: HostRuntime) {
 /// What is known of a history costs nothing: a note, a witness and what a slot knows have no bytes.
 #[test]
 fn a_history_takes_no_bytes(rt: HostRuntime) {
-    assert_equal(&rt, size_of::<PageNote<u32>>(), 0);
-    assert_equal(&rt, size_of::<Witness<u32>>(), 0);
-    assert_eq!(rt; size_of::<PageSlot<'static, u64, AnyValue>>(), 24);
-    assert_eq!(rt; size_of::<OwnedSlot<u64, AnyValue>>(), 24);
+    let sizes = [
+        size_of::<PageNote<u32>>(),
+        size_of::<Witness<u32>>(),
+        size_of::<PageSlot<'static, u64, AnyValue>>(),
+        size_of::<OwnedSlot<u64, AnyValue>>(),
+    ];
+    assert_equal(&rt, sizes, [0, 0, 24, 24]);
 }

@@ -1,11 +1,12 @@
 //! Pages in use: words, ids and values, on one thread and on two.
-use super::item;
+use super::{item, owned_item};
 use crate::assert_equal::assert_equal;
 use crate::zero::zero;
 use pool_parts::PullError;
 use pool_parts::clean::AnyValue;
 use pool_parts::page::{Allocated, Page, PageSlot, PullPass, with_bit};
 use std::alloc::{AllocError, Global};
+use std::sync::Arc;
 use std::sync::atomic::{AtomicUsize, Ordering};
 use std::thread::Threads;
 use std::{mem, thread};
@@ -126,7 +127,8 @@ fn a_page_is_full_while_each_item_is_out(rt: HostRuntime) {
     }
 }
 
-/// Takes 16 slots, and waits until the other thread has 16 too. `None` where that didn't come, or memory was refused.
+/// Takes 16 slots, and waits until the other thread has 16 too. `None` where that didn't come, or
+/// memory was refused.
 fn take_half<'s>(
     alloc: Global,
     page: &'s Zeros,
@@ -203,6 +205,25 @@ fn a_dropped_slot_leaves_its_id_out(rt: HostRuntime) {
     drop(page.alloc());
     let word = page.get_mask();
     assert_equal(&rt, (word, id_of(&page.alloc())), (4294967294, 1));
+}
+
+#[test]
+fn items_that_were_introduced_stay_as_they_are(rt: HostRuntime) {
+    let page = zeros(rt.alloc()).expect(&rt, "a page is made");
+    let page = Arc::new(rt.alloc(), page).expect(&rt, "memory is left");
+    let mut one = item(&page).expect(&rt, "item 0 is free");
+    let mut two = item(&page).expect(&rt, "item 1 is free");
+    let mut three = owned_item(&page).expect(&rt, "item 2 is free");
+    let mut four = owned_item(&page).expect(&rt, "item 3 is free");
+    one.differs_from(&mut two);
+    one.differs_from_owned(&mut three);
+    three.differs_from(&mut four);
+    assert_equal(
+        &rt,
+        (one.id(), two.id(), three.id(), four.id()),
+        (0, 1, 2, 3),
+    );
+    assert_equal(&rt, page.get_mask(), 4294967280);
 }
 
 #[test]

@@ -10,10 +10,10 @@ use std::thread;
 use std::thread::Threads;
 
 /// Takes a value that may be sent.
-fn sent<X: Send>(_value: &X) {}
+pub fn sent<X: Send>(_value: &X) {}
 
 /// Takes a value that may be shared.
-fn shared<X: Sync>(_value: &X) {}
+pub fn shared<X: Sync>(_value: &X) {}
 
 fn pages<T: Send, K: Clean<T>>(page: &Page<T, K>) {
     sent(page);
@@ -40,7 +40,7 @@ fn read_twice<R: Threads + Sync>(rt: &R, slot: &PageSlot<'_, u32, AnyValue>) -> 
     thread::join(rt, || **slot, || **slot)
 }
 
-fn threes(alloc: Global) -> Result<Page<u32, AnyValue>, PullError> {
+pub fn threes(alloc: Global) -> Result<Page<u32, AnyValue>, PullError> {
     Page::new(alloc, &|| Some(3))
 }
 

@@ -21,10 +21,14 @@ fn counted_page(
 
 /// The id and the number of an item that a page gives, which stays out.
 fn next_item(page: &Page<Tallied, AnyValue>) -> Option<(u8, usize)> {
-    let slot = page.alloc().ok()??;
-    let seen = (slot.id(), slot.number);
-    mem::forget(slot);
-    Some(seen)
+    match page.alloc() {
+        Ok(Some(slot)) => {
+            let seen = (slot.id(), slot.number);
+            mem::forget(slot);
+            Some(seen)
+        }
+        _ => None,
+    }
 }
 
 #[test]

@@ -1,4 +1,5 @@
-//! Proved callers: what a guard shows and writes, and that the facts of the element's type hold whenever the lock is taken.
+//! Proved callers: what a guard shows and writes, and that the facts of the element's type hold
+//! whenever the lock is taken.
 ghost use Rattle.std.specs.Prelude.{◌≡◌, ◌%◌, IfSome};
 ghost use Rattle.lockfree_object_pool.specs.Guard.{guard_with};
 

@@ -1,4 +1,5 @@
-//! Callers that need a lock and its guard to be sent and shared, each under the least that the element's type has to allow.
+//! Callers that need a lock and its guard to be sent and shared, each under the least that the
+//! element's type has to allow.
 use super::*;
 use lockfree_object_pool::clean::Clean;
 use lockfree_object_pool::spin_lock::SpinLockGuard;

@@ -1,5 +1,5 @@
-//! A lock that another thread holds: a take from the pools' free lists and a put to them wait for it, and neither a value nor
-//! its room is lost.
+//! A lock that another thread holds: each call of the pools' free lists waits for it, and neither a
+//! value nor its room is lost.
 use super::waits::wait_for;
 use super::*;
 use crate::assert_equal::assert_equal;
@@ -118,6 +118,24 @@ fn put_meanwhile<
     holder.join(rt);
 }
 
+/// How many values are kept, counted while another thread has the lock, after they were dropped
+/// there or not.
+fn count_meanwhile<
+    F: Lockable + Send + Sync + 'static,
+    W: Abort + Wait + Threads + Copy + Send + 'static,
+>(rt: &W, alloc: Global, list: &Arc<F>, clears: bool) -> usize {
+    let steps = Arc::new(alloc, Steps::new()).expect(rt, "memory is left");
+    let holder = hold_elsewhere(rt, list, &steps).expect(rt, "a thread is made");
+    assert!(*rt; steps.begin());
+    if clears {
+        list.clear(rt);
+    }
+    let count = list.count(rt);
+    steps.end();
+    holder.join(rt);
+    count
+}
+
 fn waits_for_the_lock<
     F: Lockable + Send + Sync + 'static,
     W: Abort + Wait + Threads + Copy + Send + 'static,
@@ -134,4 +152,21 @@ fn waits_for_the_lock<
 fn a_take_and_a_put_wait_for_the_lock(rt: HostRuntime) {
     waits_for_the_lock::<Mutex<Stack<u32, AnyValue>>, _>(&rt, rt.alloc());
     waits_for_the_lock::<SpinLock<Stack<u32, AnyValue>>, _>(&rt, rt.alloc());
+}
+
+fn counts_and_clears_under_the_lock<
+    F: Lockable + Send + Sync + 'static,
+    W: Abort + Wait + Threads + Copy + Send + 'static,
+>(rt: &W, alloc: Global) {
+    let list = F::new_list(alloc).expect(rt, "memory is left");
+    let list = Arc::new(alloc, list).expect(rt, "memory is left");
+    list.put(rt, Room::new(alloc).expect(rt, "memory is left"), 5);
+    assert_equal(rt, count_meanwhile(rt, alloc, &list, false), 1);
+    assert_equal(rt, count_meanwhile(rt, alloc, &list, true), 0);
+}
+
+#[test]
+fn a_count_and_a_clear_wait_for_the_lock(rt: HostRuntime) {
+    counts_and_clears_under_the_lock::<Mutex<Stack<u32, AnyValue>>, _>(&rt, rt.alloc());
+    counts_and_clears_under_the_lock::<SpinLock<Stack<u32, AnyValue>>, _>(&rt, rt.alloc());
 }

@@ -1,4 +1,5 @@
-//! Many items that are kept together: none is thrown away, and they come again in turn, the last first.
+//! Many items that are kept together: none is thrown away, and they come again in turn, the last
+//! first.
 use super::*;
 use crate::assert_equal::assert_equal;
 use test_values::counted::NEVER;

@@ -5,7 +5,8 @@ use crate::assert_equal::assert_equal;
 use test_values::counted::NEVER;
 use test_values::refused::again;
 
-/// An item, where memory was refused that of a second pull. A pull that is refused hasn't called `init`.
+/// An item, where memory was refused that of a second pull. A pull that is refused hasn't called
+/// `init`.
 fn pull_again<P: Pulls<Tallied>, W: Abort + Wait + Copy>(
     rt: &W,
     pool: &P,
@@ -18,7 +19,8 @@ fn pull_again<P: Pulls<Tallied>, W: Abort + Wait + Copy>(
     pool.pull_one(rt).expect(rt, "an item is made")
 }
 
-/// The numbers of a borrowed item and an owned one that are held together, each with the calls and the drops then.
+/// The numbers of a borrowed item and an owned one that are held together, each with the calls and
+/// the drops then.
 fn two_pulled<F: Kind<Tallied, TalliedValues, Keep, AnyValue>, W: Abort + Wait + Copy>(
     rt: &W,
     pool: &Arc<Tracked<F>>,

@@ -1,12 +1,13 @@
-//! What a pool keeps: filled beforehand, counted, dropped all at once, and items that leave it for good.
+//! What a pool keeps: filled beforehand, counted, dropped all at once, and items that leave it for
+//! good.
 ghost use Rattle.std.specs.Prelude.{⊤};
 
 use super::*;
 use crate::assert_equal::assert_equal;
 use test_values::counted::NEVER;
 
-/// The numbers of a borrowed item and an owned one that are held together, and how many values the pool keeps
-/// while they are, and once the borrowed one came back.
+/// The numbers of a borrowed item and an owned one that are held together, and how many values the
+/// pool keeps while they are, and once the borrowed one came back.
 fn two_pulled<F: Kind<Tallied, TalliedValues, Keep, AnyValue>, W: Abort + Wait + Copy>(
     rt: &W,
     pool: &Arc<Tracked<F>>,
@@ -41,7 +42,8 @@ fn a_filled_pool_gives_what_it_made(rt: HostRuntime) {
     fills::<UnderSpinLock<Tallied, TalliedValues, Keep, AnyValue>, _>(&rt, rt.alloc());
 }
 
-/// `init` refuses at its fourth call: the three values before it are kept, and a further filling goes on.
+/// `init` refuses at its fourth call: the three values before it are kept, and a further filling
+/// goes on.
 fn fills_in_part<F: Kind<Tallied, TalliedValues, Keep, AnyValue>, W: Abort + Wait + Copy>(
     rt: &W,
     alloc: Global,
@@ -94,7 +96,8 @@ fn a_filling_resets_nothing(rt: HostRuntime) {
     );
 }
 
-/// One item is out while the pool is cleared, and comes back: how the pool stands before, behind it, and at last.
+/// One item is out while the pool is cleared, and comes back: how the pool stands before, behind
+/// it, and at last.
 fn cleared_beside_one<F: Kind<Tallied, TalliedValues, Keep, AnyValue>, W: Abort + Wait + Copy>(
     rt: &W,
     pool: &Tracked<F>,
@@ -108,8 +111,8 @@ fn cleared_beside_one<F: Kind<Tallied, TalliedValues, Keep, AnyValue>, W: Abort 
     [before, behind, standing(rt, pool, tally)]
 }
 
-/// The numbers of the item that came back and of one that is made beside it and returned, and how the pool stands
-/// once it is cleared twice.
+/// The numbers of the item that came back and of one that is made beside it and returned, and how
+/// the pool stands once it is cleared twice.
 fn cleared_twice<F: Kind<Tallied, TalliedValues, Keep, AnyValue>, W: Abort + Wait + Copy>(
     rt: &W,
     pool: &Tracked<F>,
@@ -164,7 +167,8 @@ fn detach_two<F: Kind<Tallied, TalliedValues, Keep, AnyValue>, W: Abort + Wait +
     )
 }
 
-/// Two values leave their pool, borrowed and owned: they live on after it, and neither is reset nor kept.
+/// Two values leave their pool, borrowed and owned: they live on after it, and neither is reset nor
+/// kept.
 fn detaches<F: Kind<Tallied, TalliedValues, Keep, AnyValue>, W: Abort + Wait + Copy>(
     rt: &W,
     alloc: Global,

@@ -16,7 +16,8 @@ use std::thread;
 /// A thread that still waits after so many turns gives up, and its test fails.
 const MOST_TURNS: u32 = 10_000_000;
 
-/// How far two threads are: calls of what waits, and items that the second one dropped or other calls of its.
+/// How far two threads are: calls of what waits, and items that the second one dropped or other
+/// calls of its.
 #[derive(Drop)]
 pub struct Steps {
     pub calls: AtomicUsize,
@@ -24,6 +25,7 @@ pub struct Steps {
 }
 
 impl Steps {
+    /// Creates the counts, each at 0.
     pub fn new() -> Steps {
         Steps {
             calls: AtomicUsize::new(0),
@@ -32,7 +34,7 @@ impl Steps {
     }
 }
 
-/// Whether a count came to be at least 1.
+/// Waits until a count is at least 1, and returns whether it came to be.
 pub fn wait_for(count: &AtomicUsize) -> bool {
     for _ in 0..MOST_TURNS {
         if count.load(SeqCst) > 0 {
@@ -78,7 +80,8 @@ impl Reset<u32, AnyValue> for WaitsForDrop {
     }
 }
 
-/// A value whose drop waits until the second thread has used the pool, and then counts itself, where that came in time.
+/// A value whose drop waits until the second thread has used the pool, and then counts itself,
+/// where that came in time.
 pub struct WaitsAtDrop {
     steps: Arc<Steps>,
     in_time: Arc<AtomicUsize>,
@@ -112,13 +115,13 @@ impl Init<WaitsAtDrop, AnyValue> for ValuesThatWait {
     }
 }
 
-/// What a pulled item shows.
+/// Returns what a pulled item shows.
 pub fn shown<P: Pulls<u32>, W: Wait + Copy>(rt: &W, pool: &P) -> Option<u32> {
     let item = pool.pull_one(rt).ok()?;
     Some(*item)
 }
 
-/// What a thread is shown that pulls and drops while the first call of what waits goes on.
+/// Returns what a thread is shown that pulls and drops while the first call of what waits goes on.
 pub fn shown_meanwhile<P: Pulls<u32>, W: Wait + Copy>(
     rt: &W,
     pool: &P,

@@ -1,9 +1,7 @@
 //! The pools that are measured.
 use crate::{reset_item, use_item, write_item};
 use crossbeam_queue::ArrayQueue;
-use kundratu_pool::sys::{
-    kdr_pool_drop, kdr_pool_new, kdr_pool_pull, kdr_pool_return, kdr_pool_share, RawHandle,
-};
+use kundratu_pool::sys::{kdr_pool_new, kdr_pool_pull, kdr_pool_return, kdr_pool_share, Handle};
 use kundratu_pool::{LinearObjectPool as Growing, LinearReusable as GrowingReusable};
 use kundratu_pool::{Pool, Reusable};
 use lockfree_object_pool::{LinearObjectPool, LinearReusable};
@@ -37,13 +35,7 @@ pub trait Contender: Sync {
 }
 
 /// A handle of the C library, as a C program has it.
-pub struct OwnHandle(RawHandle);
-
-impl Drop for OwnHandle {
-    fn drop(&mut self) {
-        kdr_pool_drop(&mut self.0);
-    }
-}
+type OwnHandle = Option<Handle>;
 
 /// The C calls, with a handle a thread. Items that go to another thread go with handles of a list.
 pub struct Handles {
@@ -54,8 +46,8 @@ pub struct Handles {
 
 impl Handles {
     pub fn new(items: usize, cells: Box<[AtomicU64]>) -> Handles {
-        let mut first = OwnHandle(RawHandle::empty());
-        assert_eq!(kdr_pool_new(items, &mut first.0), 0);
+        let mut first = None;
+        assert_eq!(kdr_pool_new(items, &mut first), 0);
         Handles {
             first: Mutex::new(first),
             idle: Mutex::default(),
@@ -71,21 +63,21 @@ impl Contender for Handles {
 
     fn user(&self) -> OwnHandle {
         let mut first = self.first.lock().expect("no panic");
-        let mut own = OwnHandle(RawHandle::empty());
-        assert_eq!(kdr_pool_share(&mut first.0, &mut own.0), 0);
+        let mut own = None;
+        assert_eq!(kdr_pool_share(&mut first, &mut own), 0);
         own
     }
 
     fn turn(&self, user: &mut OwnHandle) {
         let mut place = 0;
-        assert_eq!(kdr_pool_pull(&mut user.0, &mut place), 0);
+        assert_eq!(kdr_pool_pull(user, &mut place), 0);
         use_item(&self.cells, place);
-        kdr_pool_return(&mut user.0);
+        kdr_pool_return(user);
     }
 
     fn hold(&self) -> OwnHandle {
         let mut own = self.user();
-        assert_eq!(kdr_pool_pull(&mut own.0, &mut 0), 0);
+        assert_eq!(kdr_pool_pull(&mut own, &mut 0), 0);
         own
     }
 
@@ -93,14 +85,14 @@ impl Contender for Handles {
         let idle = self.idle.lock().expect("no panic").pop();
         let mut handle = idle.unwrap_or_else(|| self.user());
         let mut place = 0;
-        assert_eq!(kdr_pool_pull(&mut handle.0, &mut place), 0);
+        assert_eq!(kdr_pool_pull(&mut handle, &mut place), 0);
         write_item(&self.cells, place);
         (handle, place)
     }
 
     fn take_back(&self, (mut handle, place): (OwnHandle, usize)) {
         reset_item(&self.cells, place);
-        kdr_pool_return(&mut handle.0);
+        kdr_pool_return(&mut handle);
         self.idle.lock().expect("no panic").push(handle);
     }
 }

@@ -55,6 +55,25 @@ const TASKS: [Task; 6] = [
     },
 ];
 
+const CROSSINGS: [Crossing; 4] = [
+    Crossing {
+        senders: 1,
+        receivers: 1,
+    },
+    Crossing {
+        senders: 5,
+        receivers: 1,
+    },
+    Crossing {
+        senders: 1,
+        receivers: 5,
+    },
+    Crossing {
+        senders: 5,
+        receivers: 5,
+    },
+];
+
 /// Nanoseconds a turn, of the thread that took longest.
 fn one_round<C: Contender>(pool: &C, threads: usize, turns: u64) -> f64 {
     let start = Barrier::new(threads);
@@ -74,19 +93,35 @@ fn one_round<C: Contender>(pool: &C, threads: usize, turns: u64) -> f64 {
     })
 }
 
-/// Nanoseconds an item that one thread pulls and another one returns.
-fn one_crossing<C: Contender>(pool: &C, turns: u64) -> f64 {
-    let (sender, receiver) = mpsc::sync_channel(UNDER_WAY);
+/// How many threads pull items and send them, and how many receive and return them.
+#[derive(Clone, Copy)]
+struct Crossing {
+    senders: usize,
+    receivers: usize,
+}
+
+/// Nanoseconds an item that one thread pulls and another one returns. Each receiver has a channel,
+/// and a sender sends to each in turn.
+fn one_crossing<C: Contender>(pool: &C, crossing: Crossing, turns: u64) -> f64 {
+    let channels = (0..crossing.receivers).map(|_| mpsc::sync_channel(UNDER_WAY));
+    let (channels, receivers): (Vec<_>, Vec<_>) = channels.unzip();
+    let turns = turns / crossing.senders as u64;
     let begun = Instant::now();
     thread::scope(|scope| {
-        scope.spawn(move || {
-            for _ in 0..turns {
-                sender.send(pool.lend()).expect("somebody reads");
-            }
-        });
-        receiver.iter().for_each(|sent| pool.take_back(sent));
+        for receiver in receivers {
+            scope.spawn(move || receiver.iter().for_each(|sent| pool.take_back(sent)));
+        }
+        for _ in 0..crossing.senders {
+            let channels = channels.clone();
+            scope.spawn(move || {
+                for channel in channels.iter().cycle().take(turns as usize) {
+                    channel.send(pool.lend()).expect("somebody reads");
+                }
+            });
+        }
+        drop(channels);
     });
-    begun.elapsed().as_nanos() as f64 / turns as f64
+    begun.elapsed().as_nanos() as f64 / (turns * crossing.senders as u64) as f64
 }
 
 /// The middle one and the least of some rounds.
@@ -118,7 +153,7 @@ fn measure<C: Contender>(pool: &C, task: Task, turns: u64) -> Times {
     times
 }
 
-/// A pool's name, and its times at each task, the crossing last.
+/// A pool's name, and its times at each task, the crossings last.
 struct Row {
     name: &'static str,
     times: Vec<Times>,
@@ -127,14 +162,16 @@ struct Row {
 /// Each task has a new pool.
 fn row<C: Contender>(name: &'static str, make: impl Fn() -> C, turns: u64) -> Row {
     let mut times: Vec<Times> = TASKS.map(|task| measure(&make(), task, turns)).into();
-    let pool = make();
-    times.push(rounds(|| one_crossing(&pool, turns)));
+    times.extend(CROSSINGS.map(|crossing| {
+        let pool = make();
+        rounds(|| one_crossing(&pool, crossing, turns))
+    }));
     Row { name, times }
 }
 
 fn print(title: &str, rows: &[Row], time: impl Fn(&Times) -> f64) {
-    println!("| {title} | 0 held | 32 | 1,024 | 32,768 | 2 threads | 4 threads | over a channel |");
-    println!("|---|---:|---:|---:|---:|---:|---:|---:|");
+    println!("| {title} | 0 held | 32 | 1,024 | 32,768 | 2 threads | 4 threads | 1 to 1 | 5 to 1 | 1 to 5 | 5 to 5 |");
+    println!("|---|---:|---:|---:|---:|---:|---:|---:|---:|---:|---:|");
     for row in rows {
         let times: Vec<String> = row
             .times

@@ -12,7 +12,7 @@ impl<T, K: Clean<T>> FixedItems<T, K> {
     ghost use Rattle.nonblocking_pools.specs.FixedPool.{fixed_identity, fixed_opening};
     ghost use Rattle.nonblocking_pools.specs.FixedItem.{pulled_item};
 
-    /// The item with this number on this page, where it is free.
+    /// Pulls the item with this number on this page, if it is free.
     pub fn pull_at(&self, page: usize, bit: PageId) -> Option<PulledItem<T>>
         requires in_pool { page < (fixed_identity self.now).words }
         requires in_page { bit < 32 }

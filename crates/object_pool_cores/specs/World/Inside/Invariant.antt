@@ -6,8 +6,8 @@ use Rattle.object_pool_cores.specs.declared.interleave.point.Point.TheVariants.{
 use Rattle.object_pool_cores.specs.declared.interleave.point.Point.TheVariants.{ClearingHinted, Making, Linking, Taken}
 use Rattle.object_pool_cores.specs.declared.interleave.point.Point.TheVariants.{Holding, Home, Ended}
 use Rattle.object_pool_cores.specs.Pool.{IsSame, AllowsPages, number}
-use Rattle.object_pool_cores.specs.Run.{Act, acts_of, pool_of, Looks, Holds, FoundOut, FoundPagesOut, HadPages, Run}
-use Rattle.object_pool_cores.specs.Run.{FoundOutBeforeEach}
+use Rattle.object_pool_cores.specs.Run.{Act, acts_of, pool_of, Looks, Holds, SawTaken, SawPagesTaken, HadPages, Run}
+use Rattle.object_pool_cores.specs.Run.{SawTakenBeforeEach}
 use Rattle.object_pool_cores.specs.World.State.{WorldPageState, WorldState}
 use Rattle.object_pool_cores.specs.World.Machine.{has_bit, page_value}
 use Rattle.object_pool_cores.specs.World.AbstractPool.{abstract_pool}
@@ -15,22 +15,22 @@ use Rattle.object_pool_cores.specs.World.Trace.{Log, last_made, IsTraceOf}
 use Rattle.pool_parts.specs.declared.page.TheConstants.{PAGE_ITEMS}
 
 module _ {T : Type 0} (first : List T) where
-  -- an agent found each number of a page out, which is one of so many that are linked
-  pub record FoundFull (acts : List (Act T)) (pages a k : ℕ) : Type 0 where
+  -- an agent saw each number of a page taken, which is one of so many that are linked
+  pub record SawFull (acts : List (Act T)) (pages a k : ℕ) : Type 0 where
     pub linked : k < pages
-    pub found_out : (id : ℕ) → id < PAGE_ITEMS → FoundOut first acts a (number k id)
+    pub saw_taken : (id : ℕ) → id < PAGE_ITEMS → SawTaken first acts a (number k id)
 
   -- so it is of the page to which a hint led in vain, if one did
-  abbrev pub FoundAsked : List (Act T) → ℕ → ℕ → Option ℕ → Type 0
-  FoundAsked acts pages a None = ⊤
-  FoundAsked acts pages a (Some hint) = FoundFull acts pages a hint
+  abbrev pub SawAskedFull : List (Act T) → ℕ → ℕ → Option ℕ → Type 0
+  SawAskedFull acts pages a None = ⊤
+  SawAskedFull acts pages a (Some hint) = SawFull acts pages a hint
 
-  -- an agent is on page k, and found each number of so many pages out
+  -- an agent is on page k, and saw each number of so many pages taken
   pub record IsOn (acts : List (Act T)) (pages a k full : ℕ) (asked : Option ℕ) : Type 0 where
     pub looking : Looks (acts_of a acts)
     pub linked : k < pages
-    pub found_out : FoundPagesOut first acts a full
-    pub asked_full : FoundAsked acts pages a asked
+    pub saw_taken : SawPagesTaken first acts a full
+    pub asked_full : SawAskedFull acts pages a asked
 
   -- it looks on page k, past the pages before it; or it is past page k too
   abbrev pub LooksOn : List (Act T) → ℕ → ℕ → ℕ → Option ℕ → Type 0
@@ -45,11 +45,11 @@ module _ {T : Type 0} (first : List T) where
     pub last : HadPages first acts a (k + 1)
     pub allowed : AllowsPages limit (k + 1 + 1)
 
-  -- an agent has bits of page k to try, and found the numbers of the others out
+  -- an agent has bits of page k to try, and saw the numbers of the others taken
   pub record TriesBits (acts : List (Act T)) (a k mask : ℕ) : Type 0 where
     pub some : 0 < mask
     pub in_word : mask < 2 ^ 32
-    pub others : (id : ℕ) → id < PAGE_ITEMS → has_bit mask id ≡ false → FoundOut first acts a (number k id)
+    pub others : (id : ℕ) → id < PAGE_ITEMS → has_bit mask id ≡ false → SawTaken first acts a (number k id)
 
   -- an agent that found the first page full has bits to try on a further page, which a hint named
   pub record TriesHinted (acts : List (Act T)) (pages a hint mask : ℕ) : Type 0 where
@@ -93,7 +93,7 @@ module _ {T : Type 0} (Leaves : T → T → Type 0) (first : List T) where
   pub record Agrees (log : Log T) (acts : List (Act T)) (world : WorldState T) : Type 0 where
     pub reads : IsTraceOf log acts
     pub run : Run Leaves world.limit first acts
-    pub found_out : FoundOutBeforeEach first acts
+    pub saw_taken : SawTakenBeforeEach first acts
     pub same : IsSame (pool_of first acts) (abstract_pool world)
     pub words : (k : ℕ) (page : WorldPageState T) → slice_get world.pages k ≡ Some page → page.word < 2 ^ 32
     pub places :

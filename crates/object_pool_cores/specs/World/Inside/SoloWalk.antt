@@ -10,8 +10,8 @@ use Rattle.object_pool_cores.specs.World.Machine.{word_of}
 use Rattle.object_pool_cores.specs.World.Trace.{Log}
 use Rattle.object_pool_cores.specs.World.Solo.{IsOwnEvent, AsksNoHint, IsAnswered, HasMovedOut}
 
--- an agent came here by its step of this count, or later by the steps that a hint may cost; where it asks by none, it
--- came by just that step
+-- an agent came here by its step of this count, or later by the steps that a hint may cost; where
+-- it asks by none, it came by just that step
 pub record ComesBy (extra count n : ℕ) : Type 0 where
   pub most : n ≤ count + extra
   pub exact : extra ≡ 0 → n ≡ count
@@ -22,8 +22,8 @@ module _ {T : Type 0} where
     pub full : (hint : ℕ) → asked ≡ Some hint → word_of pages hint ≡ 0
     pub unasked : extra ≡ 0 → asked ≡ None
 
-  -- an agent's way: the pages before page k are full, and page k has a free number, or isn't there yet, so that
-  -- two steps more make and link it
+  -- an agent's way: the pages before page k are full, and page k has a free number, or isn't there
+  -- yet, so that two steps more make and link it
   pub record IsWay (pages : List (WorldPageState T)) (k c : ℕ) : Type 0 where
     pub some : 0 < length pages
     pub full : (j : ℕ) → j < k → word_of pages j ≡ 0

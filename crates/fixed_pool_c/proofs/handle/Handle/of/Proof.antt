@@ -19,7 +19,7 @@ use Rattle.std.proofs.alloc.Calls.{Goes-blank}
 use Rattle.std.proofs.raw_atomic.Walks.{proved_at, leaves}
 use Rattle.std_heap.proofs.Global.TheLaws as heap_laws
 use Rattle.std_heap.specs.contracts.GlobalAllocator.TheImpl as heap_impl
-use Rattle.std.specs.Prelude.{Some}
+use Rattle.std.specs.Prelude.{Some, None}
 use Rattle.fixed_pool_c.proofs.Values.{both, HZ, HR, HLoose, loose_good, loose_out, handle_in}
 use Rattle.fixed_pool_c.specs.contracts.handle.Handle.of.{ended, clauses}
 use Rattle.fixed_pool_c.specs.contracts.handle.Handle.of.Key.{name as #self}
@@ -52,4 +52,4 @@ of_spec 𝓤 𝓛 𝓜 𝓡 wired =
     handle_in ! b o h a v.value $ use0 𝓛 (raw (fact 𝓤 (Some v.value ≡ Some v.value))) (fact_i 𝓤 (Some v.value ≡ Some
     v.value) (emp 𝓤) refl) $ nothing ! $ nothing ! $ fjoin ! $
     returns ! (look_at ! 0 refl) $ free_all ! refl $ keep ! (3 ∷ 0 ∷ 2 ∷ 1 ∷ []) $ by ! (leaves 𝓛 ended hs c z w (record
-    { at = block_ptr b o; alloc = a; held = Some v.value }) (tt, tt) (tt, tt)))))
+    { at = block_ptr b o; alloc = a; held = Some v.value; last = None }) (tt, tt) (tt, tt)))))

@@ -3,7 +3,8 @@ use Rattle.object_pool_cores.specs.Inside.Buffered.{IsOpenLine}
 use Rattle.object_pool_cores.specs.Served.{Serves}
 use Rattle.object_pool_cores.proofs.engine.session.feed.Given as goal
 
--- the replies so far answer the bytes so far, and the buffer stands for what is behind their last line feed
+-- the replies so far answer the bytes so far, and the buffer stands for what is behind their last
+-- line feed
 abbrev pub invariant-loop-byte : goal.invariant-loop-byte
 invariant-loop-byte g l =
     let pool = g.P.SequentialPool in

@@ -6,13 +6,13 @@ use Rattle.nonblocking_pools.proofs.fixed_object_pool.items.FixedItems.pull_from
 
 pub returns-clause-pulled : goal.returns-clause-pulled
 returns-clause-pulled g c =
-    item_pulled_with g.K.Clean.meets _ _ _ _ _ _ _ c.look_again-word.ensures.found.starts c.in-Some.ensures.outcome
+    item_pulled_with g.K.Clean.meets _ _ _ _ _ _ _ c.look_again-word.ensures.found.starts c.in-Ok.ensures.taken
     (c.take.ensures.pool ∙ c.look_again-word.ensures.items ∙ c.requires)
 
 pub returns-in_default-clause-busy : goal.returns-in_default-clause-busy
 returns-in_default-clause-busy g c =
     let starts = c.look_again-word.ensures.found.starts in
-    let missed = c.in_default.ensures.outcome in
+    let missed = c.in_default.ensures.missed in
     record {
       all_out = record {
         of_page = c.take.ensures.pool ∙ c.look_again-word.ensures.items ∙ c.requires;
@@ -25,6 +25,6 @@ pub invariant_of-result : goal.invariant_of-result
 invariant_of-result g c =
     let same = ap (λ (pool : TableId). pool.slots) (c.take.ensures.pool ∙ c.look_again-word.ensures.items ∙ c.requires) in
     record {
-      found = ∣ (λ id within. knows_all_out _ _ _ c.look_again-word.ensures.found.sound c.in_default.ensures.outcome id
+      found = ∣ (λ id within. knows_all_out _ _ _ c.look_again-word.ensures.found.sound c.in_default.ensures.missed id
           (omega arith)) ∣₁;
     }

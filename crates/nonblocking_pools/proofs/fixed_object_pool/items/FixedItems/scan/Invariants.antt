@@ -1,5 +1,5 @@
-use Rattle.std.proofs.Common.{◌≡◌, ◌-◌, ◌*◌, [], None}
-use Rattle.pool_parts.specs.Taking.{MissesAll}
+use Rattle.std.proofs.Common.{◌≡◌, ◌-◌, ◌<◌, ◌≤◌, [], None}
+use Rattle.nonblocking_pools.specs.FixedCount.{is_beside, PassesOver}
 use Rattle.nonblocking_pools.specs.StepCount.{IsWithin, steps_of}
 use Rattle.nonblocking_pools.proofs.fixed_object_pool.items.FixedItems.scan.Given as goal
 
@@ -9,5 +9,7 @@ invariant-loop-page g l = record {
   carries_none : l.seat.me.1 ≡ [];
   holds_none : l.seat.me.0.held ≡ None;
   steps : IsWithin (l.page - l.from) (steps_of l.fn.seat.me.0) (steps_of l.seat.me.0);
-  missed : MissesAll (32 * l.from) (32 * l.page) l.fn.seat.me l.seat.me;
+  fewer_steps : l.from ≤ l.skipped → l.skipped < l.page
+      → IsWithin (l.page - l.from - 1) (steps_of l.fn.seat.me.0) (steps_of l.seat.me.0);
+  missed : PassesOver (is_beside l.from l.page l.skipped) l.returns l.fn.seat.me l.seat.me;
 }

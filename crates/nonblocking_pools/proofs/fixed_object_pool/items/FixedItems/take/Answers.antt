@@ -1,27 +1,17 @@
 use Rattle.std.proofs.Common.{arith}
-use Rattle.nonblocking_pools.proofs.FixedAnswers.{match_option, missed_low, missed_round, takes_after}
+use Rattle.nonblocking_pools.proofs.FixedCounts.{missed_pass, missed_reads, tallies_since, takes_later}
 use Rattle.nonblocking_pools.proofs.fixed_object_pool.items.FixedItems.take.Goals as goal
 
-pub returns-in-Some-scan-clause-outcome : goal.returns-in-Some-scan-clause-outcome
-returns-in-Some-scan-clause-outcome g c =
-    takes_after g.K.Clean.meets _ _ _ _ _ _ _ _ c.in_default.ensures.outcome c.in-Some-scan.ensures.outcome
+pub returns-in-Ok-clause-taken : goal.returns-in-Ok-clause-taken
+returns-in-Ok-clause-taken g c =
+    takes_later g.K.Clean.meets _ _ _ _ _ _ (missed_reads _ _ _ _ c.in_default.ensures.outcome) c.in-Ok.ensures.taken
 
-pub returns-in-Some-scan-2-clause-outcome : goal.returns-in-Some-scan-2-clause-outcome
-returns-in-Some-scan-2-clause-outcome g c =
-    let later = takes_after g.K.Clean.meets _ _ _ _ _ _ _ _ c.in_default-scan.ensures.outcome
-    c.in-Some-scan-2.ensures.outcome in
-    takes_after g.K.Clean.meets _ _ _ _ _ _ _ _ c.in_default.ensures.outcome later
-
-pub returns-clause-outcome : goal.returns-clause-outcome
-returns-clause-outcome g c =
+pub returns-in-Err-clause-missed : goal.returns-in-Err-clause-missed
+returns-in-Err-clause-missed g c =
     let items = c.args.self.now in
-    missed_round c.args.start items.pages _ _ _ _ _ (omega (arith, items.counted, items.paged, items.shared.covered))
-    c.in_default.ensures.outcome c.in_default-scan.ensures.outcome c.in_default-scan-2.ensures.outcome
+    missed_pass c.args.start items.shared.table.shared.table_id.words items.shared.table.shared.table_id.slots _ _ _ _
+    (omega (arith, items.shared.covered)) c.in_default.ensures.outcome c.in-Err.ensures.missed
 
-pub returns-in-LowFirst-clause-outcome : goal.returns-in-LowFirst-clause-outcome
-returns-in-LowFirst-clause-outcome g c =
-    let items = c.args.self.now in
-    let own = c.in_default.ensures.outcome in
-    match_option _ _ _ _ _
-    (missed_low c.args.start items.shared.table.shared.table_id.words _ _ _ _ (omega (arith, items.shared.covered)) own)
-    (λ taken. takes_after g.K.Clean.meets _ _ _ _ _ _ _ _ own) c.take_low.ensures.outcome
+pub returns-in-Err-clause-counted : goal.returns-in-Err-clause-counted
+returns-in-Err-clause-counted g c =
+    tallies_since _ _ _ _ _ c.in_default.ensures.outcome.goes_on c.in-Err.ensures.missed.tallies

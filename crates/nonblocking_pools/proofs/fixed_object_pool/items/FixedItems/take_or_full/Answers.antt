@@ -1,80 +1,103 @@
-use Rattle.std.proofs.Common.{◌∙◌, true, arith}
-use Rattle.nonblocking_pools.specs.FixedAnswer.{returns_between}
-use Rattle.nonblocking_pools.proofs.FixedCounts.{grown, grown_by, next_round, within_take, within_refuse}
-use Rattle.nonblocking_pools.proofs.FixedCounts.{returned_meanwhile, reads_further, missed_reads, loaded_reads, takes_later}
-use Rattle.nonblocking_pools.proofs.FixedCounts.{full_longer}
+use Rattle.std.proofs.Common.{◌+◌, ◌∙◌, arith, subst}
+use Rattle.nonblocking_pools.specs.FixedCount.{is_beside, Tallies}
+use Rattle.nonblocking_pools.proofs.FixedCounts.{reads_none, reads_further, loaded_reads, takes_later}
+use Rattle.nonblocking_pools.proofs.FixedRounds.{passed_once, passed_again, passed_reads, found_full_again, counts_came_round}
+use Rattle.nonblocking_pools.proofs.FixedRounds.{one_pass_more, taken_within, refused_within, rounds_within}
 use Rattle.nonblocking_pools.proofs.fixed_object_pool.items.FixedItems.take_or_full.Goals as goal
+use Rattle.nonblocking_pools.proofs.fixed_object_pool.items.FixedItems.take_or_full.Goals.{else-word-eq0-via-then-word-eq0+else-after-before, else-word-eq0-via-else-word-eq0}
 
-pub returns-in-Some-clause-loads : goal.returns-in-Some-clause-loads
-returns-in-Some-clause-loads g c =
-    let before = c.loop.invariant in
-    let taken = c.in-Some.ensures.outcome.goes_on in
-    let grew = grown_by (λ id. true) _ c.loop.seat.me.0 c.take.new.seat.me.0 taken in
-    let within = within_take c.args.self.now.shared.table.shared.table_id.words c.loop.counter
-    (returns_between c.args.seat.now.me.0.operations c.take.new.seat.me.0.operations)
-    (omega (arith, before.returns, grew)) in
-    omega (arith, within, before.loads, c.take.ensures.loads)
-
-pub returns-in-Some-clause-tries : goal.returns-in-Some-clause-tries
-returns-in-Some-clause-tries g c =
-    let before = c.loop.invariant in
-    let taken = c.in-Some.ensures.outcome.goes_on in
-    let grew = grown_by (λ id. true) _ c.loop.seat.me.0 c.take.new.seat.me.0 taken in
-    let within = within_take c.args.self.now.shared.table.shared.table_id.words c.loop.counter
-    (returns_between c.args.seat.now.me.0.operations c.take.new.seat.me.0.operations)
-    (omega (arith, before.returns, grew)) in
-    omega (arith, within, before.tries, c.take.ensures.tries)
-
-pub returns-in-Some-clause-outcome : goal.returns-in-Some-clause-outcome
-returns-in-Some-clause-outcome g c =
-    takes_later g.K.Clean.meets _ _ _ _ _ _ c.loop.invariant.reads_on c.in-Some.ensures.outcome
-
-pub returns-then-is_full-clause-loads : goal.returns-then-is_full-clause-loads
-returns-then-is_full-clause-loads g c =
-    let before = c.loop.invariant in
-    let missed = grown (λ id. true) c.loop.seat.me.0 c.take.new.seat.me.0 c.in_default.ensures.outcome.goes_on in
-    let read = grown (λ id. true) c.take.new.seat.me.0 c.is_full.new.seat.me.0 c.is_full.ensures.reads_on.goes_on in
-    let within = within_refuse c.args.self.now.shared.table.shared.table_id.words c.loop.counter
-    (returns_between c.args.seat.now.me.0.operations c.is_full.new.seat.me.0.operations)
-    (omega (arith, before.returns, missed, read)) in
-    omega (arith, within, before.loads, c.take.ensures.loads, c.is_full.ensures.loads)
-
-pub returns-then-is_full-clause-tries : goal.returns-then-is_full-clause-tries
-returns-then-is_full-clause-tries g c =
-    let before = c.loop.invariant in
-    let missed = grown (λ id. true) c.loop.seat.me.0 c.take.new.seat.me.0 c.in_default.ensures.outcome.goes_on in
-    let read = grown (λ id. true) c.take.new.seat.me.0 c.is_full.new.seat.me.0 c.is_full.ensures.reads_on.goes_on in
-    let within = within_refuse c.args.self.now.shared.table.shared.table_id.words c.loop.counter
-    (returns_between c.args.seat.now.me.0.operations c.is_full.new.seat.me.0.operations)
-    (omega (arith, before.returns, missed, read)) in
-    omega (arith, within, before.tries, c.take.ensures.tries, c.is_full.ensures.tries)
-
-pub returns-then-is_full-clause-outcome : goal.returns-then-is_full-clause-outcome
-returns-then-is_full-clause-outcome g c =
-    let before = c.loop.invariant.reads_on in
-    let missed = missed_reads _ _ _ _ c.in_default.ensures.outcome in
-    let pass = reads_further _ _ _ before missed in
-    let found = c.if-is_full.ensures.outcome in
+pub loop-init : goal.loop-init
+loop-init g c =
+    let first = c.in-Err.ensures in
     record {
-      reads_on = reads_further _ _ _ pass found.reads_on;
-      full = full_longer _ c.args.seat.now.me.0 c.take.new.seat.me.0 c.is_full.new.seat.me.0 pass.goes_on found.full;
+      same_pool = c.take.ensures.pool;
+      passed = passed_once _ _ _ _ _ _ c.requires.in_pool
+          (reads_none c.args.seat.now.me c.requires.here c.requires.sound) first.missed first.counted;
+      loads = omega (arith, c.take.ensures.loads);
+      tries = omega (arith, c.take.ensures.tries);
     }
+
+pub returns-in-Ok-take-clause-loads : goal.returns-in-Ok-take-clause-loads
+returns-in-Ok-take-clause-loads g c =
+    let items = c.args.self.now in
+    let before = c.loop.invariant in
+    let read = c.count-word.ensures.found.loads_on in
+    let within = taken_within g.K.Clean.meets _ _ _ _ c.loop.counter _ _ _ _ _ _ _ c.requires.in_pool
+    (omega (arith, items.shared.covered)) before.passed read c.in-Ok-take.ensures.taken in
+    omega (arith, within, before.loads, read.loads, c.take-in-loop.ensures.loads)
+
+pub returns-in-Ok-take-clause-tries : goal.returns-in-Ok-take-clause-tries
+returns-in-Ok-take-clause-tries g c =
+    let items = c.args.self.now in
+    let before = c.loop.invariant in
+    let read = c.count-word.ensures.found.loads_on in
+    let within = taken_within g.K.Clean.meets _ _ _ _ c.loop.counter _ _ _ _ _ _ _ c.requires.in_pool
+    (omega (arith, items.shared.covered)) before.passed read c.in-Ok-take.ensures.taken in
+    omega (arith, within, before.tries, read.tries, c.take-in-loop.ensures.tries)
+
+pub returns-in-Ok-take-clause-outcome : goal.returns-in-Ok-take-clause-outcome
+returns-in-Ok-take-clause-outcome g c =
+    let read = c.count-word.ensures.found.loads_on in
+    takes_later g.K.Clean.meets _ _ _ _ _ _
+    (reads_further _ _ _ (passed_reads _ _ _ _ _ _ _ c.loop.invariant.passed) (loaded_reads _ _ _ _ read))
+    c.in-Ok-take.ensures.taken
+
+pub returns-then-after-before-clause-loads : goal.returns-then-after-before-clause-loads
+returns-then-after-before-clause-loads g c =
+    let before = c.loop.invariant in
+    let read = c.count-word.ensures.found.loads_on in
+    let within = refused_within _ _ _ _ c.loop.counter _ _ _ _ _ c.requires.in_pool before.passed read
+    c.in-Err-take.ensures.missed in
+    omega (arith, within, before.loads, read.loads, c.take-in-loop.ensures.loads)
+
+pub returns-then-after-before-clause-tries : goal.returns-then-after-before-clause-tries
+returns-then-after-before-clause-tries g c =
+    let before = c.loop.invariant in
+    let read = c.count-word.ensures.found.loads_on in
+    let within = refused_within _ _ _ _ c.loop.counter _ _ _ _ _ c.requires.in_pool before.passed read
+    c.in-Err-take.ensures.missed in
+    omega (arith, within, before.tries, read.tries, c.take-in-loop.ensures.tries)
+
+pub returns-then-after-before-clause-outcome : goal.returns-then-after-before-clause-outcome
+returns-then-after-before-clause-outcome g c =
+    let items = c.args.self.now in
+    let second = c.in-Err-take.ensures in
+    found_full_again _ _ _ c.loop.before _ _ _ _ _ _ _ c.requires.in_pool (omega (arith, items.shared.covered))
+    c.loop.invariant.passed c.count-word.ensures.found c.if-word-eq0.true second.missed
+    (subst (λ sum. Tallies (is_beside 0 items.shared.table.shared.table_id.words c.args.start) sum
+    c.count-word.new.seat.me.0 c.take-in-loop.new.seat.me.0) c.if-after-before.true second.counted)
 
 pub loop-preserved : goal.loop-preserved
 loop-preserved g c =
     let before = c.loop.invariant in
-    let looked = c.look_on-word.ensures.found in
-    let missed = c.in_default.ensures.outcome in
-    let read = c.is_full.ensures.reads_on in
-    let more = returned_meanwhile _ c.loop.seat.me c.take.new.seat.me c.is_full.new.seat.me missed read.goes_on c.if-is_full.ensures.outcome in
-    let last = grown (λ id. true) c.is_full.new.seat.me.0 c.look_on-word.new.seat.me.0 looked.goes_on in
-    let next = next_round c.args.self.now.shared.table.shared.table_id.words c.loop.counter in
+    let read = c.count-word.ensures.found in
+    let second = c.in-Err-take.ensures in
+    let pass = one_pass_more c.args.self.now.shared.table.shared.table_id.words (c.loop.counter + 1) in
     record {
-      same_pool = c.look_on-word.ensures.items ∙ c.is_full.ensures.pool ∙ c.take.ensures.pool ∙ before.same_pool;
-      reads_on = reads_further _ _ _ (reads_further _ _ _ (reads_further _ _ _ before.reads_on
-          (missed_reads _ _ _ _ missed)) read) (loaded_reads _ _ _ _ looked);
-      found = looked.clear_are_out;
-      returns = omega (arith, before.returns, more, last);
-      loads = omega (arith, next, before.loads, c.take.ensures.loads, c.is_full.ensures.loads, looked.loads);
-      tries = omega (arith, next, before.tries, c.take.ensures.tries, c.is_full.ensures.tries, looked.tries);
+      same_pool = c.take-in-loop.ensures.pool ∙ c.count-word.ensures.items ∙ before.same_pool;
+      passed = passed_again _ _ _ c.loop.before _ _ _ _ _ _ _ _ c.requires.in_pool before.passed read
+          (omega (arith, c.count-word.type_inv)) second.missed second.counted
+          (λ full. elim c.else-word-eq0.branch [
+            | else-word-eq0-via-then-word-eq0+else-after-before w ↦ w.if-after-before.false full.1
+            | else-word-eq0-via-else-word-eq0 w ↦ w.if-word-eq0.false full.0
+          ]);
+      loads = omega (arith, pass, before.loads, read.loads_on.loads, c.take-in-loop.ensures.loads);
+      tries = omega (arith, pass, before.tries, read.loads_on.tries, c.take-in-loop.ensures.tries);
     }
+
+pub returns-clause-loads : goal.returns-clause-loads
+returns-clause-loads g c =
+    let before = c.loop.invariant in
+    let within = rounds_within _ _ _ _ c.loop.counter _ _ c.requires.in_pool before.passed in
+    omega (arith, within, before.loads)
+
+pub returns-clause-tries : goal.returns-clause-tries
+returns-clause-tries g c =
+    let before = c.loop.invariant in
+    let within = rounds_within _ _ _ _ c.loop.counter _ _ c.requires.in_pool before.passed in
+    omega (arith, within, before.tries)
+
+pub returns-clause-outcome : goal.returns-clause-outcome
+returns-clause-outcome g c =
+    let end = c.loop.auto.counter-end in
+    counts_came_round _ _ _ _ c.loop.counter _ _ c.requires.in_pool c.loop.invariant.passed (omega arith)

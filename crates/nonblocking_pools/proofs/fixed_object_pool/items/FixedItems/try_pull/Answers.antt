@@ -7,7 +7,7 @@ use Rattle.nonblocking_pools.proofs.fixed_object_pool.items.FixedItems.try_pull.
 pub returns-clause-pulled : goal.returns-clause-pulled
 returns-clause-pulled g c =
     let looked = c.look-word.ensures.found in
-    let taken = c.in-Some.ensures.outcome in
+    let taken = c.in-Ok.ensures.taken in
     record {
       is_item = record { of_page = c.take.ensures.pool ∙ c.look-word.ensures.items; in_page = taken.in_pool };
       same_opening = taken.goes_on.same_opening ∙ looked.same_opening;
@@ -18,13 +18,13 @@ pub returns-in_default-clause-busy : goal.returns-in_default-clause-busy
 returns-in_default-clause-busy g c = record {
   of_page = c.take.ensures.pool ∙ c.look-word.ensures.items;
   found = found_all_out _ _ _ _ c.look-word.ensures.found.same_opening c.look-word.ensures.found.sound
-      c.in_default.ensures.outcome;
+      c.in_default.ensures.missed;
 }
 
 pub invariant_of-result : goal.invariant_of-result
 invariant_of-result g c =
     let same = ap (λ (pool : TableId). pool.slots) (c.take.ensures.pool ∙ c.look-word.ensures.items) in
     record {
-      found = ∣ (λ id within. knows_all_out _ _ _ c.look-word.ensures.found.sound c.in_default.ensures.outcome id
+      found = ∣ (λ id within. knows_all_out _ _ _ c.look-word.ensures.found.sound c.in_default.ensures.missed id
           (omega arith)) ∣₁;
     }

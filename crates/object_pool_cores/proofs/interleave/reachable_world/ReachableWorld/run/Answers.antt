@@ -2,13 +2,14 @@ use Rattle.std.proofs.Common.{◌≡◌, ◌∷◌, [], ◌++◌, refl, reverse,
 use Rattle.std.proofs.lemmas.List.{reverse-reverse}
 use Rattle.object_pool_cores.proofs.World.RunsEvents.{replayed-none, replayed-next, runs_events-from, on-err}
 use Rattle.object_pool_cores.proofs.World.RunsEvents.{no-elements}
+use Rattle.object_pool_cores.proofs.World.StepBounds.{bounds-own_steps}
 use Rattle.object_pool_cores.proofs.interleave.reachable_world.ReachableWorld.run.Goals as goal
 
 pub loop-event-init : goal.loop-event-init
 loop-event-init g c =
     let turned : reverse c.reverse.new.self.items ≡ c.args.events.items = search (rules, reverse-reverse) in
     record {
-      replayed = rw (turned, ← c.self.view_is) (replayed-none _ _ _ _ c.self.invariant);
+      replayed = rw (turned, ← c.self.view_is) (replayed-none _ _ _ _);
       kept = record { agents = omega arith; pages = omega arith };
       count = omega (arith, c.reverse.ensures.len);
       room = omega arith;
@@ -40,3 +41,9 @@ pub returns-clause-run : goal.returns-clause-run
 returns-clause-run g c =
     let none : length c.loop-event.events.items ≡ 0 = grind (arith, c.in_default.ensures.cases) in
     runs_events-from _ _ _ _ _ _ _ _ c.loop-event.invariant.replayed (no-elements _ none)
+
+pub returns-in_err-reserve-clause-own_steps : goal.returns-in_err-reserve-clause-own_steps
+returns-in_err-reserve-clause-own_steps g c = bounds-own_steps _ _
+
+pub returns-clause-own_steps : goal.returns-clause-own_steps
+returns-clause-own_steps g c = bounds-own_steps _ _

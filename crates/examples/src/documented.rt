@@ -1,0 +1,16 @@
+//! The code that doc comments show, a file for each subject, in tests that run it. `ci/same_code`
+//! compares the lines.
+//!
+//! - [`linear`], [`fixed`], [`lazy`], [`stacks`], [`none`]: the pools, and their reusables.
+//! - [`recycled`]: the pools of a recyclable type.
+//! - [`parts`]: pages, chains, stacks of kept values, and locks.
+//! - [`cores`]: sequential pools, players, worlds, the engine and the pool of buffers.
+
+mod cores;
+mod fixed;
+mod lazy;
+mod linear;
+mod none;
+mod parts;
+mod recycled;
+mod stacks;

@@ -1,0 +1,66 @@
+//! The parts that the pools are made of.
+use lockfree_object_pool::clean::AnyValue;
+use lockfree_object_pool::linear_page::Chain;
+use lockfree_object_pool::page::{Allocated, Page, PullPass};
+use lockfree_object_pool::spin_lock::SpinLock;
+use lockfree_object_pool::stack::{Room, Stack};
+use std::test::Fail;
+
+#[test]
+fn a_page_hands_out_an_item(rt: HostRuntime) -> Result<(), Fail> {
+    let alloc = rt.alloc();
+    let page: Page<u32, AnyValue> = Page::new(alloc, &|| Some(0))?;
+    if let Some(slot) = page.alloc()? {
+        Page::free(slot);
+    }
+    assert_eq!(rt; page.get_mask(), 4294967295);
+    Ok(())
+}
+
+#[test]
+fn a_pass_tells_a_full_page(rt: HostRuntime) -> Result<(), Fail> {
+    let alloc = rt.alloc();
+    let page: Page<u32, AnyValue> = Page::new(alloc, &|| Some(0))?;
+    let pass = PullPass::new();
+    let pulled = match page.try_alloc(&pass)? {
+        Allocated::Slot(mut slot) => {
+            *slot = 5;
+            Some(slot.id())
+        }
+        Allocated::Full(_) => None,
+    };
+    assert_eq!(rt; pulled, Some(0));
+    Ok(())
+}
+
+#[test]
+fn a_chain_hands_out_items(rt: HostRuntime) -> Result<(), Fail> {
+    let alloc = rt.alloc();
+    let chain: Chain<u32, AnyValue> = Chain::new(alloc, &|| Some(0))?;
+    let (slot, page_number) = chain.first().alloc(&|| Some(0))?;
+    assert_eq!(rt; (slot.id(), page_number), (0, 0));
+    let (slot, _) = chain.first().alloc_owned(&|| Some(0))?;
+    slot.free(); // from any thread: it owns its page with others
+    assert_eq!(rt; chain.first().page().get_mask(), 4294967294);
+    Ok(())
+}
+
+#[test]
+fn a_stack_keeps_values(rt: HostRuntime) -> Result<(), Fail> {
+    let alloc = rt.alloc();
+    let mut stack: Stack<u32, AnyValue> = Stack::new();
+    let room = Room::new(alloc)?;
+    stack.put(room, 5); // takes no memory
+    let taken = stack.take(); // 5, with its room
+    assert_eq!(rt; taken.map(|(value, _)| value), Some(5));
+    Ok(())
+}
+
+#[test]
+fn a_lock_has_one_guard(rt: HostRuntime) -> Result<(), Fail> {
+    let alloc = rt.alloc();
+    let lock = SpinLock::new(alloc, 5)?;
+    *lock.lock(&rt) = 6; // the guard's drop frees the lock
+    assert_eq!(rt; *lock.lock(&rt), 6);
+    Ok(())
+}

@@ -1,0 +1,200 @@
+//! Each call that `docs/PROMISES.md` says takes no memory, made once. `ci/no_memory_calls` finds
+//! one of that list that no test makes. `ci/refuse_memory` runs these as it runs `no_memory`.
+use crate::assert_equal::assert_equal;
+use crate::no_memory::is_ready;
+use lockfree_object_pool::clean::AnyValue;
+use lockfree_object_pool::closures::{Copied, Keep};
+use lockfree_object_pool::page::{PageId, PullPass};
+use lockfree_object_pool::{
+    FixedObjectPool, LazyObjectPool, LinearObjectPool, MutexObjectPool, NoneObjectPool,
+    SpinLockObjectPool,
+};
+use std::sync::{Arc, Wait};
+use std::time::{Clock, Duration};
+
+/// Makes zeros.
+type Zeros = Copied<u64, AnyValue>;
+
+fn zeros() -> Zeros {
+    Copied::new(0)
+}
+
+type Fixed = FixedObjectPool<u64, Zeros, Keep>;
+
+/// Pulls of a fixed pool.
+fn pull_fixed(pool: &Fixed) -> Option<(usize, usize, PageId)> {
+    let pass = PullPass::new();
+    drop(pool.pull().ok()?);
+    drop(pool.pull_near(1).ok()?);
+    drop(pool.near().pull().ok()?);
+    drop(pool.try_pull(&pass).ok()?);
+    let item = pool.pull().ok()?;
+    Some((item.number(), item.page_number(), item.page_id()))
+}
+
+/// A pull of a fixed pool by a note.
+fn pull_fixed_from(pool: &Fixed) -> Option<u64> {
+    let pass = PullPass::new();
+    let mut item = pool.pull().ok()?;
+    let mut note = pool.note();
+    pool.tell(&mut note, item.witness());
+    drop(item.give_back());
+    let item = pool.try_pull_from(&pass, note).ok()?;
+    Some(*item)
+}
+
+/// A pull of a fixed pool by an owner.
+fn pull_fixed_by_owner(owner: Arc<Fixed>) -> Option<usize> {
+    drop(owner.pull_owned().ok()?);
+    let note = owner.note();
+    let item = owner.pull_by_owner(0, note).ok()?;
+    let items = item.owner().items();
+    drop(item.give_back_with_owner());
+    Some(items)
+}
+
+#[test]
+fn calls_of_a_fixed_pool_ask_for_no_memory(rt: HostRuntime) {
+    let Ok(pool) = Fixed::new(rt.alloc(), zeros(), Keep, 40) else {
+        return;
+    };
+    let Ok(pool) = Arc::new(rt.alloc(), pool) else {
+        return;
+    };
+    is_ready(&rt);
+    assert_equal(
+        &rt,
+        (pool.items(), pull_fixed(&pool), pull_fixed_from(&pool)),
+        (40, Some((0, 0, 0)), Some(0)),
+    );
+    assert_equal(&rt, pull_fixed_by_owner(pool), Some(40));
+}
+
+type Lazy = LazyObjectPool<u64, Zeros, Keep>;
+
+/// Pulls of a lazy pool, of which some may wait.
+fn pull_lazy<R: Wait + Clock>(rt: &R, pool: &Arc<Lazy>) -> Option<u64> {
+    let pass = PullPass::new();
+    pool.fill(2).ok()?;
+    drop(pool.pull().ok()?);
+    drop(pool.near().pull().ok()?);
+    drop(pool.try_pull(&pass).ok()?);
+    drop(pool.pull_owned().ok()?);
+    drop(pool.pull_wait(rt).ok()?);
+    drop(pool.pull_timeout(rt, Duration::from_millis(1)).ok()?);
+    pool.pull().ok()?.discard();
+    Some(pool.pull().ok()?.detach())
+}
+
+/// A pull of a lazy pool by a closure, and what is told of its item.
+fn pull_lazy_with(pool: &Lazy) -> Option<(usize, usize, PageId)> {
+    let mut item = pool.pull_with(|| -> Result<u64, u8> { Ok(0) }).ok()?;
+    let mut note = pool.note();
+    pool.tell(&mut note, item.witness());
+    let place = (item.number(), item.page_number(), item.page_id());
+    drop(item.give_back());
+    Some(place)
+}
+
+#[test]
+fn calls_of_a_lazy_pool_ask_for_no_memory(rt: HostRuntime) {
+    let Ok(pool) = Lazy::new(rt.alloc(), zeros(), Keep, 40) else {
+        return;
+    };
+    let Ok(pool) = Arc::new(rt.alloc(), pool) else {
+        return;
+    };
+    is_ready(&rt);
+    assert_equal(
+        &rt,
+        (pull_lazy(&rt, &pool), pull_lazy_with(&pool)),
+        (Some(0), Some((0, 0, 0))),
+    );
+    assert_equal(&rt, (pool.items(), pool.made(), pool.in_use()), (40, 2, 0));
+}
+
+type Linear = LinearObjectPool<u64, Zeros, Keep>;
+
+/// Pulls of a linear pool.
+fn pull_linear(pool: &Linear) -> Option<(usize, PageId)> {
+    let pass = PullPass::new();
+    drop(pool.pull().ok()?);
+    let mut item = pool.try_pull(&pass).ok()?;
+    let mut note = item.note();
+    let witness = item.witness();
+    item.tell(&mut note, witness);
+    drop(item.give_back());
+    let item = pool.pull().ok()?;
+    Some((item.page_number(), item.page_id()))
+}
+
+/// An owned item of a linear pool.
+fn pull_linear_owned(pool: &Arc<Linear>) -> Option<(usize, PageId)> {
+    let mut item = pool.pull_owned().ok()?;
+    let mut note = item.note();
+    let witness = item.witness();
+    item.tell(&mut note, witness);
+    let place = (item.page_number(), item.page_id());
+    drop(item.give_back());
+    Some(place)
+}
+
+#[test]
+fn calls_of_a_linear_pool_ask_for_no_memory(rt: HostRuntime) {
+    let Ok(pool) = Linear::new(rt.alloc(), zeros(), Keep) else {
+        return;
+    };
+    let Ok(pool) = Arc::new(rt.alloc(), pool) else {
+        return;
+    };
+    is_ready(&rt);
+    assert_equal(
+        &rt,
+        (pool.limit(), pull_linear(&pool), pull_linear_owned(&pool)),
+        (None, Some((0, 0)), Some((0, 0))),
+    );
+}
+
+#[test]
+fn calls_of_a_mutex_pool_ask_for_no_memory(rt: HostRuntime) {
+    let pool: MutexObjectPool<u64, Zeros, Keep> = MutexObjectPool::new(rt.alloc(), zeros(), Keep);
+    let Ok(pool) = Arc::new(rt.alloc(), pool) else {
+        return;
+    };
+    if pool.fill(&rt, 3).is_err() {
+        return;
+    }
+    is_ready(&rt);
+    let detached = pool.pull(&rt).expect(&rt, "a value is kept").detach();
+    drop(pool.pull_owned(&rt).expect(&rt, "a value is kept"));
+    let kept = pool.kept(&rt);
+    pool.clear(&rt);
+    assert_equal(&rt, (detached, kept, pool.kept(&rt)), (0, 2, 0));
+}
+
+#[test]
+fn calls_of_a_spin_lock_pool_ask_for_no_memory(rt: HostRuntime) {
+    let Ok(pool) = SpinLockObjectPool::<u64, Zeros, Keep>::new(rt.alloc(), zeros(), Keep) else {
+        return;
+    };
+    let Ok(pool) = Arc::new(rt.alloc(), pool) else {
+        return;
+    };
+    if pool.fill(&rt, 3).is_err() {
+        return;
+    }
+    is_ready(&rt);
+    let detached = pool.pull(&rt).expect(&rt, "a value is kept").detach();
+    drop(pool.pull_owned(&rt).expect(&rt, "a value is kept"));
+    let kept = pool.kept(&rt);
+    pool.clear(&rt);
+    assert_equal(&rt, (detached, kept, pool.kept(&rt)), (0, 2, 0));
+}
+
+#[test]
+fn calls_of_a_none_pool_ask_for_no_memory(rt: HostRuntime) {
+    is_ready(&rt);
+    let pool = NoneObjectPool::new(|| Some(7u64));
+    let shown = pool.pull().map(|item| *item);
+    assert_equal(&rt, shown, Ok(7));
+}

@@ -1,0 +1,238 @@
+//! Pools that are used and end.
+use crate::ends::{Kind, Use, at_least_one};
+use crate::parts::{OwningInit, OwningReset, Parts};
+use lockfree_object_pool::clean::AnyValue;
+use lockfree_object_pool::free_list::FreeList;
+use lockfree_object_pool::made_or_reset::MadeOrReset;
+use lockfree_object_pool::stack_object_pool::StackObjectPool;
+use lockfree_object_pool::stack_reusable::StackReusable;
+use lockfree_object_pool::{
+    FixedObjectPool, FixedOwnedReusable, FixedReusable, LazyObjectPool, LazyOwnedReusable,
+    LazyReusable, LinearObjectPool, LinearOwnedReusable, LinearReusable, MutexObjectPool,
+    PullError, SpinLockObjectPool,
+};
+use std::alloc::Global;
+use std::sync::{Arc, Wait};
+use test_values::tallied::Tallied;
+
+/// An owner of a pool pulls owned items, a reference borrowed ones.
+pub trait Pulls<W>: Drop {
+    type Item: Drop;
+
+    fn pull_one(&self, rt: &W) -> Result<Self::Item, PullError>;
+}
+
+pub type Linear = LinearObjectPool<Tallied, OwningInit, OwningReset, AnyValue>;
+
+impl<'p, W> Pulls<W> for &'p Linear {
+    type Item = LinearReusable<'p, Tallied, OwningInit, OwningReset, AnyValue>;
+
+    fn pull_one(&self, _rt: &W) -> Result<Self::Item, PullError> {
+        self.pull()
+    }
+}
+
+impl<W> Pulls<W> for Arc<Linear> {
+    type Item = LinearOwnedReusable<Tallied, OwningInit, OwningReset, AnyValue>;
+
+    fn pull_one(&self, _rt: &W) -> Result<Self::Item, PullError> {
+        self.pull_owned()
+    }
+}
+
+pub type Fixed = FixedObjectPool<Tallied, OwningInit, OwningReset, AnyValue>;
+
+impl<'p, W> Pulls<W> for &'p Fixed {
+    type Item = FixedReusable<'p, Tallied, OwningInit, OwningReset, AnyValue>;
+
+    fn pull_one(&self, _rt: &W) -> Result<Self::Item, PullError> {
+        self.pull()
+    }
+}
+
+impl<W> Pulls<W> for Arc<Fixed> {
+    type Item = FixedOwnedReusable<Tallied, OwningInit, OwningReset, AnyValue>;
+
+    fn pull_one(&self, _rt: &W) -> Result<Self::Item, PullError> {
+        self.pull_owned()
+    }
+}
+
+pub type Lazy = LazyObjectPool<Tallied, OwningInit, OwningReset, AnyValue>;
+
+impl<'p, W> Pulls<W> for &'p Lazy {
+    type Item = LazyReusable<'p, Tallied, OwningInit, OwningReset, AnyValue>;
+
+    fn pull_one(&self, _rt: &W) -> Result<Self::Item, PullError> {
+        self.pull()
+    }
+}
+
+impl<W> Pulls<W> for Arc<Lazy> {
+    type Item = LazyOwnedReusable<Tallied, OwningInit, OwningReset, AnyValue>;
+
+    fn pull_one(&self, _rt: &W) -> Result<Self::Item, PullError> {
+        self.pull_owned()
+    }
+}
+
+pub type Stack<F> = StackObjectPool<Tallied, OwningInit, OwningReset, AnyValue, F>;
+
+pub type Stacked = MadeOrReset<OwningInit, OwningReset, AnyValue>;
+
+impl<F: FreeList<Tallied, Stacked>, W: Wait + Copy> Pulls<W> for &Stack<F> {
+    type Item = StackReusable<Tallied, Self, W>;
+
+    fn pull_one(&self, rt: &W) -> Result<Self::Item, PullError> {
+        self.pull(rt)
+    }
+}
+
+impl<F: FreeList<Tallied, Stacked>, W: Wait + Copy> Pulls<W> for Arc<Stack<F>> {
+    type Item = StackReusable<Tallied, Self, W>;
+
+    fn pull_one(&self, rt: &W) -> Result<Self::Item, PullError> {
+        self.pull_owned(rt)
+    }
+}
+
+/// Pulls so many items, and holds them together.
+pub fn held<P: Pulls<W>, W>(
+    rt: &W,
+    alloc: Global,
+    pool: &P,
+    count: usize,
+) -> Result<Vec<P::Item>, PullError> {
+    let mut held = Vec::with_capacity(alloc, count)?;
+    for _ in 0..count {
+        held.push(pool.pull_one(rt)?)?;
+    }
+    Ok(held)
+}
+
+/// Items are held together, and once more when they are back.
+fn hold_twice<P: Pulls<W>, W>(
+    rt: &W,
+    alloc: Global,
+    pool: &P,
+    count: usize,
+) -> Result<(), PullError> {
+    drop(held(rt, alloc, pool, count)?);
+    drop(held(rt, alloc, pool, count)?);
+    Ok(())
+}
+
+/// A pool ends with its last owned item, or where it was refused.
+fn ends_owned<P: Pulls<W>, W>(
+    rt: &W,
+    alloc: Global,
+    pool: P,
+    count: usize,
+) -> Result<(), PullError> {
+    let held = held(rt, alloc, &pool, count)?;
+    drop(pool);
+    drop(held);
+    Ok(())
+}
+
+pub struct LinearPools;
+
+impl Kind for LinearPools {
+    fn use_up<W: Wait + Copy>(
+        rt: &W,
+        alloc: Global,
+        parts: Parts,
+        how: Use,
+    ) -> Result<(), PullError> {
+        let pool: Linear = LinearObjectPool::new(alloc, parts.init, parts.reset)?;
+        if how.is_owned {
+            return ends_owned(rt, alloc, Arc::new(alloc, pool)?, how.items);
+        }
+        hold_twice(rt, alloc, &&pool, how.items)
+    }
+}
+
+pub struct FixedPools;
+
+impl Kind for FixedPools {
+    fn use_up<W: Wait + Copy>(
+        rt: &W,
+        alloc: Global,
+        parts: Parts,
+        how: Use,
+    ) -> Result<(), PullError> {
+        let pool: Fixed = FixedObjectPool::new(
+            alloc,
+            parts.init,
+            parts.reset,
+            at_least_one(how.items),
+        )?;
+        if how.is_owned {
+            return ends_owned(rt, alloc, Arc::new(alloc, pool)?, how.items);
+        }
+        hold_twice(rt, alloc, &&pool, how.items)
+    }
+}
+
+pub struct LazyPools;
+
+impl Kind for LazyPools {
+    fn use_up<W: Wait + Copy>(
+        rt: &W,
+        alloc: Global,
+        parts: Parts,
+        how: Use,
+    ) -> Result<(), PullError> {
+        let pool: Lazy = LazyObjectPool::new(
+            alloc,
+            parts.init,
+            parts.reset,
+            at_least_one(how.items),
+        )?;
+        if how.is_owned {
+            return ends_owned(rt, alloc, Arc::new(alloc, pool)?, how.items);
+        }
+        hold_twice(rt, alloc, &&pool, how.items)
+    }
+}
+
+pub struct MutexPools;
+
+impl Kind for MutexPools {
+    fn use_up<W: Wait + Copy>(
+        rt: &W,
+        alloc: Global,
+        parts: Parts,
+        how: Use,
+    ) -> Result<(), PullError> {
+        let pool = MutexObjectPool::new(alloc, parts.init, parts.reset);
+        stack_ends(rt, alloc, pool, how)
+    }
+}
+
+pub struct SpinLockPools;
+
+impl Kind for SpinLockPools {
+    fn use_up<W: Wait + Copy>(
+        rt: &W,
+        alloc: Global,
+        parts: Parts,
+        how: Use,
+    ) -> Result<(), PullError> {
+        let pool = SpinLockObjectPool::new(alloc, parts.init, parts.reset)?;
+        stack_ends(rt, alloc, pool, how)
+    }
+}
+
+/// A stack pool is used and ends.
+fn stack_ends<F: FreeList<Tallied, Stacked>, W: Wait + Copy>(
+    rt: &W,
+    alloc: Global,
+    pool: Stack<F>,
+    how: Use,
+) -> Result<(), PullError> {
+    if how.is_owned {
+        return ends_owned(rt, alloc, Arc::new(alloc, pool)?, how.items);
+    }
+    hold_twice(rt, alloc, &&pool, how.items)
+}

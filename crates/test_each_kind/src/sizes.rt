@@ -1,0 +1,202 @@
+//! Each kind at each size of one list: what is held together, kept, attached or made with room.
+ghost use Rattle.std.specs.Prelude.{◌≤◌};
+
+use crate::assert_equal::assert_equal;
+use crate::cores::{Buffers, LinearPlayers, StackPlayers};
+use crate::ends::{Kind, Use, ends_after_use};
+use crate::parts::{PARTS, Parts};
+use crate::pools::{FixedPools, LazyPools, LinearPools, MutexPools, SpinLockPools, Stack, Stacked};
+use lockfree_object_pool::closures::{Clear, Init, Keep, Reset, WithCapacity};
+use lockfree_object_pool::free_list::FreeList;
+use lockfree_object_pool::stack_reusable::StackReusable;
+use lockfree_object_pool::{FixedObjectPool, MutexObjectPool, PullError, SpinLockObjectPool};
+use std::alloc::Global;
+use std::mem;
+use std::process::Abort;
+use std::sync::{Arc, Wait};
+use test_values::counted::NEVER;
+use test_values::sizes::SIZES;
+use test_values::tallied::{Tallied, TalliedValues};
+use test_values::tally::{Tally, new_tally};
+
+/// The greatest number of values that a test has time to keep: a tried test has a minute.
+const MOST_KEPT: usize = 131_072;
+
+/// The greatest number of values that a test has time to attach or to put into a vector.
+const MOST_ATTACHED: usize = 65_537;
+
+/// The greatest number of items that a test has time to hold. `test_sizes`, a built program, has
+/// pools and cores of 300,000 items and more, and fixed pools of each size are opened in
+/// `test_lockfree_object_pool`.
+const MOST_HELD: usize = 2_049;
+
+/// So many items are held together, of each size up to the greatest that are held. At the sizes
+/// that are odd they own their pool.
+fn holds<K: Kind, W: Abort + Wait + Copy>(rt: &W, alloc: Global) {
+    let tally = new_tally(alloc).expect(rt, "memory is left");
+    for items in SIZES {
+        if items <= MOST_HELD {
+            let how = Use {
+                items,
+                is_owned: items % 2 == 1,
+            };
+            ends_after_use::<K, W>(rt, alloc, &tally, how);
+        }
+    }
+}
+
+#[test]
+fn items_of_each_size_of_pool_come_back(rt: HostRuntime) {
+    holds::<LinearPools, _>(&rt, rt.alloc());
+    holds::<FixedPools, _>(&rt, rt.alloc());
+    holds::<LazyPools, _>(&rt, rt.alloc());
+    holds::<MutexPools, _>(&rt, rt.alloc());
+    holds::<SpinLockPools, _>(&rt, rt.alloc());
+}
+
+#[test]
+fn items_of_each_size_of_core_come_back(rt: HostRuntime) {
+    holds::<LinearPlayers, _>(&rt, rt.alloc());
+    holds::<StackPlayers, _>(&rt, rt.alloc());
+    holds::<Buffers, _>(&rt, rt.alloc());
+}
+
+/// A fixed pool whose item i is the answer of call i, and whose reset changes nothing.
+type Numbered = FixedObjectPool<Tallied, TalliedValues, Keep>;
+
+/// So many items are held together, and no more come. How many of them are different, and show the
+/// answer of the call of their number.
+fn different(rt: &impl Abort, alloc: Global, pool: &Numbered, items: usize) -> usize {
+    let mut held = Vec::with_capacity(alloc, items).expect(rt, "memory is left");
+    let mut seen = vec![in alloc; false; items].expect(rt, "memory is left");
+    let mut different = 0usize;
+    for _ in 0..items {
+        let item = pool.pull().expect(rt, "an item is free");
+        let number = item.number();
+        if let Some(is_seen) = seen.get_mut(number)
+            && !mem::replace(is_seen, true)
+        {
+            different = different.saturating_add(usize::from(item.number == number));
+        }
+        held.push(item).expect(rt, "there is room");
+    }
+    assert_equal(rt, pool.pull().err(), Some(PullError::Limit));
+    different
+}
+
+/// Each of so many items of a fixed pool is pulled once in a round, and again when all are back.
+fn come_once_a_round(rt: &impl Abort, alloc: Global, items: usize)
+    requires { 1 ≤ items }
+{
+    let tally = new_tally(alloc).expect(rt, "memory is left");
+    let init = TalliedValues::new(&tally).expect(rt, "an owner is made");
+    let pool: Numbered = FixedObjectPool::new(alloc, init, Keep, items).expect(rt, "made");
+    for _ in 0..2 {
+        assert_equal(rt, different(rt, alloc, &pool, items), items);
+    }
+}
+
+/// The number of items of which the last has the greatest number of 16 bits but one.
+#[test]
+fn each_of_65_535_items_of_a_fixed_pool_comes_once_a_round(rt: HostRuntime) {
+    come_once_a_round(&rt, rt.alloc(), 65_535);
+}
+
+#[test]
+fn each_of_65_536_items_of_a_fixed_pool_comes_once_a_round(rt: HostRuntime) {
+    come_once_a_round(&rt, rt.alloc(), 65_536);
+}
+
+/// So many values are made at once and counted, and dropped at once, of each size up to the
+/// greatest that are kept.
+fn keeps<F: FreeList<Tallied, Stacked>, W: Abort + Wait + Copy>(
+    rt: &W,
+    pool: &Stack<F>,
+    tally: &Tally,
+) {
+    for items in SIZES {
+        if items <= MOST_KEPT {
+            let filled = (pool.fill(rt, items), pool.kept(rt));
+            pool.clear(rt);
+            assert_equal(
+                rt,
+                (filled, pool.kept(rt), tally.living()),
+                ((Ok(()), items), 0, PARTS),
+            );
+        }
+    }
+}
+
+/// So many values are attached to a pool and own it together.
+fn attach<F: FreeList<Tallied, Stacked>, W: Wait + Copy>(
+    rt: &W,
+    alloc: Global,
+    pool: &Arc<Stack<F>>,
+    tally: &Arc<Tally>,
+    count: usize,
+) -> Result<(), PullError> {
+    let mut held = Vec::with_capacity(alloc, count)?;
+    for _ in 0..count {
+        let value = Tallied::new(tally).ok_or(PullError::Memory)?;
+        match StackReusable::new(rt, Arc::try_clone(pool)?, value) {
+            Ok(item) => held.push(item)?,
+            Err(_) => return Err(PullError::Memory),
+        }
+    }
+    Ok(())
+}
+
+/// So many values are attached, and each is kept then.
+fn keeps_attached<F: FreeList<Tallied, Stacked>, W: Abort + Wait + Copy>(
+    rt: &W,
+    alloc: Global,
+    pool: Stack<F>,
+    tally: &Arc<Tally>,
+) {
+    keeps(rt, &pool, tally);
+    let pool = Arc::new(alloc, pool).expect(rt, "memory is left");
+    for items in SIZES {
+        if items <= MOST_ATTACHED {
+            let attached = attach(rt, alloc, &pool, tally, items);
+            assert_equal(rt, (attached, pool.kept(rt)), (Ok(()), items));
+            pool.clear(rt);
+        }
+    }
+}
+
+#[test]
+fn stacks_keep_values_of_each_number(rt: HostRuntime) {
+    let alloc = rt.alloc();
+    let tally = new_tally(alloc).expect(&rt, "memory is left");
+    let parts = Parts::new(alloc, &tally, NEVER).expect(&rt, "memory is left");
+    let pool = MutexObjectPool::new(alloc, parts.init, parts.reset);
+    keeps_attached(&rt, alloc, pool, &tally);
+    let parts = Parts::new(alloc, &tally, NEVER).expect(&rt, "memory is left");
+    let pool = SpinLockObjectPool::new(alloc, parts.init, parts.reset);
+    keeps_attached(&rt, alloc, pool.expect(&rt, "a pool is made"), &tally);
+    assert_equal(&rt, tally.living(), 0);
+}
+
+/// A vector with room for so many items, with as many tallied values as a test has time for.
+fn filled(alloc: Global, tally: &Arc<Tally>, count: usize) -> Option<Vec<Tallied>> {
+    let mut values: Vec<Tallied> = WithCapacity::new(alloc, count).make()?;
+    if values.capacity() != count {
+        return None;
+    }
+    for _ in 0..count.min(MOST_ATTACHED) {
+        values.push(Tallied::new(tally)?).ok()?;
+    }
+    Some(values)
+}
+
+/// A vector has room for as many items as are asked for, and a reset drops each of them.
+#[test]
+fn vectors_of_each_length_are_made_and_cleared(rt: HostRuntime) {
+    let tally = new_tally(rt.alloc()).expect(&rt, "memory is left");
+    for count in SIZES {
+        let mut values = filled(rt.alloc(), &tally, count).expect(&rt, "room for each");
+        assert_equal(&rt, tally.living(), count.min(MOST_ATTACHED));
+        Clear.reset(&mut values);
+        assert_equal(&rt, (tally.living(), values.capacity()), (0, count));
+    }
+}

@@ -1,0 +1,300 @@
+//! The texts of each public type that has one, and whether different values differ.
+use crate::assert_equal::assert_equal;
+use lockfree_object_pool::clean::{AnyValue, Empty};
+use lockfree_object_pool::closures::{Clear, Keep, WithCapacity};
+use lockfree_object_pool::page::{Allocated, Page, PullPass};
+use lockfree_object_pool::recycling::{
+    FixedPool, LazyPool, MutexPool, Pool, Recycler, SpinLockPool,
+};
+use lockfree_object_pool::spin_lock::SpinLock;
+use lockfree_object_pool::{NoneObjectPool, PullError};
+use object_pool_cores::buffers::BufferPool;
+use object_pool_cores::engine::{self, EngineError, Kind};
+use object_pool_cores::interleave::Seen;
+use object_pool_cores::sequential::{AttachError, Command, Reply, RunError};
+use std::alloc::Global;
+use std::collections::HashSet;
+use std::fmt::{Debug, Display};
+use std::hash::Hash;
+use std::ops::DerefMut;
+use std::process::Abort;
+use std::sync::Arc;
+
+/// What `{:?}` and `{:#?}` show of a value.
+fn shows<T: Debug>(rt: &impl Abort, alloc: Global, value: &T, plain: &str, pretty: &str) {
+    let told = format!(in alloc; "{value:?}").expect(rt, "memory is left");
+    let told_pretty = format!(in alloc; "{value:#?}").expect(rt, "memory is left");
+    assert_equal(rt, (told.as_str(), told_pretty.as_str()), (plain, pretty));
+}
+
+/// A reusable, or a guard, shows the value that is written to it.
+fn shows_its_value<T: DerefMut<Target = Vec<u8>> + Debug + Drop>(
+    rt: &impl Abort,
+    alloc: Global,
+    mut item: T,
+) {
+    item.push(5).expect(rt, "memory is left");
+    shows(rt, alloc, &item, "[5]", "[\n    5,\n]");
+}
+
+#[test]
+fn each_pool_that_never_waits_is_shown(rt: HostRuntime) {
+    let alloc = rt.alloc();
+    let pool = Arc::new(
+        alloc,
+        Pool::<Vec<u8>>::with_recycler_within(alloc, 2).expect(&rt, "made"),
+    )
+    .expect(&rt, "memory is left");
+    let (plain, pretty) = (
+        "LinearObjectPool { limit: Some(2), .. }",
+        "LinearObjectPool {\n    limit: Some(\n        2,\n    ),\n    ..\n}",
+    );
+    shows(&rt, alloc, &*pool, plain, pretty);
+    shows_its_value(&rt, alloc, pool.pull().expect(&rt, "an item is free"));
+    shows_its_value(&rt, alloc, pool.pull_owned().expect(&rt, "an item is free"));
+    let pool = Arc::new(
+        alloc,
+        FixedPool::<Vec<u8>>::with_recycler(alloc, 33).expect(&rt, "made"),
+    )
+    .expect(&rt, "memory is left");
+    let (plain, pretty) = (
+        "FixedObjectPool { items: 33, .. }",
+        "FixedObjectPool {\n    items: 33,\n    ..\n}",
+    );
+    shows(&rt, alloc, &*pool, plain, pretty);
+    shows_its_value(&rt, alloc, pool.pull().expect(&rt, "an item is free"));
+    shows_its_value(&rt, alloc, pool.pull_owned().expect(&rt, "an item is free"));
+}
+
+#[test]
+fn each_other_pool_is_shown(rt: HostRuntime) {
+    let alloc = rt.alloc();
+    let pool = Arc::new(
+        alloc,
+        LazyPool::<Vec<u8>>::with_recycler(alloc, 3).expect(&rt, "made"),
+    )
+    .expect(&rt, "memory is left");
+    shows_its_value(&rt, alloc, pool.pull().expect(&rt, "an item is free"));
+    shows_its_value(&rt, alloc, pool.pull_owned().expect(&rt, "an item is free"));
+    let (plain, pretty) = (
+        "LazyObjectPool { items: 3, made: 1, .. }",
+        "LazyObjectPool {\n    items: 3,\n    made: 1,\n    ..\n}",
+    );
+    shows(&rt, alloc, &*pool, plain, pretty);
+    let pool = NoneObjectPool::new(|| Some(Vec::<u8>::new(alloc)));
+    shows(
+        &rt,
+        alloc,
+        &pool,
+        "NoneObjectPool { .. }",
+        "NoneObjectPool { .. }",
+    );
+    shows_its_value(&rt, alloc, pool.pull().expect(&rt, "an item is made"));
+    let pool = BufferPool::new(alloc, WithCapacity::new(alloc, 0), Clear, 1).expect(&rt, "made");
+    let mut buffer = pool.pull().expect(&rt, "a buffer is free");
+    buffer.append(&[5]).expect(&rt, "memory is left");
+    shows(&rt, alloc, &buffer, "[5]", "[\n    5,\n]");
+    let (plain, pretty) = (
+        "BufferPool { pool: LinearObjectPool { limit: Some(1), .. } }",
+        "BufferPool {\n    pool: LinearObjectPool {\n        limit: Some(\n            1,\n        ),\n        ..\n    },\n}",
+    );
+    shows(&rt, alloc, &pool, plain, pretty);
+}
+
+#[test]
+fn each_pool_that_waits_is_shown(rt: HostRuntime) {
+    let alloc = rt.alloc();
+    let pool = Arc::new(alloc, MutexPool::<Vec<u8>>::with_recycler(alloc)).expect(&rt, "made");
+    shows(
+        &rt,
+        alloc,
+        &*pool,
+        "MutexObjectPool { .. }",
+        "MutexObjectPool { .. }",
+    );
+    shows_its_value(&rt, alloc, pool.pull(&rt).expect(&rt, "an item is made"));
+    shows_its_value(
+        &rt,
+        alloc,
+        pool.pull_owned(&rt).expect(&rt, "an item is made"),
+    );
+    let pool = Arc::new(
+        alloc,
+        SpinLockPool::<Vec<u8>>::with_recycler(alloc).expect(&rt, "made"),
+    )
+    .expect(&rt, "memory is left");
+    shows(
+        &rt,
+        alloc,
+        &*pool,
+        "SpinLockObjectPool { .. }",
+        "SpinLockObjectPool { .. }",
+    );
+    shows_its_value(&rt, alloc, pool.pull(&rt).expect(&rt, "an item is made"));
+    shows_its_value(
+        &rt,
+        alloc,
+        pool.pull_owned(&rt).expect(&rt, "an item is made"),
+    );
+    let lock = SpinLock::new(alloc, Vec::<u8>::new(alloc)).expect(&rt, "memory is left");
+    shows_its_value(&rt, alloc, lock.lock(&rt));
+}
+
+/// How many of these values are equal to this one, and how many are shown alike.
+fn alike<T: PartialEq + Debug>(
+    rt: &impl Abort,
+    alloc: Global,
+    values: &[T],
+    one: &T,
+) -> (usize, usize) {
+    let (mut equal, mut shown) = (0usize, 0usize);
+    let text = format!(in alloc; "{one:?}").expect(rt, "memory is left");
+    for value in values {
+        let other = format!(in alloc; "{value:?}").expect(rt, "memory is left");
+        equal = equal.saturating_add(usize::from(value == one));
+        shown = shown.saturating_add(usize::from(other.as_str() == text.as_str()));
+    }
+    (equal, shown)
+}
+
+/// Each of these values is equal to itself alone, and shown as no other is.
+fn differ<T: PartialEq + Debug>(rt: &impl Abort, alloc: Global, values: &[T]) {
+    for value in values {
+        assert_equal(rt, alike(rt, alloc, values, value), (1, 1));
+    }
+}
+
+/// Each of these values has a place of its own in a set, and words of its own.
+fn have_their_hash_and_words<T: Eq + Hash + Display + Copy + Drop>(
+    rt: &impl Abort,
+    alloc: Global,
+    values: &[T],
+    words: &str,
+) {
+    let mut set = HashSet::new(alloc);
+    let mut told = String::new(alloc);
+    for value in values {
+        set.insert(*value).expect(rt, "memory is left");
+        let copy = value.clone().expect(rt, "memory is left");
+        set.insert(copy).expect(rt, "memory is left");
+        let word = format!(in alloc; "{value}; ").expect(rt, "memory is left");
+        told.push_str(word.as_str()).expect(rt, "memory is left");
+    }
+    assert_equal(rt, (set.len(), told.as_str()), (values.len(), words));
+}
+
+#[test]
+fn different_causes_differ(rt: HostRuntime) {
+    let alloc = rt.alloc();
+    let causes = [PullError::Memory, PullError::Init, PullError::Limit];
+    differ(&rt, alloc, &causes);
+    let words = "out of memory; init gave no item; the pool is at its limit; ";
+    have_their_hash_and_words(&rt, alloc, &causes, words);
+    have_their_hash_and_words(&rt, alloc, &[RunError::Memory], "out of memory; ");
+    let errors = [EngineError::Read, EngineError::Write, EngineError::Memory];
+    differ(&rt, alloc, &errors);
+    let words = "read failed; write failed; out of memory; ";
+    have_their_hash_and_words(&rt, alloc, &errors, words);
+}
+
+/// What a step may answer, twice where it has a number.
+const SEEN: [Seen; 26] = [
+    Seen::Began(0),
+    Seen::Began(1),
+    Seen::Word(0, 1),
+    Seen::Word(0, 2),
+    Seen::Word(1, 1),
+    Seen::Found(0, 1),
+    Seen::Found(0, 2),
+    Seen::Pulled(0, 1),
+    Seen::Pulled(0, 2),
+    Seen::Next(0, true),
+    Seen::Next(0, false),
+    Seen::Made(0),
+    Seen::Made(1),
+    Seen::Linked(0),
+    Seen::Linked(1),
+    Seen::Lost(0),
+    Seen::Lost(1),
+    Seen::Refused(0, PullError::Init),
+    Seen::Refused(0, PullError::Limit),
+    Seen::MovedOut(0),
+    Seen::Wrote(0),
+    Seen::MovedHome(0),
+    Seen::Returned(0, 1),
+    Seen::Returned(0, 2),
+    Seen::NotEnabled,
+    Seen::NoMemory,
+];
+
+#[test]
+fn different_answers_differ(rt: HostRuntime) {
+    let alloc = rt.alloc();
+    differ(&rt, alloc, &SEEN);
+    let kinds = [
+        Kind::Linear,
+        Kind::Bounded(1),
+        Kind::Bounded(2),
+        Kind::Stack,
+        Kind::None,
+    ];
+    differ(&rt, alloc, &kinds);
+    differ(&rt, alloc, &[engine::Reset::Zero, engine::Reset::Keep]);
+    differ(&rt, alloc, &replies());
+    differ(&rt, alloc, &commands());
+}
+
+/// What a player may reply.
+fn replies() -> [Reply<u32>; 11] {
+    [
+        Reply::Pulled(0, None),
+        Reply::Pulled(0, Some(1)),
+        Reply::Pulled(1, None),
+        Reply::Refused(PullError::Init),
+        Reply::Refused(PullError::Limit),
+        Reply::Written,
+        Reply::Returned,
+        Reply::Forgotten,
+        Reply::AttachRefused(AttachError::Memory(1)),
+        Reply::AttachRefused(AttachError::NotOffered(1)),
+        Reply::NoSuchHolder,
+    ]
+}
+
+/// What a player can be asked.
+fn commands() -> [Command<u32>; 8] {
+    [
+        Command::Pull,
+        Command::Write(0, 1),
+        Command::Write(0, 2),
+        Command::Write(1, 1),
+        Command::Return(0),
+        Command::Forget(0),
+        Command::Attach(1),
+        Command::Attach(2),
+    ]
+}
+
+/// A copy, by its type's own call, is shown as what was copied.
+fn is_copied<T: Clone + Debug>(rt: &impl Abort, alloc: Global, value: &T, text: &str)
+where
+    T: Drop,
+{
+    let copy = value.clone().expect(rt, "memory is left");
+    let told = format!(in alloc; "{copy:?}").expect(rt, "memory is left");
+    assert!(*rt; told.as_str().starts_with(text));
+}
+
+#[test]
+fn what_makes_and_resets_is_copied_and_shown(rt: HostRuntime) {
+    let alloc = rt.alloc();
+    is_copied(&rt, alloc, &AnyValue, "AnyValue");
+    is_copied(&rt, alloc, &Empty, "Empty");
+    is_copied(&rt, alloc, &Keep, "Keep");
+    is_copied(&rt, alloc, &Clear, "Clear");
+    is_copied(&rt, alloc, &WithCapacity::new(alloc, 7), "WithCapacity");
+    is_copied(&rt, alloc, &Recycler::new(alloc), "Recycler");
+    let page: Page<u32, AnyValue> = Page::new(alloc, &|| Some(0)).expect(&rt, "a page is made");
+    let pass = PullPass::default();
+    assert!(rt; matches!(page.try_alloc(&pass), Ok(Allocated::Slot(_))));
+}
