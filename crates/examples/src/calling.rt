@@ -12,11 +12,13 @@
 //! - [`shared`]: two threads that read one item.
 //! - [`defaults`]: values that are made by default, and a refusal as an `io::Error`.
 //! - [`rows`]: two items that are held, as two rows of a table.
+//! - [`counted`]: counts of pulls, and a value of one's own if none is free.
 //! - [`waiting`]: items that are made when they are needed, and a pull that waits.
 
 mod attached;
 mod basket;
 mod connections;
+mod counted;
 mod defaults;
 mod emptied;
 mod handed_on;

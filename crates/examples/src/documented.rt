@@ -4,9 +4,11 @@
 //! - [`linear`], [`fixed`], [`lazy`], [`stacks`], [`none`]: the pools, and their reusables.
 //! - [`recycled`]: the pools of a recyclable type.
 //! - [`parts`]: pages, chains, stacks of kept values, and locks.
+//! - [`evidence`]: what pulls show, and what is known of a history.
 //! - [`cores`]: sequential pools, players, worlds, the engine and the pool of buffers.
 
 mod cores;
+mod evidence;
 mod fixed;
 mod lazy;
 mod linear;

@@ -49,6 +49,16 @@ mod pull_with;
 mod waiting;
 
 /// What [`LazyObjectPool::try_pull`] returns: an item, or why there is none.
+///
+/// # Examples
+///
+/// ```rust
+/// match pool.try_pull(&pass) {
+///     Ok(_item) => "an item",
+///     Err(LazyRefused::Busy(_)) => "each item was seen in use",
+///     Err(LazyRefused::NotMade) => "`init` returned `None`",
+/// }
+/// ```
 pub type LazyPulled<'s, 'p, T, I, R, K = AnyValue> = Result<
     LazyReusable<'s, T, I, R, K>,
     LazyRefused<'p, T>,
@@ -183,8 +193,8 @@ impl<T: Drop, I: Init<T, K>, R: Reset<T, K>, K: Clean<T>> LazyObjectPool<T, I, R
         }
     }
 
-    /// Returns a place for one thread to begin its pulls at: each call names the next page, eight words
-    /// further, so that threads don't meet while their pages have free places.
+    /// Returns a place for one thread to begin its pulls at: each call names the next page, eight
+    /// words further, so that threads don't meet while their pages have free places.
     ///
     /// # Examples
     ///
@@ -371,7 +381,7 @@ impl<T: Drop, I: Init<T, K>, R: Reset<T, K>, K: Clean<T>> LazyObjectPool<T, I, R
         self.places.shared.note()
     }
 
-    /// Tells a note what a witness knows. The histories of both are prefixes of one.
+    /// Adds what a witness knows to what a note knows. The histories of both are prefixes of one.
     pub fn tell(&self, note: &mut PoolNote<Option<T>>, other: Witness<Option<T>>)
         requires note { note_page note.old ≡ lazy_identity self.now }
         requires other { witness_page other ≡ lazy_identity self.now }

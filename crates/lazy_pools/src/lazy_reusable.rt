@@ -31,7 +31,7 @@ pub trait SharedLazyPool<T>: Drop {
     /// What its reset may make of a value: the old one, then the new one.
     ghost leaves: { Self → T → T → Type 0 };
 
-    /// What the holder of an item knows of the pool.
+    /// Returns what the holder of an item knows of the pool.
     fn witness(&self, holding: &mut Holding<Option<T>>) -> Witness<Option<T>>
         requires { holding_page holding.old ≡ identity self.now }
         ensures page { witness_page result ≡ holding_page holding.old }

@@ -23,7 +23,7 @@ pub(crate) struct Waiters {
 }
 
 impl Waiters {
-    /// Nobody waits.
+    /// Creates the words that say that nobody waits.
     pub(crate) const fn new() -> Waiters {
         Waiters {
             waiting: AtomicU64::new(0),
@@ -58,7 +58,7 @@ impl Waiters {
         self.told.park(rt, seen);
     }
 
-    /// As `sleep`, for so long at most.
+    /// Sleeps as `sleep` does, for `time` at most.
     pub(crate) fn sleep_for<W: Wait>(&self, rt: &W, seen: u32, time: Duration) {
         self.told.park_timeout(rt, seen, time);
     }

@@ -28,13 +28,38 @@ pub mod items;
 pub mod near;
 
 /// What is known of a fixed pool's history while no item is held. It has no bytes.
+///
+/// # Examples
+///
+/// ```rust
+/// let note = pool.note();
+/// let item = pool.try_pull_from(&pass, note).ok()?; // comes after all that the note knew
+/// ```
 pub type PoolNote<T> = PageNote<T>;
 
 /// The evidence of a pull of one pass that took no item: each item of the pool was seen in use
 /// since the pass was made, by a word that was read or by a try of its own bit.
+///
+/// # Examples
+///
+/// ```rust
+/// match pool.try_pull(&pass) {
+///     Ok(item) => Some(item.number()),
+///     Err(_busy) => None, // it shows that each item was seen in use
+/// }
+/// ```
 pub type BusySeen<'p, T> = FullSeen<'p, T>;
 
 /// The result of [`FixedObjectPool::try_pull`]: an item, or that each one was seen in use.
+///
+/// # Examples
+///
+/// ```rust
+/// match pool.try_pull(&pass) {
+///     Ok(item) => Some(item.number()),
+///     Err(_busy) => None, // it shows that each item was seen in use
+/// }
+/// ```
 pub type FixedPulled<'s, 'p, T, I, R, K = AnyValue> = Result<
     FixedReusable<'s, T, I, R, K>,
     BusySeen<'p, T>,

@@ -25,6 +25,15 @@ mod page_limit;
 
 /// Why [`LinearObjectPool::try_pull`] took no item: each page up to the pool's limit was found
 /// full, or no further page could be made.
+///
+/// # Examples
+///
+/// ```rust
+/// match pool.try_pull(&pass) {
+///     Ok(item) => Ok(item.page_id()),
+///     Err(refusal) => Err(refusal.cause()), // `Limit`, `Memory` or `Init`
+/// }
+/// ```
 pub type LinearRefusal<'p, T, I, R, K = AnyValue> = WalkRefusal<
     'p,
     T,
@@ -33,6 +42,15 @@ pub type LinearRefusal<'p, T, I, R, K = AnyValue> = WalkRefusal<
 >;
 
 /// The result of [`LinearObjectPool::try_pull`].
+///
+/// # Examples
+///
+/// ```rust
+/// match pool.try_pull(&pass) {
+///     Ok(item) => Ok(item.page_id()),
+///     Err(refusal) => Err(refusal.cause()), // `Limit`, `Memory` or `Init`
+/// }
+/// ```
 pub type LinearPulled<'s, 'p, T, I, R, K = AnyValue> = Result<
     LinearReusable<'s, T, I, R, K>,
     LinearRefusal<'p, T, I, R, K>,

@@ -6,6 +6,12 @@ use std::alloc::{AllocError, AllocFailed};
 use thiserror::Error;
 
 /// Why a run stopped. What was done before stays done, and the step that failed wasn't done.
+///
+/// # Examples
+///
+/// ```rust
+/// player.play(Command::Write(0, 5))?;
+/// ```
 #[derive(Clone, Copy, Debug, PartialEq, Eq, Hash, Error)]
 pub enum RunError {
     /// A table of the run, or the list of its answers, couldn't grow.

@@ -307,7 +307,7 @@ impl<T, K: Clean<T>> Page<T, K> {
                 };
                 Taken {
                     answer: Allocated::Slot(PageSlot::new(id, taken.value)),
-                    left_full: taken.left_full,
+                    left_full: taken.left == 0,
                 }
             }
             None => Taken {

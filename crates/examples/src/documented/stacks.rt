@@ -1,13 +1,17 @@
 //! The pools over a lock, and their reusables.
+use crate::assert_equal::assert_equal;
+use lockfree_object_pool::clean::AnyValue;
 use lockfree_object_pool::closures::{Copied, Keep};
 use lockfree_object_pool::{
-    MutexObjectPool, MutexOwnedReusable, MutexReusable, SpinLockObjectPool, SpinLockReusable,
+    MutexObjectPool, MutexOwnedReusable, MutexReusable, PullError, SpinLockObjectPool,
+    SpinLockReusable,
 };
-use std::sync::Arc;
+use std::alloc::Global;
+use std::sync::{Arc, Wait};
 use std::test::Fail;
 
 #[test]
-fn the_mutex_pool_keeps_a_value(rt: HostRuntime) -> Result<(), Fail> {
+fn the_mutex_pool_keeps_a_value(rt: HostRuntime) -> Result<(), PullError> {
     let alloc = rt.alloc();
     let pool: MutexObjectPool<u32, _, _> = MutexObjectPool::new(alloc, Copied::new(0), Keep);
     *pool.pull(&rt)? = 5; // its drop keeps it
@@ -16,7 +20,7 @@ fn the_mutex_pool_keeps_a_value(rt: HostRuntime) -> Result<(), Fail> {
 }
 
 #[test]
-fn the_spin_lock_pool_keeps_a_value(rt: HostRuntime) -> Result<(), Fail> {
+fn the_spin_lock_pool_keeps_a_value(rt: HostRuntime) -> Result<(), PullError> {
     let alloc = rt.alloc();
     let pool: SpinLockObjectPool<u32, _, _> = SpinLockObjectPool::new(alloc, Copied::new(0), Keep)?;
     *pool.pull(&rt)? = 5; // its drop keeps it
@@ -24,19 +28,44 @@ fn the_spin_lock_pool_keeps_a_value(rt: HostRuntime) -> Result<(), Fail> {
     Ok(())
 }
 
-#[test]
-fn a_value_is_attached(rt: HostRuntime) -> Result<(), Fail> {
-    let alloc = rt.alloc();
-    let pool: MutexObjectPool<u32, _, _> = MutexObjectPool::new(alloc, Copied::new(0), Keep);
-    let item = MutexReusable::new(&rt, &pool, 5)?; // its drop gives the pool a value
-    drop(item);
-    assert_eq!(rt; pool.kept(&rt), 1);
-    let pool = Arc::new(alloc, pool)?;
+/// A mutex pool of zeros that keeps what was written last.
+type MutexZeros = MutexObjectPool<u32, Copied<u32, AnyValue>, Keep>;
+
+/// Attaches 6 to a pool by an owner of it.
+fn attach_by_owner<W: Wait + Copy>(rt: W, pool: &Arc<MutexZeros>) -> Result<(), Fail> {
     let owner = Arc::try_clone(&pool)?;
     let item = MutexOwnedReusable::new(&rt, owner, 6)?;
     drop(item);
-    assert_eq!(rt; (pool.kept(&rt), *pool.pull(&rt)?), (2, 6));
     Ok(())
+}
+
+#[test]
+fn a_value_is_attached(rt: HostRuntime) -> Result<(), Fail> {
+    let alloc = rt.alloc();
+    let pool = MutexZeros::new(alloc, Copied::new(0), Keep);
+    let item = MutexReusable::new(&rt, &pool, 5)?; // its drop gives the pool a value
+    drop(item);
+    assert_equal(&rt, pool.kept(&rt), 1);
+    let pool = Arc::new(alloc, pool).expect(&rt, "memory is left");
+    attach_by_owner(rt, &pool)?;
+    let kept = pool.kept(&rt);
+    let pulled = *pool.pull(&rt).expect(&rt, "a value is kept");
+    assert_equal(&rt, (kept, pulled), (2, 6));
+    Ok(())
+}
+
+/// A spin lock pool of zeros that keeps what was written last.
+type SpinLockZeros = SpinLockObjectPool<u32, Copied<u32, AnyValue>, Keep>;
+
+/// Returns what an owned item of a pool shows.
+fn owned_value<W: Wait + Copy>(
+    rt: W,
+    alloc: Global,
+    pool: SpinLockZeros,
+) -> Result<u32, PullError> {
+    let pool = Arc::new(alloc, pool)?;
+    let item = pool.pull_owned(&rt)?; // may go to any thread
+    Ok(*item)
 }
 
 #[test]
@@ -47,9 +76,7 @@ fn a_value_is_attached_under_a_spin_lock(rt: HostRuntime) -> Result<(), Fail> {
     drop(item);
     let item = pool.pull(&rt)?;
     assert_eq!(rt; item.detach(), 5); // the value is out of the pool for good
-    assert_eq!(rt; pool.kept(&rt), 0);
-    let pool = Arc::new(alloc, pool)?;
-    let item = pool.pull_owned(&rt)?; // may go to any thread
-    assert_eq!(rt; *item, 0);
+    assert_equal(&rt, pool.kept(&rt), 0);
+    assert_equal(&rt, owned_value(rt, alloc, pool), Ok(0));
     Ok(())
 }

@@ -4,6 +4,8 @@ use super::*;
 use crate::assert_equal::assert_equal;
 use crate::home::take_all;
 use crossbeam_channel::{Receiver, Sender, unbounded};
+use std::alloc::Global;
+use std::process::Abort;
 use std::sync::Wait;
 use std::thread;
 
@@ -64,24 +66,20 @@ fn read_all<W: Wait>(rt: &W, from: &Receiver<Letter>) -> bool {
     true
 }
 
+/// Creates a pool of one page, whose sheets have room for four bytes.
+fn one_page(rt: &impl Abort, alloc: Global) -> Arc<SheetPool> {
+    let pool = LinearObjectPool::with_limit(alloc, WithCapacity::new(alloc, 4), Clear, 1);
+    Arc::new(alloc, pool.expect(rt, "a pool is made")).expect(rt, "memory is left")
+}
+
 #[test]
 fn letters_reach_the_reader_and_their_sheets_come_home(rt: HostRuntime) {
-    let alloc = rt.alloc();
-    let pool = LinearObjectPool::with_limit(alloc, WithCapacity::new(alloc, 4), Clear, 1).expect(
-        &rt,
-        "a pool is made",
-    );
-    let pool = Arc::new(alloc, pool).expect(&rt, "memory is left");
-    let (to, from) = unbounded(alloc).expect(&rt, "a channel is made");
+    let pool = one_page(&rt, rt.alloc());
+    let (to, from) = unbounded(rt.alloc()).expect(&rt, "a channel is made");
     let reader = thread::spawn(&rt, move || read_all(&rt, &from)).expect(&rt, "a thread is made");
-    assert!(rt; write_all(&rt, &pool, &to));
-    assert!(rt; reader.join(&rt));
-    let mut sheets = Vec::with_capacity(alloc, 32).expect(&rt, "memory is left");
-    for _ in 0..32 {
-        sheets
-            .push(pool.pull_owned().expect(&rt, "an item is free"))
-            .expect(&rt, "memory is left");
-    }
+    let all_written = write_all(&rt, &pool, &to);
+    assert_equal(&rt, (all_written, reader.join(&rt)), (true, true));
+    assert_equal(&rt, take_all(&pool), 32);
     assert_equal(&rt, pool.pull_owned().err(), Some(PullError::Limit));
 }
 
@@ -99,14 +97,9 @@ fn write_often(pool: &Arc<SheetPool>, text: &[u8]) -> bool {
 
 #[test]
 fn letters_of_any_length_are_whole_and_their_sheets_come_home(rt: HostRuntime) {
-    let alloc = rt.alloc();
-    let pool = LinearObjectPool::with_limit(alloc, WithCapacity::new(alloc, 4), Clear, 1).expect(
-        &rt,
-        "a pool is made",
-    );
-    let pool = Arc::new(alloc, pool).expect(&rt, "memory is left");
+    let pool = one_page(&rt, rt.alloc());
     for len in [0, 1, 5_000, 8_193, 70_000] {
-        let text = vec![in alloc; 7u8; len].expect(&rt, "memory is left");
+        let text = vec![in rt.alloc(); 7u8; len].expect(&rt, "memory is left");
         assert!(rt; write_often(&pool, &text), "letters of {len} bytes");
     }
 }

@@ -5,67 +5,66 @@ use crate::home::take_all;
 use std::mem;
 use std::process::Abort;
 
+/// Creates a pool whose scratches have room for eight bytes.
+fn scratches(rt: &impl Abort, alloc: Global) -> ScratchPool {
+    let pool = LinearObjectPool::new(alloc, WithCapacity::new(alloc, 8), Clear);
+    pool.expect(rt, "a pool is made")
+}
+
+/// Creates such a pool of one page.
+fn one_page(rt: &impl Abort, alloc: Global) -> ScratchPool {
+    let pool = LinearObjectPool::with_limit(alloc, WithCapacity::new(alloc, 8), Clear, 1);
+    pool.expect(rt, "a pool is made")
+}
+
+/// Makes a text of each word.
+fn texts_of(alloc: Global, words: &[&[u8]]) -> Result<Vec<Vec<u8>>, AllocError> {
+    let mut texts = Vec::with_capacity(alloc, words.len())?;
+    for word in words {
+        texts.push(Vec::from_slice(alloc, word)?)?;
+    }
+    Ok(texts)
+}
+
+/// Returns what one thread answers to all texts.
+fn answers_alone(alloc: Global, texts: &[Vec<u8>]) -> Result<Vec<Option<bool>>, AllocError> {
+    let mut answers = Vec::with_capacity(alloc, texts.len())?;
+    for text in texts {
+        let mut scratch = Vec::new(alloc);
+        answers.push(Some(is_palindrome(text, &mut scratch)?))?;
+    }
+    Ok(answers)
+}
+
 #[test]
 fn threads_answer_as_one_thread_does(rt: HostRuntime) {
-    let alloc = rt.alloc();
-    let pool = LinearObjectPool::new(alloc, WithCapacity::new(alloc, 8), Clear).expect(
-        &rt,
-        "a pool is made",
-    );
+    let pool = scratches(&rt, rt.alloc());
     let words: [&[u8]; 5] = [b"level", b"pool", b"", b"noon", b"lever"];
-    let mut texts = Vec::with_capacity(alloc, 5).expect(&rt, "memory is left");
-    for word in words {
-        texts
-            .push(Vec::from_slice(alloc, word).expect(&rt, "memory is left"))
-            .expect(&rt, "memory is left");
-    }
+    let texts = texts_of(rt.alloc(), &words).expect(&rt, "memory is left");
+    let alone = answers_alone(rt.alloc(), &texts).expect(&rt, "nothing is refused");
+    let expected = [Some(true), Some(false), Some(true), Some(true), Some(false)];
+    assert_equal(&rt, alone.as_slice(), expected.as_slice());
     for _ in 0..20 {
-        let answers = palindromes(&rt, alloc, &pool, &texts).expect(&rt, "nothing is refused");
-        assert_equal(&rt, answers.len(), 5);
-        for (text, answer) in texts.iter().zip(&answers) {
-            let mut scratch = Vec::new(alloc);
-            assert_equal(
-                &rt,
-                *answer,
-                Some(is_palindrome(text, &mut scratch).expect(&rt, "nothing is refused")),
-            );
-        }
-        let expected = [Some(true), Some(false), Some(true), Some(true), Some(false)];
+        let answers = palindromes(&rt, rt.alloc(), &pool, &texts);
+        let answers = answers.expect(&rt, "nothing is refused");
         assert_equal(&rt, answers.as_slice(), expected.as_slice());
     }
 }
 
 #[test]
 fn each_of_forty_long_texts_has_an_answer(rt: HostRuntime) {
-    let alloc = rt.alloc();
-    let pool = LinearObjectPool::new(alloc, WithCapacity::new(alloc, 8), Clear).expect(
-        &rt,
-        "a pool is made",
-    );
-    let mut texts = Vec::with_capacity(alloc, 40).expect(&rt, "memory is left");
-    for _ in 0..40 {
-        texts
-            .push(Vec::from_slice(alloc, &[7; 1000]).expect(&rt, "memory is left"))
-            .expect(&rt, "memory is left");
-    }
-    let answers = palindromes(&rt, alloc, &pool, &texts).expect(&rt, "nothing is refused");
-    assert_equal(&rt, answers.len(), 40);
-    assert!(rt; answers.iter().all(|answer| *answer == Some(true)));
+    let pool = scratches(&rt, rt.alloc());
+    let words = [[7; 1000].as_slice(); 40];
+    let texts = texts_of(rt.alloc(), &words).expect(&rt, "memory is left");
+    let answers = palindromes(&rt, rt.alloc(), &pool, &texts).expect(&rt, "nothing is refused");
+    assert_equal(&rt, answers.as_slice(), [Some(true); 40].as_slice());
 }
 
 #[test]
 fn each_text_of_one_byte_is_a_palindrome(rt: HostRuntime) {
-    let alloc = rt.alloc();
-    let pool = LinearObjectPool::new(alloc, WithCapacity::new(alloc, 8), Clear).expect(
-        &rt,
-        "a pool is made",
-    );
-    let texts = vec![in alloc;
-        Vec::from_slice(alloc, b"a").expect(&rt, "memory is left"),
-        Vec::from_slice(alloc, b"\0").expect(&rt, "memory is left"),
-    ]
-    .expect(&rt, "memory is left");
-    let answers = palindromes(&rt, alloc, &pool, &texts).expect(&rt, "nothing is refused");
+    let pool = scratches(&rt, rt.alloc());
+    let texts = texts_of(rt.alloc(), &[b"a", b"\0"]).expect(&rt, "memory is left");
+    let answers = palindromes(&rt, rt.alloc(), &pool, &texts).expect(&rt, "nothing is refused");
     assert_equal(&rt, answers.as_slice(), [Some(true), Some(true)].as_slice());
 }
 
@@ -84,16 +83,13 @@ fn even_and_odd(alloc: Global) -> Result<Vec<Vec<u8>>, AllocError> {
 
 #[test]
 fn long_texts_have_answers_and_their_scratches_come_home(rt: HostRuntime) {
-    let alloc = rt.alloc();
-    let pool = LinearObjectPool::with_limit(alloc, WithCapacity::new(alloc, 8), Clear, 1).expect(
-        &rt,
-        "a pool is made",
-    );
-    let texts = even_and_odd(alloc).expect(&rt, "nothing is refused");
+    let pool = one_page(&rt, rt.alloc());
+    let texts = even_and_odd(rt.alloc()).expect(&rt, "nothing is refused");
     let (yes, no) = (Some(true), Some(false));
+    let expected = [yes, no, yes, no, yes, no, yes, no];
     for _ in 0..40 {
-        let answers = palindromes(&rt, alloc, &pool, &texts).expect(&rt, "nothing is refused");
-        let expected = [yes, no, yes, no, yes, no, yes, no];
+        let answers = palindromes(&rt, rt.alloc(), &pool, &texts);
+        let answers = answers.expect(&rt, "nothing is refused");
         assert_equal(&rt, answers.as_slice(), expected.as_slice());
     }
 }
@@ -132,22 +128,21 @@ fn grown(rt: &impl Abort, pool: &ScratchPool) -> usize {
     grown
 }
 
+/// Has two threads look at a long text each. Returns how many scratches have room for one then.
+fn grown_at_once<R: Abort + Threads + Sync>(rt: &R, alloc: Global) -> usize {
+    let pool = one_page(rt, alloc);
+    let texts = texts_of(alloc, &[&[7; 70_000], &[7; 70_000]]).expect(rt, "memory is left");
+    drop(palindromes(rt, alloc, &pool, &texts));
+    grown(rt, &pool)
+}
+
 /// Threads that look at texts at one time have a scratch each. One thread would take the same
 /// scratch for each text.
 #[test]
 fn texts_are_looked_at_by_several_threads(rt: HostRuntime) {
-    let alloc = rt.alloc();
     let mut most = 0;
     for _ in 0..1_000 {
-        let pool = LinearObjectPool::with_limit(alloc, WithCapacity::new(alloc, 8), Clear, 1);
-        let pool = pool.expect(&rt, "a pool is made");
-        let texts = vec![in alloc;
-            vec![in alloc; 7u8; 70_000].expect(&rt, "memory is left"),
-            vec![in alloc; 7u8; 70_000].expect(&rt, "memory is left"),
-        ]
-        .expect(&rt, "memory is left");
-        drop(palindromes(&rt, alloc, &pool, &texts));
-        most = grown(&rt, &pool);
+        most = grown_at_once(&rt, rt.alloc());
         if most > 1 {
             break;
         }

@@ -1,6 +1,7 @@
 //! Replies to many names, by threads that share one page of buffers.
 use super::*;
 use crate::assert_equal::assert_equal;
+use crate::home::all_went_well;
 use std::sync::Arc;
 use std::{mem, thread};
 
@@ -30,16 +31,12 @@ fn threads_greet_each_by_its_name(rt: HostRuntime) {
     let mut threads = Vec::with_capacity(alloc, 3).expect(&rt, "memory is left");
     for (name, expected) in names {
         let replies = Arc::try_clone(&replies).expect(&rt, "memory is left");
+        let thread = thread::spawn(&rt, move || greet_often(alloc, &replies, name, expected));
         threads
-            .push(thread::spawn(&rt, move || greet_often(alloc, &replies, name, expected)).expect(
-                &rt,
-                "a thread is made",
-            ))
+            .push(thread.expect(&rt, "a thread is made"))
             .expect(&rt, "memory is left");
     }
-    for thread in threads {
-        assert!(rt; thread.join(&rt));
-    }
+    assert!(rt; all_went_well(&rt, threads));
 }
 
 /// How many buffers are home. Each is taken out for good, so that it takes no memory to hold them.

@@ -1,18 +1,23 @@
 //! Sessions that are opened, filled and closed, by one thread and by several that share a pool.
+ghost use Rattle.std.specs.Prelude.{◌≤◌};
+
 use super::*;
 use crate::assert_equal::assert_equal;
-use crate::home::take_all;
+use crate::home::{all_went_well, take_all};
 use std::process::Abort;
 use std::thread;
 
-fn new_pool(alloc: Global) -> Result<Arc<BasketPool>, PullError> {
-    pool_of(alloc, 4)
+/// Creates a pool of so many pages of baskets, each with room for so many products.
+fn pool_of(alloc: Global, room: usize, pages: usize) -> Result<Arc<BasketPool>, PullError>
+    requires { 1 ≤ pages }
+{
+    let pool = LinearObjectPool::with_limit(alloc, WithCapacity::new(alloc, room), Clear, pages)?;
+    Ok(Arc::new(alloc, pool)?)
 }
 
-/// A pool of one page of baskets, each with room for so many products.
-fn pool_of(alloc: Global, room: usize) -> Result<Arc<BasketPool>, PullError> {
-    let pool = LinearObjectPool::with_limit(alloc, WithCapacity::new(alloc, room), Clear, 1)?;
-    Ok(Arc::new(alloc, pool)?)
+/// Creates a table of no sessions, over a pool of one page.
+fn new_sessions(rt: &impl Abort, alloc: Global) -> Sessions {
+    Sessions::new(alloc, pool_of(alloc, 4, 1).expect(rt, "a pool is made"))
 }
 
 fn holds(sessions: &Sessions, session: u64, products: &[u32]) -> bool {
@@ -41,28 +46,21 @@ fn serve(alloc: Global, pool: Arc<BasketPool>, product: u32) -> bool {
 #[test]
 fn threads_open_sessions_with_empty_baskets(rt: HostRuntime) {
     let alloc = rt.alloc();
-    let pool = new_pool(alloc).expect(&rt, "a pool is made");
+    let pool = pool_of(alloc, 4, 1).expect(&rt, "a pool is made");
     let mut threads = Vec::with_capacity(alloc, 5).expect(&rt, "memory is left");
     for product in 1..6u32 {
         let pool = Arc::try_clone(&pool).expect(&rt, "memory is left");
+        let thread = thread::spawn(&rt, move || serve(alloc, pool, product));
         threads
-            .push(thread::spawn(&rt, move || serve(alloc, pool, product)).expect(
-                &rt,
-                "a thread is made",
-            ))
+            .push(thread.expect(&rt, "a thread is made"))
             .expect(&rt, "memory is left");
     }
-    for thread in threads {
-        assert!(rt; thread.join(&rt));
-    }
+    assert!(rt; all_went_well(&rt, threads));
 }
 
 #[test]
 fn a_closed_session_leaves_its_place_to_another(rt: HostRuntime) {
-    let mut sessions = Sessions::new(
-        rt.alloc(),
-        new_pool(rt.alloc()).expect(&rt, "a pool is made"),
-    );
+    let mut sessions = new_sessions(&rt, rt.alloc());
     for session in 0..32u64 {
         sessions.open(session).expect(&rt, "a basket is free");
     }
@@ -75,10 +73,7 @@ fn a_closed_session_leaves_its_place_to_another(rt: HostRuntime) {
 
 #[test]
 fn a_session_that_is_opened_anew_gives_its_basket_back(rt: HostRuntime) {
-    let mut sessions = Sessions::new(
-        rt.alloc(),
-        new_pool(rt.alloc()).expect(&rt, "a pool is made"),
-    );
+    let mut sessions = new_sessions(&rt, rt.alloc());
     for _ in 0..100 {
         sessions.open(7).expect(&rt, "a basket is free");
         assert!(rt; holds(&sessions, 7, &[]));
@@ -105,10 +100,7 @@ fn gather(
 
 #[test]
 fn baskets_of_seventy_thousand_products_come_home(rt: HostRuntime) {
-    let mut sessions = Sessions::new(
-        rt.alloc(),
-        new_pool(rt.alloc()).expect(&rt, "a pool is made"),
-    );
+    let mut sessions = new_sessions(&rt, rt.alloc());
     for _ in 0..3 {
         let gathered = gather(&mut sessions, 7, 70_000).expect(&rt, "nothing is refused");
         assert_equal(&rt, gathered, (70_000, Some(69_999)));
@@ -145,12 +137,8 @@ fn close_each(sessions: &mut Sessions, product: u32) -> bool {
 
 #[test]
 fn three_hundred_and_twenty_sessions_are_open_at_once(rt: HostRuntime) {
-    let alloc = rt.alloc();
-    let pool = LinearObjectPool::with_limit(alloc, WithCapacity::new(alloc, 4), Clear, 10).expect(
-        &rt,
-        "a pool is made",
-    );
-    let mut sessions = Sessions::new(alloc, Arc::new(alloc, pool).expect(&rt, "memory is left"));
+    let pool = pool_of(rt.alloc(), 4, 10).expect(&rt, "a pool is made");
+    let mut sessions = Sessions::new(rt.alloc(), pool);
     for product in [1_000, 2_000] {
         open_each(&mut sessions, product).expect(&rt, "nothing is refused");
         assert_equal(&rt, sessions.open(320), Err(PullError::Limit));
@@ -160,10 +148,7 @@ fn three_hundred_and_twenty_sessions_are_open_at_once(rt: HostRuntime) {
 
 #[test]
 fn the_greatest_session_can_be_opened(rt: HostRuntime) {
-    let mut sessions = Sessions::new(
-        rt.alloc(),
-        new_pool(rt.alloc()).expect(&rt, "a pool is made"),
-    );
+    let mut sessions = new_sessions(&rt, rt.alloc());
     sessions.open(u64::MAX).expect(&rt, "a basket is free");
     sessions.add(u64::MAX, 7).expect(&rt, "nothing is refused");
     assert!(rt; holds(&sessions, u64::MAX, &[7]));
@@ -171,10 +156,7 @@ fn the_greatest_session_can_be_opened(rt: HostRuntime) {
 
 #[test]
 fn a_product_for_a_closed_session_is_let_go(rt: HostRuntime) {
-    let mut sessions = Sessions::new(
-        rt.alloc(),
-        new_pool(rt.alloc()).expect(&rt, "a pool is made"),
-    );
+    let mut sessions = new_sessions(&rt, rt.alloc());
     sessions.open(1).expect(&rt, "a basket is free");
     sessions.close(1);
     assert_equal(&rt, sessions.add(1, 7), Ok(()));
@@ -193,15 +175,9 @@ fn all_baskets_are_home(sessions: &mut Sessions) -> bool {
 
 #[test]
 fn the_basket_of_a_session_opened_anew_comes_home(rt: HostRuntime) {
-    let mut sessions = Sessions::new(
-        rt.alloc(),
-        new_pool(rt.alloc()).expect(&rt, "a pool is made"),
-    );
+    let mut sessions = new_sessions(&rt, rt.alloc());
     for products in 0..100u32 {
-        sessions.open(1).expect(&rt, "a basket is free");
-        for product in 0..products {
-            sessions.add(1, product).expect(&rt, "nothing is refused");
-        }
+        gather(&mut sessions, 1, products).expect(&rt, "nothing is refused");
     }
     sessions.close(1);
     assert!(rt; all_baskets_are_home(&mut sessions));
@@ -209,15 +185,9 @@ fn the_basket_of_a_session_opened_anew_comes_home(rt: HostRuntime) {
 
 #[test]
 fn the_basket_of_a_closed_session_comes_home(rt: HostRuntime) {
-    let mut sessions = Sessions::new(
-        rt.alloc(),
-        new_pool(rt.alloc()).expect(&rt, "a pool is made"),
-    );
+    let mut sessions = new_sessions(&rt, rt.alloc());
     for products in 0..100u32 {
-        sessions.open(1).expect(&rt, "a basket is free");
-        for product in 0..products {
-            sessions.add(1, product).expect(&rt, "nothing is refused");
-        }
+        gather(&mut sessions, 1, products).expect(&rt, "nothing is refused");
         sessions.close(1);
     }
     assert!(rt; all_baskets_are_home(&mut sessions));
@@ -238,7 +208,7 @@ fn use_baskets(rt: &impl Abort, sessions: &mut Sessions) {
 /// sessions that are open.
 #[test]
 fn baskets_come_home_where_memory_was_refused(rt: HostRuntime) {
-    let Ok(pool) = pool_of(rt.alloc(), 0) else {
+    let Ok(pool) = pool_of(rt.alloc(), 0, 1) else {
         return;
     };
     let owner = Arc::try_clone(&pool).expect(&rt, "an owner takes no memory");

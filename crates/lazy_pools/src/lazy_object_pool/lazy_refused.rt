@@ -2,6 +2,16 @@
 use nonblocking_pools::fixed_object_pool::{BusySeen, PoolNote};
 
 /// Why [`super::LazyObjectPool::try_pull`] gave no item.
+///
+/// # Examples
+///
+/// ```rust
+/// match pool.try_pull(&pass) {
+///     Ok(_item) => "an item",
+///     Err(LazyRefused::Busy(_)) => "each item was seen in use",
+///     Err(LazyRefused::NotMade) => "`init` returned `None`",
+/// }
+/// ```
 #[derive(Drop)]
 pub enum LazyRefused<'p, T> {
     /// Each item was in use at some moment of the call.
@@ -11,6 +21,16 @@ pub enum LazyRefused<'p, T> {
 }
 
 /// Why [`super::LazyObjectPool::pull_with`] gave no item.
+///
+/// # Examples
+///
+/// ```rust
+/// match pool.pull_with(|| Err("the server is down")) {
+///     Err(PullWithError::Make(cause)) => cause,
+///     Err(_) => "no item is free",
+///     Ok(_item) => "an item is there",
+/// }
+/// ```
 #[derive(Drop)]
 pub enum PullWithError<T, E> {
     /// The pool can have no more owners. Only of `pull_owned_with`.

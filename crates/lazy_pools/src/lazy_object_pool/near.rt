@@ -41,8 +41,8 @@ impl<'p, T: Drop, I: Init<T, K>, R: Reset<T, K>, K: Clean<T>> Near<'p, T, I, R, 
         Near { pool, page }
     }
 
-    /// Pulls a free item as [`LazyObjectPool::pull`] does, but begins at the page of this place, and
-    /// goes on at the hinted one.
+    /// Pulls a free item as [`LazyObjectPool::pull`] does, but begins at the page of this place,
+    /// and goes on at the hinted one.
     ///
     /// # Errors
     ///

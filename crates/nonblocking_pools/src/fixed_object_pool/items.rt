@@ -236,6 +236,7 @@ impl<T, K: Clean<T>> FixedItems<T, K> {
     }
 
     /// Pulls an item as `pull` does, from this page on and in this order.
+    #[inline(always)]
     fn pull_in_order(&self, start: usize, order: Order) -> Result<PulledItem<T>, PoolNote<T>>
         requires { start < (fixed_identity self.now).words }
         ensures pulled { IfOk result

@@ -2,6 +2,12 @@
 use thiserror::Error;
 
 /// Why an engine stopped before the end of its input. What was played and written stands.
+///
+/// # Examples
+///
+/// ```rust
+/// engine::run(&rt, alloc, kind, reset, &mut input, &mut output)?;
+/// ```
 #[derive(Clone, Copy, Debug, PartialEq, Eq, Hash, Error)]
 pub enum EngineError {
     /// A read failed.

@@ -11,6 +11,12 @@ use std::snapshot::Snapshot;
 
 /// What a caller has learned of one link. It has no bytes, and is for proofs. Two notes of one link
 /// that know a page know the same one, whichever threads made them.
+///
+/// # Examples
+///
+/// ```rust
+/// let (next, _note) = first.next()?; // the note knows which page the link leads to
+/// ```
 #[derive(Drop)]
 pub struct LinkNote<T, K: Clean<T>, O: Clean<T> = AnyValue> {
     pub(super) row: Note<Row<T, K, O>>,

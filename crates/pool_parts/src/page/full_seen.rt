@@ -40,6 +40,19 @@ impl PullPass {
 /// was made: by a word that was read, or by a try of its own bit.
 ///
 /// It borrows its pass, so it can't be kept past the pull.
+///
+/// # Examples
+///
+/// ```rust
+/// let pass = PullPass::new();
+/// let pulled = match page.try_alloc(&pass)? {
+///     Allocated::Slot(mut slot) => {
+///         *slot = 5;
+///         Some(slot.id())
+///     }
+///     Allocated::Full(_) => None,
+/// };
+/// ```
 #[derive(Drop)]
 pub struct FullSeen<'p, T> {
     pub seat: UserSeat<T>,

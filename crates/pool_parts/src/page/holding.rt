@@ -24,7 +24,7 @@ impl<T> Holding<T> {
     ghost use Rattle.pool_parts.specs.Note.{witness_page, witness_history};
     ghost use Rattle.pool_parts.specs.Page.{page_identity};
 
-    /// A witness of what the holder knows.
+    /// Returns a witness of what the holder knows.
     pub fn witness<K: Clean<T>>(&mut self, items: &Items<T, K>) -> Witness<T>
         requires { holding_page self.old ≡ items_identity items.now }
         ensures page { witness_page result ≡ holding_page self.old }
@@ -36,7 +36,7 @@ impl<T> Holding<T> {
         items.witness(&mut self.seat)
     }
 
-    /// The same, of an item of this page.
+    /// Returns the same of an item of this page.
     pub fn witness_of<K: Clean<T>>(&mut self, page: &Page<T, K>) -> Witness<T>
         requires { holding_page self.old ≡ page_identity page.now }
         ensures page { witness_page result ≡ holding_page self.old }

@@ -1,4 +1,5 @@
-//! The items of a page, or of a fixed pool: words with a bit for each item, and a place for each item's value.
+//! The items of a page, or of a fixed pool: words with a bit for each item, and a place for each
+//! item's value.
 ghost use Rattle.std.specs.Prelude.{◌≡◌, ◌+◌, ◌*◌, ◌/◌, ◌^◌, ◌<◌, ◌≤◌, ℕ, [], None, Some, IfOk, IfErr, MatchOption, false};
 ghost use Rattle.std.specs.Int.{bit_at};
 
@@ -16,11 +17,13 @@ use std::snapshot::Snapshot;
 pub struct TakenValue<T> {
     pub number: usize,
     pub value: T,
-    /// Whether no item of its word was free behind the step that took it. It decides nothing.
-    pub left_full: bool,
+    /// The bits of its word that were set after the step that took it. They decide nothing, and are
+    /// a whole word, so that an item on its way up is moved by words.
+    pub left: usize,
 }
 
-/// Items that threads share, 32 to a word. A page has one word, a fixed pool as many as its items need.
+/// Items that threads share, 32 to a word. A page has one word, a fixed pool as many as its items
+/// need.
 #[derive(Drop)]
 pub struct Items<T, K: Clean<T>> {
     pub(super) table: Table<Option<T>, UserView<T>, Opening<T>, PageRule<K>, Global>,
@@ -38,10 +41,12 @@ impl<T, K: Clean<T>> Items<T, K> {
     ghost use Rattle.pool_parts.specs.Refusal.{RefusesMaking};
     ghost use Rattle.pool_parts.specs.Word.{IsAllFree};
 
-    /// So many free items, as the words say: item `i` is the answer of call `i` of `init`, counted from 0. A return raises
-    /// its word's count by `raise`.
+    /// Creates so many free items, as the words say: item `i` is the answer of call `i` of `init`,
+    /// counted from 0. A return raises its word's count by `raise`.
     ///
-    /// It stops at the first `None`. Where it is refused, the items that were made are dropped.
+    /// # Errors
+    ///
+    /// `Memory`, or `Init` at the first `None`. The items that were made are dropped.
     pub fn new<I: Fn() -> Option<T>>(
         alloc: Global,
         count: usize,
@@ -104,7 +109,7 @@ impl<T, K: Clean<T>> Items<T, K> {
         }
     }
 
-    /// Tells a note what a witness knows. The histories of both are prefixes of one.
+    /// Adds what a witness knows to what a note knows. The histories of both are prefixes of one.
     pub fn tell(&self, note: &mut PageNote<T>, other: Witness<T>)
         requires note { note_page note.old ≡ items_identity self.now }
         requires other { witness_page other ≡ items_identity self.now }
@@ -115,7 +120,7 @@ impl<T, K: Clean<T>> Items<T, K> {
         self.look_again(&mut note.seat, 0);
     }
 
-    /// A witness of what a user knows.
+    /// Returns a witness of what a user knows.
     pub fn witness(&self, seat: &mut UserSeat<T>) -> Witness<T>
         requires { seat.old.table_id ≡ items_identity self.now }
         ensures items { witness_page result ≡ items_identity self.now }
@@ -129,6 +134,7 @@ impl<T, K: Clean<T>> Items<T, K> {
     }
 
     /// Clears the bits that were set in a word, lowest first, until one was still set.
+    #[inline(always)]
     pub fn take_lowest(
         &self,
         seat: &mut UserSeat<T>,
@@ -153,11 +159,11 @@ impl<T, K: Clean<T>> Items<T, K> {
     {
         let mut untried = word;
         while let Some((rest, bit)) = take_least(untried) {
-            if let Some((value, left_full)) = self.clear(seat, page, bit) {
+            if let Some((value, left)) = self.clear(seat, page, bit) {
                 return Some(TakenValue {
                     number: PAGE_ITEMS * page + bit as usize,
                     value,
-                    left_full,
+                    left,
                 });
             }
             untried = rest;

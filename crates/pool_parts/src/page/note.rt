@@ -1,10 +1,19 @@
-//! What somebody knows of a page's history while no item is held: a note, which may pull on from there, and a witness.
+//! What somebody knows of a page's history while no item is held: a note, which may pull on from
+//! there, and a witness.
 ghost use Rattle.std.specs.Prelude.{◌≡◌, [], None, false};
 ghost use Rattle.pool_parts.specs.OneProof.{same_holding, same_carrying};
 
 use super::user_view::UserSeat;
 
-/// What some user knew of a page's history, for another to be told by [`Page::tell`]. It has no bytes.
+/// What some user knew of a page's history, for another to be told by [`Page::tell`]. It has no
+/// bytes.
+///
+/// # Examples
+///
+/// ```rust
+/// let witness = slot.witness(); // knows what the holder knows
+/// page.tell(&mut note, witness); // now the note knows it too
+/// ```
 #[derive(Drop)]
 pub struct Witness<T> {
     pub seat: UserSeat<T>,
@@ -14,6 +23,17 @@ pub struct Witness<T> {
 /// What a user that holds nothing knows of a page's history. It has no bytes.
 ///
 /// [`Page::try_alloc_from`] pulls after all that it knows.
+///
+/// # Examples
+///
+/// ```rust
+/// let mut note = page.note(); // knows a beginning of the page's history
+/// if let Some(mut slot) = page.alloc()? {
+///     let witness = slot.witness(); // knows what the holder knows
+///     page.tell(&mut note, witness); // now the note knows it too
+///     Page::free(slot);
+/// }
+/// ```
 #[derive(Drop)]
 pub struct PageNote<T> {
     pub seat: UserSeat<T>,
@@ -34,7 +54,7 @@ pub struct Returned<T> {
 impl<T> PageNote<T> {
     ghost use Rattle.pool_parts.specs.Note.{note_page, note_history, witness_page, witness_history};
 
-    /// What the note knows, for another to be told.
+    /// Returns what the note knows, for another to be told.
     pub fn into_witness(self) -> Witness<T>
         ensures page { witness_page result ≡ note_page self }
         ensures history { witness_history result ≡ note_history self }

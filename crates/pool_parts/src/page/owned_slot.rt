@@ -23,7 +23,8 @@ pub(super) struct OwnedTakenId<T, K: Clean<T>> {
 
 /// An item that is out of a page, with its value and an owner of the page.
 ///
-/// A slot that is dropped drops its value, and its id stays out. [`OwnedSlot::free`] brings both back.
+/// A slot that is dropped drops its value, and its id stays out. [`OwnedSlot::free`] brings both
+/// back.
 ///
 /// # Examples
 ///
@@ -41,7 +42,7 @@ impl<T, K: Clean<T>> OwnedSlot<T, K> {
     ghost use Rattle.pool_parts.specs.Note.{IsReturned};
     ghost use Rattle.pool_parts.specs.OwnedSlot.{owned_slot_item};
 
-    /// The number of the item in its page.
+    /// Returns the number of the item in its page.
     pub fn id(&self) -> PageId
         ensures value { result ≡ (owned_slot_item self.now).id }
         ensures in_page { result < PAGE_ITEMS }
@@ -64,7 +65,8 @@ impl<T, K: Clean<T>> OwnedSlot<T, K> {
         items.are_two(&mut taken.holding, &mut other.holding);
     }
 
-    /// The value goes home, and the id is free again. The note knows the page's history up to the return.
+    /// Moves the value home, and the id is free again. The note knows the page's history up to the
+    /// return.
     pub fn free(self) -> PageNote<T>
     where
         T: Drop,

@@ -17,8 +17,8 @@ pub struct Opening<T> {
     pub raise: Snapshot<u64>,
 }
 
-/// The rule of a page: each free item is at home and meets the condition, each item that is out has one holder at most,
-/// and the page stands where one legal history has led.
+/// The rule of a page: each free item is at home and meets the condition, each item that is out has
+/// one holder at most, and the page stands where one legal history has led.
 pub struct PageRule<K> {
     condition: PhantomData<K>,
 }
@@ -40,7 +40,8 @@ impl<T> Play<Option<T>, UserView<T>> for Look {
     ghost then = { λ step first word new. Loads first.0 step.word word new };
 }
 
-/// A load of one word by a user that knows something already: what it finds out from there on starts anew.
+/// A load of one word by a user that knows something already: what it finds out from there on
+/// starts anew.
 pub struct LookAgain;
 
 impl<T> Play<Option<T>, UserView<T>> for LookAgain {

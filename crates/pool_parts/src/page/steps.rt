@@ -61,9 +61,9 @@ impl<T, K: Clean<T>> Items<T, K> {
         (low_half(word), count_of(word))
     }
 
-    /// Clears one bit. If it was set, it takes the value of that item out, and returns whether no
-    /// other bit of the word was set.
-    pub fn clear(&self, seat: &mut UserSeat<T>, page: usize, bit: PageId) -> Option<(T, bool)>
+    /// Clears one bit. If it was set, it takes the value of that item out, and returns the bits of
+    /// the word that stay set.
+    pub fn clear(&self, seat: &mut UserSeat<T>, page: usize, bit: PageId) -> Option<(T, usize)>
         requires items { seat.old.table_id ≡ items_identity self.now }
         requires in_items { page < (items_identity self.now).words }
         requires in_word { bit < 32 }
@@ -81,7 +81,7 @@ impl<T, K: Clean<T>> Items<T, K> {
             return None;
         }
         match words.exchange(seat, PAGE_ITEMS * page + bit as usize, None) {
-            Some(value) => Some((value, without_bit(word, bit) == 0)),
+            Some(value) => Some((value, without_bit(word, bit) as usize)),
             None => unreachable!(),
         }
     }

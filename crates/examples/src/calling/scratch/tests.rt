@@ -1,14 +1,24 @@
 //! A worker that uses its scratch again.
 use super::*;
-use std::test::Fail;
+use crate::assert_equal::assert_equal;
 
 #[test]
-fn each_use_finds_the_scratch_clean(rt: HostRuntime) -> Result<(), Fail> {
-    let worker = Worker {
-        pool: Pool::with_recycler(rt.alloc())?,
-    };
+fn each_use_finds_the_scratch_clean(rt: HostRuntime) {
+    let pool = Pool::with_recycler(rt.alloc()).expect(&rt, "a pool is made");
+    let worker = Worker { pool };
     for _ in 0..2 {
-        assert_eq!(rt; worker.use_once(), Some((0, 0)));
+        assert_equal(&rt, worker.use_once(), Some((0, 0)));
     }
-    Ok(())
+}
+
+#[test]
+fn a_used_scratch_comes_back(rt: HostRuntime) {
+    let pool = Pool::with_recycler(rt.alloc()).expect(&rt, "a pool is made");
+    let worker = Worker { pool };
+    assert_equal(&rt, worker.use_once(), Some((0, 0)));
+    let home = worker
+        .pool
+        .pull()
+        .map(|item| (item.page_number(), item.page_id()));
+    assert_equal(&rt, home, Ok((0, 0)));
 }

@@ -1,40 +1,41 @@
 use super::*;
 use crate::assert_equal::assert_equal;
+use crate::home::take_all;
 use lockfree_object_pool::closures::{Copied, Keep};
-use std::test::Fail;
 
-#[test]
-fn stores_lend_what_their_pools_have(rt: HostRuntime) -> Result<(), Fail> {
-    let store = Store::<Vec<u8>> {
-        pool: Pool::with_recycler(rt.alloc())?,
-    };
-    let lent = store.lend(&|bytes: &mut Vec<u8>| bytes.push(1).is_ok() && bytes.len() == 1);
-    assert_eq!(rt;
-        (lent, format!(in rt.alloc(); "{store:?}")?.as_str()),
-        (
-            Ok(true),
-            "Store { pool: LinearObjectPool { limit: None, .. } }"
-        )
-    );
-    Ok(())
+/// Puts one byte into what a store lends, and returns whether it is the only one.
+fn put_one(bytes: &mut Vec<u8>) -> bool {
+    bytes.push(1).is_ok() && bytes.len() == 1
+}
+
+/// Puts one byte into what a store lends, and returns whether it did so or left it empty.
+fn put_one_or_none(bytes: &mut Vec<u8>) -> bool {
+    bytes.push(1).is_ok() || bytes.is_empty()
 }
 
 #[test]
-fn sheets_come_empty(rt: HostRuntime) -> Result<(), Fail> {
-    let sheets = Sheets {
-        pool: LinearObjectPool::new(rt.alloc(), WithCapacity::new(rt.alloc(), 4), Clear)?,
-    };
-    assert_eq!(rt; sheets.letters(), Ok(0));
-    Ok(())
+fn stores_lend_what_their_pools_have(rt: HostRuntime) {
+    let pool = Pool::with_recycler(rt.alloc()).expect(&rt, "a pool is made");
+    let store = Store::<Vec<u8>> { pool };
+    assert_equal(&rt, store.lend(&put_one), Ok(true));
+    let shown = format!(in rt.alloc(); "{store:?}").expect(&rt, "memory is left");
+    let expected = "Store { pool: LinearObjectPool { limit: None, .. } }";
+    assert_equal(&rt, shown.as_str(), expected);
 }
 
 #[test]
-fn an_arena_has_a_value(rt: HostRuntime) -> Result<(), Fail> {
-    let arena = Arena {
-        pool: LinearObjectPool::new(rt.alloc(), Copied::new(7u32), Keep)?,
-    };
+fn sheets_come_empty(rt: HostRuntime) {
+    let room = WithCapacity::new(rt.alloc(), 4);
+    let pool = LinearObjectPool::new(rt.alloc(), room, Clear).expect(&rt, "a pool is made");
+    let sheets = Sheets { pool };
+    assert_equal(&rt, sheets.letters(), Ok(0));
+}
+
+#[test]
+fn an_arena_has_a_value(rt: HostRuntime) {
+    let pool = LinearObjectPool::new(rt.alloc(), Copied::new(7u32), Keep).expect(&rt, "made");
+    let arena = Arena { pool };
     assert!(rt; arena.has_one());
-    Ok(())
 }
 
 /// Whichever request is refused, what a store lends comes back: else forty values would be of more
@@ -46,10 +47,33 @@ fn lent_values_come_back_where_memory_was_refused(rt: HostRuntime) {
     };
     let store = Store::<Vec<u8>> { pool };
     for _ in 0..40 {
-        let lent = store.lend(&|bytes: &mut Vec<u8>| bytes.push(1).is_ok() || bytes.is_empty());
-        assert_equal(&rt, lent, Ok(true));
+        assert_equal(&rt, store.lend(&put_one_or_none), Ok(true));
     }
-    let home = store
+    let home = store.pool.pull().expect(&rt, "a value is home");
+    assert_equal(&rt, (home.page_number(), home.page_id()), (0, 0));
+}
+
+#[test]
+fn a_sheet_whose_letters_are_counted_comes_back(rt: HostRuntime) {
+    let alloc = rt.alloc();
+    let pool = LinearObjectPool::with_limit(alloc, WithCapacity::new(alloc, 4), Clear, 1).expect(
+        &rt,
+        "a pool is made",
+    );
+    let sheets = Sheets { pool };
+    assert_equal(&rt, sheets.letters(), Ok(0));
+    assert_equal(&rt, take_all(&sheets.pool), 32);
+}
+
+#[test]
+fn the_value_that_an_arena_looks_for_comes_back(rt: HostRuntime) {
+    let pool = LinearObjectPool::new(rt.alloc(), Copied::new(7u32), Keep).expect(
+        &rt,
+        "a pool is made",
+    );
+    let arena = Arena { pool };
+    assert!(rt; arena.has_one());
+    let home = arena
         .pool
         .pull()
         .map(|item| (item.page_number(), item.page_id()));

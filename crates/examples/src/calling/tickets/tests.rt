@@ -1,20 +1,16 @@
 //! Tickets that are used, and a page of them that is out.
 use super::*;
 use crate::assert_equal::assert_equal;
-use std::test::Fail;
 use std::thread;
 
 #[test]
-fn each_ticket_comes_unused_and_no_second_page_is_made(rt: HostRuntime) -> Result<(), Fail> {
-    let tickets = new_tickets(rt.alloc())?;
+fn each_ticket_comes_unused_and_no_second_page_is_made(rt: HostRuntime) {
+    let tickets = new_tickets(rt.alloc()).expect(&rt, "a pool is made");
     for _ in 0..2 {
-        assert_eq!(rt; use_one(&tickets), Ok(0));
+        assert_equal(&rt, use_one(&tickets), Ok(0));
     }
-    assert_eq!(rt;
-        past_a_page(rt.alloc(), &tickets),
-        Ok(Some(PullError::Init))
-    );
-    Ok(())
+    let refused = past_a_page(rt.alloc(), &tickets);
+    assert_equal(&rt, refused, Ok(Some(PullError::Init)));
 }
 
 /// A press, and how many threads have come to it.
@@ -58,7 +54,7 @@ fn sum_of(printed: &[usize]) -> usize {
 
 /// A press prints 40 tickets and no more, however many threads ask for them.
 #[test]
-fn forty_tickets_are_printed(rt: HostRuntime) -> Result<(), Fail> {
+fn forty_tickets_are_printed(rt: HostRuntime) {
     for _ in 0..300 {
         let crowd = Crowd {
             press: Press {
@@ -66,10 +62,10 @@ fn forty_tickets_are_printed(rt: HostRuntime) -> Result<(), Fail> {
             },
             here: AtomicUsize::new(0),
         };
-        let printed = thread::map_indices(&rt, rt.alloc(), 2, &|_| crowd.print())?;
+        let printed = thread::map_indices(&rt, rt.alloc(), 2, &|_| crowd.print());
+        let printed = printed.expect(&rt, "memory is left");
         assert_equal(&rt, (printed.len(), sum_of(&printed)), (2, 40));
     }
-    Ok(())
 }
 
 /// Whichever request is refused, each ticket comes back: else one of 32 would need a second page.

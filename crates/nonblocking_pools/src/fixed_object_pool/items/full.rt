@@ -8,21 +8,18 @@ use super::order::Order;
 use pool_parts::clean::Clean;
 use pool_parts::page::items::TakenValue;
 use pool_parts::page::user_view::UserSeat;
+use std::snapshot::Snapshot;
 
 impl<T, K: Clean<T>> FixedItems<T, K> {
     ghost use Rattle.nonblocking_pools.specs.FixedAnswer.{returns_between};
-    ghost use Rattle.nonblocking_pools.specs.FixedCount.{FindsFull, passes_of};
+    ghost use Rattle.nonblocking_pools.specs.FixedCount.{FindsFull, Tallies, is_beside, passes_of};
     ghost use Rattle.nonblocking_pools.specs.FixedPool.{fixed_identity};
     ghost use Rattle.pool_parts.specs.PageRule.{IsOutNow, IsSound, item_of};
-    ghost use Rattle.pool_parts.specs.Taking.{TakesOne};
+    ghost use Rattle.pool_parts.specs.Taking.{MissesAll, TakesOne};
 
     /// Takes an item that is free, by a user that has read the first word. `None` if no item was
-    /// free at one moment.
-    ///
-    /// It passes over the words as `take` does, again and again, until it has an item, or until a
-    /// pass finds the first word empty and the others count as many returns as in the pass before.
-    /// Then no item was free when the first word was read: each of the others was seen in use
-    /// before that, and came back neither before nor until it was read again.
+    /// free at one moment. Most pulls take one in the first pass, so that is inlined.
+    #[inline(always)]
     pub(super) fn take_or_full(
         &self,
         seat: &mut UserSeat<T>,
@@ -50,10 +47,59 @@ impl<T, K: Clean<T>> FixedItems<T, K> {
             TakesOne K.meets (fixed_identity self.now).slots taken.number taken.value seat.old.me
             seat.new.me) }
     {
-        let mut before = match self.take(seat, start, word, order) {
-            Ok(taken) => return Some(taken),
-            Err(returns) => returns,
-        };
+        let first = Snapshot::of(&*seat);
+        match self.take(seat, start, word, order) {
+            Ok(taken) => Some(taken),
+            Err(returns) => {
+                // Moved once more, so that an item of the first pass stays in registers.
+                let taken = self.take_again(seat, start, order, returns, first)?;
+                Some(taken)
+            }
+        }
+    }
+
+    /// Takes an item that is free, by a user whose first pass took none, and counted so many
+    /// returns. `first` is the user as it was before.
+    ///
+    /// It passes over the words as `take` does, again and again, until it has an item, or until a
+    /// pass finds the first word empty and the others count as many returns as in the pass before.
+    /// Then no item was free when the first word was read: each of the others was seen in use
+    /// before that, and came back neither before nor until it was read again.
+    #[inline(never)]
+    fn take_again(
+        &self,
+        seat: &mut UserSeat<T>,
+        start: usize,
+        order: Order,
+        returns: u32,
+        first: Snapshot<UserSeat<T>>,
+    ) -> Option<TakenValue<T>>
+        requires pool { seat.old.table_id ≡ fixed_identity self.now }
+        requires in_pool { start < (fixed_identity self.now).words }
+        requires carries_none { first.value.me.1 ≡ [] }
+        requires holds_none { first.value.me.0.held ≡ None }
+        requires here { first.value.me.0.gone ≡ false }
+        requires sound { IsSound first.value.me.0 }
+        requires missed { MissesAll 0 (fixed_identity self.now).slots first.value.me seat.old.me }
+        requires counted { Tallies (is_beside 0 (fixed_identity self.now).words start) returns
+            first.value.me.0 seat.old.me.0 }
+        requires loads { seat.old.me.0.loads + 1 ≤ first.value.me.0.loads +
+            (fixed_identity self.now).words }
+        requires tries { seat.old.me.0.tries ≤ first.value.me.0.tries + 32 *
+            (fixed_identity self.now).words }
+        ensures pool { seat.new.table_id ≡ seat.old.table_id }
+        ensures loads { seat.new.me.0.loads + 1 ≤ first.value.me.0.loads +
+            (fixed_identity self.now).words * passes_of result
+            (returns_between first.value.me.0.operations seat.new.me.0.operations) }
+        ensures tries { seat.new.me.0.tries ≤ first.value.me.0.tries + 32 *
+            ((fixed_identity self.now).words * passes_of result
+            (returns_between first.value.me.0.operations seat.new.me.0.operations)) }
+        ensures outcome { MatchOption result
+            (FindsFull (fixed_identity self.now).slots first.value.me seat.new.me) (λ taken.
+            TakesOne K.meets (fixed_identity self.now).slots taken.number taken.value
+            first.value.me seat.new.me) }
+    {
+        let mut before = returns;
         for _ in 0..u64::MAX {
             let (word, _) = self.shared.count(seat, start);
             let after = match self.take(seat, start, word, order) {

@@ -23,6 +23,7 @@ impl<T, K: Clean<T>> FixedItems<T, K> {
     /// # Errors
     ///
     /// How many returns the other words count together, modulo 2^32.
+    #[inline(always)]
     pub(super) fn take(
         &self,
         seat: &mut UserSeat<T>,
@@ -72,9 +73,12 @@ impl<T, K: Clean<T>> FixedItems<T, K> {
     /// Takes an item that is free from the words beside the first one, of which it asks this one
     /// next, and then goes round.
     ///
+    /// It isn't inlined, so that a pull of an item of the first word is short.
+    ///
     /// # Errors
     ///
     /// How many returns these words count together, modulo 2^32.
+    #[inline(never)]
     fn take_beside(
         &self,
         seat: &mut UserSeat<T>,
@@ -114,6 +118,7 @@ impl<T, K: Clean<T>> FixedItems<T, K> {
     /// # Errors
     ///
     /// How many returns these words count together, modulo 2^32.
+    #[inline(always)]
     fn scan(
         &self,
         seat: &mut UserSeat<T>,
