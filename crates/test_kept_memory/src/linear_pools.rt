@@ -104,13 +104,13 @@ fn returns(alloc: Global, turns: usize) -> Option<()> {
     Some(())
 }
 
-/// A pool of two pages ends with the last of its items.
+/// A pool of three pages, whose links lie in two rows, ends with the last of its items.
 fn ends(alloc: Global, turns: usize) -> Option<()> {
     let supply = Supply::endless(alloc)?;
     for _ in 0..turns {
         let pool = new_pool(alloc, &supply)?;
-        let mut held = Vec::with_capacity(alloc, PAGE_ITEMS + 1).ok()?;
-        for _ in 0..PAGE_ITEMS + 1 {
+        let mut held = Vec::with_capacity(alloc, 2 * PAGE_ITEMS + 1).ok()?;
+        for _ in 0..2 * PAGE_ITEMS + 1 {
             held.push(pool.pull_owned().ok()?).ok()?;
         }
         drop(pool);

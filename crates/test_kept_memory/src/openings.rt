@@ -52,7 +52,8 @@ pub fn observe<R: Files + AllocGlobal + Print>(
     observe_openings::<Pool, R>(alloc, observer, "opening 100 linear pools")?;
     observe_openings::<Fixed, R>(alloc, observer, "opening 100 fixed pools")?;
     observe_openings::<Buffers, R>(alloc, observer, "opening 100 buffer pools")?;
-    observe_lazy_opening(alloc, observer)
+    observe_lazy_opening(alloc, observer)?;
+    observe_growing(alloc, observer)
 }
 
 /// What opens.
@@ -155,4 +156,31 @@ pub fn zeros(alloc: Global) -> Option<Prepared<u32>> {
 /// Creates a pool.
 pub fn new_pool(alloc: Global) -> Option<Pool> {
     LinearObjectPool::new(alloc, Copied::new(0), Keep).ok()
+}
+
+/// Appends a byte to each of many buffers, which takes a few bytes each.
+fn observe_growing<R: Files + AllocGlobal + Print>(
+    alloc: Global,
+    observer: &mut Observer<R>,
+) -> Result<()> {
+    let before = observer.before()?;
+    let grown = all_grow(alloc);
+    observer.observe_growth(
+        "a byte in each of 100 buffers",
+        KILOBYTES,
+        before,
+        grown.is_some(),
+    )
+}
+
+/// Holds as many buffers together, with a byte each.
+fn all_grow(alloc: Global) -> Option<()> {
+    let pool: Buffers = BufferPool::new(alloc, WithCapacity::new(alloc, 0), Clear, 4).ok()?;
+    let mut held = Vec::with_capacity(alloc, OPENINGS).ok()?;
+    for _ in 0..OPENINGS {
+        let mut buffer = pool.pull().ok()?;
+        buffer.append(&[7]).ok()?;
+        held.push(buffer).ok()?;
+    }
+    Some(())
 }

@@ -1,6 +1,6 @@
 //! Pulls that make their item by a closure of the call, whose error reaches the caller.
 use crate::assert_equal::assert_equal;
-use crate::numbers::{Numbers, opened, opened_shared, wait_for_use};
+use crate::numbers::{Numbers, numbers, opened, opened_shared, wait_for_use};
 use lazy_pools::lazy_object_pool::lazy_refused::PullWithError;
 use std::ops::Deref;
 use std::rt::Clock;
@@ -114,4 +114,20 @@ fn a_failed_making_wakes_one_that_waits(rt: HostRuntime) {
     let pool = opened(&rt, rt.alloc());
     let time = waited(&rt, &pool).expect(&rt, "the making fails, and the other pull has an item");
     assert!(rt; time < Duration::from_secs(20));
+}
+
+/// Makes a five, once the pool has an item beside it.
+fn five_beside_one(pool: &Numbers) -> Result<u32, &'static str> {
+    match pool.fill(1) {
+        Ok(()) => Ok(5),
+        Err(_) => Err("down"),
+    }
+}
+
+/// A filling passes over the place of an item that is being made, which isn't there yet.
+#[test]
+fn a_filling_makes_an_item_beside_one_in_the_making(rt: HostRuntime) {
+    let pool = numbers(rt.alloc(), 2).expect(&rt, "a pool is made");
+    let gave = outcome_of(&pool.pull_with(|| five_beside_one(&pool)));
+    assert_equal(&rt, (gave, pool.made()), (Gave::Value(5), 2));
 }

@@ -11,6 +11,7 @@ use std::sync::{Arc, Wait};
 use std::thread;
 use std::time::Duration;
 use test_values::counted::NEVER;
+use test_values::tallied::Tallied;
 
 #[test]
 fn a_last_owner_drops_what_the_pool_has(rt: HostRuntime) {
@@ -55,4 +56,30 @@ fn an_owned_item_comes_home_from_another_thread(rt: HostRuntime) {
         let again = *waited_for(&rt, &pool);
         assert_equal(&rt, (again, thread.join(&rt)), (3, 7));
     }
+}
+
+/// Fails to make a value.
+fn down() -> Result<Tallied, &'static str> {
+    Err("down")
+}
+
+/// A pull that is refused keeps no owner of its pool, whoever refuses it.
+#[test]
+fn a_refused_pull_keeps_no_owner(rt: HostRuntime) {
+    let (tally, pool) = tallied(&rt, rt.alloc(), 0, 1);
+    let pool = Arc::new(rt.alloc(), pool).expect(&rt, "memory is left");
+    let by_init = pool.pull_owned().err();
+    let by_closure = pool.pull_owned_with(down).is_err();
+    let item = pool.pull_owned().expect(&rt, "an item is free");
+    let beside = pool.pull_owned().err();
+    let later = pool.pull_owned_timeout(&rt, Duration::from_millis(1)).err();
+    drop(item);
+    drop(pool);
+    let limit = Some(PullError::Limit);
+    assert_equal(
+        &rt,
+        (by_init, by_closure, beside, later),
+        (Some(PullError::Init), true, limit, limit),
+    );
+    assert_equal(&rt, tally.now(), (2, 1));
 }

@@ -128,11 +128,8 @@ fn pulled_at_last(pool: &ReadyPool) -> Option<Buffer<'_, WithCapacity, Clear>> {
 
 #[test]
 fn five_threads_find_each_buffer_empty(rt: HostRuntime) {
-    let pool = Arc::new(
-        rt.alloc(),
-        one_page(rt.alloc()).expect(&rt, "a pool is made"),
-    )
-    .expect(&rt, "memory is left");
+    let pool = one_page(rt.alloc()).expect(&rt, "a pool is made");
+    let pool = Arc::new(rt.alloc(), pool).expect(&rt, "memory is left");
     let mut threads = Vec::with_capacity(rt.alloc(), 5).expect(&rt, "memory is left");
     for _ in 0..5 {
         let pool = Arc::try_clone(&pool).expect(&rt, "memory is left");

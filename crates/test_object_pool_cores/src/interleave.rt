@@ -1,4 +1,6 @@
 //! Worked rows, each a list of events with the answers that they have to give.
+ghost use Rattle.std.specs.Prelude.{◌≤◌};
+
 use crate::assert_equal::assert_equal;
 use object_pool_cores::interleave::*;
 use pool_parts::PullError;
@@ -8,8 +10,10 @@ use std::alloc::{AllocError, Global};
 use std::cell::Cell;
 use std::process::Abort;
 use std::rc::Rc;
-use test_values::counted::Counted;
-use test_values::tally::Tally;
+use std::sync::Arc;
+use test_values::counted::NEVER;
+use test_values::tallied::Tallied;
+use test_values::tally::{Tally, new_tally};
 
 mod hints;
 mod late_links;
@@ -25,8 +29,22 @@ fn zeros(alloc: Global) -> Result<Prepared<u32>, PullError> {
     Prepared::make(alloc, &|| Some(0))
 }
 
-fn unbounded(alloc: Global) -> Result<World<u32, Keep>, PullError> {
-    World::new(alloc, zeros(alloc)?, Keep)
+/// Creates a world with this first page, and no limit.
+fn world_of<T: Drop>(rt: &impl Abort, alloc: Global, first: Prepared<T>) -> World<T, Keep> {
+    World::new(alloc, first, Keep).expect(rt, "a world is made")
+}
+
+/// Creates a world of zeros, with no limit.
+fn unbounded(rt: &impl Abort, alloc: Global) -> World<u32, Keep> {
+    world_of(rt, alloc, zeros(alloc).expect(rt, "values are made"))
+}
+
+/// Creates a world of zeros that may have so many pages.
+fn limited(rt: &impl Abort, alloc: Global, pages: usize) -> World<u32, Keep>
+    requires { 1 ≤ pages }
+{
+    let first = zeros(alloc).expect(rt, "values are made");
+    World::with_limit(alloc, first, Keep, pages).expect(rt, "a world is made")
 }
 
 /// An event as it stands in a table of steps. The values of a page come from what the table is
@@ -61,15 +79,9 @@ impl Pages<u32> for ZeroPages {
     }
 }
 
-/// Pages whose values are counted.
-#[derive(Drop)]
-struct CountedPages<'c> {
-    tally: &'c Tally,
-}
-
-impl<'c> Pages<Counted<'c>> for CountedPages<'c> {
-    fn page(&self, alloc: Global) -> Result<Prepared<Counted<'c>>, PullError> {
-        make_counted(alloc, self.tally)
+impl Pages<Tallied> for Arc<Tally> {
+    fn page(&self, alloc: Global) -> Result<Prepared<Tallied>, PullError> {
+        make_tallied(alloc, self, NEVER)
     }
 }
 
@@ -121,9 +133,13 @@ fn give_back<T: Drop, R: Reset<T, AnyValue>>(world: &mut World<T, R>, agent: usi
     let _ = world.step(Event::OrMask(agent));
 }
 
-/// 32 items whose makings and drops are counted.
-fn make_counted<'c>(alloc: Global, tally: &'c Tally) -> Result<Prepared<Counted<'c>>, PullError> {
-    Prepared::make(alloc, &|| Some(tally.make()))
+/// Makes 32 values that are counted, but where this call, counted from 0, is refused.
+fn make_tallied(
+    alloc: Global,
+    tally: &Arc<Tally>,
+    refused: usize,
+) -> Result<Prepared<Tallied>, PullError> {
+    Prepared::make(alloc, &|| Tallied::new_but(tally, refused))
 }
 
 /// 32 owners more of a value, whose count tells how many of them live.
@@ -131,9 +147,18 @@ fn owners(alloc: Global, shared: &Rc<u32>) -> Result<Prepared<Rc<u32>>, PullErro
     Prepared::make(alloc, &|| shared.clone().ok())
 }
 
+/// A world of values that are counted.
+type TalliedWorld = World<Tallied, Keep>;
+
+/// Creates such a world, with no limit.
+fn tallied_world(rt: &impl Abort, alloc: Global, tally: &Arc<Tally>) -> TalliedWorld {
+    let first = make_tallied(alloc, tally, NEVER).expect(rt, "values are made");
+    world_of(rt, alloc, first)
+}
+
 #[test]
 fn a_lost_clearing_tries_the_next_bit(rt: HostRuntime) {
-    let mut world = unbounded(rt.alloc()).expect(&rt, "a world is made");
+    let mut world = unbounded(&rt, rt.alloc());
     const STEPS: [(Act, Seen); 7] = [
         (Act::Begin, Seen::Began(0)),
         (Act::Begin, Seen::Began(1)),
@@ -147,45 +172,45 @@ fn a_lost_clearing_tries_the_next_bit(rt: HostRuntime) {
     assert_equal(&rt, world.word(0), Some(4294967292));
 }
 
+/// Has two agents make a page each while one is held: the second is too late to link its own.
+fn lose_a_link(rt: &impl Abort, alloc: Global, tally: &Arc<Tally>, mut world: TalliedWorld) {
+    const STEPS: [(Act, Seen); 14] = [
+        (Act::Begin, Seen::Began(32)),
+        (Act::Begin, Seen::Began(33)),
+        (Act::ReadMask(32), Seen::Word(32, 0)),
+        (Act::ReadMask(33), Seen::Word(33, 0)),
+        (Act::ReadNext(32), Seen::Next(32, false)),
+        (Act::ReadNext(33), Seen::Next(33, false)),
+        (Act::MakePage(32), Seen::Made(32)),
+        (Act::MakePage(33), Seen::Made(33)),
+        (Act::ExchangeNext(32), Seen::Linked(32)),
+        (Act::ExchangeNext(33), Seen::Lost(33)),
+        (Act::ReadMask(32), Seen::Word(32, FULL)),
+        (Act::ClearBit(32), Seen::Pulled(32, 32)),
+        (Act::ReadMask(33), Seen::Word(33, 4294967294)),
+        (Act::ClearBit(33), Seen::Pulled(33, 33)),
+    ];
+    hold(&mut world, 32);
+    play(rt, alloc, tally, &mut world, &STEPS);
+    assert_equal(rt, (tally.now(), world.pages()), ((96, 32), 2));
+}
+
 #[test]
 fn a_lost_link_takes_from_the_linked_page(rt: HostRuntime) {
-    for limit in [None, Some(2)] {
-        let tally = Tally::new();
-        let first = make_counted(rt.alloc(), &tally).expect(&rt, "values are made");
-        let mut world = match limit {
-            Some(pages) => World::with_limit(rt.alloc(), first, Keep, pages).expect(
-                &rt,
-                "a world is made",
-            ),
-            None => World::new(rt.alloc(), first, Keep).expect(&rt, "a world is made"),
-        };
-        hold(&mut world, 32);
-        const STEPS: [(Act, Seen); 14] = [
-            (Act::Begin, Seen::Began(32)),
-            (Act::Begin, Seen::Began(33)),
-            (Act::ReadMask(32), Seen::Word(32, 0)),
-            (Act::ReadMask(33), Seen::Word(33, 0)),
-            (Act::ReadNext(32), Seen::Next(32, false)),
-            (Act::ReadNext(33), Seen::Next(33, false)),
-            (Act::MakePage(32), Seen::Made(32)),
-            (Act::MakePage(33), Seen::Made(33)),
-            (Act::ExchangeNext(32), Seen::Linked(32)),
-            (Act::ExchangeNext(33), Seen::Lost(33)),
-            (Act::ReadMask(32), Seen::Word(32, FULL)),
-            (Act::ClearBit(32), Seen::Pulled(32, 32)),
-            (Act::ReadMask(33), Seen::Word(33, 4294967294)),
-            (Act::ClearBit(33), Seen::Pulled(33, 33)),
-        ];
-        let pages = CountedPages { tally: &tally };
-        play(&rt, rt.alloc(), &pages, &mut world, &STEPS);
-        assert_equal(&rt, tally.now(), (96, 32));
-        assert_equal(&rt, (world.pages(), world.limit()), (2, limit));
-    }
+    let tally = new_tally(rt.alloc()).expect(&rt, "memory is left");
+    let world = tallied_world(&rt, rt.alloc(), &tally);
+    assert_equal(&rt, world.limit(), None);
+    lose_a_link(&rt, rt.alloc(), &tally, world);
+    let tally = new_tally(rt.alloc()).expect(&rt, "memory is left");
+    let first = make_tallied(rt.alloc(), &tally, NEVER).expect(&rt, "values are made");
+    let world = World::with_limit(rt.alloc(), first, Keep, 2).expect(&rt, "a world is made");
+    assert_equal(&rt, world.limit(), Some(2));
+    lose_a_link(&rt, rt.alloc(), &tally, world);
 }
 
 #[test]
 fn a_bit_that_was_taken_is_passed_over(rt: HostRuntime) {
-    let mut world = unbounded(rt.alloc()).expect(&rt, "a world is made");
+    let mut world = unbounded(&rt, rt.alloc());
     hold(&mut world, 32);
     give_back(&mut world, 0);
     give_back(&mut world, 2);
@@ -204,7 +229,7 @@ fn a_bit_that_was_taken_is_passed_over(rt: HostRuntime) {
 
 #[test]
 fn an_event_that_is_not_enabled_changes_nothing(rt: HostRuntime) {
-    let mut world = unbounded(rt.alloc()).expect(&rt, "a world is made");
+    let mut world = unbounded(&rt, rt.alloc());
     const STEPS: [(Act, Seen); 3] = [
         (Act::Begin, Seen::Began(0)),
         (Act::MoveOut(0), Seen::NotEnabled),
@@ -216,7 +241,7 @@ fn an_event_that_is_not_enabled_changes_nothing(rt: HostRuntime) {
 
 #[test]
 fn an_agent_alone_holds_after_three_events(rt: HostRuntime) {
-    let mut world = unbounded(rt.alloc()).expect(&rt, "a world is made");
+    let mut world = unbounded(&rt, rt.alloc());
     const STEPS: [(Act, Seen); 4] = [
         (Act::Begin, Seen::Began(0)),
         (Act::ReadMask(0), Seen::Word(0, FULL)),
@@ -232,7 +257,7 @@ fn an_agent_alone_holds_after_three_events(rt: HostRuntime) {
 
 #[test]
 fn an_agent_alone_links_a_page_after_a_full_one(rt: HostRuntime) {
-    let mut world = unbounded(rt.alloc()).expect(&rt, "a world is made");
+    let mut world = unbounded(&rt, rt.alloc());
     hold(&mut world, 32);
     const STEPS: [(Act, Seen); 8] = [
         (Act::Begin, Seen::Began(32)),
@@ -249,7 +274,7 @@ fn an_agent_alone_links_a_page_after_a_full_one(rt: HostRuntime) {
 
 #[test]
 fn a_refusal_leaves_the_pages_alone(rt: HostRuntime) {
-    let mut world = unbounded(rt.alloc()).expect(&rt, "a world is made");
+    let mut world = unbounded(&rt, rt.alloc());
     hold(&mut world, 32);
     const STEPS: [(Act, Seen); 7] = [
         (Act::Begin, Seen::Began(32)),
@@ -269,7 +294,7 @@ fn a_refusal_leaves_the_pages_alone(rt: HostRuntime) {
 
 #[test]
 fn a_page_may_be_linked_although_a_number_came_back(rt: HostRuntime) {
-    let mut world = unbounded(rt.alloc()).expect(&rt, "a world is made");
+    let mut world = unbounded(&rt, rt.alloc());
     hold(&mut world, 32);
     give_back(&mut world, 0);
     const STEPS: [(Act, Seen); 13] = [
@@ -293,44 +318,26 @@ fn a_page_may_be_linked_although_a_number_came_back(rt: HostRuntime) {
 
 #[test]
 fn a_full_world_at_its_limit_refuses(rt: HostRuntime) {
-    for returns_between in [false, true] {
-        let mut world = World::with_limit(
-            rt.alloc(),
-            zeros(rt.alloc()).expect(&rt, "values are made"),
-            Keep,
-            1,
-        )
-        .expect(&rt, "a world is made");
+    const LOOKS: [(Act, Seen); 2] = [
+        (Act::Begin, Seen::Began(32)),
+        (Act::ReadMask(32), Seen::Word(32, 0)),
+    ];
+    const LAST: [(Act, Seen); 1] = [(Act::ReadNext(32), Seen::Refused(32, PullError::Limit))];
+    for (returned, word) in [(0, 0), (1, 128)] {
+        let mut world = limited(&rt, rt.alloc(), 1);
         hold(&mut world, 32);
-        let began = world.step(Event::Begin);
-        let read = world.step(Event::ReadMask(32));
-        if returns_between {
+        play(&rt, rt.alloc(), &ZeroPages, &mut world, &LOOKS);
+        for _ in 0..returned {
             give_back(&mut world, 7);
         }
-        let next = world.step(Event::ReadNext(32));
-        assert_equal(
-            &rt,
-            (began, read, next),
-            (
-                Seen::Began(32),
-                Seen::Word(32, 0),
-                Seen::Refused(32, PullError::Limit),
-            ),
-        );
-        let word = if returns_between { 128 } else { 0 };
+        play(&rt, rt.alloc(), &ZeroPages, &mut world, &LAST);
         assert_equal(&rt, (world.pages(), world.word(0)), (1, Some(word)));
     }
 }
 
 #[test]
 fn an_agent_alone_is_refused_after_two_events_a_page(rt: HostRuntime) {
-    let mut world = World::with_limit(
-        rt.alloc(),
-        zeros(rt.alloc()).expect(&rt, "values are made"),
-        Keep,
-        2,
-    )
-    .expect(&rt, "a world is made");
+    let mut world = limited(&rt, rt.alloc(), 2);
     hold(&mut world, 32);
     const STEPS: [(Act, Seen); 5] = [
         (Act::Begin, Seen::Began(32)),
@@ -363,42 +370,37 @@ fn an_agent_alone_is_refused_after_two_events_a_page(rt: HostRuntime) {
 #[test]
 fn a_page_is_made_whole_or_not_at_all(rt: HostRuntime) {
     for refused in 0..32usize {
-        let tally = Tally::new();
-        let made = Prepared::make(rt.alloc(), &|| tally.make_but(refused));
-        assert!(rt; matches!(made, Err(PullError::Init)));
-        assert_equal(&rt, tally.now(), (refused.saturating_add(1), refused));
+        let tally = new_tally(rt.alloc()).expect(&rt, "memory is left");
+        let refusal = make_tallied(rt.alloc(), &tally, refused).err();
+        assert_equal(
+            &rt,
+            (refusal, tally.now()),
+            (Some(PullError::Init), (refused.saturating_add(1), refused)),
+        );
     }
 }
 
 /// What lies at the first place after an agent wrote 9 there and returned it.
-fn left_of_nine<R: Reset<u32, AnyValue>>(
-    alloc: Global,
-    reset: R,
-) -> Result<Option<u32>, PullError> {
-    let mut world = World::new(alloc, zeros(alloc)?, reset)?;
+fn left_of_nine<R: Reset<u32, AnyValue>>(rt: &impl Abort, alloc: Global, reset: R) -> Option<u32> {
+    let first = zeros(alloc).expect(rt, "values are made");
+    let mut world = World::new(alloc, first, reset).expect(rt, "a world is made");
     hold(&mut world, 1);
     let _ = world.step(Event::Write(0, 9));
     give_back(&mut world, 0);
-    Ok(world.place(0, 0).copied())
+    world.place(0, 0).copied()
 }
 
 /// The same, of a closure that resets.
-fn left_by_closure<F: ResetBy<u32>>(alloc: Global, reset: F) -> Result<Option<u32>, PullError>
+fn left_by_closure<F: ResetBy<u32>>(rt: &impl Abort, alloc: Global, reset: F) -> Option<u32>
     requires { F.may_reset reset }
 {
-    left_of_nine(alloc, Resets::<u32, F, AnyValue>::new(reset))
+    left_of_nine(rt, alloc, Resets::<u32, F, AnyValue>::new(reset))
 }
 
 #[test]
 fn a_return_stores_what_reset_left(rt: HostRuntime) {
-    let kept = left_of_nine(rt.alloc(), Keep).expect(&rt, "nothing is refused");
-    let copied = left_of_nine(rt.alloc(), Copied::<u32, AnyValue>::new(3)).expect(
-        &rt,
-        "nothing is refused",
-    );
-    let halved = left_by_closure(rt.alloc(), |value: &mut u32| *value /= 2).expect(
-        &rt,
-        "nothing is refused",
-    );
+    let kept = left_of_nine(&rt, rt.alloc(), Keep);
+    let copied = left_of_nine(&rt, rt.alloc(), Copied::<u32, AnyValue>::new(3));
+    let halved = left_by_closure(&rt, rt.alloc(), |value: &mut u32| *value /= 2);
     assert_equal(&rt, (kept, copied, halved), (Some(9), Some(3), Some(4)));
 }

@@ -11,4 +11,6 @@ mod engine;
 #[cfg(test)]
 mod interleave;
 #[cfg(test)]
+mod run_error;
+#[cfg(test)]
 mod sequential;

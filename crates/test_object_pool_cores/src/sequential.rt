@@ -1,4 +1,6 @@
 //! Worked cases of the linear core and the player.
+ghost use Rattle.std.specs.Prelude.{◌≤◌};
+
 use crate::assert_equal::assert_equal;
 use object_pool_cores::sequential::*;
 use pool_parts::PullError;
@@ -113,11 +115,34 @@ fn replies_of<P: SequentialPool<u32>>(
     replies
 }
 
-/// The same on a new linear pool of zeros that keeps values.
+/// A linear core of zeros that keeps values.
+type Zeros = LinearCore<u32, Copied<u32, AnyValue>, Keep, AnyValue>;
+
+/// Creates such a core, with no limit.
+fn zeros(rt: &impl Abort, alloc: Global) -> Zeros {
+    LinearCore::new(alloc, Copied::new(0), Keep).expect(rt, "a pool is made")
+}
+
+/// Creates such a core of at most so many pages.
+fn limited_zeros(rt: &impl Abort, alloc: Global, pages: usize) -> Zeros
+    requires { 1 ≤ pages }
+{
+    LinearCore::with_limit(alloc, Copied::new(0), Keep, pages).expect(rt, "a pool is made")
+}
+
+/// Returns what a player of a new such core replies to a table of commands.
 fn replies_of_linear(rt: &impl Abort, alloc: Global, table: &[Do]) -> Vec<Reply<u32>> {
-    let init = Copied::<u32, AnyValue>::new(0);
-    let core = LinearCore::new(alloc, init, Keep).expect(rt, "a pool is made");
-    replies_of(rt, alloc, &mut Player::new(alloc, core), table)
+    let mut player = Player::new(alloc, zeros(rt, alloc));
+    replies_of(rt, alloc, &mut player, table)
+}
+
+/// Gives an item back, where it is the pool's own, and returns whether it is.
+fn give_back<T: Drop, P: SequentialPool<T>>(pool: &mut P, item: Item<T>) -> bool {
+    let is_mine = pool.is_mine(&item);
+    if is_mine {
+        pool.give(item);
+    }
+    is_mine
 }
 
 /// 1 and 2 are written to two items, which come back, and two are pulled again.
@@ -198,9 +223,7 @@ fn a_limit_of_one_page_holds(rt: HostRuntime) {
     ];
     let mut table = [Do::Pull; 35];
     table[33] = Do::Return(7);
-    let init = Copied::<u32, AnyValue>::new(0);
-    let core = LinearCore::with_limit(rt.alloc(), init, Keep, 1).expect(&rt, "a pool is made");
-    let mut player = Player::new(rt.alloc(), core);
+    let mut player = Player::new(rt.alloc(), limited_zeros(&rt, rt.alloc(), 1));
     let replies = replies_of(&rt, rt.alloc(), &mut player, &table);
     assert_equal(&rt, replies.as_slice().get(31..), Some(LAST.as_slice()));
 }
@@ -209,21 +232,12 @@ fn a_limit_of_one_page_holds(rt: HostRuntime) {
 fn a_page_is_made_where_none_is_free(rt: HostRuntime) {
     let tally = new_tally(rt.alloc()).expect(&rt, "memory is left");
     let mut core = tracked(rt.alloc(), &tally, NEVER, None).expect(&rt, "a pool is made");
-    assert_equal(
-        &rt,
-        (tally.calls(), core.pages(), core.limit()),
-        (32, 1, None),
-    );
-    let held = hold(rt.alloc(), &mut core, 33).expect(&rt, "items are free");
-    assert_equal(
-        &rt,
-        (
-            held.last().and_then(|item| item.number()),
-            tally.calls(),
-            core.pages(),
-        ),
-        (Some(32), 64, 2),
-    );
+    let made = (tally.calls(), core.pages(), core.limit());
+    assert_equal(&rt, made, (32, 1, None));
+    let mut held = hold(rt.alloc(), &mut core, 33).expect(&rt, "items are free");
+    let last = held.pop().expect(&rt, "33 items are held");
+    let made = (last.number(), tally.calls(), core.pages());
+    assert_equal(&rt, made, (Some(32), 64, 2));
 }
 
 /// With a page held, the pull that is refused by this call of `init` for the next page, counted
@@ -271,20 +285,10 @@ fn each_call_of_init_may_refuse_the_first_page(rt: HostRuntime) {
 
 #[test]
 fn an_item_is_its_own_pools_until_it_returns(rt: HostRuntime) {
-    let zero = Copied::<u32, AnyValue>::new(0);
-    let mut core: LinearCore<u32, _, _, AnyValue> = LinearCore::with_limit(
-        rt.alloc(),
-        zero,
-        Keep,
-        3,
-    ).expect(&rt, "a pool is made");
-    assert_equal(&rt, core.limit(), Some(3));
+    let mut core = limited_zeros(&rt, rt.alloc(), 3);
     let item = core.pull().expect(&rt, "an item is free");
-    assert!(rt; core.is_mine(&item));
-    assert_equal(&rt, *item, 0);
-    if core.is_mine(&item) {
-        core.give(item);
-    }
+    assert_equal(&rt, (core.limit(), *item), (Some(3), 0));
+    assert!(rt; give_back(&mut core, item));
     let again = core.pull().expect(&rt, "an item is free");
     assert_equal(&rt, again.number(), Some(0));
 }

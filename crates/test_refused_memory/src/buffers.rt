@@ -1,6 +1,6 @@
 //! Buffer pools: an append that is refused leaves the buffer as it was, and can be asked for again.
 use crate::assert_equal::assert_equal;
-use crate::refusals::Refusals;
+use crate::refusals::{Refusals, again};
 use lockfree_object_pool::PullError;
 use object_pool_cores::buffers::{Buffer, BufferPool, Clear, WithCapacity, clear, fresh};
 use std::process::Abort;
@@ -10,9 +10,11 @@ type Buffers = BufferPool<WithCapacity, Clear>;
 
 /// A pool of two pages of buffers without room.
 fn new_pool(rt: &(impl Abort + AllocGlobal), refusals: &Refusals) -> Buffers {
-    refusals.again(
+    let alloc = rt.alloc();
+    again!(
         rt,
-        &|| { BufferPool::new(rt.alloc(), WithCapacity::new(rt.alloc(), 0), Clear, 2) },
+        refusals,
+        BufferPool::new(alloc, WithCapacity::new(alloc, 0), Clear, 2)
     )
 }
 
@@ -27,13 +29,11 @@ fn append(
     let before = buffer.as_slice().len();
     if let Err(cause) = buffer.append(bytes) {
         refusals.note();
-        assert_equal(
-            rt,
-            (cause, buffer.as_slice().len()),
-            (PullError::Memory, before),
-        );
-        let second = buffer.append(bytes);
-        second.expect(rt, "one request alone is refused");
+        assert_equal(rt, cause, PullError::Memory);
+        assert_equal(rt, buffer.as_slice().len(), before);
+        buffer
+            .append(bytes)
+            .expect(rt, "one request alone is refused");
     }
 }
 
@@ -63,7 +63,11 @@ fn an_append_that_was_refused_is_asked_again(rt: HostRuntime) -> Result<(), Fail
 #[test]
 fn a_fresh_buffer_that_was_refused_is_asked_again(rt: HostRuntime) -> Result<(), Fail> {
     let refusals = Refusals::new();
-    let mut bytes = refusals.again(&rt, &|| fresh(rt.alloc(), 4096).ok_or(PullError::Memory));
+    let mut bytes = again!(
+        &rt,
+        refusals,
+        fresh(rt.alloc(), 4096).ok_or(PullError::Memory)
+    );
     let filled = bytes.extend_from_slice(&[b'x'; 4096]);
     filled.expect(&rt, "there is room");
     clear(&mut bytes);

@@ -51,7 +51,12 @@ fn replies(kind: Kind, refused: usize) -> ArrayString<1024> {
 
 /// Whether a text is the replies to the pulls, of which one was refused for memory.
 fn tells_of_one_refusal(kind: Kind, text: &[u8]) -> bool {
-    (0..pulls_on(kind)).any(|refused| replies(kind, refused).as_str().as_bytes() == text)
+    for refused in 0..pulls_on(kind) {
+        if replies(kind, refused).as_str().as_bytes() == text {
+            return true;
+        }
+    }
+    false
 }
 
 /// The most lines of input.
@@ -65,29 +70,56 @@ fn pulls() -> [u8; 165] {
     input
 }
 
+/// Plays the input. How many bytes were written, and how it ended.
+fn played(
+    rt: &impl Wait,
+    alloc: Global,
+    kind: Kind,
+    mut input: &[u8],
+    room: &mut [u8],
+) -> (usize, Result<(), EngineError>)
+    requires { IsPlayable kind }
+{
+    let size = room.len();
+    let mut output = room;
+    let result = engine::run(rt, alloc, kind, Reset::Keep, &mut input, &mut output);
+    (size.saturating_sub(output.len()), result)
+}
+
 /// Plays the pulls.
 fn plays(rt: &(impl Wait + Abort), refusals: &Refusals, alloc: Global, kind: Kind)
     requires { IsPlayable kind }
 {
     let lines = pulls();
-    let (mut input, _) = lines.split_at(lines.len().min(PULL.len().saturating_mul(pulls_on(kind))));
+    let (input, _) = lines.split_at(lines.len().min(PULL.len().saturating_mul(pulls_on(kind))));
     let mut room = [0; 1024];
-    let mut output = room.as_mut_slice();
-    let result = engine::run(rt, alloc, kind, Reset::Keep, &mut input, &mut output);
-    let left = output.len();
-    let (text, _) = room.split_at(room.len().saturating_sub(left));
+    let (written, result) = played(rt, alloc, kind, input, room.as_mut_slice());
+    let (text, _) = room.split_at(written.min(room.len()));
+    judges(rt, refusals, kind, text, result);
+}
+
+/// Sees that a text is the replies with ample memory, or that it tells of a refusal.
+fn judges(
+    rt: &impl Abort,
+    refusals: &Refusals,
+    kind: Kind,
+    text: &[u8],
+    outcome: Result<(), EngineError>,
+) {
     let whole = replies(kind, NOWHERE);
-    match result {
-        Ok(()) if text == whole.as_str().as_bytes() => {}
+    let whole = whole.as_str().as_bytes();
+    match outcome {
         Ok(()) => {
-            refusals.note();
-            assert!(rt; tells_of_one_refusal(kind, text));
+            if text != whole {
+                refusals.note();
+                assert_equal(rt, tells_of_one_refusal(kind, text), true);
+            }
         }
         Err(error) => {
             refusals.note();
             assert_equal(rt, error, EngineError::Memory);
-            assert!(rt; whole.as_str().as_bytes().starts_with(text));
-            assert!(rt; text.last().is_none_or(|byte| *byte == b'\n'));
+            assert_equal(rt, whole.starts_with(text), true);
+            assert_equal(rt, text.is_empty() || text.ends_with(b"\n"), true);
         }
     }
 }
@@ -131,20 +163,15 @@ const REPLIES: &[u8] = b"bad line\npulled 0 value 0\npulled 1 value 0\n";
 fn answers_the_first_line(rt: &(impl Wait + Abort), refusals: &Refusals, alloc: Global, kind: Kind)
     requires { IsPlayable kind }
 {
-    let mut input = BAD_LINE_AND_PULLS;
     let mut room = [0; 64];
-    let mut output = room.as_mut_slice();
-    let result = engine::run(rt, alloc, kind, Reset::Keep, &mut input, &mut output);
-    let left = output.len();
-    let (text, _) = room.split_at(room.len().saturating_sub(left));
-    assert!(rt; text.starts_with(b"bad line\n"), "{kind:?}");
-    match result {
-        Ok(()) if text == REPLIES => {}
-        Ok(()) => refusals.note(),
-        Err(error) => {
-            refusals.note();
-            assert_eq!(rt; error, EngineError::Memory, "{kind:?}");
-        }
+    let (written, result) = played(rt, alloc, kind, BAD_LINE_AND_PULLS, room.as_mut_slice());
+    let (text, _) = room.split_at(written.min(room.len()));
+    assert_equal(rt, (kind, text.starts_with(b"bad line\n")), (kind, true));
+    if text != REPLIES || result.is_err() {
+        refusals.note();
+    }
+    if let Err(error) = result {
+        assert_equal(rt, (kind, error), (kind, EngineError::Memory));
     }
 }
 

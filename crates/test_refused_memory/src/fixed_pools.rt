@@ -1,9 +1,9 @@
 //! Fixed pools: a refused opening drops what it made, and nothing behind it takes memory.
 use crate::assert_equal::assert_equal;
-use crate::refusals::Refusals;
-use lockfree_object_pool::FixedObjectPool;
+use crate::refusals::{Refusals, again};
 use lockfree_object_pool::clean::AnyValue;
 use lockfree_object_pool::closures::Keep;
+use lockfree_object_pool::{FixedObjectPool, PullError};
 use std::alloc::Global;
 use std::process::Abort;
 use std::sync::Arc;
@@ -17,15 +17,14 @@ const ITEMS: usize = 65;
 /// A pool of values that are tallied.
 type Tracked = FixedObjectPool<Tallied, TalliedValues, Keep, AnyValue>;
 
+fn tracked(alloc: Global, tally: &Arc<Tally>) -> Result<Arc<Tracked>, PullError> {
+    let pool = FixedObjectPool::new(alloc, TalliedValues::new(tally)?, Keep, ITEMS)?;
+    Ok(Arc::new(alloc, pool)?)
+}
+
 /// Such a pool. Where it is refused, each value that was made for it is dropped.
 fn opened(rt: &impl Abort, alloc: Global, refusals: &Refusals, tally: &Arc<Tally>) -> Arc<Tracked> {
-    let pool = refusals.again(
-        rt,
-        &|| {
-            let pool = FixedObjectPool::new(alloc, TalliedValues::new(tally)?, Keep, ITEMS)?;
-            Ok(Arc::new(alloc, pool)?)
-        },
-    );
+    let pool = again!(rt, refusals, tracked(alloc, tally));
     assert_equal(rt, tally.living(), ITEMS);
     pool
 }
@@ -34,8 +33,7 @@ fn opened(rt: &impl Abort, alloc: Global, refusals: &Refusals, tally: &Arc<Tally
 fn a_fixed_pool_that_was_refused_is_made_again(rt: HostRuntime) -> Result<(), Fail> {
     let refusals = Refusals::new();
     let tally = refusals.tally(&rt);
-    let pool = opened(&rt, rt.alloc(), &refusals, &tally);
-    drop(pool);
+    drop(opened(&rt, rt.alloc(), &refusals, &tally));
     assert_equal(&rt, tally.living(), 0);
     refusals.tell(&rt)
 }

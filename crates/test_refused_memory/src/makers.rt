@@ -3,7 +3,7 @@
 ghost use Rattle.std.specs.Prelude.{◌≡◌, []};
 
 use crate::assert_equal::assert_equal;
-use crate::refusals::Refusals;
+use crate::refusals::{Refusals, again};
 use lockfree_object_pool::clean::Empty;
 use lockfree_object_pool::closures::{Clear, WithCapacity};
 use lockfree_object_pool::recycling::{LazyPool, MutexPool, Recyclable};
@@ -33,23 +33,25 @@ impl Recyclable for Sheet {
     }
 }
 
-/// What is pulled. Where it was refused, it comes by a second try: `Memory` for the room of its
-/// return, `Init` for the value.
-fn pulled<X: Drop, F: Fn() -> Result<X, PullError>>(
-    rt: &impl Abort,
-    refusals: &Refusals,
-    pull: &F,
-) -> X
-    requires { F.IsAlwaysCallable pull.now }
-{
-    let answer = match pull() {
-        Err(PullError::Memory | PullError::Init) => {
-            refusals.note();
-            pull()
+/// Whether memory was refused for a pull: `Memory` for the room of its return, `Init` for the
+/// value. It is recorded.
+fn is_refused<X: Drop>(refusals: &Refusals, pulled: &Result<X, PullError>) -> bool {
+    let is_refused = matches!(pulled, Err(PullError::Memory | PullError::Init));
+    if is_refused {
+        refusals.note();
+    }
+    is_refused
+}
+
+/// What is pulled. Where it was refused, it comes by a second try.
+macro_rules! pulled {
+    ($rt:expr, $refusals:expr, $pull:expr) => {{
+        let mut pulled = $pull;
+        if is_refused($refusals, &pulled) {
+            pulled = $pull;
         }
-        answer => answer,
-    };
-    answer.expect(rt, "one request alone is refused")
+        pulled.expect($rt, "one request alone is refused")
+    }};
 }
 
 /// A refusal that a maker hides is missed between those of the rooms: a second item is pulled while
@@ -58,8 +60,8 @@ fn pulled<X: Drop, F: Fn() -> Result<X, PullError>>(
 fn a_recyclable_value_that_memory_was_refused_for_is_told(rt: HostRuntime) -> Result<(), Fail> {
     let refusals = Refusals::new();
     let pool = MutexPool::<Sheet>::with_recycler(rt.alloc());
-    let first = pulled(&rt, &refusals, &|| pool.pull(&rt));
-    let second = pulled(&rt, &refusals, &|| pool.pull(&rt));
+    let first = pulled!(&rt, &refusals, pool.pull(&rt));
+    let second = pulled!(&rt, &refusals, pool.pull(&rt));
     assert_equal(&rt, (first.letters.len(), second.letters.len()), (0, 0));
     refusals.tell(&rt)
 }
@@ -73,10 +75,14 @@ fn a_vector_that_memory_was_refused_for_is_told(rt: HostRuntime) -> Result<(), F
         WithCapacity::new(rt.alloc(), 16),
         Clear,
     );
-    let first = pulled(&rt, &refusals, &|| pool.pull(&rt));
-    let second = pulled(&rt, &refusals, &|| pool.pull(&rt));
+    let first = pulled!(&rt, &refusals, pool.pull(&rt));
+    let second = pulled!(&rt, &refusals, pool.pull(&rt));
     assert_equal(&rt, (first.len(), second.len()), (0, 0));
     refusals.tell(&rt)
+}
+
+fn lazy_pool(alloc: Global) -> Result<Arc<LazyPool<Sheet>>, PullError> {
+    Ok(Arc::new(alloc, LazyPool::with_recycler(alloc, 33)?)?)
 }
 
 /// A lazy pool, and what makes its values when they are first needed: after a refusal the place is
@@ -84,17 +90,11 @@ fn a_vector_that_memory_was_refused_for_is_told(rt: HostRuntime) -> Result<(), F
 #[test]
 fn a_lazy_value_that_memory_was_refused_for_is_told(rt: HostRuntime) -> Result<(), Fail> {
     let refusals = Refusals::new();
-    let pool = refusals.again(
-        &rt,
-        &|| {
-            let pool = LazyPool::<Sheet>::with_recycler(rt.alloc(), 33)?;
-            Ok(Arc::new(rt.alloc(), pool)?)
-        },
-    );
-    let first = pulled(&rt, &refusals, &|| pool.pull());
-    let second = pulled(&rt, &refusals, &|| pool.pull_owned());
-    let third = pulled(&rt, &refusals, &|| pool.pull_wait(&rt));
-    pulled(&rt, &refusals, &|| pool.fill(4));
+    let pool = again!(&rt, refusals, lazy_pool(rt.alloc()));
+    let first = pulled!(&rt, &refusals, pool.pull());
+    let second = pulled!(&rt, &refusals, pool.pull_owned());
+    let third = pulled!(&rt, &refusals, pool.pull_wait(&rt));
+    pulled!(&rt, &refusals, pool.fill(4));
     let numbers = (first.number(), second.number(), third.number());
     assert_equal(&rt, (numbers, pool.made()), ((0, 1, 2), 4));
     refusals.tell(&rt)

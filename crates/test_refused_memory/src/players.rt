@@ -1,7 +1,7 @@
 //! Players: a command that was refused is answered again as with ample memory, and a run goes on
 //! from the commands done.
 use crate::assert_equal::assert_equal;
-use crate::refusals::Refusals;
+use crate::refusals::{Refusals, again};
 use lockfree_object_pool::PullError;
 use lockfree_object_pool::clean::AnyValue;
 use lockfree_object_pool::closures::{Copied, Keep};
@@ -18,7 +18,7 @@ use test_values::tally::Tally;
 type Zeros = Copied<u32, AnyValue>;
 
 /// What a pool does with its items, as far as replies tell.
-#[derive(Clone, Copy, PartialEq, Eq)]
+#[derive(Clone, Copy)]
 enum Pool {
     Linear,
     Stack,
@@ -37,7 +37,11 @@ fn linear(
     rt: &(impl Abort + AllocGlobal),
     refusals: &Refusals,
 ) -> LinearCore<u32, Zeros, Keep, AnyValue> {
-    refusals.again(rt, &|| LinearCore::new(rt.alloc(), Copied::new(0), Keep))
+    again!(
+        rt,
+        refusals,
+        LinearCore::new(rt.alloc(), Copied::new(0), Keep)
+    )
 }
 
 fn stack(alloc: Global) -> StackCore<u32, Zeros, Keep, AnyValue> {
@@ -64,16 +68,16 @@ fn command_at(index: usize) -> Command<u32> {
 
 /// The reply to the command at an index, with ample memory.
 fn reply_at(pool: Pool, index: usize) -> Reply<u32> {
-    match index {
-        0 => Reply::Pulled(0, number_in(pool, 0)),
-        1 => Reply::Written,
-        2 => Reply::Returned,
-        3 => Reply::Pulled(1, number_in(pool, 0)),
-        4 if pool == Pool::Stack => Reply::Attached(2),
-        4 => Reply::AttachRefused(AttachError::NotOffered(9)),
-        5 => Reply::Forgotten,
-        6 => Reply::NoSuchHolder,
-        _ if pool == Pool::Stack => Reply::Pulled(3, None),
+    match (index, pool) {
+        (0, _) => Reply::Pulled(0, number_in(pool, 0)),
+        (1, _) => Reply::Written,
+        (2, _) => Reply::Returned,
+        (3, _) => Reply::Pulled(1, number_in(pool, 0)),
+        (4, Pool::Stack) => Reply::Attached(2),
+        (4, _) => Reply::AttachRefused(AttachError::NotOffered(9)),
+        (5, _) => Reply::Forgotten,
+        (6, _) => Reply::NoSuchHolder,
+        (_, Pool::Stack) => Reply::Pulled(3, None),
         _ => Reply::Pulled(2, number_in(pool, 1)),
     }
 }
@@ -106,7 +110,7 @@ fn plays_each_again<P: SequentialPool<u32> + Drop>(
     let mut player = Player::new(alloc, core);
     for index in 0..COMMANDS {
         let reply = reply_again(refusals, &mut player, index);
-        assert_eq!(rt; reply, Ok(reply_at(pool, index)), "command {index}");
+        assert_equal(rt, (index, reply), (index, Ok(reply_at(pool, index))));
     }
     assert_equal(rt, (player.held(0), player.held(1)), (None, None));
 }
@@ -152,6 +156,34 @@ fn pulled(rt: &impl Abort, pool: Pool, replies: &[Reply<u32>]) -> usize {
     pulled
 }
 
+/// A list of so many pulls.
+fn pulls(rt: &impl Abort, refusals: &Refusals, alloc: Global, count: usize) -> Vec<Command<u32>> {
+    let mut commands = refusals.list(rt, alloc, count);
+    for _ in 0..count {
+        commands.push(Command::Pull).expect(rt, "there is room");
+    }
+    commands
+}
+
+/// Runs the pulls that are left. The run was refused for the table or the list of replies, so no
+/// pull was.
+fn runs_rest<P: SequentialPool<u32>>(
+    rt: &impl Abort,
+    refusals: &Refusals,
+    pool: Pool,
+    player: &mut Player<u32, P>,
+    replies: &mut Vec<Reply<u32>>,
+    alloc: Global,
+) {
+    let done = replies.len();
+    assert_equal(rt, pulled(rt, pool, replies), done);
+    assert_equal(rt, (done < PULLS, player.held(done)), (true, None));
+    let rest = pulls(rt, refusals, alloc, PULLS.saturating_sub(done));
+    player
+        .run(rest, replies)
+        .expect(rt, "one request alone is refused");
+}
+
 /// Runs pulls as one list, and goes on from the pulls done where the run was refused.
 fn runs_on<P: SequentialPool<u32> + Drop>(
     rt: &impl Abort,
@@ -162,31 +194,22 @@ fn runs_on<P: SequentialPool<u32> + Drop>(
 ) {
     let mut player = Player::new(alloc, core);
     let mut replies = Vec::new(alloc);
-    let commands = refusals.list_again(rt, alloc, PULLS, &|| Ok(Command::Pull));
-    let mut refused = 0usize;
-    if player.run(commands, &mut replies).is_err() {
+    let mut wanted = PULLS;
+    if player
+        .run(pulls(rt, refusals, alloc, PULLS), &mut replies)
+        .is_err()
+    {
         refusals.note();
-        // It was refused for the table or the list of replies, so no pull was.
-        let done = replies.len();
-        assert_equal(rt, pulled(rt, pool, &replies), done);
-        assert!(rt; done < PULLS && player.held(done).is_none());
-        let rest = PULLS.saturating_sub(done);
-        let rest = refusals.list_again(rt, alloc, rest, &|| Ok(Command::Pull));
-        let ran = player.run(rest, &mut replies);
-        ran.expect(rt, "one request alone is refused");
+        runs_rest(rt, refusals, pool, &mut player, &mut replies, alloc);
     } else if replies
         .as_slice()
         .contains(&Reply::Refused(PullError::Memory))
     {
         refusals.note();
-        refused = 1;
+        wanted = PULLS - 1;
     }
     assert_equal(rt, replies.len(), PULLS);
-    assert_equal(
-        rt,
-        pulled(rt, pool, &replies),
-        PULLS.saturating_sub(refused),
-    );
+    assert_equal(rt, pulled(rt, pool, &replies), wanted);
 }
 
 #[test]
@@ -229,7 +252,7 @@ fn takes_turns<P: SequentialPool<u32> + Drop>(
     assert_equal(rt, first, Ok(Reply::Pulled(0, number)));
     for holder in 0..TURNS {
         let returned = player.play(Command::Return(holder));
-        assert_eq!(rt; returned, Ok(Reply::Returned), "holder {holder}");
+        assert_equal(rt, (holder, returned), (holder, Ok(Reply::Returned)));
         let next = holder.saturating_add(1);
         let pulled = player.play(Command::Pull);
         assert_equal(rt, pulled, Ok(Reply::Pulled(next, number)));
@@ -260,8 +283,14 @@ fn returns_and_pulls_of_fresh_items_in_turn_take_no_memory(rt: HostRuntime) -> R
 
 type Stack = StackCore<Tallied, TalliedValues, Keep, AnyValue>;
 
-/// Pulls the value of number 0.
-fn holds_first(rt: &impl Abort, refusals: &Refusals, player: &mut Player<Tallied, Stack>) {
+/// A player on a stack, which holds the value of number 0.
+fn holder(
+    rt: &(impl Abort + AllocGlobal),
+    refusals: &Refusals,
+    tally: &Arc<Tally>,
+) -> Player<Tallied, Stack> {
+    let init = TalliedValues::new(tally).expect(rt, "an owner takes no memory");
+    let mut player = Player::new(rt.alloc(), StackCore::new(rt.alloc(), init, Keep));
     let pulled = match player.play(Command::Pull) {
         Err(RunError::Memory) | Ok(Reply::Refused(PullError::Memory)) => {
             refusals.note();
@@ -269,39 +298,51 @@ fn holds_first(rt: &impl Abort, refusals: &Refusals, player: &mut Player<Tallied
         }
         reply => reply,
     };
-    assert!(rt; matches!(&pulled, Ok(Reply::Pulled(0, None))));
+    assert_equal(rt, matches!(pulled, Ok(Reply::Pulled(0, None))), true);
+    player
+}
+
+/// The number of a held value.
+fn number_held(player: &Player<Tallied, Stack>, holder: usize) -> Option<usize> {
+    Some(player.held(holder)?.number)
 }
 
 /// How many writes a run has.
 const WRITES: usize = 6;
 
-/// A write of a value with the next number.
-fn write(tally: &Arc<Tally>) -> Result<Command<Tallied>, PullError> {
-    let value = Tallied::new(tally).ok_or(PullError::Init)?;
-    Ok(Command::Write(0, value))
+/// Writes of values, each with the next number.
+fn writes(
+    rt: &impl Abort,
+    refusals: &Refusals,
+    alloc: Global,
+    tally: &Arc<Tally>,
+) -> Vec<Command<Tallied>> {
+    let mut commands = refusals.list(rt, alloc, WRITES);
+    for _ in 0..WRITES {
+        let value = Tallied::new(tally).expect(rt, "a value takes no memory");
+        commands
+            .push(Command::Write(0, value))
+            .expect(rt, "there is room");
+    }
+    commands
 }
 
 #[test]
 fn a_run_that_was_refused_drops_the_commands_not_done(rt: HostRuntime) -> Result<(), Fail> {
     let refusals = Refusals::new();
     let tally = refusals.tally(&rt);
-    let core: Stack = StackCore::new(rt.alloc(), TalliedValues::new(&tally)?, Keep);
-    let mut player = Player::new(rt.alloc(), core);
-    holds_first(&rt, &refusals, &mut player);
-    let commands = refusals.list_again(&rt, rt.alloc(), WRITES, &|| write(&tally));
-    assert_equal(&rt, tally.living(), WRITES.saturating_add(1));
+    let mut player = holder(&rt, &refusals, &tally);
+    let commands = writes(&rt, &refusals, rt.alloc(), &tally);
+    assert_equal(&rt, tally.living(), WRITES + 1);
     let mut replies = Vec::new(rt.alloc());
     let is_refused = player.run(commands, &mut replies).is_err();
     if is_refused {
         refusals.note();
     }
-    assert_equal(&rt, is_refused, replies.len() < WRITES);
+    let done = replies.len();
+    assert_equal(&rt, is_refused, done < WRITES);
     // What was written last is held, and lives alone.
-    assert_equal(
-        &rt,
-        player.held(0).map(|held| held.number),
-        Some(replies.len()),
-    );
+    assert_equal(&rt, number_held(&player, 0), Some(done));
     assert_equal(&rt, tally.living(), 1);
     refusals.tell(&rt)
 }
@@ -312,14 +353,13 @@ fn a_run_that_was_refused_drops_the_commands_not_done(rt: HostRuntime) -> Result
 fn an_attach_that_was_refused_is_a_reply_with_the_value(rt: HostRuntime) -> Result<(), Fail> {
     let refusals = Refusals::new();
     let tally = refusals.tally(&rt);
-    let core: Stack = StackCore::new(rt.alloc(), TalliedValues::new(&tally)?, Keep);
-    let mut player = Player::new(rt.alloc(), core);
-    holds_first(&rt, &refusals, &mut player);
-    assert!(rt; matches!(player.play(Command::Return(0)), Ok(Reply::Returned)));
+    let mut player = holder(&rt, &refusals, &tally);
+    let returned = player.play(Command::Return(0));
+    assert_equal(&rt, matches!(returned, Ok(Reply::Returned)), true);
     let value = Tallied::new(&tally).expect(&rt, "a value takes no memory");
     let reply = player.play(Command::Attach(value));
     let number = match &reply {
-        Ok(Reply::Attached(holder)) => player.held(*holder).map(|held| held.number),
+        Ok(Reply::Attached(holder)) => number_held(&player, *holder),
         Ok(Reply::AttachRefused(AttachError::Memory(back))) => {
             refusals.note();
             Some(back.number)
@@ -327,5 +367,24 @@ fn an_attach_that_was_refused_is_a_reply_with_the_value(rt: HostRuntime) -> Resu
         _ => None,
     };
     assert_equal(&rt, number, Some(1));
+    refusals.tell(&rt)
+}
+
+/// A value for which the player's table has no room is dropped, and so is one that the pool hands
+/// back.
+#[test]
+fn an_attach_that_finds_no_room_drops_the_value(rt: HostRuntime) -> Result<(), Fail> {
+    let refusals = Refusals::new();
+    let tally = refusals.tally(&rt);
+    let core: Stack = StackCore::new(rt.alloc(), TalliedValues::new(&tally)?, Keep);
+    let mut player = Player::new(rt.alloc(), core);
+    let value = Tallied::new(&tally).expect(&rt, "a value takes no memory");
+    let is_held = matches!(player.play(Command::Attach(value)), Ok(Reply::Attached(_)));
+    if !is_held {
+        refusals.note();
+    }
+    assert_equal(&rt, tally.living(), usize::from(is_held));
+    drop(player);
+    assert_equal(&rt, tally.living(), 0);
     refusals.tell(&rt)
 }

@@ -13,6 +13,19 @@ pub struct Refusals {
     is_met: Cell<bool>,
 }
 
+/// Answers what is asked for. If memory was refused, it comes by a second try.
+macro_rules! again {
+    ($rt:expr, $refusals:expr, $ask:expr) => {{
+        let mut answer = $ask;
+        if $refusals.are_told_by(&answer) {
+            answer = $ask;
+        }
+        answer.expect($rt, "one request alone is refused")
+    }};
+}
+
+pub(crate) use again;
+
 impl Refusals {
     /// Creates a record of no refusal.
     pub fn new() -> Refusals {
@@ -26,44 +39,24 @@ impl Refusals {
         self.is_met.set(true);
     }
 
-    /// Returns what is asked for. If memory was refused, it comes by a second try.
-    pub fn again<X: Drop, F: Fn() -> Result<X, PullError>>(&self, rt: &impl Abort, ask: &F) -> X
-        requires { F.pre ask.now }
-    {
-        let answer = match ask() {
-            Err(PullError::Memory) => {
-                self.note();
-                ask()
-            }
-            answer => answer,
-        };
-        answer.expect(rt, "one request alone is refused")
+    /// Whether an answer tells that memory was refused, which is recorded.
+    pub fn are_told_by<X: Drop>(&self, answer: &Result<X, PullError>) -> bool {
+        let is_told = matches!(answer, Err(PullError::Memory));
+        if is_told {
+            self.note();
+        }
+        is_told
     }
 
     /// Creates a tally. If memory was refused, it comes by a second try.
     pub fn tally(&self, rt: &(impl Abort + AllocGlobal)) -> Arc<Tally> {
-        self.again(rt, &|| new_tally(rt.alloc()))
+        again!(rt, self, new_tally(rt.alloc()))
     }
 
-    /// Creates a list of so many entries, whose room is asked for at once. If memory was refused,
-    /// it comes by a second try.
-    pub fn list_again<X: Drop, F: Fn() -> Result<X, PullError>>(
-        &self,
-        rt: &impl Abort,
-        alloc: Global,
-        count: usize,
-        entry: &F,
-    ) -> Vec<X>
-        requires { F.pre entry.now }
-    {
-        let list = match list_of(alloc, count, entry) {
-            Err(PullError::Memory) => {
-                self.note();
-                list_of(alloc, count, entry)
-            }
-            list => list,
-        };
-        list.expect(rt, "one request alone is refused")
+    /// Creates a list with room for so many entries. If memory was refused, it comes by a second
+    /// try.
+    pub fn list<X: Drop>(&self, rt: &impl Abort, alloc: Global, count: usize) -> Vec<X> {
+        again!(rt, self, list_with_room(alloc, count))
     }
 
     /// Prints whether memory was refused.
@@ -77,17 +70,7 @@ impl Refusals {
     }
 }
 
-/// A list of so many entries, whose room is asked for at once.
-fn list_of<X: Drop, F: Fn() -> Result<X, PullError>>(
-    alloc: Global,
-    count: usize,
-    entry: &F,
-) -> Result<Vec<X>, PullError>
-    requires { F.pre entry.now }
-{
-    let mut list = Vec::with_capacity(alloc, count)?;
-    for _ in 0..count {
-        list.push(entry()?)?;
-    }
-    Ok(list)
+/// An empty list with room for so many entries.
+fn list_with_room<X: Drop>(alloc: Global, count: usize) -> Result<Vec<X>, PullError> {
+    Ok(Vec::with_capacity(alloc, count)?)
 }

@@ -1,6 +1,6 @@
 //! Pools of one owner: what is refused changes nothing, and can be asked for again.
 use crate::assert_equal::assert_equal;
-use crate::refusals::Refusals;
+use crate::refusals::{Refusals, again};
 use lockfree_object_pool::PullError;
 use lockfree_object_pool::clean::AnyValue;
 use lockfree_object_pool::closures::Keep;
@@ -18,14 +18,15 @@ type Linear = LinearCore<Tallied, TalliedValues, Keep, AnyValue>;
 
 type Stack = StackCore<Tallied, TalliedValues, Keep, AnyValue>;
 
+fn page(alloc: Global, tally: &Arc<Tally>) -> Result<CorePage<Tallied, AnyValue>, PullError> {
+    CorePage::new(alloc, &|| Tallied::new(tally))
+}
+
 #[test]
 fn a_page_that_was_refused_is_asked_again(rt: HostRuntime) -> Result<(), Fail> {
     let refusals = Refusals::new();
     let tally = refusals.tally(&rt);
-    let page: CorePage<Tallied, AnyValue> = refusals.again(
-        &rt,
-        &|| CorePage::new(rt.alloc(), &|| Tallied::new(&tally)),
-    );
+    let page = again!(&rt, refusals, page(rt.alloc(), &tally));
     assert_equal(&rt, (page.get_mask(), tally.living()), (u32::MAX, 32));
     refusals.tell(&rt)
 }
@@ -44,60 +45,57 @@ fn grows(rt: &impl Abort, refusals: &Refusals, core: &mut Linear, tally: &Tally)
     for _ in 0..32 {
         drop(core.pull().expect(rt, "32 items are free"));
     }
-    let item = match core.pull() {
-        Err(PullError::Memory) => {
-            refusals.note();
-            assert_equal(rt, (core.pages(), tally.living()), (1, 0));
-            core.pull()
-        }
-        answer => answer,
-    };
+    let mut item = core.pull();
+    if refusals.are_told_by(&item) {
+        assert_equal(rt, (core.pages(), tally.living()), (1, 0));
+        item = core.pull();
+    }
     let item = item.expect(rt, "one request alone is refused");
-    assert_equal(
-        rt,
-        (item.number(), core.pages(), tally.living()),
-        (Some(32), 2, 32),
-    );
+    assert_equal(rt, item.number(), Some(32));
+    assert_equal(rt, (core.pages(), tally.living()), (2, 32));
 }
 
 #[test]
 fn a_linear_pull_that_was_refused_is_asked_again(rt: HostRuntime) -> Result<(), Fail> {
     let refusals = Refusals::new();
     let tally = refusals.tally(&rt);
-    let mut core = refusals.again(&rt, &|| unbounded(rt.alloc(), &tally));
+    let mut core = again!(&rt, refusals, unbounded(rt.alloc(), &tally));
     grows(&rt, &refusals, &mut core, &tally);
+    drop(core);
     let tally = refusals.tally(&rt);
-    let mut core = refusals.again(&rt, &|| bounded(rt.alloc(), &tally));
+    let mut core = again!(&rt, refusals, bounded(rt.alloc(), &tally));
     grows(&rt, &refusals, &mut core, &tally);
     refusals.tell(&rt)
 }
 
-/// Gives an item back, where it is the pool's own.
-fn give_back<P: SequentialPool<Tallied>>(rt: &impl Abort, core: &mut P, item: Item<Tallied>) {
+fn stack(rt: &impl Abort, alloc: Global, tally: &Arc<Tally>) -> Stack {
+    let init = TalliedValues::new(tally).expect(rt, "an owner takes no memory");
+    StackCore::new(alloc, init, Keep)
+}
+
+/// Gives an item back, which is the pool's own, and pulls it again.
+fn gives_again(rt: &impl Abort, core: &mut Stack, item: Item<Tallied>, tally: &Tally) {
     let is_mine = core.is_mine(&item);
-    assert!(rt; is_mine);
+    assert_equal(rt, is_mine, true);
     if is_mine {
         core.give(item);
     }
+    let again = core.pull().expect(rt, "an item is kept").number;
+    assert_equal(rt, (again, tally.made()), (0, 1));
 }
 
 #[test]
 fn a_stack_pull_that_was_refused_is_asked_again(rt: HostRuntime) -> Result<(), Fail> {
     let refusals = Refusals::new();
     let tally = refusals.tally(&rt);
-    let mut core: Stack = StackCore::new(rt.alloc(), TalliedValues::new(&tally)?, Keep);
-    let item = match core.pull() {
-        Err(PullError::Memory) => {
-            refusals.note();
-            assert_equal(&rt, tally.made(), 0);
-            core.pull()
-        }
-        answer => answer,
-    };
+    let mut core = stack(&rt, rt.alloc(), &tally);
+    let mut item = core.pull();
+    if refusals.are_told_by(&item) {
+        assert_equal(&rt, tally.made(), 0);
+        item = core.pull();
+    }
     let item = item.expect(&rt, "one request alone is refused");
-    give_back(&rt, &mut core, item);
-    let again = core.pull().expect(&rt, "an item is kept").number;
-    assert_equal(&rt, (again, tally.made()), (0, 1));
+    gives_again(&rt, &mut core, item, &tally);
     refusals.tell(&rt)
 }
 
@@ -105,7 +103,7 @@ fn a_stack_pull_that_was_refused_is_asked_again(rt: HostRuntime) -> Result<(), F
 fn an_attached_value_comes_back(rt: HostRuntime) -> Result<(), Fail> {
     let refusals = Refusals::new();
     let tally = refusals.tally(&rt);
-    let mut core: Stack = StackCore::new(rt.alloc(), TalliedValues::new(&tally)?, Keep);
+    let mut core = stack(&rt, rt.alloc(), &tally);
     let value = Tallied::new(&tally).expect(&rt, "a value takes no memory");
     let attached = match core.attach(value) {
         Err(AttachError::Memory(back)) => {
@@ -115,12 +113,8 @@ fn an_attached_value_comes_back(rt: HostRuntime) -> Result<(), Fail> {
         }
         answer => answer,
     };
-    let Ok(item) = attached else {
-        panic!(rt; "refused twice")
-    };
-    give_back(&rt, &mut core, item);
-    let again = core.pull().expect(&rt, "an item is kept").number;
-    assert_equal(&rt, (again, tally.made()), (0, 1));
+    let item = attached.ok().expect(&rt, "one request alone is refused");
+    gives_again(&rt, &mut core, item, &tally);
     refusals.tell(&rt)
 }
 
@@ -128,7 +122,8 @@ fn an_attached_value_comes_back(rt: HostRuntime) -> Result<(), Fail> {
 fn fresh_items_take_no_memory(rt: HostRuntime) -> Result<(), Fail> {
     let refusals = Refusals::new();
     let tally = refusals.tally(&rt);
-    let mut core = NoneCore::new(TalliedValues::new(&tally)?);
+    let init = TalliedValues::new(&tally).expect(&rt, "an owner takes no memory");
+    let mut core = NoneCore::new(init);
     for number in 0..3usize {
         let item = core.pull().expect(&rt, "an item takes no memory");
         assert_equal(&rt, item.number, number);

@@ -1,7 +1,7 @@
 //! The world of agents: an event that was refused changes nothing but drops its values, and is
 //! answered again as with ample memory.
 use crate::assert_equal::assert_equal;
-use crate::refusals::Refusals;
+use crate::refusals::{Refusals, again};
 use lockfree_object_pool::PullError;
 use lockfree_object_pool::closures::Keep;
 use object_pool_cores::interleave::{Event, Prepared, Seen, World};
@@ -15,12 +15,8 @@ use test_values::tally::Tally;
 /// The word of a page all of whose items are free.
 const FULL: u32 = 4294967295;
 
-fn zeros(alloc: Global) -> Result<Prepared<u32>, PullError> {
-    Prepared::make(alloc, &|| Some(0))
-}
-
-fn unbounded(rt: &(impl Abort + AllocGlobal), refusals: &Refusals) -> World<u32, Keep> {
-    refusals.again(rt, &|| World::new(rt.alloc(), zeros(rt.alloc())?, Keep))
+fn unbounded(alloc: Global) -> Result<World<u32, Keep>, PullError> {
+    World::new(alloc, Prepared::make(alloc, &|| Some(0))?, Keep)
 }
 
 fn tallied_values(alloc: Global, tally: &Arc<Tally>) -> Result<Prepared<Tallied>, PullError> {
@@ -33,20 +29,13 @@ fn values_again(
     refusals: &Refusals,
     tally: &Arc<Tally>,
 ) -> Prepared<Tallied> {
-    refusals.again(rt, &|| tallied_values(rt.alloc(), tally))
+    again!(rt, refusals, tallied_values(rt.alloc(), tally))
 }
 
 type TalliedWorld = World<Tallied, Keep>;
 
-fn tallied_bounded(
-    rt: &(impl Abort + AllocGlobal),
-    refusals: &Refusals,
-    tally: &Arc<Tally>,
-) -> TalliedWorld {
-    refusals.again(
-        rt,
-        &|| { World::with_limit(rt.alloc(), tallied_values(rt.alloc(), tally)?, Keep, 2) },
-    )
+fn tallied_bounded(alloc: Global, tally: &Arc<Tally>) -> Result<TalliedWorld, PullError> {
+    World::with_limit(alloc, tallied_values(alloc, tally)?, Keep, 2)
 }
 
 /// A world keeps its values until it ends, and one that was refused has dropped them.
@@ -95,15 +84,12 @@ fn begin_again<T: Drop>(refusals: &Refusals, world: &mut World<T, Keep>) -> Seen
 #[test]
 fn a_begin_that_was_refused_is_asked_again(rt: HostRuntime) -> Result<(), Fail> {
     let refusals = Refusals::new();
-    let mut world = unbounded(&rt, &refusals);
+    let mut world = again!(&rt, refusals, unbounded(rt.alloc()));
     for agent in 0..40 {
         let began = begin_again(&refusals, &mut world);
         let word = world.step(Event::ReadMask(agent));
-        assert_equal(
-            &rt,
-            (began, word),
-            (Seen::Began(agent), Seen::Word(agent, FULL)),
-        );
+        assert_equal(&rt, began, Seen::Began(agent));
+        assert_equal(&rt, word, Seen::Word(agent, FULL));
     }
     refusals.tell(&rt)
 }
@@ -123,29 +109,23 @@ fn find_no_item(refusals: &Refusals, world: &mut TalliedWorld) -> Seen {
 fn a_page_that_was_refused_is_asked_again(rt: HostRuntime) -> Result<(), Fail> {
     let refusals = Refusals::new();
     let tally = refusals.tally(&rt);
-    let mut world = tallied_bounded(&rt, &refusals, &tally);
+    let mut world = again!(&rt, refusals, tallied_bounded(rt.alloc(), &tally));
     let next = find_no_item(&refusals, &mut world);
     assert_equal(&rt, next, Seen::Next(32, false));
     let values = values_again(&rt, &refusals, &tally);
     let mut made = world.step(Event::MakePage(32, Ok(values)));
     if made == Seen::NoMemory {
         refusals.note();
-        assert_equal(
-            &rt,
-            (world.pages(), world.word(0), tally.living()),
-            (1, Some(0), 32),
-        );
+        assert_equal(&rt, (world.pages(), world.word(0)), (1, Some(0)));
+        assert_equal(&rt, tally.living(), 32);
         let values = tallied_values(rt.alloc(), &tally);
         let values = values.expect(&rt, "one request alone is refused");
         made = world.step(Event::MakePage(32, Ok(values)));
     }
     assert_equal(&rt, (made, tally.living()), (Seen::Made(32), 64));
     let linked = world.step(Event::ExchangeNext(32));
-    assert_equal(
-        &rt,
-        (linked, world.pages(), world.word(1)),
-        (Seen::Linked(32), 2, Some(FULL)),
-    );
+    assert_equal(&rt, linked, Seen::Linked(32));
+    assert_equal(&rt, (world.pages(), world.word(1)), (2, Some(FULL)));
     refusals.tell(&rt)
 }
 
@@ -167,24 +147,33 @@ fn agents_begun(rt: &impl Abort, refusals: &Refusals, seen: &[Seen]) -> usize {
     agents
 }
 
+/// A list of so many agents' beginnings.
+fn begins(rt: &impl Abort, refusals: &Refusals, alloc: Global, count: usize) -> Vec<Event<u32>> {
+    let mut events = refusals.list(rt, alloc, count);
+    for _ in 0..count {
+        events.push(Event::Begin).expect(rt, "there is room");
+    }
+    events
+}
+
 #[test]
 fn a_run_goes_on_from_the_events_done(rt: HostRuntime) -> Result<(), Fail> {
     let refusals = Refusals::new();
-    let mut world = unbounded(&rt, &refusals);
+    let mut world = again!(&rt, refusals, unbounded(rt.alloc()));
     let mut seen = Vec::new(rt.alloc());
-    let events = refusals.list_again(&rt, rt.alloc(), AGENTS, &|| Ok(Event::Begin));
+    let events = begins(&rt, &refusals, rt.alloc(), AGENTS);
     if world.run(events, &mut seen).is_err() {
         refusals.note();
         // It was the list of answers that couldn't grow: of the world's own tables an answer tells.
-        assert!(rt; !seen.as_slice().contains(&Seen::NoMemory));
+        assert_equal(&rt, seen.as_slice().contains(&Seen::NoMemory), false);
         let rest = AGENTS.saturating_sub(seen.len());
-        let rest = refusals.list_again(&rt, rt.alloc(), rest, &|| Ok(Event::Begin));
+        let rest = begins(&rt, &refusals, rt.alloc(), rest);
         let ran = world.run(rest, &mut seen);
         ran.expect(&rt, "one request alone is refused");
     }
     assert_equal(&rt, seen.len(), AGENTS);
     let refused = AGENTS.saturating_sub(agents_begun(&rt, &refusals, &seen));
-    assert!(rt; refused <= 1);
+    assert_equal(&rt, refused.max(1), 1);
     refusals.tell(&rt)
 }
 
@@ -194,7 +183,7 @@ fn held_by_one(
     refusals: &Refusals,
     tally: &Arc<Tally>,
 ) -> (TalliedWorld, usize) {
-    let mut world = tallied_bounded(rt, refusals, tally);
+    let mut world = again!(rt, refusals, tallied_bounded(rt.alloc(), tally));
     let _ = begin_again(refusals, &mut world);
     let _ = world.step(Event::ReadMask(0));
     let _ = world.step(Event::ClearBit(0));
@@ -209,10 +198,26 @@ fn held_by_one(
 /// How many writes a run has.
 const WRITES: usize = 6;
 
-/// A write of a value with the next number.
-fn write(tally: &Arc<Tally>) -> Result<Event<Tallied>, PullError> {
-    let value = Tallied::new(tally).ok_or(PullError::Init)?;
-    Ok(Event::Write(0, value))
+/// Writes of values, each with the next number.
+fn writes(
+    rt: &impl Abort,
+    refusals: &Refusals,
+    alloc: Global,
+    tally: &Arc<Tally>,
+) -> Vec<Event<Tallied>> {
+    let mut events = refusals.list(rt, alloc, WRITES);
+    for _ in 0..WRITES {
+        let value = Tallied::new(tally).expect(rt, "a value takes no memory");
+        events
+            .push(Event::Write(0, value))
+            .expect(rt, "there is room");
+    }
+    events
+}
+
+/// The number of the value that agent 0 holds.
+fn number_held(world: &TalliedWorld) -> Option<usize> {
+    Some(world.held(0)?.number)
 }
 
 #[test]
@@ -220,17 +225,17 @@ fn a_run_that_was_refused_drops_the_events_not_done(rt: HostRuntime) -> Result<(
     let refusals = Refusals::new();
     let tally = refusals.tally(&rt);
     let (mut world, number) = held_by_one(&rt, &refusals, &tally);
-    let events = refusals.list_again(&rt, rt.alloc(), WRITES, &|| write(&tally));
-    assert_equal(&rt, tally.living(), WRITES.saturating_add(32));
+    let events = writes(&rt, &refusals, rt.alloc(), &tally);
+    assert_equal(&rt, tally.living(), WRITES + 32);
     let mut seen = Vec::new(rt.alloc());
     let is_refused = world.run(events, &mut seen).is_err();
     if is_refused {
         refusals.note();
     }
-    assert_equal(&rt, is_refused, seen.len() < WRITES);
+    let done = seen.len();
+    assert_equal(&rt, is_refused, done < WRITES);
     // What was written last is held, and lives with the page's other values alone.
-    let last = number.saturating_add(seen.len());
-    assert_equal(&rt, world.held(0).map(|held| held.number), Some(last));
+    assert_equal(&rt, number_held(&world), number.checked_add(done));
     assert_equal(&rt, tally.living(), 32);
     refusals.tell(&rt)
 }

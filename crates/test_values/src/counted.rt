@@ -1,10 +1,5 @@
-//! Values that borrow the tally which counts how often they are made and dropped, and what makes
-//! them for a pool.
-ghost use Rattle.std.specs.Prelude.{⊤};
-
+//! Values that borrow the tally which counts how often they are made and dropped.
 use crate::tally::Tally;
-use pool_parts::clean::AnyValue;
-use pool_parts::closures::Init;
 
 impl Tally {
     /// Makes a value, by one more call.
@@ -36,21 +31,6 @@ impl Drop for Counted<'_> {
     fn drop(self) {
         let Counted { counts, call: _ } = self;
         counts.count_drop();
-    }
-}
-
-/// Makes values that are counted, and refuses at one call, counted from 0.
-#[derive(Drop)]
-pub struct CountedValues<'c> {
-    pub counts: &'c Tally,
-    pub refused: usize,
-}
-
-impl<'c> Init<Counted<'c>, AnyValue> for CountedValues<'c> {
-    ghost answers = { λ _ _. ⊤ };
-
-    fn make(&self) -> Option<Counted<'c>> {
-        self.counts.make_but(self.refused)
     }
 }
 

@@ -33,7 +33,7 @@ fn a_buffer_takes_long_texts_again_and_again(rt: HostRuntime) {
 fn a_fresh_buffer_has_the_room_that_is_asked_for(rt: HostRuntime) {
     for capacity in [0, 1, 100_000, 2 * MEBIBYTE, 3 * MEBIBYTE] {
         let bytes = fresh(rt.alloc(), capacity).expect(&rt, "there is memory");
-        assert!(rt; bytes.is_empty() && bytes.capacity() >= capacity);
+        assert!(rt; bytes.is_empty() && bytes.capacity() == capacity);
     }
 }
 

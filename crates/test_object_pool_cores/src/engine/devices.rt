@@ -146,8 +146,9 @@ impl Write for Device {
         Ok(count)
     }
 
+    /// Fails, since nobody has to ask for it.
     fn flush(&mut self) -> io::Result<()> {
-        Ok(())
+        Err(io::Error::from(ErrorKind::Other))
     }
 }
 

@@ -40,6 +40,15 @@ fn sessions() -> [Session; 4] {
     ]
 }
 
+/// Counts the lines of a text that have their line feed.
+fn lines_in(text: &[u8]) -> usize {
+    let mut lines = 0usize;
+    for byte in text {
+        lines = lines.saturating_add(usize::from(*byte == b'\n'));
+    }
+    lines
+}
+
 /// The first so many lines of a text.
 fn first_lines(text: &'static [u8], count: usize) -> &'static [u8] {
     let mut lines = 0usize;
@@ -59,20 +68,11 @@ fn first_lines(text: &'static [u8], count: usize) -> &'static [u8] {
 fn reads_that_fail(rt: &(impl Wait + Abort), alloc: Global, session: Session, most: usize) {
     for good in 0..=session.input.len() {
         let read = &session.input[..good];
+        let whole = first_lines(session.replies, lines_in(read));
         let mut input = Source::new(read, most);
-        let mut output = Device::new(1024, 1024);
-        let result = play(
-            rt,
-            alloc,
-            session.kind,
-            Reset::Keep,
-            &mut input,
-            &mut output,
-        );
-        assert_equal(rt, result, Err(EngineError::Read));
-        let lines = read.iter().filter(|byte| **byte == b'\n').count();
-        let whole = first_lines(session.replies, lines);
-        assert_eq!(rt; output.bytes(), whole, "{good} bytes read, {most} a call");
+        let output = Device::new(1024, 1024);
+        let expected = (Err(EngineError::Read), whole);
+        plays(rt, alloc, session.kind, &mut input, output, expected);
     }
 }
 
@@ -89,22 +89,9 @@ fn a_reader_that_fails_leaves_the_replies_to_whole_lines(rt: HostRuntime) {
 fn writes_that_fail(rt: &(impl Wait + Abort), alloc: Global, session: Session, most: usize) {
     for room in 0..session.replies.len() {
         let mut input = session.input;
-        let mut output = Device::new(room, most);
-        let result = play(
-            rt,
-            alloc,
-            session.kind,
-            Reset::Keep,
-            &mut input,
-            &mut output,
-        );
-        assert_equal(rt, result, Err(EngineError::Write));
-        let beginning = &session.replies[..room];
-        assert_eq!(rt;
-            output.bytes(),
-            beginning,
-            "room for {room} bytes, {most} a call"
-        );
+        let output = Device::new(room, most);
+        let expected = (Err(EngineError::Write), &session.replies[..room]);
+        plays(rt, alloc, session.kind, &mut input, output, expected);
     }
 }
 
@@ -120,62 +107,30 @@ fn a_writer_that_fails_has_a_beginning_of_the_replies(rt: HostRuntime) {
 #[test]
 fn a_device_fails_within_a_line(rt: HostRuntime) {
     let mut input = Source::new(b"pull\nwri", 1024);
-    let mut output = Device::new(1024, 1024);
-    let result = play(
-        &rt,
-        rt.alloc(),
-        Kind::Linear,
-        Reset::Keep,
-        &mut input,
-        &mut output,
-    );
-    assert_equal(&rt, result, Err(EngineError::Read));
-    assert_equal(
-        &rt,
-        output.bytes(),
+    let output = Device::new(1024, 1024);
+    let expected = (
+        Err(EngineError::Read),
         b"pulled 0 number 0 value 0\n".as_slice(),
     );
+    plays(&rt, rt.alloc(), Kind::Linear, &mut input, output, expected);
     let mut input = b"pull\n".as_slice();
-    let mut output = Device::new(10, 1024);
-    let result = play(
-        &rt,
-        rt.alloc(),
-        Kind::Linear,
-        Reset::Keep,
-        &mut input,
-        &mut output,
-    );
-    assert_equal(&rt, result, Err(EngineError::Write));
-    assert_equal(&rt, output.bytes(), b"pulled 0 n".as_slice());
+    let output = Device::new(10, 1024);
+    let expected = (Err(EngineError::Write), b"pulled 0 n".as_slice());
+    plays(&rt, rt.alloc(), Kind::Linear, &mut input, output, expected);
 }
 
 #[test]
 fn a_writer_may_take_one_byte_a_call_or_none(rt: HostRuntime) {
     for session in sessions() {
         let mut input = session.input;
-        let mut output = Device::new(1024, 1);
-        let result = play(
-            &rt,
-            rt.alloc(),
-            session.kind,
-            Reset::Keep,
-            &mut input,
-            &mut output,
-        );
-        assert_equal(&rt, result, Ok(()));
-        assert_equal(&rt, output.bytes(), session.replies);
+        let output = Device::new(1024, 1);
+        let expected = (Ok(()), session.replies);
+        plays(&rt, rt.alloc(), session.kind, &mut input, output, expected);
         let mut input = session.input;
-        let mut output = Device::new(1024, 0);
-        let result = play(
-            &rt,
-            rt.alloc(),
-            session.kind,
-            Reset::Keep,
-            &mut input,
-            &mut output,
-        );
-        assert_equal(&rt, result, Err(EngineError::Write));
-        assert_equal(&rt, (output.bytes().len(), output.calls()), (0, 1));
+        let output = Device::new(1024, 0);
+        let expected = (Err(EngineError::Write), b"".as_slice());
+        let writes = plays(&rt, rt.alloc(), session.kind, &mut input, output, expected);
+        assert_equal(&rt, writes, 1);
     }
 }
 
@@ -196,14 +151,11 @@ fn reads_that_fail_once(rt: &(impl Wait + Abort), alloc: Global, cause: ErrorKin
     ];
     for (parts, replies) in rows {
         let mut input = Parts::new(parts, Some(cause));
-        let mut output = Device::new(1024, 1024);
-        let result = run(rt, alloc, Kind::Stack, Reset::Keep, &mut input, &mut output);
-        assert_eq!(rt;
-            (result, output.bytes()),
-            (Err(EngineError::Read), replies),
-            "{cause:?}"
-        );
-        assert_eq!(rt; input.reads(), parts.len().saturating_add(1), "{cause:?}");
+        let output = Device::new(1024, 1024);
+        let expected = (Err(EngineError::Read), replies);
+        plays(rt, alloc, Kind::Stack, &mut input, output, expected);
+        let reads = parts.len().saturating_add(1);
+        assert_equal(rt, (cause, input.reads()), (cause, reads));
     }
 }
 
@@ -227,10 +179,10 @@ fn a_write_that_fails_is_never_asked_again(rt: HostRuntime) {
             &mut input,
             &mut output,
         );
-        assert_eq!(rt;
-            (result, output.writes()),
-            (Err(EngineError::Write), 1),
-            "{cause:?}"
+        assert_equal(
+            &rt,
+            (cause, result, output.writes()),
+            (cause, Err(EngineError::Write), 1),
         );
     }
 }
@@ -294,7 +246,7 @@ fn plays_all_pulls(rt: &(impl Wait + Abort), alloc: Global, kind: Kind) -> bool 
         Err(error) => {
             assert_eq!(rt; error, EngineError::Memory, "{kind:?}");
             assert!(rt; whole.starts_with(text), "{kind:?}");
-            assert!(rt; text.last().is_none_or(|byte| *byte == b'\n'), "{kind:?}");
+            assert!(rt; text.is_empty() || text.ends_with(b"\n"), "{kind:?}");
             false
         }
     }
@@ -334,7 +286,6 @@ fn want_of_memory_is_answered_as_such(rt: HostRuntime) {
             &mut output,
         );
         let text = output.bytes();
-        let lines = text.iter().filter(|byte| **byte == b'\n').count();
         match result {
             Ok(()) if session.kind == Kind::Stack && text.starts_with(b"refused memory\n") => {
                 assert_equal(&rt, text, ATTACH_REFUSED);
@@ -342,7 +293,7 @@ fn want_of_memory_is_answered_as_such(rt: HostRuntime) {
             Ok(()) => assert_equal(&rt, text, session.replies),
             Err(error) => {
                 assert_equal(&rt, error, EngineError::Memory);
-                assert_equal(&rt, text, first_lines(session.replies, lines));
+                assert_equal(&rt, text, first_lines(session.replies, lines_in(text)));
             }
         }
     }

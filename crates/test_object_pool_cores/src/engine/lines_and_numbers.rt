@@ -1,6 +1,7 @@
 //! Lines of any length and of any bytes, the greatest numbers, and each kind of pool with a reset
 //! to zero.
 use super::*;
+use crate::assert_equal::assert_equal;
 
 /// How many bytes the lines have: about the longest that is kept, about one read, and many reads.
 const LENGTHS: [usize; 9] = [1, 63, 64, 65, 1023, 1024, 1025, 2048, 100_000];
@@ -22,14 +23,10 @@ fn answers_to_letters<H: Abort + Wait>(rt: &H, alloc: Global, length: usize) -> 
 fn a_line_of_any_length_is_answered_with_a_line_feed_or_without(rt: HostRuntime) {
     for length in LENGTHS {
         let (first, last) = answers_to_letters(&rt, rt.alloc(), length);
-        assert_eq!(rt;
-            (first.as_slice(), last.as_slice()),
-            (
-                b"bad line\npulled 0 value 0\n".as_slice(),
-                b"bad line\n".as_slice()
-            ),
-            "{length} bytes"
-        );
+        let both = b"bad line\npulled 0 value 0\n".as_slice();
+        assert_equal(&rt, (length, first.as_slice()), (length, both));
+        let alone = b"bad line\n".as_slice();
+        assert_equal(&rt, (length, last.as_slice()), (length, alone));
     }
 }
 
@@ -38,20 +35,19 @@ fn each_byte_alone_is_a_bad_line(rt: HostRuntime) {
     for byte in 0..=255u8 {
         let line = [byte, b'\n'];
         let mut input = line.as_slice();
-        let mut output = Device::new(64, 64);
-        let result = run(
+        let replies: &[u8] = if byte == b'\n' {
+            b"bad line\nbad line\n"
+        } else {
+            b"bad line\n"
+        };
+        let output = Device::new(64, 64);
+        plays(
             &rt,
             rt.alloc(),
             Kind::Stack,
-            Reset::Keep,
             &mut input,
-            &mut output,
-        );
-        let lines = if byte == b'\n' { 2 } else { 1 };
-        assert_eq!(rt; result, Ok(()), "byte {byte}");
-        assert!(rt;
-            is_repeated(output.bytes(), b"bad line\n", lines),
-            "byte {byte}"
+            output,
+            (Ok(()), replies),
         );
     }
 }

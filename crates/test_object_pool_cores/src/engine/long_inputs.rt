@@ -2,6 +2,8 @@
 use super::devices::Lines;
 use super::*;
 use crate::assert_equal::assert_equal;
+use object_pool_cores::sequential::RunError;
+use std::fmt::Display;
 use std::io;
 
 /// How many pulls are played.
@@ -111,18 +113,23 @@ fn the_end_of_an_input_is_read_once(rt: HostRuntime) {
             bytes,
             reads_at_end: 0,
         };
-        let mut output = Device::new(64, 64);
-        let result = run(
+        let output = Device::new(64, 64);
+        plays(
             &rt,
             rt.alloc(),
             Kind::None,
-            Reset::Keep,
             &mut input,
-            &mut output,
+            output,
+            (Ok(()), replies),
         );
-        assert_equal(&rt, (result, output.bytes()), (Ok(()), replies));
         assert_equal(&rt, input.reads_at_end, 1);
     }
+}
+
+/// Checks what an error is shown by.
+fn tells(rt: &impl Abort, alloc: Global, error: &impl Display, expected: &str) {
+    let text = format!(in alloc; "{error}").expect(rt, "memory is left");
+    assert_equal(rt, text.as_str(), expected);
 }
 
 #[test]
@@ -133,17 +140,7 @@ fn each_error_tells_its_cause(rt: HostRuntime) {
         (EngineError::Memory, "out of memory"),
     ];
     for (error, text) in rows {
-        assert_equal(
-            &rt,
-            format!(in rt.alloc(); "{error}")
-                .expect(&rt, "memory is left")
-                .as_str(),
-            text,
-        );
+        tells(&rt, rt.alloc(), &error, text);
     }
-    let text = format!(in rt.alloc(); "{}", object_pool_cores::sequential::RunError::Memory).expect(
-        &rt,
-        "memory is left",
-    );
-    assert_equal(&rt, text.as_str(), "out of memory");
+    tells(&rt, rt.alloc(), &RunError::Memory, "out of memory");
 }

@@ -1,5 +1,6 @@
 //! Replies of thousands of bytes to one read, and devices that take much of them at once.
 use super::*;
+use crate::assert_equal::assert_equal;
 use std::process::Abort;
 
 /// As many empty lines as one read takes. No other read has so many bytes of replies.
@@ -11,14 +12,11 @@ fn answers_empty_lines(rt: &(impl Wait + Abort), alloc: Global, most: usize, wri
     let mut input = EMPTY_LINES.as_slice();
     let mut output = Device::new(usize::MAX, most);
     let result = run(rt, alloc, Kind::None, Reset::Keep, &mut input, &mut output);
-    assert_eq!(rt;
-        (result, output.calls()),
-        (Ok(()), writes),
-        "{most} bytes a call"
-    );
-    assert!(rt;
-        is_repeated(output.bytes(), b"bad line\n", EMPTY_LINES.len()),
-        "{most} bytes a call"
+    let is_whole = is_repeated(output.bytes(), b"bad line\n", EMPTY_LINES.len());
+    assert_equal(
+        rt,
+        (most, result, output.calls(), is_whole),
+        (most, Ok(()), writes, true),
     );
 }
 

@@ -3,35 +3,41 @@ use super::*;
 use crate::assert_equal::assert_equal;
 use std::alloc::Global;
 
-/// A world in which so many agents hold the item of their own number each.
-fn all_held(alloc: Global, agents: usize) -> Result<World<u32, Keep>, PullError> {
-    let mut world = unbounded(alloc)?;
-    for agent in 0..agents {
-        take(alloc, &mut world, agent)?;
-    }
-    Ok(world)
+/// Creates a world in which so many agents hold the item of their own number each.
+fn all_held(rt: &impl Abort, alloc: Global, agents: usize) -> World<u32, Keep> {
+    let mut world = unbounded(rt, alloc);
+    take_all(rt, alloc, &mut world, agents);
+    world
 }
 
-/// An agent steps until it holds an item, where as many are out as its number says.
-fn take(alloc: Global, world: &mut World<u32, Keep>, agent: usize) -> Result<(), PullError> {
-    let _ = world.step(Event::Begin);
+/// Lets so many agents take the item of their own number each.
+fn take_all(rt: &impl Abort, alloc: Global, world: &mut World<u32, Keep>, agents: usize) {
+    for agent in 0..agents {
+        let _ = world.step(Event::Begin);
+        pass(rt, alloc, world, agent);
+        let _ = world.step(Event::ReadMask(agent));
+        let _ = world.step(Event::ClearBit(agent));
+        let _ = world.step(Event::MoveOut(agent));
+    }
+}
+
+/// Lets an agent pass the full pages, as many as there are where as many items are out as its
+/// number says, and link a page behind them where it has to.
+fn pass(rt: &impl Abort, alloc: Global, world: &mut World<u32, Keep>, agent: usize) {
     for _ in 0..agent / 32 {
         let _ = world.step(Event::ReadMask(agent));
         let _ = world.step(Event::ReadNext(agent));
     }
     if agent > 0 && agent % 32 == 0 {
-        let _ = world.step(Event::MakePage(agent, Ok(zeros(alloc)?)));
+        let page = zeros(alloc).expect(rt, "values are made");
+        let _ = world.step(Event::MakePage(agent, Ok(page)));
         let _ = world.step(Event::ExchangeNext(agent));
     }
-    let _ = world.step(Event::ReadMask(agent));
-    let _ = world.step(Event::ClearBit(agent));
-    let _ = world.step(Event::MoveOut(agent));
-    Ok(())
 }
 
 #[test]
 fn a_hint_leads_past_full_pages_to_a_free_number(rt: HostRuntime) {
-    let mut world = all_held(rt.alloc(), 128).expect(&rt, "nothing is refused");
+    let mut world = all_held(&rt, rt.alloc(), 128);
     give_back(&mut world, 101);
     const STEPS: [(Act, Seen); 5] = [
         (Act::Begin, Seen::Began(128)),
@@ -46,7 +52,7 @@ fn a_hint_leads_past_full_pages_to_a_free_number(rt: HostRuntime) {
 
 #[test]
 fn a_page_that_a_hint_found_full_is_not_asked_again(rt: HostRuntime) {
-    let mut world = all_held(rt.alloc(), 128).expect(&rt, "nothing is refused");
+    let mut world = all_held(&rt, rt.alloc(), 128);
     const STEPS: [(Act, Seen); 10] = [
         (Act::Begin, Seen::Began(128)),
         (Act::ReadMask(128), Seen::Word(128, 0)),
@@ -64,7 +70,7 @@ fn a_page_that_a_hint_found_full_is_not_asked_again(rt: HostRuntime) {
 
 #[test]
 fn a_number_that_comes_home_behind_a_hint_is_passed(rt: HostRuntime) {
-    let mut world = all_held(rt.alloc(), 64).expect(&rt, "nothing is refused");
+    let mut world = all_held(&rt, rt.alloc(), 64);
     const STEPS: [(Act, Seen); 11] = [
         (Act::Begin, Seen::Began(64)),
         (Act::ReadMask(64), Seen::Word(64, 0)),
@@ -84,7 +90,7 @@ fn a_number_that_comes_home_behind_a_hint_is_passed(rt: HostRuntime) {
 
 #[test]
 fn a_hint_may_name_any_linked_page_but_the_first(rt: HostRuntime) {
-    let mut world = all_held(rt.alloc(), 64).expect(&rt, "nothing is refused");
+    let mut world = all_held(&rt, rt.alloc(), 64);
     const STEPS: [(Act, Seen); 8] = [
         (Act::ReadHinted(64, 1), Seen::NotEnabled),
         (Act::Begin, Seen::Began(64)),
@@ -100,7 +106,7 @@ fn a_hint_may_name_any_linked_page_but_the_first(rt: HostRuntime) {
 
 #[test]
 fn an_agent_goes_by_one_hint_from_the_first_link(rt: HostRuntime) {
-    let mut world = all_held(rt.alloc(), 128).expect(&rt, "nothing is refused");
+    let mut world = all_held(&rt, rt.alloc(), 128);
     const STEPS: [(Act, Seen); 12] = [
         (Act::Begin, Seen::Began(128)),
         (Act::ReadMask(128), Seen::Word(128, 0)),
@@ -120,7 +126,7 @@ fn an_agent_goes_by_one_hint_from_the_first_link(rt: HostRuntime) {
 
 #[test]
 fn a_clearing_that_is_lost_behind_a_hint_tries_the_next_bit(rt: HostRuntime) {
-    let mut world = all_held(rt.alloc(), 64).expect(&rt, "nothing is refused");
+    let mut world = all_held(&rt, rt.alloc(), 64);
     give_back(&mut world, 32);
     give_back(&mut world, 34);
     const STEPS: [(Act, Seen); 10] = [
@@ -141,7 +147,7 @@ fn a_clearing_that_is_lost_behind_a_hint_tries_the_next_bit(rt: HostRuntime) {
 
 #[test]
 fn clearings_that_are_all_lost_behind_a_hint_lead_to_the_first_link(rt: HostRuntime) {
-    let mut world = all_held(rt.alloc(), 64).expect(&rt, "nothing is refused");
+    let mut world = all_held(&rt, rt.alloc(), 64);
     give_back(&mut world, 33);
     give_back(&mut world, 63);
     const STEPS: [(Act, Seen); 18] = [
@@ -169,16 +175,8 @@ fn clearings_that_are_all_lost_behind_a_hint_lead_to_the_first_link(rt: HostRunt
 
 #[test]
 fn a_limit_is_told_past_a_hint(rt: HostRuntime) {
-    let mut world = World::with_limit(
-        rt.alloc(),
-        zeros(rt.alloc()).expect(&rt, "values are made"),
-        Keep,
-        2,
-    )
-    .expect(&rt, "a world is made");
-    for agent in 0..64 {
-        take(rt.alloc(), &mut world, agent).expect(&rt, "an item is free");
-    }
+    let mut world = limited(&rt, rt.alloc(), 2);
+    take_all(&rt, rt.alloc(), &mut world, 64);
     const STEPS: [(Act, Seen); 5] = [
         (Act::Begin, Seen::Began(64)),
         (Act::ReadMask(64), Seen::Word(64, 0)),
@@ -189,43 +187,37 @@ fn a_limit_is_told_past_a_hint(rt: HostRuntime) {
     play(&rt, rt.alloc(), &ZeroPages, &mut world, &STEPS);
 }
 
+/// Lets an agent ask each of forty full pages once, first the one that a hint names.
+fn ask_each(rt: &impl Abort, world: &mut World<u32, Keep>, agent: usize, hint: usize) {
+    let _ = world.step(Event::Begin);
+    let _ = world.step(Event::ReadMask(agent));
+    let hinted = world.step(Event::ReadHinted(agent, hint));
+    assert_equal(rt, hinted, Seen::Word(agent, 0));
+    for page in 1..40 {
+        let next = world.step(Event::ReadNext(agent));
+        let answer = if page == hint {
+            Seen::NotEnabled
+        } else {
+            Seen::Word(agent, 0)
+        };
+        let asked = world.step(Event::ReadMask(agent));
+        assert_equal(rt, (next, asked), (Seen::Next(agent, true), answer));
+    }
+    let last = world.step(Event::ReadNext(agent));
+    assert_equal(rt, last, Seen::Next(agent, false));
+}
+
 #[test]
 fn each_of_forty_pages_is_asked_once_whichever_a_hint_names(rt: HostRuntime) {
-    let mut world = all_held(rt.alloc(), 1280).expect(&rt, "nothing is refused");
+    let mut world = all_held(&rt, rt.alloc(), 1280);
     for hint in 1..40 {
-        let agent = 1279 + hint;
-        let _ = world.step(Event::Begin);
-        let _ = world.step(Event::ReadMask(agent));
-        assert_equal(
-            &rt,
-            world.step(Event::ReadHinted(agent, hint)),
-            Seen::Word(agent, 0),
-        );
-        for page in 1..40 {
-            assert_equal(
-                &rt,
-                world.step(Event::ReadNext(agent)),
-                Seen::Next(agent, true),
-            );
-            let asked = world.step(Event::ReadMask(agent));
-            let answer = if page == hint {
-                Seen::NotEnabled
-            } else {
-                Seen::Word(agent, 0)
-            };
-            assert_equal(&rt, asked, answer);
-        }
-        assert_equal(
-            &rt,
-            world.step(Event::ReadNext(agent)),
-            Seen::Next(agent, false),
-        );
+        ask_each(&rt, &mut world, 1279 + hint, hint);
     }
 }
 
 #[test]
 fn a_hint_in_vain_costs_an_agent_alone_one_step_at_most(rt: HostRuntime) {
-    let mut world = all_held(rt.alloc(), 128).expect(&rt, "nothing is refused");
+    let mut world = all_held(&rt, rt.alloc(), 128);
     give_back(&mut world, 70);
     give_back(&mut world, 71);
     const STEPS: [(Act, Seen); 17] = [

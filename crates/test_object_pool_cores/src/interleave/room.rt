@@ -18,7 +18,7 @@ fn make_two(world: &mut World<u32, Keep>, first: Prepared<u32>, second: Prepared
 
 #[test]
 fn a_second_page_is_made_in_the_room_of_the_first(rt: HostRuntime) {
-    let mut world = unbounded(rt.alloc()).expect(&rt, "a world is made");
+    let mut world = unbounded(&rt, rt.alloc());
     hold(&mut world, 32);
     for agent in 32..34 {
         let _ = world.step(Event::Begin);
@@ -38,12 +38,9 @@ fn a_second_page_is_made_in_the_room_of_the_first(rt: HostRuntime) {
 
 #[test]
 fn a_run_with_room_for_its_answers_is_done(rt: HostRuntime) {
-    let mut world = unbounded(rt.alloc()).expect(&rt, "a world is made");
-    let mut events = Vec::new(rt.alloc());
-    events.push(Event::Begin).expect(&rt, "memory is left");
-    events
-        .push(Event::ReadMask(0))
-        .expect(&rt, "memory is left");
+    let mut world = unbounded(&rt, rt.alloc());
+    let events = [Event::Begin, Event::ReadMask(0)];
+    let events = Vec::from_array(rt.alloc(), events).expect(&rt, "memory is left");
     let mut seen = Vec::with_capacity(rt.alloc(), 2).expect(&rt, "memory is left");
     if world.run(events, &mut seen).is_err() {
         unreachable!();

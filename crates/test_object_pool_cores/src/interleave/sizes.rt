@@ -63,21 +63,17 @@ fn links_forty(rt: &impl Abort, alloc: Global, world: &mut World<u32, Keep>) -> 
 #[test]
 fn agents_alone_link_forty_pages_and_hold_each_number(rt: HostRuntime) {
     let last = PAGES * PAGE_ITEMS;
-    let mut world = unbounded(rt.alloc()).expect(&rt, "a world is made");
+    let mut world = unbounded(&rt, rt.alloc());
     let seen = links_forty(&rt, rt.alloc(), &mut world);
     assert_equal(&rt, seen, Some(Seen::Next(last, false)));
-    let first = zeros(rt.alloc()).expect(&rt, "values are made");
-    let mut world = World::with_limit(rt.alloc(), first, Keep, PAGES).expect(
-        &rt,
-        "a world is made",
-    );
+    let mut world = limited(&rt, rt.alloc(), PAGES);
     let seen = links_forty(&rt, rt.alloc(), &mut world);
     assert_equal(&rt, seen, Some(Seen::Refused(last, PullError::Limit)));
 }
 
 #[test]
 fn three_hundred_agents_read_one_word_in_one_run(rt: HostRuntime) {
-    let mut world = unbounded(rt.alloc()).expect(&rt, "a world is made");
+    let mut world = unbounded(&rt, rt.alloc());
     let mut seen = Vec::new(rt.alloc());
     let mut events = Vec::new(rt.alloc());
     for _ in 0..300 {
@@ -96,7 +92,7 @@ fn three_hundred_agents_read_one_word_in_one_run(rt: HostRuntime) {
 
 #[test]
 fn a_run_goes_on_past_events_that_are_not_enabled(rt: HostRuntime) {
-    let mut world = unbounded(rt.alloc()).expect(&rt, "a world is made");
+    let mut world = unbounded(&rt, rt.alloc());
     let mut seen = Vec::from_array(rt.alloc(), [Seen::Began(7)]).expect(&rt, "memory is left");
     let events = Vec::from_array(
         rt.alloc(),
@@ -133,7 +129,7 @@ fn a_run_goes_on_past_events_that_are_not_enabled(rt: HostRuntime) {
 
 #[test]
 fn a_run_of_no_events_changes_nothing(rt: HostRuntime) {
-    let mut world = unbounded(rt.alloc()).expect(&rt, "a world is made");
+    let mut world = unbounded(&rt, rt.alloc());
     let mut seen = Vec::new(rt.alloc());
     let first = world.run(Vec::new(rt.alloc()), &mut seen);
     hold(&mut world, 1);

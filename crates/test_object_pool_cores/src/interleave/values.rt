@@ -27,7 +27,7 @@ fn each_place_has_the_answer_that_init_gave_at_its_turn(rt: HostRuntime) {
         calls: Cell::new(0),
     };
     let first = pages.page(rt.alloc()).expect(&rt, "memory is left");
-    let mut world = World::new(rt.alloc(), first, Keep).expect(&rt, "a world is made");
+    let mut world = world_of(&rt, rt.alloc(), first);
     hold(&mut world, 32);
     for agent in 0..32usize {
         assert_equal(&rt, world.held(agent).copied(), Some(agent as u32));
@@ -46,49 +46,53 @@ fn each_place_has_the_answer_that_init_gave_at_its_turn(rt: HostRuntime) {
     }
 }
 
+/// Returns what agent 0 sees when it writes one more value.
+fn write_one(rt: &impl Abort, world: &mut TalliedWorld, tally: &Arc<Tally>) -> Seen {
+    let value = Tallied::new(tally).expect(rt, "a value is made");
+    world.step(Event::Write(0, value))
+}
+
 #[test]
 fn a_write_drops_the_value_before_at_once(rt: HostRuntime) {
-    let tally = Tally::new();
-    let first = make_counted(rt.alloc(), &tally).expect(&rt, "values are made");
-    let mut world = World::new(rt.alloc(), first, Keep).expect(&rt, "a world is made");
+    let tally = new_tally(rt.alloc()).expect(&rt, "memory is left");
+    let mut world = tallied_world(&rt, rt.alloc(), &tally);
     hold(&mut world, 1);
     assert_equal(&rt, tally.now(), (32, 0));
     for writes in 1..4usize {
-        let seen = world.step(Event::Write(0, tally.make()));
+        let seen = write_one(&rt, &mut world, &tally);
         assert_equal(&rt, (seen, tally.drops()), (Seen::Wrote(0), writes));
     }
     give_back(&mut world, 0);
     assert_equal(&rt, tally.drops(), 3);
-    let seen = world.step(Event::Write(0, tally.make()));
+    let seen = write_one(&rt, &mut world, &tally);
     assert_equal(&rt, (seen, tally.drops()), (Seen::NotEnabled, 4));
     drop(world);
     // 32 values of the first page, and 4 that were written.
     assert_equal(&rt, tally.now(), (36, 36));
 }
 
+/// Makes three events, of which the first alone is enabled.
+fn write_and_page(rt: &impl Abort, alloc: Global, tally: &Arc<Tally>) -> Vec<Event<Tallied>> {
+    let value = Tallied::new(tally).expect(rt, "a value is made");
+    let page = make_tallied(alloc, tally, NEVER);
+    let events = [
+        Event::Begin,
+        Event::Write(0, value),
+        Event::MakePage(0, page),
+    ];
+    Vec::from_array(alloc, events).expect(rt, "memory is left")
+}
+
 #[test]
 fn a_run_drops_the_values_of_events_that_are_not_enabled(rt: HostRuntime) {
-    let tally = Tally::new();
-    let first = make_counted(rt.alloc(), &tally).expect(&rt, "values are made");
-    let second = make_counted(rt.alloc(), &tally).expect(&rt, "values are made");
-    assert_equal(&rt, tally.now(), (64, 0));
-    let mut world = World::new(rt.alloc(), first, Keep).expect(&rt, "a world is made");
+    let tally = new_tally(rt.alloc()).expect(&rt, "memory is left");
+    let mut world = tallied_world(&rt, rt.alloc(), &tally);
+    let events = write_and_page(&rt, rt.alloc(), &tally);
+    assert_equal(&rt, tally.now(), (65, 0));
     let mut seen = Vec::new(rt.alloc());
-    let events = Vec::from_array(
-        rt.alloc(),
-        [
-            Event::Begin,
-            Event::Write(0, tally.make()),
-            Event::MakePage(0, Ok(second)),
-        ],
-    )
-    .expect(&rt, "memory is left");
     world.run(events, &mut seen).expect(&rt, "memory is left");
-    assert_equal(
-        &rt,
-        seen.as_slice(),
-        [Seen::Began(0), Seen::NotEnabled, Seen::NotEnabled].as_slice(),
-    );
+    let expected = [Seen::Began(0), Seen::NotEnabled, Seen::NotEnabled];
+    assert_equal(&rt, seen.as_slice(), expected.as_slice());
     assert_equal(&rt, tally.now(), (65, 33));
 }
 
@@ -108,12 +112,8 @@ fn write_and_make(
 #[test]
 fn what_cannot_be_written_or_linked_is_dropped_at_once(rt: HostRuntime) {
     let shared = Rc::new(rt.alloc(), 7u32).expect(&rt, "memory is left");
-    let mut world: SharedWorld = World::new(
-        rt.alloc(),
-        owners(rt.alloc(), &shared).expect(&rt, "nothing is refused"),
-        Keep,
-    )
-    .expect(&rt, "a world is made");
+    let first = owners(rt.alloc(), &shared).expect(&rt, "nothing is refused");
+    let mut world = world_of(&rt, rt.alloc(), first);
     // What a write is answered in front of each event of an agent's life, which begins with the
     // first.
     let not = Seen::NotEnabled;

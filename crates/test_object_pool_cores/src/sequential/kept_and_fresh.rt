@@ -1,5 +1,5 @@
 //! Worked cases of the stack core and the none core, by values.
-use super::{Tracked, WRITTEN_AND_PULLED, replies_of, tracked, tracked_stack};
+use super::{Tracked, WRITTEN_AND_PULLED, give_back, replies_of, tracked, tracked_stack};
 use crate::assert_equal::assert_equal;
 use object_pool_cores::sequential::*;
 use pool_parts::PullError;
@@ -41,9 +41,7 @@ fn an_attached_value_is_kept_when_it_returns(rt: HostRuntime) {
         (*item, item.number(), core.is_mine(&item)),
         (9, None, true),
     );
-    if core.is_mine(&item) {
-        core.give(item);
-    }
+    give_back(&mut core, item);
     assert_equal(&rt, *core.pull().expect(&rt, "an item is free"), 9);
     assert_equal(&rt, *core.pull().expect(&rt, "an item is free"), 3);
 }
@@ -54,9 +52,7 @@ fn an_attached_value_is_reset_when_it_returns(rt: HostRuntime) {
     let zero = Copied::<u32, AnyValue>::new(0);
     let mut core = StackCore::<u32, _, _, AnyValue>::new(rt.alloc(), seven, zero);
     let item = core.attach(9).expect(&rt, "nothing is refused");
-    if core.is_mine(&item) {
-        core.give(item);
-    }
+    give_back(&mut core, item);
     assert_equal(&rt, *core.pull().expect(&rt, "an item is free"), 0);
 }
 
@@ -90,14 +86,25 @@ fn a_stack_that_init_refuses_once_gives_an_item_then(rt: HostRuntime) {
     );
 }
 
-/// How many values are dropped once a player has answered a command.
+/// Returns how many values of both tallies are dropped once a player has answered a command.
 fn drops_after(
     player: &mut Player<Tallied, Tracked>,
     command: Command<Tallied>,
-    tally: &Tally,
-) -> Option<usize> {
+    tallies: [&Tally; 2],
+) -> Option<[usize; 2]> {
     drop(player.play(command).ok()?);
-    Some(tally.drops())
+    Some([tallies[0].drops(), tallies[1].drops()])
+}
+
+/// Does the same with a write of a new value, of the second tally.
+fn drops_after_write(
+    player: &mut Player<Tallied, Tracked>,
+    holder: usize,
+    tally: &Tally,
+    more: &Arc<Tally>,
+) -> Option<[usize; 2]> {
+    let value = Tallied::new(more)?;
+    drops_after(player, Command::Write(holder, value), [tally, more])
 }
 
 #[test]
@@ -106,33 +113,16 @@ fn what_is_forgotten_or_replaced_is_dropped_at_once(rt: HostRuntime) {
     let more = new_tally(rt.alloc()).expect(&rt, "memory is left");
     let core = tracked(rt.alloc(), &tally, NEVER, None).expect(&rt, "a pool is made");
     let mut player = Player::new(rt.alloc(), core);
-    assert_equal(
-        &rt,
-        drops_after(&mut player, Command::Pull, &tally),
-        Some(0),
-    );
-    assert_equal(
-        &rt,
-        drops_after(&mut player, Command::Pull, &tally),
-        Some(0),
-    );
-    assert_equal(
-        &rt,
-        drops_after(&mut player, Command::Forget(0), &tally),
-        Some(1),
-    );
-    let value = Tallied::new(&more).expect(&rt, "a value is made");
-    assert_equal(
-        &rt,
-        drops_after(&mut player, Command::Write(1, value), &tally),
-        Some(2),
-    );
-    assert_equal(&rt, more.drops(), 0);
-    let value = Tallied::new(&more).expect(&rt, "a value is made");
-    assert_equal(
-        &rt,
-        drops_after(&mut player, Command::Write(0, value), &tally),
-        Some(2),
-    );
-    assert_equal(&rt, more.drops(), 1);
+    for (command, drops) in [
+        (Command::Pull, 0),
+        (Command::Pull, 0),
+        (Command::Forget(0), 1),
+    ] {
+        let found = drops_after(&mut player, command, [&tally, &more]);
+        assert_equal(&rt, found, Some([drops, 0]));
+    }
+    for (holder, drops) in [(1, [2, 0]), (0, [2, 1])] {
+        let found = drops_after_write(&mut player, holder, &tally, &more);
+        assert_equal(&rt, found, Some(drops));
+    }
 }

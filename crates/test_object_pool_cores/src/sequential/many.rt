@@ -1,10 +1,12 @@
 //! Cores and players that outgrow a byte and two bytes, the greatest limit, and what a pull looks
 //! at after a return.
+use super::{Zeros, give_back, limited_zeros, zeros};
 use crate::assert_equal::assert_equal;
 use object_pool_cores::sequential::*;
 use pool_parts::clean::AnyValue;
 use pool_parts::closures::{Copied, Keep};
 use std::alloc::{AllocError, Global};
+use std::process::Abort;
 
 /// How many items are pulled, by one run.
 const PULLS: usize = 70_000;
@@ -17,77 +19,69 @@ fn pulls(alloc: Global, count: usize) -> Result<Vec<Command<u32>>, AllocError> {
     Ok(commands)
 }
 
-#[test]
-fn seventy_thousand_pulls_in_one_run_give_each_number(rt: HostRuntime) {
-    let zero = Copied::<u32, AnyValue>::new(0);
-    let core = LinearCore::<u32, _, _, AnyValue>::new(rt.alloc(), zero, Keep).expect(
-        &rt,
-        "a pool is made",
-    );
-    let mut player = Player::new(rt.alloc(), core);
-    let mut replies = Vec::new(rt.alloc());
-    player
-        .run(
-            pulls(rt.alloc(), PULLS).expect(&rt, "nothing is refused"),
-            &mut replies,
-        )
-        .expect(&rt, "memory is left");
-    player
-        .run(
-            pulls(rt.alloc(), 1).expect(&rt, "nothing is refused"),
-            &mut replies,
-        )
-        .expect(&rt, "memory is left");
-    assert_equal(&rt, replies.len(), PULLS + 1);
+/// Plays so many pulls in one run.
+fn play_pulls(
+    rt: &impl Abort,
+    alloc: Global,
+    player: &mut Player<u32, Zeros>,
+    count: usize,
+    replies: &mut Vec<Reply<u32>>,
+) {
+    let commands = pulls(alloc, count).expect(rt, "nothing is refused");
+    player.run(commands, replies).expect(rt, "memory is left");
+}
+
+/// Returns whether each reply tells that a pull gave the item of its own number.
+fn are_in_order(replies: &[Reply<u32>]) -> bool {
     let mut number = 0usize;
-    for reply in replies.iter() {
-        assert_equal(&rt, reply, &Reply::Pulled(number, Some(number as u128)));
+    for reply in replies {
+        if *reply != Reply::Pulled(number, Some(number as u128)) {
+            return false;
+        }
         number = number.saturating_add(1);
     }
+    true
+}
+
+#[test]
+fn seventy_thousand_pulls_in_one_run_give_each_number(rt: HostRuntime) {
+    let mut player = Player::new(rt.alloc(), zeros(&rt, rt.alloc()));
+    let mut replies = Vec::new(rt.alloc());
+    play_pulls(&rt, rt.alloc(), &mut player, PULLS, &mut replies);
+    play_pulls(&rt, rt.alloc(), &mut player, 1, &mut replies);
+    assert_equal(
+        &rt,
+        (replies.len(), are_in_order(&replies)),
+        (PULLS + 1, true),
+    );
 }
 
 #[test]
 fn the_greatest_limit_needs_no_memory_beforehand(rt: HostRuntime) {
-    let zero = Copied::<u32, AnyValue>::new(0);
-    let mut core = LinearCore::<u32, _, _, AnyValue>::with_limit(
-        rt.alloc(),
-        zero,
-        Keep,
-        usize::MAX,
-    ).expect(&rt, "a pool is made");
+    let mut core = limited_zeros(&rt, rt.alloc(), usize::MAX);
     assert_equal(&rt, (core.limit(), core.pages()), (Some(usize::MAX), 1));
-    assert_equal(
-        &rt,
-        core.pull().expect(&rt, "an item is free").number(),
-        Some(0),
-    );
+    let item = core.pull().expect(&rt, "an item is free");
+    assert_equal(&rt, item.number(), Some(0));
+}
+
+/// Returns the last of so many items that are pulled. The others stay out.
+fn last_pulled(rt: &impl Abort, core: &mut Zeros, count: usize) -> Item<u32> {
+    for _ in 1..count {
+        drop(core.pull().expect(rt, "an item is free"));
+    }
+    core.pull().expect(rt, "an item is free")
 }
 
 #[test]
 fn a_pull_looks_at_no_page_below_the_one_that_got_an_item_back(rt: HostRuntime) {
-    let zero = Copied::<u32, AnyValue>::new(0);
-    let mut core = LinearCore::<u32, _, _, AnyValue>::new(rt.alloc(), zero, Keep).expect(
-        &rt,
-        "a pool is made",
-    );
-    let mut item = core.pull().expect(&rt, "an item is free");
-    for _ in 0..40 {
-        item = core.pull().expect(&rt, "an item is free");
-    }
-    for _ in 41..96 {
-        drop(core.pull().expect(&rt, "an item is free"));
-    }
-    assert!(rt; core.is_mine(&item));
-    if core.is_mine(&item) {
-        core.give(item);
-    }
+    let mut core = zeros(&rt, rt.alloc());
+    let item = last_pulled(&rt, &mut core, 41);
+    drop(last_pulled(&rt, &mut core, 55));
+    assert!(rt; give_back(&mut core, item));
     let before = core.pages_looked();
-    assert_equal(
-        &rt,
-        core.pull().expect(&rt, "an item is free").number(),
-        Some(40),
-    );
-    assert_equal(&rt, core.pages_looked(), before.saturating_add(1));
+    let again = core.pull().expect(&rt, "an item is free");
+    let looked = core.pages_looked().wrapping_sub(before);
+    assert_equal(&rt, (again.number(), looked), (Some(40), 1));
 }
 
 #[test]
@@ -95,9 +89,7 @@ fn a_value_is_attached_while_another_is_kept(rt: HostRuntime) {
     let zero = Copied::<u32, AnyValue>::new(0);
     let mut core = StackCore::<u32, _, _, AnyValue>::new(rt.alloc(), zero, Keep);
     let item = core.attach(8).expect(&rt, "nothing is refused");
-    if core.is_mine(&item) {
-        core.give(item);
-    }
+    give_back(&mut core, item);
     assert_equal(&rt, *core.attach(9).expect(&rt, "nothing is refused"), 9);
     assert_equal(&rt, *core.pull().expect(&rt, "an item is free"), 8);
 }

@@ -1,5 +1,5 @@
 //! The values that holders have, where replies tell the numbers alone.
-use super::{Do, WRITTEN_AND_PULLED, replies_of, second_page_refused};
+use super::{Do, WRITTEN_AND_PULLED, replies_of, second_page_refused, zeros};
 use crate::assert_equal::assert_equal;
 use object_pool_cores::sequential::*;
 use pool_parts::clean::AnyValue;
@@ -9,12 +9,7 @@ use std::process::Abort;
 
 #[test]
 fn a_value_that_reset_keeps_comes_again_with_its_own_number(rt: HostRuntime) {
-    let zero = Copied::<u32, AnyValue>::new(0);
-    let core = LinearCore::<u32, _, _, AnyValue>::new(rt.alloc(), zero, Keep).expect(
-        &rt,
-        "a pool is made",
-    );
-    let mut player = Player::new(rt.alloc(), core);
+    let mut player = Player::new(rt.alloc(), zeros(&rt, rt.alloc()));
     let replies = replies_of(&rt, rt.alloc(), &mut player, &WRITTEN_AND_PULLED);
     const LAST: [Reply<u32>; 2] = [Reply::Pulled(2, Some(0)), Reply::Pulled(3, Some(1))];
     assert_equal(&rt, replies.as_slice().get(6..), Some(LAST.as_slice()));

@@ -1,0 +1,16 @@
+//! What becomes of a value that memory was refused for.
+use crate::assert_equal::assert_equal;
+use object_pool_cores::sequential::RunError;
+use std::alloc::AllocFailed;
+use test_values::tallied::Tallied;
+use test_values::tally::new_tally;
+
+#[test]
+fn a_value_that_memory_was_refused_for_is_dropped(rt: HostRuntime) {
+    let tally = new_tally(rt.alloc()).expect(&rt, "memory is left");
+    let refused = AllocFailed {
+        value: Tallied::new(&tally),
+    };
+    let cause = RunError::from(refused);
+    assert_equal(&rt, (cause, tally.now()), (RunError::Memory, (1, 1)));
+}
