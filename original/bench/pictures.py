@@ -49,7 +49,7 @@ PICTURES = [
         8,
         2,
         "Time of a pull and drop, in nanoseconds: lower is better",
-        "One thread, Intel Xeon of 2.5 GHz, 2026-11-25, the least of 7 runs",
+        "One thread, Intel Xeon of 2.5 GHz; the least of its runs",
         "items held meanwhile",
     ),
     Picture(
@@ -58,7 +58,7 @@ PICTURES = [
         3,
         3,
         "Time of a pull and drop in each thread, in nanoseconds: lower is better",
-        "Nothing else held, Intel Xeon of 2.5 GHz; a point is the least of 7 runs, its bar ends at the middle one",
+        "Nothing else held, Intel Xeon of 2.5 GHz; a point is the least of its runs, its bar ends at the middle one",
         "threads at work",
     ),
     Picture(

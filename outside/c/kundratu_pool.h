@@ -22,6 +22,13 @@
  *
  * That a place is returned once, by who pulled it, needs no care: a handle returns the place that it holds, and a handle that
  * holds none answers KDR_HOLDS_NONE.
+ *
+ * ThreadSanitizer doesn't see the library's atomic steps. Where a program is built with it, tell it the order that is promised:
+ *
+ *     #include <sanitizer/tsan_interface.h>
+ *     static char order[ITEMS];       // one for each place
+ *     __tsan_acquire(&order[place]);  // after each pull
+ *     __tsan_release(&order[place]);  // before each return
  */
 #ifndef KUNDRATU_POOL_H
 #define KUNDRATU_POOL_H
