@@ -11,8 +11,7 @@ use Rattle.std.proofs.lemmas.Bool.{cases_lt}
 use Rattle.std.proofs.lemmas.Nat.Bits.{bit_at_lowest, bit_at-suc, bit_at_and}
 use Rattle.std.proofs.lemmas.Nat.Bits.{bit_at_above, bit_at-lt, bit_at_ones}
 use Rattle.std.proofs.lemmas.Nat.Bits.{bit_at_ones_above, bit_at_or, bit_at-zero, same_from_bits}
-use Rattle.std.proofs.lemmas.Nat.Bits.{bit_at_cat_low, bit_at_cat_high, bit_at_mask_inside, bit_at_mask_below}
-use Rattle.std.proofs.lemmas.Nat.Bits.{bit_at_mask_above}
+use Rattle.std.proofs.lemmas.Nat.Bits.{bit_at_cat_low, bit_at_cat_high}
 use Rattle.std.proofs.lemmas.Nat.{or_lt}
 use lib.Pow.{pow_mono, ones_lt}
 use Rattle.pool_parts.specs.Word.{all_bits, whole_word, count_in, IsLowHalf, SetsBit, ClearsBit, item_bit, IsAllFree}
@@ -75,40 +74,6 @@ pub same_count : (old id new : ℕ) → id < 32 → ((i : ℕ) → i ≢ id → 
     → count_in new ≡ count_in old
 same_count old id new within others = same_from_bits (count_in new) (count_in old) (λ i.
     bit_at_count new i ∙ others (i + 32) (λ same. absurd (omega arith)) ∙ sym (bit_at_count old i))
-
--- a word that lacks one bit of the lower half alone, those of the count being set
-pub lacks_of_whole : (low id : ℕ) → id < 32 → ClearsBit all_bits id low
-    → ClearsBit whole_word id (bit_or 18446744069414584320 low)
-lacks_of_whole low id within lacks = record {
-  clear = grind (arith, bit_at_or 18446744069414584320 low id, lacks.clear, bit_at_mask_below 32 64 id within);
-  others = λ i other. elim (cases_lt i 32) [
-    | inl below ↦ grind (
-      arith,
-      bit_at_or 18446744069414584320 low i,
-      lacks.others i other,
-      bit_at_mask_below 32 64 i below,
-      bit_at_ones 32 i below,
-      bit_at_ones 64 i (omega arith),
-    )
-    | inr from ↦ elim (cases_lt i 64) [
-      | inl inside ↦ grind (
-        arith,
-        bit_at_or 18446744069414584320 low i,
-        bit_at-lt low i,
-        bit_at_mask_inside 32 64 i from inside,
-        bit_at_ones 64 i inside,
-      )
-      | inr past ↦ grind (
-        arith,
-        bit_at_or 18446744069414584320 low i,
-        lacks.others i other,
-        bit_at_ones_above 32 i from,
-        bit_at_mask_above 32 64 i past,
-        bit_at_ones_above 64 i past,
-      )
-    ]
-  ];
-}
 
 -- an and with a word that lacks one bit alone clears that bit
 pub and_clears : (word operand id : ℕ) → word < 2 ^ 64 → ClearsBit whole_word id operand

@@ -50,9 +50,6 @@ pub type PageId = u8;
 /// How many items a page has.
 pub const PAGE_ITEMS: usize = 32;
 
-/// The bits of a word's count.
-const COUNT_BITS: u64 = 0xffff_ffff_0000_0000;
-
 /// Clears the lowest set bit of a word, and returns the rest with that bit's place. `None` if no
 /// bit is set.
 pub fn take_least(word: u32) -> Option<(u32, PageId)>
@@ -94,6 +91,14 @@ pub fn has_bit(word: u32, id: PageId) -> bool
     word >> id & 1 == 1
 }
 
+/// Returns whether the bit is set in a whole word, which has a count too.
+fn is_bit_set(word: u64, id: PageId) -> bool
+    requires { id < PAGE_ITEMS }
+    ensures { IsTrue result ↔ (bit_at word id ≡ 1) }
+{
+    word >> id & 1 == 1
+}
+
 /// Returns whether no bit is set.
 fn is_none_free(word: u32) -> bool
     ensures { IsTrue result ↔ (word ≡ 0) }
@@ -120,7 +125,7 @@ fn all_but(id: PageId) -> u64
     requires { id < PAGE_ITEMS }
     ensures { ClearsBit whole_word id result }
 {
-    COUNT_BITS | without_bit(u32::MAX, id) as u64
+    u64::MAX & !(1 << id)
 }
 
 /// 32 items that threads share.

@@ -1,8 +1,9 @@
 //! Whether turns of some kind keep memory, and whether work of some kind takes much.
 use anyhow::Result;
 use std::alloc::Global;
+use std::io;
 use std::rt::Files;
-use test_peak_memory::{peak_kilobytes, peak_virtual_kilobytes};
+use test_values::peak_memory::{peak_kilobytes, peak_virtual_kilobytes};
 
 /// How many are taken before, so that what is taken once is there.
 const FIRST_TURNS: usize = 1_000;
@@ -67,7 +68,7 @@ impl<R: Files + AllocGlobal + Print> Observer<R> {
     /// # Errors
     ///
     /// If the process's figures can't be read.
-    pub fn before(&self) -> Result<u64> {
+    pub fn before(&self) -> io::Result<u64> {
         peak_virtual_kilobytes(&self.rt)
     }
 

@@ -14,7 +14,7 @@ use std::rt::{Clock, Env, Files};
 use std::sync::Wait;
 use std::thread::Threads;
 use task::{Kind, Task, Work, task_of};
-use test_peak_memory::peak_kilobytes;
+use test_values::peak_memory::peak_kilobytes;
 
 /// How often each work is done where no task is asked for.
 const FEW_TURNS: u64 = 100;

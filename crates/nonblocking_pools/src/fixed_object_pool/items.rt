@@ -180,7 +180,7 @@ impl<T, K: Clean<T>> FixedItems<T, K> {
     {
         let page = self.hinted();
         let (word, mut seat) = self.shared.look(page);
-        let Ok(taken) = self.take(&mut seat, page, word, self.order) else {
+        let Ok(taken) = self.take(&mut seat, page, word, None) else {
             return Err(BusySeen { seat, pass });
         };
         Ok(PulledItem {
@@ -210,7 +210,7 @@ impl<T, K: Clean<T>> FixedItems<T, K> {
             ((fixed_identity self.now).words * passes_to_refuse (returns_since (note_view note)))
             no_steps (note_steps note)) }
     {
-        self.pull_in_order(self.hinted(), self.order)
+        self.pull_in_order(self.hinted(), None)
     }
 
     /// Pulls an item as `pull` does, but begins at this page, and goes on at the hinted one. While
@@ -232,12 +232,16 @@ impl<T, K: Clean<T>> FixedItems<T, K> {
             ((fixed_identity self.now).words * passes_to_refuse (returns_since (note_view note)))
             no_steps (note_steps note)) }
     {
-        self.pull_in_order(start, Order::Hinted)
+        self.pull_in_order(start, Some(Order::Hinted))
     }
 
-    /// Pulls an item as `pull` does, from this page on and in this order.
+    /// Pulls an item as `pull` does, from this page on and in this order, or in the pool's own.
     #[inline(always)]
-    fn pull_in_order(&self, start: usize, order: Order) -> Result<PulledItem<T>, PoolNote<T>>
+    fn pull_in_order(
+        &self,
+        start: usize,
+        order: Option<Order>,
+    ) -> Result<PulledItem<T>, PoolNote<T>>
         requires { start < (fixed_identity self.now).words }
         ensures pulled { IfOk result
             (λ pulled. IsPulledFrom (fixed_identity self.now) (fixed_opening self.now)
@@ -288,7 +292,7 @@ impl<T, K: Clean<T>> FixedItems<T, K> {
         let PageNote { mut seat } = note;
         let start = self.hinted();
         let word = self.shared.look_again(&mut seat, start);
-        let Ok(taken) = self.take(&mut seat, start, word, self.order) else {
+        let Ok(taken) = self.take(&mut seat, start, word, None) else {
             return Err(BusySeen { seat, pass });
         };
         Ok(PulledItem {
@@ -324,7 +328,7 @@ impl<T, K: Clean<T>> FixedItems<T, K> {
     {
         let PageNote { mut seat } = note;
         let word = self.shared.look_again(&mut seat, page);
-        match self.take_or_full(&mut seat, page, word, Order::Hinted) {
+        match self.take_or_full(&mut seat, page, word, Some(Order::Hinted)) {
             Some(taken) => Ok(PulledItem {
                 holding: Holding {
                     seat,

@@ -6,7 +6,7 @@ use super::holding::Holding;
 use super::items::Items;
 use super::rule::{ClearBit, Count, Look, LookAgain, LookOn, SetBit};
 use super::user_view::UserSeat;
-use super::{PAGE_ITEMS, PageId, all_but, count_of, has_bit, low_half, with_bit, without_bit};
+use super::{PAGE_ITEMS, PageId, all_but, count_of, is_bit_set, low_half, with_bit, without_bit};
 use crate::clean::Clean;
 
 impl<T, K: Clean<T>> Items<T, K> {
@@ -76,12 +76,11 @@ impl<T, K: Clean<T>> Items<T, K> {
     {
         let words = &self.table.shared;
         let found = words.fetch_and::<ClearBit<K>>(seat, page, all_but(bit));
-        let word = low_half(found);
-        if !has_bit(word, bit) {
+        if !is_bit_set(found, bit) {
             return None;
         }
         match words.exchange(seat, PAGE_ITEMS * page + bit as usize, None) {
-            Some(value) => Some((value, without_bit(word, bit) as usize)),
+            Some(value) => Some((value, without_bit(low_half(found), bit) as usize)),
             None => unreachable!(),
         }
     }

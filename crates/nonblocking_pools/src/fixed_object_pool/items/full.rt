@@ -18,14 +18,14 @@ impl<T, K: Clean<T>> FixedItems<T, K> {
     ghost use Rattle.pool_parts.specs.Taking.{MissesAll, TakesOne};
 
     /// Takes an item that is free, by a user that has read the first word. `None` if no item was
-    /// free at one moment. Most pulls take one in the first pass, so that is inlined.
+    /// free at one moment. Most pulls take one of the first word, so that is inlined.
     #[inline(always)]
     pub(super) fn take_or_full(
         &self,
         seat: &mut UserSeat<T>,
         start: usize,
         word: u32,
-        order: Order,
+        order: Option<Order>,
     ) -> Option<TakenValue<T>>
         requires pool { seat.old.table_id ≡ fixed_identity self.now }
         requires in_pool { start < (fixed_identity self.now).words }
@@ -48,13 +48,50 @@ impl<T, K: Clean<T>> FixedItems<T, K> {
             seat.new.me) }
     {
         let first = Snapshot::of(&*seat);
-        match self.take(seat, start, word, order) {
+        if let Some(taken) = self.shared.take_lowest(seat, start, word) {
+            return Some(taken);
+        }
+        // Moved once more, so that an item of the first word stays in registers.
+        let taken = self.take_further(seat, start, order, first)?;
+        Some(taken)
+    }
+
+    /// Takes an item that is free, by a user that found each item of its first word in use. `first`
+    /// is the user as it was before.
+    ///
+    /// It isn't inlined, so that a pull of an item of the first word is short.
+    #[inline(never)]
+    fn take_further(
+        &self,
+        seat: &mut UserSeat<T>,
+        start: usize,
+        order: Option<Order>,
+        first: Snapshot<UserSeat<T>>,
+    ) -> Option<TakenValue<T>>
+        requires pool { seat.old.table_id ≡ fixed_identity self.now }
+        requires in_pool { start < (fixed_identity self.now).words }
+        requires carries_none { first.value.me.1 ≡ [] }
+        requires holds_none { first.value.me.0.held ≡ None }
+        requires here { first.value.me.0.gone ≡ false }
+        requires sound { IsSound first.value.me.0 }
+        requires missed { MissesAll (32 * start) (32 * start + 32) first.value.me seat.old.me }
+        requires loads { seat.old.me.0.loads ≡ first.value.me.0.loads }
+        requires tries { seat.old.me.0.tries ≤ first.value.me.0.tries + 32 }
+        ensures pool { seat.new.table_id ≡ seat.old.table_id }
+        ensures loads { seat.new.me.0.loads + 1 ≤ first.value.me.0.loads +
+            (fixed_identity self.now).words * passes_of result
+            (returns_between first.value.me.0.operations seat.new.me.0.operations) }
+        ensures tries { seat.new.me.0.tries ≤ first.value.me.0.tries + 32 *
+            ((fixed_identity self.now).words * passes_of result
+            (returns_between first.value.me.0.operations seat.new.me.0.operations)) }
+        ensures outcome { MatchOption result
+            (FindsFull (fixed_identity self.now).slots first.value.me seat.new.me) (λ taken.
+            TakesOne K.meets (fixed_identity self.now).slots taken.number taken.value
+            first.value.me seat.new.me) }
+    {
+        match self.take_beside(seat, start, order) {
             Ok(taken) => Some(taken),
-            Err(returns) => {
-                // Moved once more, so that an item of the first pass stays in registers.
-                let taken = self.take_again(seat, start, order, returns, first)?;
-                Some(taken)
-            }
+            Err(returns) => self.take_again(seat, start, order, returns, first),
         }
     }
 
@@ -70,7 +107,7 @@ impl<T, K: Clean<T>> FixedItems<T, K> {
         &self,
         seat: &mut UserSeat<T>,
         start: usize,
-        order: Order,
+        order: Option<Order>,
         returns: u32,
         first: Snapshot<UserSeat<T>>,
     ) -> Option<TakenValue<T>>

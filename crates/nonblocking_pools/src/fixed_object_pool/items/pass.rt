@@ -29,7 +29,7 @@ impl<T, K: Clean<T>> FixedItems<T, K> {
         seat: &mut UserSeat<T>,
         start: usize,
         word: u32,
-        order: Order,
+        order: Option<Order>,
     ) -> Result<TakenValue<T>, u32>
         requires pool { seat.old.table_id ≡ fixed_identity self.now }
         requires in_pool { start < (fixed_identity self.now).words }
@@ -56,30 +56,56 @@ impl<T, K: Clean<T>> FixedItems<T, K> {
         if let Some(taken) = self.shared.take_lowest(seat, start, word) {
             return Ok(taken);
         }
-        let next = match order {
+        self.take_beside(seat, start, order)
+    }
+
+    /// Takes an item that is free from the words beside the first one, in this order, or in the
+    /// pool's own. It hints at the page of that item.
+    ///
+    /// # Errors
+    ///
+    /// How many returns these words count together, modulo 2^32.
+    #[inline(always)]
+    pub(super) fn take_beside(
+        &self,
+        seat: &mut UserSeat<T>,
+        start: usize,
+        order: Option<Order>,
+    ) -> Result<TakenValue<T>, u32>
+        requires pool { seat.old.table_id ≡ fixed_identity self.now }
+        requires in_pool { start < (fixed_identity self.now).words }
+        requires carries_none { seat.old.me.1 ≡ [] }
+        requires holds_none { seat.old.me.0.held ≡ None }
+        requires here { seat.old.me.0.gone ≡ false }
+        requires sound { IsSound seat.old.me.0 }
+        ensures pool { seat.new.table_id ≡ seat.old.table_id }
+        ensures steps { IsWithin ((fixed_identity self.now).words - 1) (steps_of seat.old.me.0)
+            (steps_of seat.new.me.0) }
+        ensures taken { IfOk result (λ taken.
+            TakesOne K.meets (fixed_identity self.now).slots taken.number taken.value seat.old.me
+            seat.new.me) }
+        ensures missed { IfErr result (λ returns.
+            PassesOver (is_beside 0 (fixed_identity self.now).words start) returns seat.old.me
+            seat.new.me) }
+    {
+        let next = match order.unwrap_or(self.order) {
             Order::Round => start + 1,
             Order::LowFirst => 0,
             Order::Hinted => self.hinted(),
         };
-        match self.take_beside(seat, start, next) {
-            Ok(taken) => {
-                self.set_hint(taken.number / PAGE_ITEMS);
-                Ok(taken)
-            }
-            Err(returns) => Err(returns),
-        }
+        let taken = self.take_round(seat, start, next)?;
+        self.set_hint(taken.number / PAGE_ITEMS);
+        Ok(taken)
     }
 
     /// Takes an item that is free from the words beside the first one, of which it asks this one
     /// next, and then goes round.
     ///
-    /// It isn't inlined, so that a pull of an item of the first word is short.
-    ///
     /// # Errors
     ///
     /// How many returns these words count together, modulo 2^32.
-    #[inline(never)]
-    fn take_beside(
+    #[inline(always)]
+    fn take_round(
         &self,
         seat: &mut UserSeat<T>,
         start: usize,

@@ -1,5 +1,16 @@
-use Rattle.pool_parts.proofs.WordBits.{lacks_of_whole}
+use Rattle.std.proofs.Common.{arith, ◌*◌, ◌^◌, ◌%◌}
+use Rattle.std.specs.Int.{w64, bit_not}
+use Rattle.std.proofs.lemmas.Nat.Bits.{bit_at_above, bit_at_and, bit_at_clear_same, bit_at_clear_other}
+use Rattle.pool_parts.specs.Word.{whole_word}
 use Rattle.pool_parts.proofs.page.all_but.Goals as goal
 
 pub returns : goal.returns
-returns c = lacks_of_whole _ c.args.id c.requires c.without_bit.ensures.bits
+returns c = record {
+  clear = bit_at_clear_same w64 whole_word _ (omega arith);
+  others = λ i other. grind (
+    arith,
+    bit_at_clear_other w64 whole_word c.args.id (omega arith) i,
+    bit_at_above whole_word 64 i,
+    bit_at_and whole_word (bit_not w64 (1 * 2 ^ c.args.id % 2 ^ 64)) i,
+  );
+}

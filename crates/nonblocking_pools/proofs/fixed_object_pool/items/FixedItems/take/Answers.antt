@@ -1,17 +1,24 @@
 use Rattle.std.proofs.Common.{arith}
+use Rattle.std.proofs.lemmas.Result.{IfOk-weaker, IfErr-weaker}
 use Rattle.nonblocking_pools.proofs.FixedCounts.{missed_pass, missed_reads, tallies_since, takes_later}
 use Rattle.nonblocking_pools.proofs.fixed_object_pool.items.FixedItems.take.Goals as goal
 
-pub returns-in-Ok-clause-taken : goal.returns-in-Ok-clause-taken
-returns-in-Ok-clause-taken g c =
-    takes_later g.K.Clean.meets _ _ _ _ _ _ (missed_reads _ _ _ _ c.in_default.ensures.outcome) c.in-Ok.ensures.taken
+pub returns-clause-taken : goal.returns-clause-taken
+returns-clause-taken g c = IfOk-weaker c.take_beside.result _ _
+    (λ taken takes. takes_later g.K.Clean.meets _ _ _ _ _ _
+    (missed_reads _ _ _ _ c.in_default.ensures.outcome) takes)
+    c.take_beside.ensures.taken
 
-pub returns-in-Err-clause-missed : goal.returns-in-Err-clause-missed
-returns-in-Err-clause-missed g c =
+pub returns-clause-missed : goal.returns-clause-missed
+returns-clause-missed g c =
     let items = c.args.self.now in
+    IfErr-weaker c.take_beside.result _ _
+    (λ returns passes.
     missed_pass c.args.start items.shared.table.shared.table_id.words items.shared.table.shared.table_id.slots _ _ _ _
-    (omega (arith, items.shared.covered)) c.in_default.ensures.outcome c.in-Err.ensures.missed
+    (omega (arith, items.shared.covered)) c.in_default.ensures.outcome passes)
+    c.take_beside.ensures.missed
 
-pub returns-in-Err-clause-counted : goal.returns-in-Err-clause-counted
-returns-in-Err-clause-counted g c =
-    tallies_since _ _ _ _ _ c.in_default.ensures.outcome.goes_on c.in-Err.ensures.missed.tallies
+pub returns-clause-counted : goal.returns-clause-counted
+returns-clause-counted g c = IfErr-weaker c.take_beside.result _ _
+    (λ returns passes. tallies_since _ _ _ _ _ c.in_default.ensures.outcome.goes_on passes.tallies)
+    c.take_beside.ensures.missed

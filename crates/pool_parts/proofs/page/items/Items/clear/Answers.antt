@@ -23,7 +23,7 @@ overflow_add-page g c =
 pub exchange-requires : goal.exchange-requires
 exchange-requires g c =
     let took = (c.fetch_and-found.ensures.2.took c.args.bit c.requires.in_word c.all_but.ensures
-    (sym (c.low_half-word.ensures c.args.bit c.requires.in_word) ∙ c.has_bit.ensures.bits.0 (search rules))).value in (
+    (c.is_bit_set.ensures.0 (search rules))).value in (
       search rules,
       (
         Some took.0,

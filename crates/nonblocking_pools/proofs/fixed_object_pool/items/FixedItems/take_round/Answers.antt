@@ -2,7 +2,7 @@ use Rattle.std.proofs.Common.{subst}
 use Rattle.nonblocking_pools.specs.FixedCount.{is_beside, PassesOver}
 use Rattle.nonblocking_pools.proofs.PoolWords.{both_segments}
 use Rattle.nonblocking_pools.proofs.FixedCounts.{passes_join, takes_later}
-use Rattle.nonblocking_pools.proofs.fixed_object_pool.items.FixedItems.take_beside.Goals as goal
+use Rattle.nonblocking_pools.proofs.fixed_object_pool.items.FixedItems.take_round.Goals as goal
 
 pub returns-in-Ok-scan-clause-taken : goal.returns-in-Ok-scan-clause-taken
 returns-in-Ok-scan-clause-taken g c =

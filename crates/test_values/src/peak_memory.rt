@@ -1,8 +1,7 @@
 //! The most memory that the process had, for the programs that measure what the pools take.
-#![tactic(auto)]
 
-use anyhow::{Context, Result};
 use std::fs;
+use std::io::{self, ErrorKind};
 use std::rt::Files;
 
 /// Where the system tells a process what it has.
@@ -13,7 +12,7 @@ const STATUS: &str = "/proc/self/status";
 /// # Errors
 ///
 /// If the system's figures can't be read.
-pub fn peak_kilobytes(rt: &(impl Files + Alloc)) -> Result<u64> {
+pub fn peak_kilobytes(rt: &(impl Files + Alloc)) -> io::Result<u64> {
     kilobytes(rt, "VmHWM:")
 }
 
@@ -22,17 +21,18 @@ pub fn peak_kilobytes(rt: &(impl Files + Alloc)) -> Result<u64> {
 /// # Errors
 ///
 /// If the system's figures can't be read.
-pub fn peak_virtual_kilobytes(rt: &(impl Files + Alloc)) -> Result<u64> {
+pub fn peak_virtual_kilobytes(rt: &(impl Files + Alloc)) -> io::Result<u64> {
     kilobytes(rt, "VmPeak:")
 }
 
 /// What the system tells under a name.
-fn kilobytes(rt: &(impl Files + Alloc), name: &str) -> Result<u64> {
+fn kilobytes(rt: &(impl Files + Alloc), name: &str) -> io::Result<u64> {
     let status = fs::read_to_string(rt, STATUS)?;
-    let told = status
-        .lines()
-        .find_map(|line| line.strip_prefix(name))
-        .context("a line is missing")?;
-    let number = told.split_whitespace().next().context("no number")?;
-    Ok(number.parse()?)
+    number_in(&status, name).ok_or(io::Error::from(ErrorKind::InvalidData))
+}
+
+/// The number in the line that begins with a name.
+fn number_in(status: &str, name: &str) -> Option<u64> {
+    let told = status.lines().find_map(|line| line.strip_prefix(name))?;
+    told.split_whitespace().next()?.parse().ok()
 }
