@@ -2,8 +2,9 @@
 use Rattle.std.specs.Prelude.{◌≡◌, ⊤, List, Option, Some, None, IfSome, Result, Ok}
 use Rattle.atomic_table.specs.Seated.{TableId}
 use Rattle.pool_parts.specs.Answers.{IsMadeOrReset}
-use Rattle.nonblocking_pools.specs.FixedAnswer.{IsPulledFrom, IsBusyOf, IsFullNote}
+use Rattle.nonblocking_pools.specs.FixedAnswer.{IsPulledFrom, IsFullNote}
 use Rattle.nonblocking_pools.specs.FixedItem.{item_with}
+use Rattle.pool_parts.specs.FullSeen.{IsAllOut}
 use Rattle.pool_parts.specs.Item.{Item}
 use Rattle.pool_parts.specs.Note.{IsReturned}
 use Rattle.lazy_pools.specs.declared.lazy_object_pool.lazy_refused.LazyRefused.{LazyRefused}
@@ -54,7 +55,7 @@ RefusesWaiting may_answer_none Limit = ⊥
 
 -- a pull of one pass gave no item: each was observed taken by it, or init may answer None
 abbrev pub RefusesOnePass : {T : Type 0} → TableId → List (Option (Option T)) → Type 0 → LazyRefused T → Type 0
-RefusesOnePass pool opening may_answer_none (Busy busy) = IsBusyOf pool opening busy
+RefusesOnePass pool opening may_answer_none (Busy busy) = IsAllOut pool.slots pool opening busy
 RefusesOnePass pool opening may_answer_none NotMade = may_answer_none
 
 -- a closure may make this of an empty place: the value that it returns

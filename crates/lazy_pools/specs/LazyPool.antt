@@ -2,12 +2,11 @@
 use Rattle.std.specs.Prelude.{ℕ, List, Option}
 use Rattle.atomic_table.specs.Seated.{TableId}
 use Rattle.lazy_pools.specs.declared.lazy_object_pool.LazyObjectPool.{LazyObjectPool}
-use Rattle.nonblocking_pools.specs.FixedPool.{fixed_identity, fixed_opening}
 
 module _ {T I R K : Type 0} where
   -- which pool it is
   abbrev pub lazy_identity : LazyObjectPool T I R K → TableId
-  lazy_identity pool = fixed_identity pool.places
+  lazy_identity pool = pool.places.shared.table.shared.table_id
 
   -- how many items it may have
   abbrev pub lazy_items : LazyObjectPool T I R K → ℕ
@@ -19,7 +18,7 @@ module _ {T I R K : Type 0} where
 
   -- what lay at its places when the pool opened, by number
   abbrev pub lazy_opening : LazyObjectPool T I R K → List (Option (Option T))
-  lazy_opening pool = fixed_opening pool.places
+  lazy_opening pool = pool.places.shared.table.shared.key.values.value.items
 
   -- what makes the pool's values
   abbrev pub lazy_init : LazyObjectPool T I R K → I

@@ -5,7 +5,7 @@ use Rattle.lazy_pools.specs.declared.lazy_reusable.LazyReusableOf.{LazyReusableO
 use Rattle.pool_parts.specs.declared.page.holding.Holding.{Holding}
 use Rattle.nonblocking_pools.specs.FixedAnswer.{returns_since}
 use Rattle.nonblocking_pools.specs.StepCount.{StepCount, steps_of}
-use Rattle.pool_parts.specs.Holding.{holding_view, held_item}
+use Rattle.pool_parts.specs.Holding.{held_item}
 use Rattle.pool_parts.specs.Item.{Item}
 
 module _ {T : Type 0} where
@@ -32,11 +32,11 @@ module _ {T P : Type 0} where
 
   -- what its pull has read and tried
   abbrev pub lazy_steps : LazyReusableOf T P → StepCount
-  lazy_steps reusable = steps_of (holding_view reusable.taken.holding)
+  lazy_steps reusable = steps_of reusable.taken.holding.seat.me.0
 
   -- how many returns came within its pull, since the pull's first load
   abbrev pub lazy_returns : LazyReusableOf T P → ℕ
-  lazy_returns reusable = returns_since (holding_view reusable.taken.holding)
+  lazy_returns reusable = returns_since reusable.taken.holding.seat.me.0
 
   -- the same item with another value
   abbrev pub lazy_with : LazyReusableOf T P → T → LazyReusableOf T P

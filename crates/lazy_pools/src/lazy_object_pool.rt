@@ -254,10 +254,8 @@ impl<T: Drop, I: Init<T, K>, R: Reset<T, K>, K: Clean<T>> LazyObjectPool<T, I, R
         ensures brief { IfOk result (λ item.
             IsWithin (lazy_pages (arc_value self.now) * passes_to_take (lazy_returns item)) no_steps
             (lazy_steps item)) }
-        ensures refused { IfErr result (RefusesPull (record {
-          limited = ⊤;
-          init_refuses = I.answers (lazy_init (arc_value self.now)) None;
-        })) }
+        ensures refused { IfErr result
+            (RefusesPull ⊤ (I.answers (lazy_init (arc_value self.now)) None)) }
     {
         let owner = Arc::try_clone(self)?;
         match self.places.pull() {
@@ -359,10 +357,8 @@ impl<T: Drop, I: Init<T, K>, R: Reset<T, K>, K: Clean<T>> LazyObjectPool<T, I, R
         ensures meets { IfOk result (λ item. K.meets (lazy_value item)) }
         ensures made_or_reset { IfOk result (λ item.
             IsMadeOrReset I.answers R.leaves (lazy_value item)) }
-        ensures refused { IfErr result (RefusesPull (record {
-          limited = ⊤;
-          init_refuses = I.answers (lazy_init (arc_value self.now)) None;
-        })) }
+        ensures refused { IfErr result
+            (RefusesPull ⊤ (I.answers (lazy_init (arc_value self.now)) None)) }
     {
         let owner = Arc::try_clone(self)?;
         match self.place_within(rt, time) {

@@ -14,6 +14,7 @@ pub use Rattle.nonblocking_pools.specs.Ledger
 pub use Rattle.nonblocking_pools.specs.Lends
 pub use Rattle.nonblocking_pools.specs.Note
 pub use Rattle.nonblocking_pools.specs.OneProof
+pub use Rattle.nonblocking_pools.specs.Origin
 pub use Rattle.nonblocking_pools.specs.OwnedSlot
 pub use Rattle.nonblocking_pools.specs.Page
 pub use Rattle.nonblocking_pools.specs.PageRule
@@ -21,6 +22,7 @@ pub use Rattle.nonblocking_pools.specs.Refusal
 pub use Rattle.nonblocking_pools.specs.Slot
 pub use Rattle.nonblocking_pools.specs.Taking
 pub use Rattle.nonblocking_pools.specs.Word
+pub use Rattle.nonblocking_pools.specs.FirstPage
 pub use Rattle.nonblocking_pools.specs.LinearPage
 pub use Rattle.nonblocking_pools.specs.LinkNote
 pub use Rattle.nonblocking_pools.specs.LinkRow

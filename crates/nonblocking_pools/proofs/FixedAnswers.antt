@@ -1,18 +1,18 @@
 -- What a pool answers, told by what the answer shows and no longer by its user's view.
 use Rattle.std.proofs.Common.{◌≡◌, List, Option, ℕ, ◌+◌, ◌*◌, ◌<◌, ◌≤◌, ◌∙◌, sym, subst, arith}
 use Rattle.atomic_table.specs.Seated.{TableId}
+use Rattle.pool_parts.specs.declared.page.full_seen.FullSeen.{FullSeen}
 use Rattle.pool_parts.specs.declared.page.note.PageNote.{PageNote}
 use Rattle.pool_parts.specs.declared.page.user_view.UserView.{UserView}
 use Rattle.nonblocking_pools.specs.FixedAnswer.{IsPulledWith, IsFullSince, FoundFull, returns_between, returns_since}
 use Rattle.nonblocking_pools.specs.FixedCount.{FindsFull}
 use Rattle.nonblocking_pools.specs.StepCount.{StepCount, IsWithin, steps_of}
 use Rattle.pool_parts.specs.Note.{note_view}
-use Rattle.pool_parts.specs.FullSeen.{FoundAllOut}
-use Rattle.pool_parts.specs.Holding.{item_known}
+use Rattle.pool_parts.specs.FullSeen.{full_page, IsAllOut}
 use Rattle.pool_parts.specs.PageRule.{User, StartsFrom, IsSound, KnowsOut}
 use Rattle.pool_parts.specs.Taking.{MissesAll, TakesOne}
 use Rattle.pool_parts.proofs.Ledger.{legal_of}
-use Rattle.pool_parts.proofs.PageAnswers.{pulled_after, found_out, was_out_from, knows_out}
+use Rattle.pool_parts.proofs.PageAnswers.{item_known, pulled_after, found_out, was_out_from, knows_out}
 
 module _ {T : Type 0} where
   -- the item that a pull by a note took
@@ -21,16 +21,19 @@ module _ {T : Type 0} where
       → StartsFrom (note_view note) start.0 → TakesOne meets pool.slots id value start known → seated ≡ pool
       → IsPulledWith pool note (item_known seated known.0 id value)
   item_pulled_with meets pool note start known seated id value starts taken same = record {
-    is_item = record { of_page = same; in_page = taken.in_pool };
+    of_pool = same;
+    in_pool = taken.in_pool;
     pulled = pulled_after seated start.0 known.0 id value taken.goes_on note starts;
   }
 
   -- what a user has seen that observed each item taken
-  pub found_all_out : (count : ℕ) (opening : List (Option T)) (start known : User T) → start.0.opening ≡ opening
-      → IsSound start.0 → MissesAll 0 count start known → FoundAllOut count opening known.0
-  found_all_out count opening start known opened sound missed =
-      found_out count opening start.0 known.0 opened missed.goes_on (λ id within.
-      was_out_from start.0 known.0 id missed.goes_on sound.since_load (missed.each_was_out id (omega arith) within))
+  pub found_all_out : (count : ℕ) (pool : TableId) (opening : List (Option T)) (start : User T) (seen : FullSeen T)
+      → full_page seen ≡ pool → start.0.opening ≡ opening → IsSound start.0 → MissesAll 0 count start seen.seat.me
+      → IsAllOut count pool opening seen
+  found_all_out count pool opening start seen of_pool opened sound missed =
+      let known = seen.seat.me.0 in
+      found_out count pool opening start.0 seen of_pool opened missed.goes_on (λ id within.
+      was_out_from start.0 known id missed.goes_on sound.since_load (missed.each_was_out id (omega arith) within))
 
   pub knows_all_out : (count : ℕ) (start known : User T) → IsSound start.0 → MissesAll 0 count start known → (id : ℕ)
       → id < count → KnowsOut known.0 id

@@ -1,42 +1,33 @@
 -- What the answers of a fixed pool show: of a pull, of a refusal, of a return.
-use Rattle.std.specs.Prelude.{◌≡◌, ◌⊎◌, ℕ, ◌-◌, ◌^◌, ◌≤◌, List, Option}
+use Rattle.std.specs.Prelude.{◌≡◌, ◌⊎◌, ℕ, ◌-◌, ◌^◌, ◌<◌, ◌≤◌, List, Option}
 use Rattle.atomic_table.specs.Seated.{TableId}
 use Rattle.pool_parts.specs.declared.page.note.PageNote.{PageNote}
 use Rattle.pool_parts.specs.declared.page.full_seen.FullSeen.{FullSeen}
 use Rattle.pool_parts.specs.declared.page.user_view.UserView.{UserView}
 use Rattle.nonblocking_pools.specs.FixedItem.{item_with}
 use Rattle.nonblocking_pools.specs.StepCount.{StepCount, steps_of}
-use Rattle.pool_parts.specs.FullSeen.{full_view, IsAllOut, IsAllOutAfter}
-use Rattle.pool_parts.specs.Item.{Item, IsItemIn, IsPulledAs}
+use Rattle.pool_parts.specs.Item.{Item, IsPulled}
 use Rattle.pool_parts.specs.Note.{note_page, note_view, note_opening, note_user, note_history, IsReturned}
 use Rattle.pool_parts.specs.Note.{IsPulledAfter}
 use Rattle.pool_parts.specs.Ledger.{History, operations_of, returns_of, IsLegal, IsPrefixOf, WasFullBetween}
 
 module _ {T : Type 0} where
-  -- an item of this pool
-  abbrev pub IsFixedItem : TableId → Item T → Type 0
-  IsFixedItem pool item = IsItemIn pool.slots pool item
-
   -- an item of this pool, pulled as the pool's one history tells, which begins with these values
-  abbrev pub IsPulledFrom : TableId → List (Option T) → Item T → Type 0
-  IsPulledFrom pool opening item = IsPulledAs (IsFixedItem pool) opening item
+  pub record IsPulledFrom (pool : TableId) (opening : List (Option T)) (item : Item T) : Type 0 where
+    pub of_pool : item.page ≡ pool
+    pub in_pool : item.id < pool.slots
+    pub same_opening : item.opening ≡ opening
+    pub pulled : IsPulled item
 
   -- the same of a pull by a note: it stands after all that the note knew
   pub record IsPulledWith (pool : TableId) (note : PageNote T) (item : Item T) : Type 0 where
-    pub is_item : IsFixedItem pool item
+    pub of_pool : item.page ≡ pool
+    pub in_pool : item.id < pool.slots
     pub pulled : IsPulledAfter note item
 
   -- what the user of the refused pull has read and tried
   abbrev pub busy_steps : FullSeen T → StepCount
-  busy_steps busy = steps_of (full_view busy)
-
-  -- each item of this pool was observed taken by one user, since its first load
-  abbrev pub IsBusyOf : TableId → List (Option T) → FullSeen T → Type 0
-  IsBusyOf pool opening busy = IsAllOut pool.slots pool opening busy
-
-  -- the same of a pull by a note: its first load stands after all that the note knew
-  abbrev pub IsBusyAfter : TableId → PageNote T → FullSeen T → Type 0
-  IsBusyAfter pool note busy = IsAllOutAfter pool.slots pool note busy
+  busy_steps busy = steps_of busy.seat.me.0
 
   -- the pool's history up to the first load of the last operation of the note
   abbrev pub note_since : PageNote T → History T

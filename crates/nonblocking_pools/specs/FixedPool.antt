@@ -3,21 +3,20 @@ use Rattle.std.specs.Prelude.{ℕ, List, Option}
 use Rattle.atomic_table.specs.Seated.{TableId}
 use Rattle.nonblocking_pools.specs.declared.fixed_object_pool.FixedObjectPool.{FixedObjectPool}
 use Rattle.nonblocking_pools.specs.declared.fixed_object_pool.items.FixedItems.{FixedItems}
-use Rattle.pool_parts.specs.Items.{items_identity, items_opening}
 
 module _ {T K : Type 0} where
   -- which items a pool has
   abbrev pub fixed_identity : FixedItems T K → TableId
-  fixed_identity fixed = items_identity fixed.shared
+  fixed_identity fixed = fixed.shared.table.shared.table_id
 
   -- the values that they opened with, by number
   abbrev pub fixed_opening : FixedItems T K → List (Option T)
-  fixed_opening fixed = items_opening fixed.shared
+  fixed_opening fixed = fixed.shared.table.shared.key.values.value.items
 
 module _ {T I R K : Type 0} where
   -- which pool it is
   abbrev pub pool_identity : FixedObjectPool T I R K → TableId
-  pool_identity pool = fixed_identity pool.items
+  pool_identity pool = pool.items.shared.table.shared.table_id
 
   -- how many items it has
   abbrev pub pool_items : FixedObjectPool T I R K → ℕ
@@ -29,7 +28,7 @@ module _ {T I R K : Type 0} where
 
   -- the values that the pool opened with, by number
   abbrev pub pool_opening : FixedObjectPool T I R K → List (Option T)
-  pool_opening pool = fixed_opening pool.items
+  pool_opening pool = pool.items.shared.table.shared.key.values.value.items
 
   -- what resets the pool's values
   abbrev pub pool_reset : FixedObjectPool T I R K → R

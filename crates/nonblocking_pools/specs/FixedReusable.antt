@@ -3,7 +3,7 @@ use Rattle.std.specs.Prelude.{ℕ}
 use Rattle.nonblocking_pools.specs.declared.fixed_reusable.FixedReusableOf.{FixedReusableOf}
 use Rattle.nonblocking_pools.specs.FixedAnswer.{returns_since}
 use Rattle.nonblocking_pools.specs.StepCount.{StepCount, steps_of}
-use Rattle.pool_parts.specs.Holding.{holding_view, held_item}
+use Rattle.pool_parts.specs.Holding.{held_item}
 use Rattle.pool_parts.specs.Item.{Item}
 
 module _ {T P : Type 0} where
@@ -17,11 +17,11 @@ module _ {T P : Type 0} where
 
   -- what the user that pulled it has read and tried
   abbrev pub reusable_steps : FixedReusableOf T P → StepCount
-  reusable_steps reusable = steps_of (holding_view reusable.taken.holding)
+  reusable_steps reusable = steps_of reusable.taken.holding.seat.me.0
 
   -- how many returns came within its pull, since the pull's first load
   abbrev pub reusable_returns : FixedReusableOf T P → ℕ
-  reusable_returns reusable = returns_since (holding_view reusable.taken.holding)
+  reusable_returns reusable = returns_since reusable.taken.holding.seat.me.0
 
   -- the same item with another value
   abbrev pub reusable_with : FixedReusableOf T P → T → FixedReusableOf T P

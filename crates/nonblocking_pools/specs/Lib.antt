@@ -22,6 +22,7 @@ pub use Rattle.pool_parts.specs.Ledger
 pub use Rattle.pool_parts.specs.Lends
 pub use Rattle.pool_parts.specs.Note
 pub use Rattle.pool_parts.specs.OneProof
+pub use Rattle.pool_parts.specs.Origin
 pub use Rattle.pool_parts.specs.OwnedSlot
 pub use Rattle.pool_parts.specs.Page
 pub use Rattle.pool_parts.specs.PageRule
@@ -29,6 +30,7 @@ pub use Rattle.pool_parts.specs.Refusal
 pub use Rattle.pool_parts.specs.Slot
 pub use Rattle.pool_parts.specs.Taking
 pub use Rattle.pool_parts.specs.Word
+pub use Rattle.page_chain.specs.FirstPage
 pub use Rattle.page_chain.specs.LinearPage
 pub use Rattle.page_chain.specs.LinkNote
 pub use Rattle.page_chain.specs.LinkRow

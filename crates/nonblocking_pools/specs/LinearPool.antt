@@ -1,19 +1,17 @@
 -- What a linear pool and its reusables show.
-use Rattle.std.specs.Prelude.{◌≡◌, ℕ, ◌<◌, List, Option, None, IfSome, IsSome}
+use Rattle.std.specs.Prelude.{◌≡◌, ◌⊎◌, ℕ, ◌<◌, List, Option, None, IfSome}
 use Rattle.std.specs.Arc.{arc_value}
 use Rattle.std.specs.Option.{option_map}
 use Rattle.atomic_table.specs.Seated.{TableId}
 use Rattle.pool_parts.specs.Answers.{IsAnswer, IsMadeOrReset}
 use Rattle.pool_parts.specs.Holding.{held_item}
-use Rattle.pool_parts.specs.Item.{Item, HasOrigin}
-use Rattle.page_chain.specs.LinearPage.{first_page, first_opening}
+use Rattle.pool_parts.specs.Item.{Item, IsPulled}
+use Rattle.pool_parts.specs.Items.{IsFilled}
 use Rattle.pool_parts.specs.Note.{IsPulledAfter}
-use Rattle.pool_parts.specs.Refusal.{Causes}
-use Rattle.pool_parts.specs.Slot.{taken_item}
-use Rattle.page_chain.specs.Walk.{Start, start_of, number_of, IsWalkedTo, IsRefusedBy}
+use Rattle.pool_parts.specs.Page.{page_identity}
+use Rattle.page_chain.specs.Walk.{Start, start_of, number_of, IsLinkedAt, IsRefusedBy}
 use Rattle.nonblocking_pools.specs.declared.linear_object_pool.LinearObjectPool.{LinearObjectPool}
 use Rattle.nonblocking_pools.specs.declared.linear_object_pool.answer_of.AnswerOf.{AnswerOf}
-use Rattle.nonblocking_pools.specs.declared.linear_object_pool.page_limit.PageLimit.{PageLimit}
 use Rattle.nonblocking_pools.specs.declared.linear_owned_reusable.LinearOwnedReusable.{LinearOwnedReusable}
 use Rattle.page_chain.specs.declared.linear_page.page_number.PageNumber.{PageNumber}
 use Rattle.page_chain.specs.declared.linear_page.walk.WalkRefusal.{WalkRefusal}
@@ -21,10 +19,6 @@ use Rattle.nonblocking_pools.specs.declared.linear_reusable.LinearReusable.{Line
 use Rattle.pool_parts.specs.declared.made_or_reset.MadeOrReset.{MadeOrReset}
 use Rattle.pool_parts.specs.declared.page.note.PageNote.{PageNote}
 use Rattle.pool_parts.specs.declared.page.TheConstants.{PAGE_ITEMS}
-
--- how many pages a limit allows
-abbrev pub limit_pages : Option PageLimit → Option ℕ
-limit_pages limit = option_map (λ limit. limit.pages) limit
 
 module _ {T I R K : Type 0} where
   -- what makes the pool's values
@@ -37,15 +31,15 @@ module _ {T I R K : Type 0} where
 
   -- how many pages the pool may have
   abbrev pub pool_limit : LinearObjectPool T I R K → Option ℕ
-  pool_limit pool = limit_pages pool.limit
+  pool_limit pool = option_map (λ limit. limit.pages) pool.limit
 
   -- which page the pool's first one is
   abbrev pub pool_first_page : LinearObjectPool T I R K → TableId
-  pool_first_page pool = first_page pool.chain
+  pool_first_page pool = page_identity (arc_value pool.chain.first)
 
   -- the values that the pool's first page opened with, by id
   abbrev pub pool_first_opening : LinearObjectPool T I R K → List (Option T)
-  pool_first_opening pool = first_opening pool.chain
+  pool_first_opening pool = (arc_value pool.chain.first).items.table.shared.key.values.value.items
 
   -- where a pull begins: at the pool's first page, with number 0
   abbrev pub pool_start : LinearObjectPool T I R K → Start
@@ -57,7 +51,7 @@ module _ {T I R K : Type 0} where
 
   -- the item that the reusable has
   abbrev pub reusable_item : LinearReusable T I R K → Item T
-  reusable_item reusable = taken_item reusable.taken reusable.value
+  reusable_item reusable = held_item reusable.taken.holding reusable.value
 
   -- the number of the item's page, with what the pull learned of the link to it
   abbrev pub reusable_page : LinearReusable T I R K → PageNumber T (MadeOrReset I R K) (AnswerOf I K)
@@ -94,7 +88,9 @@ module _ {T I R K : Type 0} where
   -- the item's page is the pool's page of this number: the first one where it is 0, else the one to which that page's
   -- link leads
   abbrev pub IsOnPage : LinearObjectPool T I R K → PageNumber T (MadeOrReset I R K) (AnswerOf I K) → Item T → Type 0
-  IsOnPage pool number item = IsWalkedTo (pool_start pool) number item.page
+  IsOnPage pool number item =
+      ((number.number ≡ 0) × (item.page ≡ page_identity (arc_value pool.chain.first)))
+      ⊎ IsLinkedAt pool.chain.directory number item.page
 
   -- what a pull gives: an item of the pool's page of this number
   pub record Pulls (meets : T → Type 0) (answers : I → Option T → Type 0) (leaves : R → T → T → Type 0)
@@ -102,12 +98,13 @@ module _ {T I R K : Type 0} where
       : Type 0 where
     pub in_page : item.id < PAGE_ITEMS
     pub on_page : IsOnPage pool number item
-    pub of_first : number_of number ≡ 0 → item.page ≡ pool_first_page pool
+    pub within : IfSome (pool_limit pool) (λ pages. number.number < pages)
+    -- the page opened with 32 answers of init
+    pub opened : IsFilled PAGE_ITEMS (IsAnswer answers) item.opening
     -- the histories of two items of the first page begin with the same values
-    pub same_opening : number_of number ≡ 0 → item.opening ≡ pool_first_opening pool
-    pub within : IfSome (pool_limit pool) (λ pages. number_of number < pages)
-    -- the value that lay there by the page's history, which opened with answers of init
-    pub history : HasOrigin (IsAnswer answers) item
+    pub same_opening : number.number ≡ 0 → item.opening ≡ pool_first_opening pool
+    -- it was pulled as its page's history tells
+    pub pulled : IsPulled item
     pub meets_condition : meets item.value
     pub made_or_reset : IsMadeOrReset answers leaves item.value
 
@@ -129,7 +126,3 @@ module _ {T I R K : Type 0} where
       → WalkRefusal T (MadeOrReset I R K) (AnswerOf I K) → Type 0
   IsLinearRefusal answers pool refusal =
       IsRefusedBy (pool_start pool) (pool_limit pool) (answers (pool_init pool) None) refusal
-
-  -- what a pull may be refused for, beside want of memory: a limit, and an init that may answer None
-  abbrev pub pull_causes : (I → Option T → Type 0) → LinearObjectPool T I R K → Causes
-  pull_causes answers pool = record { limited = IsSome (pool_limit pool); init_refuses = answers (pool_init pool) None }

@@ -90,7 +90,8 @@ impl<T: Drop, I: Init<T, K>, R: Reset<T, K>, K: Clean<T>> Drop for FixedObjectPo
 
 impl<T: Drop, I: Init<T, K>, R: Reset<T, K>, K: Clean<T>> FixedObjectPool<T, I, R, K> {
     ghost use Rattle.pool_parts.specs.Answers.{IsMadeOrReset};
-    ghost use Rattle.nonblocking_pools.specs.FixedAnswer.{IsPulledFrom, IsPulledWith, IsBusyOf, IsBusyAfter, IsFullNoteAfter, IsGivenBack, busy_steps, note_steps, returns_since};
+    ghost use Rattle.nonblocking_pools.specs.FixedAnswer.{IsPulledFrom, IsPulledWith, IsFullNoteAfter, IsGivenBack, busy_steps, note_steps, returns_since};
+    ghost use Rattle.pool_parts.specs.FullSeen.{IsAllOut, IsAllOutAfter};
     ghost use Rattle.nonblocking_pools.specs.FixedPool.{pool_identity, pool_items, pool_pages, pool_opening, pool_reset};
     ghost use Rattle.pool_parts.specs.Holding.{holding_page, held_item};
     ghost use Rattle.nonblocking_pools.specs.Near.{near_pool};
@@ -235,7 +236,8 @@ impl<T: Drop, I: Init<T, K>, R: Reset<T, K>, K: Clean<T>> FixedObjectPool<T, I, 
             IsMadeOrReset I.answers R.leaves (reusable_item item).value) }
         ensures brief { IfOk result (λ item.
             IsWithin (pool_pages self.now) no_steps (reusable_steps item)) }
-        ensures busy { IfErr result (IsBusyOf (pool_identity self.now) (pool_opening self.now)) }
+        ensures busy { IfErr result (IsAllOut (pool_identity self.now).slots
+            (pool_identity self.now) (pool_opening self.now)) }
         ensures busy_brief { IfErr result (λ busy.
             IsWithin (pool_pages self.now) no_steps (busy_steps busy)) }
     {
@@ -262,7 +264,8 @@ impl<T: Drop, I: Init<T, K>, R: Reset<T, K>, K: Clean<T>> FixedObjectPool<T, I, 
             IsMadeOrReset I.answers R.leaves (reusable_item item).value) }
         ensures brief { IfOk result (λ item.
             IsWithin (pool_pages self.now) (note_steps note) (reusable_steps item)) }
-        ensures busy { IfErr result (IsBusyAfter (pool_identity self.now) note) }
+        ensures busy { IfErr result
+            (IsAllOutAfter (pool_identity self.now).slots (pool_identity self.now) note) }
         ensures busy_brief { IfErr result (λ busy.
             IsWithin (pool_pages self.now) (note_steps note) (busy_steps busy)) }
     {

@@ -3,8 +3,9 @@
 //! A pull takes a free item of the first page, or of a page that a hint names, or of the first page
 //! along the links that has one. If each page was full it makes a further page. No pull and no
 //! return waits for another thread.
-ghost use Rattle.std.specs.Prelude.{◌≡◌, ◌≤◌, ◌<◌, Option, None, Some, IfOk, IfErr};
+ghost use Rattle.std.specs.Prelude.{◌≡◌, ◌≤◌, ◌<◌, Option, None, Some, IsSome, IfOk, IfErr};
 ghost use Rattle.std.specs.Arc.{arc_value};
+ghost use Rattle.std.specs.Option.{option_map};
 
 use crate::linear_owned_reusable::LinearOwnedReusable;
 use crate::linear_reusable::LinearReusable;
@@ -90,9 +91,9 @@ impl<T: Drop, I: Init<T, K>, R: Reset<T, K>, K: Clean<T>> Drop for LinearObjectP
 impl<T: Drop, I: Init<T, K>, R: Reset<T, K>, K: Clean<T>> LinearObjectPool<T, I, R, K> {
     ghost use Rattle.pool_parts.specs.Answers.{IsMadeOrReset};
     ghost use Rattle.pool_parts.specs.FullSeen.{full_page};
-    ghost use Rattle.nonblocking_pools.specs.LinearPool.{pool_init, pool_reset, pool_limit, limit_pages, pool_first_page};
+    ghost use Rattle.nonblocking_pools.specs.LinearPool.{pool_init, pool_reset, pool_limit, pool_first_page};
     ghost use Rattle.nonblocking_pools.specs.LinearPool.{reusable_pool, reusable_item, reusable_page};
-    ghost use Rattle.nonblocking_pools.specs.LinearPool.{owned_pool, owned_item, owned_page, Pulls, PullsAfter, pull_causes, IsLinearRefusal};
+    ghost use Rattle.nonblocking_pools.specs.LinearPool.{owned_pool, owned_item, owned_page, Pulls, PullsAfter, IsLinearRefusal};
     ghost use Rattle.page_chain.specs.Walk.{number_of, cause_of};
     ghost use Rattle.pool_parts.specs.Note.{note_page};
     ghost use Rattle.pool_parts.specs.Refusal.{RefusesMaking, RefusesPull};
@@ -153,7 +154,7 @@ impl<T: Drop, I: Init<T, K>, R: Reset<T, K>, K: Clean<T>> LinearObjectPool<T, I,
     ) -> Result<LinearObjectPool<T, I, R, K>, PullError>
         ensures init { IfOk result (λ pool. pool_init pool ≡ init) }
         ensures reset { IfOk result (λ pool. pool_reset pool ≡ reset) }
-        ensures limit { IfOk result (λ pool. pool_limit pool ≡ limit_pages limit) }
+        ensures limit { IfOk result (λ pool. pool_limit pool ≡ option_map (λ limit. limit.pages) limit) }
         ensures refused { IfErr result (RefusesMaking (I.answers init None)) }
     {
         let maker = &init;
@@ -190,7 +191,8 @@ impl<T: Drop, I: Init<T, K>, R: Reset<T, K>, K: Clean<T>> LinearObjectPool<T, I,
         ensures pool { IfOk result (λ item. reusable_pool item ≡ self.now) }
         ensures pulled { IfOk result (λ item.
             Pulls K.meets I.answers R.leaves self.now (reusable_page item) (reusable_item item)) }
-        ensures refused { IfErr result (RefusesPull (pull_causes I.answers self.now)) }
+        ensures refused { IfErr result
+            (RefusesPull (IsSome (pool_limit self.now)) (I.answers (pool_init self.now) None)) }
     {
         let pass = PullPass::new();
         match self.chain.ask_first(&pass) {
@@ -277,7 +279,8 @@ impl<T: Drop, I: Init<T, K>, R: Reset<T, K>, K: Clean<T>> LinearObjectPool<T, I,
         ensures pool { IfOk result (λ item. owned_pool item ≡ arc_value self.now) }
         ensures pulled { IfOk result (λ item.
             Pulls K.meets I.answers R.leaves (arc_value self.now) (owned_page item) (owned_item item)) }
-        ensures refused { IfErr result (RefusesPull (pull_causes I.answers (arc_value self.now))) }
+        ensures refused { IfErr result (RefusesPull (IsSome (pool_limit (arc_value self.now)))
+            (I.answers (pool_init (arc_value self.now)) None)) }
     {
         let owner = Arc::try_clone(self)?;
         let pass = PullPass::new();
@@ -305,7 +308,8 @@ impl<T: Drop, I: Init<T, K>, R: Reset<T, K>, K: Clean<T>> LinearObjectPool<T, I,
         ensures past_first { IfOk result (λ reached. 0 < number_of reached.number) }
         ensures evidence { IfErr result (IsLinearRefusal I.answers self.now) }
         ensures refused { IfErr result (λ refusal.
-            RefusesPull (pull_causes I.answers self.now) (cause_of refusal)) }
+            RefusesPull (IsSome (pool_limit self.now)) (I.answers (pool_init self.now) None)
+            (cause_of refusal)) }
     {
         let init = &self.init;
         self.chain.pull_further(seen, self.limit(), &|| init.make())

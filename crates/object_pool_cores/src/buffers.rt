@@ -103,10 +103,8 @@ impl<I: Init<Vec<u8>, Empty>, R: Reset<Vec<u8>, Empty>> BufferPool<I, R> {
         ensures on_page { IfOk result (IsOnItsPage self.now) }
         ensures within { IfOk result (λ buffer. IfSome (limit_of_pages self.now)
             (λ pages. page_of buffer < pages)) }
-        ensures refused { IfErr result (RefusesPull (record {
-          limited = IsSome (limit_of_pages self.now);
-          init_refuses = I.answers (maker_of self.now) None;
-        })) }
+        ensures refused { IfErr result
+            (RefusesPull (IsSome (limit_of_pages self.now)) (I.answers (maker_of self.now) None)) }
     {
         Ok(Buffer::new(self.pool.pull()?))
     }

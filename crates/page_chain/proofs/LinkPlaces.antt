@@ -1,16 +1,16 @@
 -- That one link leads to a page, so that what a page's number knows of its link is of the link at
 -- the number's place.
-use Rattle.std.proofs.Common.{◌≡◌, ℕ, suc, ◌+◌, ◌^◌, ◌<◌, ◌≤◌, Some, ap, subst, sym, ◌∙◌, arith}
+use Rattle.std.proofs.Common.{◌≡◌, List, ℕ, suc, ◌+◌, ◌^◌, ◌<◌, ◌≤◌, Some, ap, subst, sym, ◌∙◌, arith}
 use Rattle.std.specs.Arc.{arc_value}
 use Rattle.std.specs.Coded.{Coded-set, coded_ℕ, coded_option, coded×}
 use Rattle.std.specs.Option.{option_map}
+use Rattle.std.specs.declared.alloc.Global.{Global}
 use Rattle.std.specs.Prelude.{slice_get}
 use Rattle.std.proofs.Math.Logic.{∥∥₁_elim}
 use Rattle.std.proofs.Math.Nat.{pow-le-pow_right, two-pow-succ}
-use Rattle.std.proofs.lemmas.Nat.{pow_pos}
 use Rattle.atomic_table.specs.Seated.{TableId, table_id_coded}
 use Rattle.once_cell.specs.Once.{cell_name}
-use Rattle.page_chain.specs.LinkRow.{Cells, IsLinkTo, cell_in_row}
+use Rattle.page_chain.specs.LinkRow.{IsLinkTo, cell_in_row}
 use Rattle.pool_parts.specs.OneProof.{same_holding}
 use Rattle.pool_parts.specs.Page.{page_identity}
 use Rattle.page_chain.specs.Walk.{IsLinkedAt}
@@ -35,8 +35,8 @@ one_row number row offset other further here within there inside = grind (
 )
 
 -- one link leads to a page
-pub one_link : (rows : Cells) (number : ℕ) (one other : ℕ × ℕ) → IsLinkTo rows number one → IsLinkTo rows number other
-    → one ≡ other
+pub one_link : (rows : List (Global × ℕ)) (number : ℕ) (one other : ℕ × ℕ) → IsLinkTo rows number one
+    → IsLinkTo rows number other → one ≡ other
 one_link rows number one other is was =
     let same_row = one_row number is.row_number one.1 was.row_number other.1 is.offset is.in_row was.offset was.in_row
     in
@@ -49,22 +49,14 @@ one_link rows number one other is was =
     let same_cell : one.0 ≡ other.0 = is.of_row ∙ ap cell_name row ∙ sym was.of_row in
     λ i. (same_cell i, same_offset i)
 
--- no link leads to the first page
-pub no_link_to_first : {T K O : Type 0} (links : Cells) (known : PageNumber T K O) (page : TableId)
-    → IsLinkedAt links known page → known.number ≡ 0 → ⊥
-no_link_to_first links known page linked first =
-    let here = linked.is_link in
-    let start = pow_pos here.row_number in
-    omega (arith, here.offset, start, first)
-
 -- what a page's number knows of the link at the number's place
 pub record KnowsLink {T K O : Type 0} (link : ℕ × ℕ) (known : PageNumber T K O) (page : TableId) : Type 0 where
   pub place : (known.row.cell, link.1) ≡ link
   pub in_row : cell_in_row known.row.known link.1 ≡ Some known.link.cell
   pub leads_here : option_map (λ page. page_identity (arc_value page)) known.link.known ≡ Some page
 
-pub knows_link : {T K O : Type 0} (links : Cells) (link : ℕ × ℕ) (known : PageNumber T K O) (page : TableId) →
-    ∥ IsLinkedAt links known page ∥₁ → IsLinkTo links known.number link → KnowsLink link known page
+pub knows_link : {T K O : Type 0} (links : List (Global × ℕ)) (link : ℕ × ℕ) (known : PageNumber T K O)
+    (page : TableId) → ∥ IsLinkedAt links known page ∥₁ → IsLinkTo links known.number link → KnowsLink link known page
 knows_link links link known page linked here = record {
   place = ∥∥₁_elim linked (Coded-set (coded× coded_ℕ coded_ℕ) _ _) (λ it.
       λ i. ((one_link _ _ _ _ it.is_link here i).0, link.1));

@@ -1,3 +1,4 @@
+pub mod FirstPage
 pub mod LinearPage
 pub mod LinkNote
 pub mod LinkRow
@@ -13,6 +14,7 @@ pub use Rattle.pool_parts.specs.Ledger
 pub use Rattle.pool_parts.specs.Lends
 pub use Rattle.pool_parts.specs.Note
 pub use Rattle.pool_parts.specs.OneProof
+pub use Rattle.pool_parts.specs.Origin
 pub use Rattle.pool_parts.specs.OwnedSlot
 pub use Rattle.pool_parts.specs.Page
 pub use Rattle.pool_parts.specs.PageRule

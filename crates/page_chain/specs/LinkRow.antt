@@ -16,13 +16,9 @@ cell_in_row (Some row) offset = option_map cell_name (slice_get row.links.items 
 abbrev pub link_at : {T K O : Type 0} {opens : Ghosts O T} → LinkPlace T K O opens → ℕ × ℕ
 link_at place = (cell_name place.row.now, place.offset)
 
--- cells that are set once, as contracts see them
-abbrev pub Cells : Type 0
-Cells = List (Global × ℕ)
-
 -- the link to a page, by its row's cell and its place there: row `b` begins with the link to page
 -- `2 ^ b` and has as many links
-pub record IsLinkTo (rows : Cells) (number : ℕ) (link : ℕ × ℕ) : Type 0 where
+pub record IsLinkTo (rows : List (Global × ℕ)) (number : ℕ) (link : ℕ × ℕ) : Type 0 where
   pub row_number : ℕ
   pub row : Global × ℕ
   pub is_row : slice_get rows row_number ≡ Some row

@@ -2,12 +2,14 @@
 use Rattle.std.specs.Prelude.{◌≡◌, ◌⊎◌, ℕ, ◌+◌, ◌-◌, ◌<◌, ◌≤◌, List, Option, Some, IfSome, ⊤}
 use Rattle.std.specs.Arc.{arc_value}
 use Rattle.std.specs.Option.{option_map}
+use Rattle.std.specs.declared.alloc.Global.{Global}
 use Rattle.atomic_table.specs.Seated.{TableId}
 use Rattle.pool_parts.specs.FullSeen.{full_page}
-use Rattle.pool_parts.specs.Item.{Item, IsItemOf, HasOrigin}
+use Rattle.pool_parts.specs.Item.{Item, IsItemOf, IsPulled}
+use Rattle.pool_parts.specs.Items.{IsFilled}
 use Rattle.page_chain.specs.LinearPage.{first_page, shown_page, page_number}
 use Rattle.page_chain.specs.LinkNote.{known_link, known_next}
-use Rattle.page_chain.specs.LinkRow.{Cells, IsLinkTo, cell_in_row}
+use Rattle.page_chain.specs.LinkRow.{IsLinkTo, cell_in_row}
 use Rattle.pool_parts.specs.Page.{page_identity}
 use Rattle.pool_parts.specs.Slot.{slot_item}
 use Rattle.pool_parts.specs.declared.clean.Clean.{Ghosts}
@@ -25,10 +27,11 @@ use Rattle.pool_parts.specs.declared.pull_error.PullError.TheVariants.{Limit as 
 use Rattle.pool_parts.specs.Refusal.{RefusesMaking}
 use Rattle.pool_parts.specs.declared.page.full_seen.Allocated.{Allocated}
 use Rattle.pool_parts.specs.declared.page.full_seen.Allocated.TheVariants.{Slot, Full}
+use Rattle.pool_parts.specs.declared.page.TheConstants.{PAGE_ITEMS}
 
 -- where a walk starts: the links of its chain, a page of that chain, and the page's number
 pub record Start : Type 0 where
-  pub links : Cells
+  pub links : List (Global × ℕ)
   pub page : TableId
   pub number : ℕ
 
@@ -43,7 +46,7 @@ module _ {T K O : Type 0} where
 
   -- the link to the page of this number leads to this page, as the notes of its row and of itself
   -- know
-  pub record IsLinkedAt (links : Cells) (known : PageNumber T K O) (page : TableId) : Type 0 where
+  pub record IsLinkedAt (links : List (Global × ℕ)) (known : PageNumber T K O) (page : TableId) : Type 0 where
     -- where in its row that link lies
     pub offset : ℕ
     pub is_link : IsLinkTo links known.number (known.row.cell, offset)
@@ -57,11 +60,12 @@ module _ {T K O : Type 0} where
       ((known.number ≡ start.number) × (page ≡ start.page)) ⊎ IsLinkedAt start.links known page
 
 module _ {T K : Type 0} where
-  -- what a page of a chain answers to a pull: an item of this page with its origin; or each of its
-  -- ids was observed taken
+  -- what a page of a chain answers to a pull: an item of this page, which opened with 32 values of
+  -- this kind, pulled as its history tells; or each of its ids was observed taken
   abbrev pub IsAnsweredBy : (T → Type 0) → (T → Type 0) → TableId → Allocated T K → Type 0
   IsAnsweredBy meets may_open page (Slot slot) =
-      IsItemOf meets page (slot_item slot) × HasOrigin may_open (slot_item slot)
+      IsItemOf meets page (slot_item slot) × IsFilled PAGE_ITEMS may_open (slot_item slot).opening
+      × IsPulled (slot_item slot)
   IsAnsweredBy meets may_open page (Full seen) = full_page seen ≡ page
 
   -- an item that a page gives has the values in its history that the page opened with
@@ -75,12 +79,12 @@ module _ {T K O : Type 0} {opens : Ghosts O T} where
   start_at page = record { links = page.directory.now; page = shown_page page; number = page_number page }
 
   -- a note of the link to the page of this number knows that page
-  pub record IsKnownAt (links : Cells) (number : ℕ) (note : LinkNote T K O opens) (page : TableId) : Type 0 where
+  pub record IsKnownAt (links : List (Global × ℕ)) (number : ℕ) (note : LinkNote T K O opens) (page : TableId) : Type 0 where
     pub is_link : IsLinkTo links number (known_link note)
     pub knows : known_next note ≡ Some page
 
   -- the page of this number was found full
-  abbrev pub IsFullAt : Cells → KnownFull T K O opens → Type 0
+  abbrev pub IsFullAt : List (Global × ℕ) → KnownFull T K O opens → Type 0
   IsFullAt links full = IsKnownAt links full.number full.note (full_page full.seen)
 
 -- the page of this number, as a walk comes to it, was found full in one pull
@@ -110,12 +114,14 @@ module _ {T K O : Type 0} where
   cause_of (Limit seen) = LimitCause
   cause_of (Making cause) = cause
 
--- what a walk took: an item with its origin, of the page of this number, within so many pages from
--- the walk's start
+-- what a walk took: an item of the page of this number, within so many pages from the walk's start
 pub record IsTaken {T K O : Type 0} (meets may_open : T → Type 0) (start : Start) (limit : Option ℕ)
     (number : PageNumber T K O) (item : Item T) : Type 0 where
   pub is_item : IsItemOf meets item.page item
-  pub history : HasOrigin may_open item
+  -- its page opened with 32 values of this kind
+  pub opened : IsFilled PAGE_ITEMS may_open item.opening
+  -- it was pulled as its page's history tells, which begins with them
+  pub pulled : IsPulled item
   pub from_start : start.number ≤ number_of number
   pub on_page : IsWalkedTo start number item.page
   pub of_start : number_of number ≡ start.number → item.page ≡ start.page

@@ -6,7 +6,7 @@ use mathlib.Core.Logic.{dite}
 use Rattle.pool_parts.specs.declared.page.history.Operation.{Operation}
 use Rattle.pool_parts.specs.declared.page.history.Operation.TheVariants.{Pull, Return}
 use Rattle.pool_parts.specs.Ledger.{History, user_of, id_of, operations_of, held_id, left_by, value_at}
-use Rattle.pool_parts.specs.Ledger.{MayFollow, IsLegal, NoOperationOn, WasReturned, CameFrom}
+use Rattle.pool_parts.specs.Ledger.{MayFollow, IsLegal, NoOperationOn}
 use Rattle.pool_parts.specs.declared.page.user_view.UserView.{UserView}
 use Rattle.pool_parts.specs.PageRule.{GoesOn}
 use Rattle.pool_parts.proofs.Ledger.{behind, operations_of_own, operations_of_other, value_at-here}
@@ -122,44 +122,3 @@ module _ {T : Type 0} where
         goes.operations.1,
         spared new.opening who id others known.operations legal.1 before (ap held_id (sym before) ∙ legal.0.holds),
       )
-
-  returned : (operation : Operation T) (operations : History T) (id : ℕ) (value : T) → id_of operation ≡ id
-      → left_by operation ≡ Some value → WasReturned (operation ∷ operations) id value
-  returned (Pull user place took) operations id value same left = no_value value (sym left)
-  returned (Return user place kept) operations id value same left = let is : kept ≡ value = cc in record {
-    user = user;
-    later = [];
-    before = operations;
-    here = λ k. Return user (same k) (is k) ∷ operations;
-    untouched = tt;
-  }
-
-  came_later : (opening : List (Option T)) (operation : Operation T) (operations : History T) (id : ℕ) (value : T)
-      → id_of operation ≢ id → CameFrom opening operations id value → CameFrom opening (operation ∷ operations) id value
-  came_later opening operation operations id value differ came = elim came [
-    | inl was ↦ inl record {
-      user = was.user;
-      later = operation ∷ was.later;
-      before = was.before;
-      here = ap (λ l. operation ∷ l) was.here;
-      untouched = (differ, was.untouched);
-    }
-    | inr first ↦ inr record { untouched = (differ, first.untouched); opened = first.opened }
-  ]
-
-  -- what lies there came from the last return, or from the opening
-  came_from : (opening : List (Option T)) (operations : History T) (id : ℕ) (value : T)
-      → value_at opening operations id ≡ Some value → CameFrom opening operations id value
-  came_from opening [] id value there = inr record { untouched = tt; opened = there }
-  came_from opening (operation ∷ operations) id value there = dite (ℕ_discrete (id_of operation) id)
-      (λ same. inl (returned operation operations id value same
-      (sym (value_at-here opening operation operations id same) ∙ there)))
-      (λ differ. came_later opening operation operations id value differ
-      (came_from opening operations id value
-      (sym (value_at-elsewhere opening operation operations id differ) ∙ there)))
-
-  pub came_from_legal : (opening : List (Option T)) (operations before : History T) (user id : ℕ) (value : T)
-      → operations ≡ Pull user id value ∷ before → IsLegal opening operations → CameFrom opening before id value
-  came_from_legal opening operations before user id value is legal =
-      let known : IsLegal opening (Pull user id value ∷ before) = subst (IsLegal opening) is legal in
-      came_from opening before id value known.0.lies_there

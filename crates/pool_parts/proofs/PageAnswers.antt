@@ -4,19 +4,29 @@ use Rattle.atomic_table.specs.Seated.{TableId}
 use Rattle.pool_parts.specs.declared.page.history.Operation.TheVariants.{Pull, Return}
 use Rattle.pool_parts.specs.declared.page.user_view.UserView.{UserView}
 use Rattle.pool_parts.specs.declared.page.note.PageNote.{PageNote}
+use Rattle.pool_parts.specs.declared.page.full_seen.FullSeen.{FullSeen}
 use Rattle.pool_parts.specs.declared.page.full_seen.Allocated.{Allocated}
 use Rattle.pool_parts.specs.declared.page.full_seen.Allocated.TheVariants.{Slot, Full}
-use Rattle.pool_parts.specs.Item.{IsPulled}
+use Rattle.pool_parts.specs.Item.{Item, IsPulled}
 use Rattle.pool_parts.specs.Note.{note_page, note_view, note_opening, note_history, IsReturned, IsPulledAfter}
 use Rattle.pool_parts.specs.Ledger.{History, operations_of, IsPrefixOf, WasOutBetween}
 use Rattle.pool_parts.specs.PageRule.{GoesOn, StartsFrom, KnowsOut}
-use Rattle.pool_parts.specs.Holding.{item_known}
-use Rattle.pool_parts.specs.FullSeen.{full_view, FoundAllOut, IsAnswerFrom, IsAnswerOf}
-use Rattle.pool_parts.specs.FullSeen.{IsAnswerAfter}
+use Rattle.pool_parts.specs.FullSeen.{full_page, full_view, IsAllOut, IsAnswerFrom, IsAnswerOf, IsAnswerAfter}
 use Rattle.pool_parts.proofs.Ledger.{legal_of, prefix_further, out_longer}
-use Rattle.pool_parts.proofs.LedgerHolders.{came_from_legal, spared_return}
+use Rattle.pool_parts.proofs.LedgerHolders.{spared_return}
 
 module _ {T : Type 0} where
+  -- an item, as the user tells it that took it
+  abbrev pub item_known : TableId → UserView T → ℕ → T → Item T
+  item_known page known id value = record {
+    page = page;
+    opening = known.opening;
+    id = id;
+    value = value;
+    holder = known.user;
+    history = known.operations;
+  }
+
   -- what was observed taken since a load, told of the user as it was then
   pub was_out_from : (start known : UserView T) (id : ℕ) → GoesOn [] start known → IsPrefixOf start.since start.operations
       → WasOutBetween known.opening start.operations known.operations id
@@ -40,8 +50,6 @@ module _ {T : Type 0} where
       legal = goes.sound.legal;
       before = goes.operations.0 ++ start.operations;
       last = goes.operations.1;
-      origin = came_from_legal known.opening known.operations
-          (goes.operations.0 ++ start.operations) known.user id value goes.operations.1 goes.sound.legal;
       only = goes.sound.own_operations ∙ goes.own ∙ ap (λ own. Pull known.user id value ∷ own) none;
     }
 
@@ -59,8 +67,6 @@ module _ {T : Type 0} where
           legal = goes.sound.legal;
           others = further.0;
           last = last;
-          origin = came_from_legal known.opening known.operations
-              (further.0 ++ note_history note) known.user id value last goes.sound.legal;
           only = goes.sound.own_operations ∙ goes.own ∙ ap (λ own.
               Pull known.user id value ∷ own)
               (starts.own_same ∙ sym starts.own_before
@@ -68,18 +74,21 @@ module _ {T : Type 0} where
         }
 
   -- what a call found that observed each of so many items taken, since its user stood here at its load
-  pub found_out : (count : ℕ) (opening : List (Option T)) (start known : UserView T) → start.opening ≡ opening
-      → GoesOn [] start known
-      → ((id : ℕ) → id < count → WasOutBetween start.opening start.since known.operations id)
-      → FoundAllOut count opening known
-  found_out count opening start known same goes each = record {
-    same_opening = goes.same_opening ∙ same;
-    legal = legal_of opening known (goes.same_opening ∙ same) goes.sound;
-    goes_on = goes.sound.since_load;
-    each_was_out = λ id within.
-        subst (λ (p : List (Option T) × History T). WasOutBetween p.0 p.1 known.operations id) (λ i.
-        (same i, sym goes.same_since i)) (each id within);
-  }
+  pub found_out : (count : ℕ) (page : TableId) (opening : List (Option T)) (start : UserView T) (seen : FullSeen T)
+      → full_page seen ≡ page → start.opening ≡ opening → GoesOn [] start (full_view seen)
+      → ((id : ℕ) → id < count → WasOutBetween start.opening start.since (full_view seen).operations id)
+      → IsAllOut count page opening seen
+  found_out count page opening start seen of_page same goes each =
+      let known = full_view seen in
+      record {
+        of_page = of_page;
+        same_opening = goes.same_opening ∙ same;
+        legal = legal_of opening known (goes.same_opening ∙ same) goes.sound;
+        goes_on = goes.sound.since_load;
+        each_was_out = λ id within.
+            subst (λ (p : List (Option T) × History T). WasOutBetween p.0 p.1 known.operations id) (λ i.
+            (same i, sym goes.same_since i)) (each id within);
+      }
 
   -- and that load stands after all that it knew before
   pub after_known : (before start known : UserView T) → StartsFrom before start → GoesOn [] start known
@@ -120,7 +129,7 @@ module _ {T K : Type 0} where
         slot.value is.1 none;
   }
   answer_fresh meets page opening start (Full seen) same none is =
-      record { of_page = is.0; found = found_out _ opening start (full_view seen) same is.1 is.2 }
+      found_out _ page opening start seen is.0 same is.1 is.2
 
   -- the answer to a user that had a note
   pub answer_after : (meets : T → Type 0) (page : TableId) (note : PageNote T) (start : UserView T)
@@ -132,9 +141,6 @@ module _ {T K : Type 0} where
         slot.value is.1 note starts,
   )
   answer_after meets page note start (Full seen) starts is = record {
-    all_out = record {
-      of_page = is.0;
-      found = found_out _ (note_opening note) start (full_view seen) starts.same_opening is.1 is.2;
-    };
+    all_out = found_out _ page (note_opening note) start seen is.0 starts.same_opening is.1 is.2;
     after_note = after_known (note_view note) start (full_view seen) starts is.1;
   }

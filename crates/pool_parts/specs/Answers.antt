@@ -6,13 +6,11 @@ use Rattle.std.specs.Prelude.{◌≡◌, ◌⊎◌, ⊤, Option, Some, IfSome}
 abbrev pub IsAnswer : {T I : Type 0} → (I → Option T → Type 0) → T → Type 0
 IsAnswer {T} {I} answers value = (initializer : I) × answers initializer (Some value)
 
--- a reset of this type may leave the value, of some value before it
-abbrev pub IsLeft : {T R : Type 0} → (R → T → T → Type 0) → T → Type 0
-IsLeft {T} {R} leaves value = (resetter : R) × (before : T) × leaves resetter before value
-
--- an initializer may answer the value, or a reset may leave it
+-- some initializer may answer the value, or some reset may leave it of a value before it
 abbrev pub IsMadeOrReset : {T I R : Type 0} → (I → Option T → Type 0) → (R → T → T → Type 0) → T → Type 0
-IsMadeOrReset answers leaves value = IsAnswer answers value ⊎ IsLeft leaves value
+IsMadeOrReset {T} {I} {R} answers leaves value =
+    ((initializer : I) × answers initializer (Some value))
+    ⊎ ((resetter : R) × (before : T) × leaves resetter before value)
 
 -- a closure that is called with a loan of a value may leave the new value of the old one
 abbrev pub LeavesByLoan : {T F : Type 0} → (F → MutBor T → ⊤ → MutBor T → Type 0) → F → T → T → Type 0

@@ -31,26 +31,21 @@ module _ {T : Type 0} where
   abbrev pub full_history : FullSeen T → History T
   full_history seen = (full_view seen).operations
 
-  -- a user found so many items out, each at some place of a legal history, since its own first load
-  pub record FoundAllOut (count : ℕ) (opening : List (Option T)) (known : UserView T) : Type 0 where
-    pub same_opening : known.opening ≡ opening
-    pub legal : IsLegal opening known.operations
-    pub goes_on : IsPrefixOf known.since known.operations
-    pub each_was_out : (id : ℕ) → id < count → WasOutBetween opening known.since known.operations id
-
   -- each of the items of this page or fixed pool, which has so many, was observed taken by one user, since its first load
   pub record IsAllOut (count : ℕ) (page : TableId) (opening : List (Option T)) (seen : FullSeen T) : Type 0 where
-    pub of_page : full_page seen ≡ page
-    pub found : FoundAllOut count opening (full_view seen)
+    pub of_page : seen.seat.table_id ≡ page
+    pub same_opening : seen.seat.me.0.opening ≡ opening
+    pub legal : IsLegal opening seen.seat.me.0.operations
+    -- the user's history goes on from what it was at its first load
+    pub goes_on : IsPrefixOf seen.seat.me.0.since seen.seat.me.0.operations
+    -- each item was out at some place between the two
+    pub each_was_out : (id : ℕ) → id < count
+        → WasOutBetween opening seen.seat.me.0.since seen.seat.me.0.operations id
 
   -- the same of a user that goes on from a note: its first load stands after all that the note knew
   pub record IsAllOutAfter (count : ℕ) (page : TableId) (note : PageNote T) (seen : FullSeen T) : Type 0 where
     pub all_out : IsAllOut count page (note_opening note) seen
     pub after_note : IsPrefixOf (note_history note) (full_since seen)
-
-  -- each id of this page was observed taken
-  abbrev pub IsFullOf : TableId → List (Option T) → FullSeen T → Type 0
-  IsFullOf page opening seen = IsAllOut PAGE_ITEMS page opening seen
 
   -- this user has read the page's word once, and has tried so many bits at most
   pub record IsBrief (known : UserView T) : Type 0 where
@@ -66,13 +61,13 @@ module _ {T : Type 0} where
 module _ {T K : Type 0} where
   -- what the user of the call knows of the page, whatever it answers
   abbrev pub answer_view : Allocated T K → UserView T
-  answer_view (Slot slot) = slot_view slot
-  answer_view (Full seen) = full_view seen
+  answer_view (Slot slot) = slot.taken.holding.seat.me.0
+  answer_view (Full seen) = seen.seat.me.0
 
   -- an item of this page; or each of its ids was observed taken
   abbrev pub IsAnswerOf : (T → Type 0) → TableId → List (Option T) → Allocated T K → Type 0
   IsAnswerOf meets page opening (Slot slot) = IsPulledOf meets page opening (slot_item slot)
-  IsAnswerOf meets page opening (Full seen) = IsFullOf page opening seen
+  IsAnswerOf meets page opening (Full seen) = IsAllOut PAGE_ITEMS page opening seen
 
   -- the same, after all that a note knew
   abbrev pub IsAnswerAfter : (T → Type 0) → TableId → PageNote T → Allocated T K → Type 0

@@ -6,15 +6,15 @@ use Rattle.pool_parts.specs.declared.page.user_view.UserView.{UserView}
 use Rattle.pool_parts.specs.Item.{Item}
 
 module _ {T : Type 0} where
-  -- an item, as the user tells it that took it
-  abbrev pub item_known : TableId → UserView T → ℕ → T → Item T
-  item_known page known id value = record {
-    page = page;
-    opening = known.opening;
-    id = id;
+  -- the item that a holder has, with a value
+  abbrev pub held_item : Holding T → T → Item T
+  held_item holding value = record {
+    page = holding.seat.table_id;
+    opening = holding.seat.me.0.opening;
+    id = holding.number;
     value = value;
-    holder = known.user;
-    history = known.operations;
+    holder = holding.seat.me.0.user;
+    history = holding.seat.me.0.operations;
   }
 
   -- of which page or pool the item is
@@ -24,7 +24,3 @@ module _ {T : Type 0} where
   -- what the holder of the item knows
   abbrev pub holding_view : Holding T → UserView T
   holding_view holding = holding.seat.me.0
-
-  -- the item, with a value
-  abbrev pub held_item : Holding T → T → Item T
-  held_item holding value = item_known (holding_page holding) (holding_view holding) holding.number value

@@ -2,8 +2,7 @@
 use Rattle.std.specs.Prelude.{◌≡◌, ℕ, ◌<◌, List, [], ◌∷◌, Option}
 use Rattle.atomic_table.specs.Seated.{TableId}
 use Rattle.pool_parts.specs.declared.page.history.Operation.TheVariants.{Pull}
-use Rattle.pool_parts.specs.Items.{IsFilled}
-use Rattle.pool_parts.specs.Ledger.{History, operations_of, IsLegal, CameFrom}
+use Rattle.pool_parts.specs.Ledger.{History, operations_of, IsLegal}
 use Rattle.pool_parts.specs.declared.page.TheConstants.{PAGE_ITEMS}
 
 -- an item, its value now, and what its holder knows of the page
@@ -21,14 +20,10 @@ pub record Item (T : Type 0) : Type 0 where
   pub history : History T
 
 module _ {T : Type 0} where
-  -- an item of this page or fixed pool, which has so many
-  pub record IsItemIn (count : ℕ) (page : TableId) (item : Item T) : Type 0 where
-    pub of_page : item.page ≡ page
-    pub in_page : item.id < count
-
   -- an item of this page, with a value that meets the condition
   pub record IsItemOf (meets : T → Type 0) (page : TableId) (item : Item T) : Type 0 where
-    pub is_in : IsItemIn PAGE_ITEMS page item
+    pub of_page : item.page ≡ page
+    pub in_page : item.id < PAGE_ITEMS
     pub meets_condition : meets item.value
 
   -- how an item was pulled: a legal history of its page ends with the pull
@@ -38,24 +33,11 @@ module _ {T : Type 0} where
     -- its last operation is this pull, with exactly this value
     pub before : History T
     pub last : item.history ≡ Pull item.holder item.id item.value ∷ before
-    -- the value is what the last return of this very item left, or the opening's
-    pub origin : CameFrom item.opening before item.id item.value
     -- its holder did nothing else
     pub only : operations_of item.holder item.history ≡ Pull item.holder item.id item.value ∷ []
 
-  -- an item of this kind, pulled as its history tells, which begins with these values
-  pub record IsPulledAs (kind : Item T → Type 0) (opening : List (Option T)) (item : Item T) : Type 0 where
-    pub is_item : kind item
+  -- an item of this page, pulled from it as its history tells, which begins with these values
+  pub record IsPulledOf (meets : T → Type 0) (page : TableId) (opening : List (Option T)) (item : Item T) : Type 0 where
+    pub is_item : IsItemOf meets page item
     pub same_opening : item.opening ≡ opening
-    pub pulled : IsPulled item
-
-  -- an item of this page, pulled from it as the page's history tells
-  abbrev pub IsPulledOf : (T → Type 0) → TableId → List (Option T) → Item T → Type 0
-  IsPulledOf meets page opening item = IsPulledAs (IsItemOf meets page) opening item
-
-  -- where a pulled item comes from
-  pub record HasOrigin (may_open : T → Type 0) (item : Item T) : Type 0 where
-    -- its page opened with 32 values of this kind
-    pub opened : IsFilled PAGE_ITEMS may_open item.opening
-    -- it was pulled as the page's history tells, which begins with them
     pub pulled : IsPulled item

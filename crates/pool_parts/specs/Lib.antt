@@ -10,6 +10,7 @@ pub mod Lends
 pub mod Meeting
 pub mod Note
 pub mod OneProof
+pub mod Origin
 pub mod OwnedSlot
 pub mod Page
 pub mod PageRule

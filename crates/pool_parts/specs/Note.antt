@@ -6,7 +6,7 @@ use Rattle.pool_parts.specs.declared.page.user_view.UserView.{UserView}
 use Rattle.pool_parts.specs.declared.page.note.PageNote.{PageNote}
 use Rattle.pool_parts.specs.declared.page.note.Witness.{Witness}
 use Rattle.pool_parts.specs.Item.{Item}
-use Rattle.pool_parts.specs.Ledger.{History, operations_of, IsLegal, IsPrefixOf, NoOperationOn, CameFrom}
+use Rattle.pool_parts.specs.Ledger.{History, operations_of, IsLegal, IsPrefixOf, NoOperationOn}
 
 module _ {T : Type 0} where
   -- which page the note is of
@@ -69,8 +69,6 @@ module _ {T : Type 0} where
     -- its last operation is this pull, with exactly this value, after what the note knew and what others did since
     pub others : History T
     pub last : item.history ≡ Pull item.holder item.id item.value ∷ (others ++ note_history note)
-    -- the value is what the last return of this very item left, or the opening's
-    pub origin : CameFrom item.opening (others ++ note_history note) item.id item.value
     -- its holder did nothing but the pull since
     pub only : operations_of item.holder item.history ≡ Pull item.holder item.id item.value ∷ operations_of item.holder
         (note_history note)

@@ -11,18 +11,11 @@ RefusesMaking may_answer_none Memory = ⊤
 RefusesMaking may_answer_none Init = may_answer_none
 RefusesMaking may_answer_none Limit = ⊥
 
--- what a pull may be refused for, beside want of memory
-pub record Causes : Type 1 where
-  -- there may be no further page
-  pub limited : Type 0
-  -- init may answer None
-  pub init_refuses : Type 0
-
--- a pull gave no item: for want of memory, or for one of these
-abbrev pub RefusesPull : Causes → PullError → Type 0
-RefusesPull causes Memory = ⊤
-RefusesPull causes Init = causes.init_refuses
-RefusesPull causes Limit = causes.limited
+-- a pull gave no item: for want of memory, or there may be no further page, or init may answer None
+abbrev pub RefusesPull : Type 0 → Type 0 → PullError → Type 0
+RefusesPull limited may_answer_none Memory = ⊤
+RefusesPull limited may_answer_none Init = may_answer_none
+RefusesPull limited may_answer_none Limit = limited
 
 -- the kind of the io::Error that a refusal becomes
 abbrev pub refusal_kind : PullError → ErrorKind

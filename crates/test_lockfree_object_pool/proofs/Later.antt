@@ -4,6 +4,7 @@ use Rattle.pool_parts.specs.declared.page.history.Operation.TheVariants.{Pull, R
 use Rattle.pool_parts.specs.declared.page.note.PageNote.{PageNote}
 use Rattle.lockfree_object_pool.specs.Item.{Item}
 use Rattle.lockfree_object_pool.specs.Note.{note_history, IsPulledAfter}
+use Rattle.lockfree_object_pool.specs.Origin.{pulled_from}
 use Rattle.lockfree_object_pool.specs.Ledger.{History, id_of, NoOperationOn, IsPrefixOf}
 use Rattle.pool_parts.proofs.Ledger.{behind}
 use Rattle.test_lockfree_object_pool.specs.Returned.{EndsWithReturnOf, HasOperationOn, WasReturnedBefore, WasUsedSince}
@@ -56,7 +57,7 @@ module _ (number : ℕ) (note : PageNote ℕ) (item : Item ℕ) (first : item.id
   pulled_what_returned = (
     is.others ++ note_history note,
     is.last,
-    elim is.origin [
+    elim (pulled_from _ _ _ _ _ _ is.legal is.last) [
       | inl was ↦ was
       | inr opened ↦
           let none = none_before item.id is.others (note_history note) opened.untouched in

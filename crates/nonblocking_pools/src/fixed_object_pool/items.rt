@@ -64,7 +64,8 @@ pub struct FixedItems<T, K: Clean<T>> {
 
 impl<T, K: Clean<T>> FixedItems<T, K> {
     ghost use Rattle.pool_parts.specs.Answers.{MayMake};
-    ghost use Rattle.nonblocking_pools.specs.FixedAnswer.{IsPulledFrom, IsPulledWith, IsBusyOf, IsBusyAfter, IsFullNote, IsFullNoteAfter, busy_steps, note_steps, returns_since};
+    ghost use Rattle.nonblocking_pools.specs.FixedAnswer.{IsPulledFrom, IsPulledWith, IsFullNote, IsFullNoteAfter, busy_steps, note_steps, returns_since};
+    ghost use Rattle.pool_parts.specs.FullSeen.{IsAllOut, IsAllOutAfter};
     ghost use Rattle.nonblocking_pools.specs.FixedPool.{fixed_identity, fixed_opening};
     ghost use Rattle.nonblocking_pools.specs.FixedItem.{pulled_item, pulled_view};
     ghost use Rattle.pool_parts.specs.Taking.{MissesAll, TakesOne};
@@ -174,7 +175,8 @@ impl<T, K: Clean<T>> FixedItems<T, K> {
         ensures brief { IfOk result
             (λ pulled. IsWithin (fixed_identity self.now).words no_steps
             (steps_of (pulled_view pulled))) }
-        ensures busy { IfErr result (IsBusyOf (fixed_identity self.now) (fixed_opening self.now)) }
+        ensures busy { IfErr result (IsAllOut (fixed_identity self.now).slots
+            (fixed_identity self.now) (fixed_opening self.now)) }
         ensures busy_brief { IfErr result
             (λ busy. IsWithin (fixed_identity self.now).words no_steps (busy_steps busy)) }
     {
@@ -285,7 +287,8 @@ impl<T, K: Clean<T>> FixedItems<T, K> {
         ensures brief { IfOk result
             (λ pulled. IsWithin (fixed_identity self.now).words (note_steps note)
             (steps_of (pulled_view pulled))) }
-        ensures busy { IfErr result (IsBusyAfter (fixed_identity self.now) note) }
+        ensures busy { IfErr result
+            (IsAllOutAfter (fixed_identity self.now).slots (fixed_identity self.now) note) }
         ensures busy_brief { IfErr result
             (λ busy. IsWithin (fixed_identity self.now).words (note_steps note) (busy_steps busy)) }
     {

@@ -80,10 +80,8 @@ impl<T: Drop, K: Clean<T>, O: Clean<T>> Chain<T, K, O> {
         ensures past_first { IfOk result (λ reached. 0 < number_of reached.number) }
         ensures evidence { IfErr result
             (IsRefusedBy (start_of self.now) limit (I.post init.now None)) }
-        ensures refused { IfErr result (λ refusal. RefusesPull (record {
-          limited = IsSome limit;
-          init_refuses = I.post init.now None;
-        }) (cause_of refusal)) }
+        ensures refused { IfErr result (λ refusal.
+            RefusesPull (IsSome limit) (I.post init.now None) (cause_of refusal)) }
     {
         let mut known = None;
         if let Some((number, page, note)) = self.hinted_page(limit) {

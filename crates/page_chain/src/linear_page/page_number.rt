@@ -1,10 +1,11 @@
 //! The number of a page in its chain.
-ghost use Rattle.std.specs.Prelude.{◌≡◌, Some};
+ghost use Rattle.std.specs.Prelude.{◌≡◌, ℕ, List, Some};
 ghost use Rattle.std.specs.Arc.{arc_value};
 ghost use Rattle.std.specs.Option.{option_map};
+ghost use Rattle.std.specs.declared.alloc.Global.{Global};
 ghost use Rattle.atomic_table.specs.Seated.{TableId};
 ghost use Rattle.page_chain.specs.LinkNote.{known_link, known_next};
-ghost use Rattle.page_chain.specs.LinkRow.{Cells, cell_in_row};
+ghost use Rattle.page_chain.specs.LinkRow.{cell_in_row};
 ghost use Rattle.pool_parts.specs.Page.{page_identity};
 ghost use Rattle.page_chain.specs.Walk.{number_of, IsKnownAt, IsLinkedAt};
 
@@ -44,7 +45,7 @@ impl<T: Drop, K: Clean<T>, O: Clean<T>> PageNumber<T, K, O> {
     /// Returns the number of the page to which the link of this note leads.
     pub(super) fn of_link(number: usize, note: LinkNote<T, K, O>) -> PageNumber<T, K, O>
         ensures number { number_of result ≡ number }
-        ensures linked { (links : Cells) (page : TableId) →
+        ensures linked { (links : List (Global × ℕ)) (page : TableId) →
             IsKnownAt links number note page → IsLinkedAt links result page }
     {
         let LinkNote {

@@ -3,7 +3,8 @@ ghost use Rattle.std.specs.Prelude.{◌≡◌, ◌+◌, ◌-◌, ◌≤◌, ◌<
 ghost use Rattle.std.specs.Arc.{arc_value};
 ghost use Rattle.pool_parts.specs.Answers.{MayOpen};
 ghost use Rattle.pool_parts.specs.FullSeen.{full_page};
-ghost use Rattle.pool_parts.specs.Item.{HasOrigin};
+ghost use Rattle.pool_parts.specs.Item.{IsPulled};
+ghost use Rattle.pool_parts.specs.Items.{IsFilled};
 ghost use Rattle.page_chain.specs.LinearPage.{shown_page, page_number, IsItemFrom};
 ghost use Rattle.pool_parts.specs.OwnedSlot.{owned_slot_item};
 ghost use Rattle.pool_parts.specs.Page.{page_identity};
@@ -11,6 +12,7 @@ ghost use Rattle.pool_parts.specs.Refusal.{RefusesMaking, RefusesPull};
 ghost use Rattle.pool_parts.specs.Slot.{slot_item};
 ghost use Rattle.page_chain.specs.Walk.{start_at, number_of, IsAnsweredBy, IsFullAt, IsKnownAt, IsTaken, IsRefusedBy, cause_of};
 ghost use Rattle.page_chain.specs.declared.linear_page.walk.WalkRefusal.TheVariants.{Making};
+ghost use Rattle.pool_parts.specs.declared.page.TheConstants.{PAGE_ITEMS};
 
 use super::opened_page::OpenedPage;
 use super::{LinearPage, LinkNote, PageNumber};
@@ -92,11 +94,10 @@ impl<'c, T: Drop, K: Clean<T>, O: Clean<T>> LinearPage<'c, T, K, O> {
         requires { MayOpen I.pre I.post K.meets O.meets init.now }
         ensures item { IfOk result
             (λ reached. IsItemFrom K.meets (shown_page self.now) (slot_item reached.0) reached.1) }
-        ensures history { IfOk result (λ reached. HasOrigin O.meets (slot_item reached.0)) }
-        ensures refused { IfErr result (RefusesPull (record {
-          limited = ⊥;
-          init_refuses = I.post init.now None;
-        })) }
+        ensures opened { IfOk result
+            (λ reached. IsFilled PAGE_ITEMS O.meets (slot_item reached.0).opening) }
+        ensures pulled { IfOk result (λ reached. IsPulled (slot_item reached.0)) }
+        ensures refused { IfErr result (RefusesPull ⊥ (I.post init.now None)) }
     {
         let reached = self.walk(None, init)?;
         let passed = reached.number.get() - self.number;
@@ -118,12 +119,11 @@ impl<'c, T: Drop, K: Clean<T>, O: Clean<T>> LinearPage<'c, T, K, O> {
         requires opens { MayOpen I.pre I.post K.meets O.meets init.now }
         ensures item { IfOk result
             (λ reached. IsItemFrom K.meets (shown_page self.now) (slot_item reached.0) reached.1) }
-        ensures history { IfOk result (λ reached. HasOrigin O.meets (slot_item reached.0)) }
+        ensures opened { IfOk result
+            (λ reached. IsFilled PAGE_ITEMS O.meets (slot_item reached.0).opening) }
+        ensures pulled { IfOk result (λ reached. IsPulled (slot_item reached.0)) }
         ensures within { IfOk result (λ reached. reached.1 < pages) }
-        ensures refused { IfErr result (RefusesPull (record {
-          limited = ⊤;
-          init_refuses = I.post init.now None;
-        })) }
+        ensures refused { IfErr result (RefusesPull ⊤ (I.post init.now None)) }
     {
         let reached = self.walk(Some(pages), init)?;
         let passed = reached.number.get() - self.number;
@@ -144,11 +144,10 @@ impl<'c, T: Drop, K: Clean<T>, O: Clean<T>> LinearPage<'c, T, K, O> {
         ensures item { IfOk result
             (λ reached. IsItemFrom K.meets (shown_page self.now)
             (owned_slot_item reached.0) reached.1) }
-        ensures history { IfOk result (λ reached. HasOrigin O.meets (owned_slot_item reached.0)) }
-        ensures refused { IfErr result (RefusesPull (record {
-          limited = ⊥;
-          init_refuses = I.post init.now None;
-        })) }
+        ensures opened { IfOk result
+            (λ reached. IsFilled PAGE_ITEMS O.meets (owned_slot_item reached.0).opening) }
+        ensures pulled { IfOk result (λ reached. IsPulled (owned_slot_item reached.0)) }
+        ensures refused { IfErr result (RefusesPull ⊥ (I.post init.now None)) }
     {
         let (slot, number) = self.walk(None, init)?.into_owned()?;
         Ok((slot, number.get() - self.number))
@@ -170,12 +169,11 @@ impl<'c, T: Drop, K: Clean<T>, O: Clean<T>> LinearPage<'c, T, K, O> {
         ensures item { IfOk result
             (λ reached. IsItemFrom K.meets (shown_page self.now)
             (owned_slot_item reached.0) reached.1) }
-        ensures history { IfOk result (λ reached. HasOrigin O.meets (owned_slot_item reached.0)) }
+        ensures opened { IfOk result
+            (λ reached. IsFilled PAGE_ITEMS O.meets (owned_slot_item reached.0).opening) }
+        ensures pulled { IfOk result (λ reached. IsPulled (owned_slot_item reached.0)) }
         ensures within { IfOk result (λ reached. reached.1 < pages) }
-        ensures refused { IfErr result (RefusesPull (record {
-          limited = ⊤;
-          init_refuses = I.post init.now None;
-        })) }
+        ensures refused { IfErr result (RefusesPull ⊤ (I.post init.now None)) }
     {
         let (slot, number) = self.walk(Some(pages), init)?.into_owned()?;
         Ok((slot, number.get() - self.number))
@@ -197,10 +195,7 @@ impl<'c, T: Drop, K: Clean<T>, O: Clean<T>> LinearPage<'c, T, K, O> {
             IsTaken K.meets O.meets (start_at self.now) limit reached.number (slot_item reached.slot)) }
         ensures page { IfOk result (λ reached.
             (slot_item reached.slot).page ≡ page_identity (arc_value reached.page.now)) }
-        ensures refused { IfErr result (RefusesPull (record {
-          limited = IsSome limit;
-          init_refuses = I.post init.now None;
-        })) }
+        ensures refused { IfErr result (RefusesPull (IsSome limit) (I.post init.now None)) }
     {
         let pass = PullPass::new();
         match self.page.take(&pass).answer {
@@ -244,10 +239,8 @@ impl<'c, T: Drop, K: Clean<T>, O: Clean<T>> LinearPage<'c, T, K, O> {
             (slot_item reached.slot).page ≡ page_identity (arc_value reached.page.now)) }
         ensures further { IfOk result (λ reached. page_number self.now < number_of reached.number) }
         ensures evidence { IfErr result (IsRefusedBy (start_at self.now) limit (I.post init.now None)) }
-        ensures refused { IfErr result (λ refusal. RefusesPull (record {
-          limited = IsSome limit;
-          init_refuses = I.post init.now None;
-        }) (cause_of refusal)) }
+        ensures refused { IfErr result (λ refusal.
+            RefusesPull (IsSome limit) (I.post init.now None) (cause_of refusal)) }
     {
         let pass = seen.pass;
         let mut page: &'c OpenedPage<T, K, O> = self.page;

@@ -1,9 +1,10 @@
 //! What a caller knows of a slot by public contracts alone.
 ghost use Rattle.std.specs.Prelude.{◌≡◌, IfOk, IfSome};
-ghost use Rattle.page_chain.specs.FullSeen.{IsFullOf};
+ghost use Rattle.page_chain.specs.FullSeen.{IsAllOut};
 ghost use Rattle.page_chain.specs.OwnedSlot.{owned_slot_with};
 ghost use Rattle.page_chain.specs.Page.{page_identity, page_opening};
 ghost use Rattle.page_chain.specs.Slot.{slot_item, slot_with};
+ghost use Rattle.pool_parts.specs.declared.page.TheConstants.{PAGE_ITEMS};
 
 use super::{item, owned_item};
 use crate::assert_equal::assert_equal;
@@ -79,7 +80,8 @@ fn own_first(page: Arc<Page<u32, Zero>>) -> Option<u32>
 
 /// What tells a pull that a page is full is of that page, and has all of its ids.
 fn full_of<'p>(page: &Page<u32, Zero>, pass: &'p PullPass) -> Option<FullSeen<'p, u32>>
-    ensures { IfSome result (IsFullOf (page_identity page.now) (page_opening page.now)) }
+    ensures { IfSome result
+        (IsAllOut PAGE_ITEMS (page_identity page.now) (page_opening page.now)) }
 {
     match page.try_alloc(pass) {
         Ok(Allocated::Full(seen)) => Some(seen),

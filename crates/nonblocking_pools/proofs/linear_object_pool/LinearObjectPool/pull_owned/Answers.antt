@@ -5,10 +5,10 @@ pub returns-in-Slot-clause-pulled : goal.returns-in-Slot-clause-pulled
 returns-in-Slot-clause-pulled g c = record {
   in_page = search rules;
   on_page = search rules;
-  of_first = search rules;
-  same_opening = search rules;
   within = search rules;
-  history = search rules;
+  opened = search rules;
+  same_opening = search rules;
+  pulled = search rules;
   meets_condition = search rules;
   made_or_reset = search rules;
 }

@@ -22,11 +22,12 @@ pub returns-in-Slot-clause-taken : goal.returns-in-Slot-clause-taken
 returns-in-Slot-clause-taken g c =
     let links = c.args.self.now.directory.now in
     let known : IsKnownAt {opens = g.O.Clean} links c.in_ok-next.next _ (slot_item c.in-Slot.slot).page =
-    subst (IsKnownAt {opens = g.O.Clean} links c.in_ok-next.next _) (sym c.in-Slot.ensures.answer.0.is_in.of_page)
+    subst (IsKnownAt {opens = g.O.Clean} links c.in_ok-next.next _) (sym c.in-Slot.ensures.answer.0.of_page)
     c.in-Slot.ensures.linked in
     record {
       is_item = search rules;
-      history = search rules;
+      opened = search rules;
+      pulled = search rules;
       from_start = search rules;
       on_page = inr (c.of_link.ensures.linked _ _ known);
       of_start = search rules;

@@ -3,10 +3,9 @@ use Rattle.atomic_table.specs.Seated.{TableId}
 use Rattle.pool_parts.specs.Item.{Item, IsItemOf}
 use Rattle.pool_parts.specs.Page.{page_identity}
 use Rattle.pool_parts.specs.PageRule.{GoesOn}
-use Rattle.pool_parts.specs.Holding.{item_known}
 use Rattle.pool_parts.specs.declared.page.history.Operation.TheVariants.{Pull}
 use Rattle.pool_parts.specs.declared.page.user_view.UserView.{UserView}
-use Rattle.pool_parts.proofs.PageAnswers.{was_out_from, knows_out}
+use Rattle.pool_parts.proofs.PageAnswers.{item_known, was_out_from, knows_out}
 use Rattle.pool_parts.proofs.page.Page.take_lowest.Goals as goal
 
 pub returns-in-Some-clause-answer : goal.returns-in-Some-clause-answer
@@ -17,7 +16,8 @@ returns-in-Some-clause-answer g c =
     let sized = c.args.self.now.sized in
     let inside = took.in_pool in
     let here : IsItemOf g.K.Clean.meets (page_identity c.args.self.now) item = record {
-      is_in = record { of_page = c.take_lowest.ensures.items ∙ c.requires.page; in_page = omega arith };
+      of_page = c.take_lowest.ensures.items ∙ c.requires.page;
+      in_page = omega arith;
       meets_condition = took.meets_condition;
     } in
     subst (λ (p : Item g.row.T.Denot × UserView g.row.T.Denot).

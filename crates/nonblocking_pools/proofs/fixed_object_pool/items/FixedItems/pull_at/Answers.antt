@@ -7,7 +7,8 @@ returns-clause-pulled g c =
     let looked = c.look-word.ensures.found in
     let took = c.in_ok-value.ensures.outcome in
     record {
-      is_item = record { of_page = c.clear.ensures.items ∙ c.look-word.ensures.items; in_page = took.0 };
+      of_pool = c.clear.ensures.items ∙ c.look-word.ensures.items;
+      in_pool = took.0;
       same_opening = took.2.goes_on.same_opening ∙ looked.same_opening;
       pulled = pulled _ _ _ _ _ took.2.goes_on looked.did_nothing;
     }

@@ -14,10 +14,8 @@ returns-in_default-clause-busy g c =
     let starts = c.look_again-word.ensures.found.starts in
     let missed = c.in_default.ensures.missed in
     record {
-      all_out = record {
-        of_page = c.take.ensures.pool ∙ c.look_again-word.ensures.items ∙ c.requires;
-        found = found_all_out _ _ _ _ starts.same_opening c.look_again-word.ensures.found.sound missed;
-      };
+      all_out = found_all_out _ _ _ _ _ (c.take.ensures.pool ∙ c.look_again-word.ensures.items ∙ c.requires)
+          starts.same_opening c.look_again-word.ensures.found.sound missed;
       after_note = after_known _ _ _ starts missed.goes_on;
     }
 

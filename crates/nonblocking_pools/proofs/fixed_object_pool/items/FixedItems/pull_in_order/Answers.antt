@@ -9,7 +9,8 @@ returns-in-Some-clause-pulled g c =
     let looked = c.look-word.ensures.found in
     let taken = c.in-Some.ensures.outcome in
     record {
-      is_item = record { of_page = c.take_or_full.ensures.pool ∙ c.look-word.ensures.items; in_page = taken.in_pool };
+      of_pool = c.take_or_full.ensures.pool ∙ c.look-word.ensures.items;
+      in_pool = taken.in_pool;
       same_opening = taken.goes_on.same_opening ∙ looked.same_opening;
       pulled = pulled _ _ _ _ _ taken.goes_on looked.did_nothing;
     }

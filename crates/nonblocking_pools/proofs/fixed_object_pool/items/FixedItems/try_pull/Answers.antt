@@ -9,17 +9,16 @@ returns-clause-pulled g c =
     let looked = c.look-word.ensures.found in
     let taken = c.in-Ok.ensures.taken in
     record {
-      is_item = record { of_page = c.take.ensures.pool ∙ c.look-word.ensures.items; in_page = taken.in_pool };
+      of_pool = c.take.ensures.pool ∙ c.look-word.ensures.items;
+      in_pool = taken.in_pool;
       same_opening = taken.goes_on.same_opening ∙ looked.same_opening;
       pulled = pulled _ _ _ _ _ taken.goes_on looked.did_nothing;
     }
 
 pub returns-in_default-clause-busy : goal.returns-in_default-clause-busy
-returns-in_default-clause-busy g c = record {
-  of_page = c.take.ensures.pool ∙ c.look-word.ensures.items;
-  found = found_all_out _ _ _ _ c.look-word.ensures.found.same_opening c.look-word.ensures.found.sound
-      c.in_default.ensures.missed;
-}
+returns-in_default-clause-busy g c =
+    found_all_out _ _ _ _ _ (c.take.ensures.pool ∙ c.look-word.ensures.items)
+    c.look-word.ensures.found.same_opening c.look-word.ensures.found.sound c.in_default.ensures.missed
 
 pub invariant_of-result : goal.invariant_of-result
 invariant_of-result g c =
