@@ -27,19 +27,9 @@ pub fn observe<R: Files + AllocGlobal + Print>(
     alloc: Global,
     observer: &mut Observer<R>,
 ) -> Result<()> {
-    observer.observe(
-        alloc,
-        "refused pulls of a linear core",
-        &Kind::LinearRefuses,
-    )?;
-    observer.observe(alloc, "refused pulls of a stack core", &Kind::StackRefuses)?;
-    observer.observe(alloc, "players on linear cores", &Kind::LinearPlayerEnds)?;
-    observer.observe(alloc, "players on stack cores", &Kind::StackPlayerEnds)?;
-    observer.observe(
-        alloc,
-        "players on cores that keep nothing",
-        &Kind::FreshPlayerEnds,
-    )?;
+    for (name, kind) in KINDS {
+        observer.observe(alloc, name, &kind)?;
+    }
     Ok(())
 }
 
@@ -52,6 +42,15 @@ enum Kind {
     StackPlayerEnds,
     FreshPlayerEnds,
 }
+
+/// Each kind, and how its line begins.
+const KINDS: [(&str, Kind); 5] = [
+    ("refused pulls of a linear core", Kind::LinearRefuses),
+    ("refused pulls of a stack core", Kind::StackRefuses),
+    ("players on linear cores", Kind::LinearPlayerEnds),
+    ("players on stack cores", Kind::StackPlayerEnds),
+    ("players on cores that keep nothing", Kind::FreshPlayerEnds),
+];
 
 impl Turns for Kind {
     fn take(&self, alloc: Global, turns: usize) -> Option<()> {

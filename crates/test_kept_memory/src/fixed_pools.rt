@@ -24,11 +24,9 @@ pub fn observe<R: Files + AllocGlobal + Print>(
     alloc: Global,
     observer: &mut Observer<R>,
 ) -> Result<()> {
-    observer.observe(alloc, "fixed pools that are refused", &Kind::RefusedPools)?;
-    observer.observe(alloc, "refused pulls of a fixed pool", &Kind::RefusedPulls)?;
-    observer.observe(alloc, "items of a fixed pool", &Kind::Returns)?;
-    observer.observe(alloc, "owners of a fixed pool", &Kind::OwnerReturns)?;
-    observer.observe(alloc, "fixed pools", &Kind::Ends)?;
+    for (name, kind) in KINDS {
+        observer.observe(alloc, name, &kind)?;
+    }
     Ok(())
 }
 
@@ -41,6 +39,15 @@ enum Kind {
     OwnerReturns,
     Ends,
 }
+
+/// Each kind, and how its line begins.
+const KINDS: [(&str, Kind); 5] = [
+    ("fixed pools that are refused", Kind::RefusedPools),
+    ("refused pulls of a fixed pool", Kind::RefusedPulls),
+    ("items of a fixed pool", Kind::Returns),
+    ("owners of a fixed pool", Kind::OwnerReturns),
+    ("fixed pools", Kind::Ends),
+];
 
 impl Turns for Kind {
     fn take(&self, alloc: Global, turns: usize) -> Option<()> {

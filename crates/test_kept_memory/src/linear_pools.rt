@@ -23,12 +23,9 @@ pub fn observe<R: Files + AllocGlobal + Print>(
     alloc: Global,
     observer: &mut Observer<R>,
 ) -> Result<()> {
-    observer.observe(alloc, "linear pools that are refused", &Kind::RefusedPools)?;
-    observer.observe(alloc, "refused pulls of a linear pool", &Kind::RefusedPulls)?;
-    observer.observe(alloc, "items of a linear pool", &Kind::Returns)?;
-    observer.observe(alloc, "linear pools", &Kind::Ends)?;
-    observer.observe(alloc, "chains", &Kind::ChainEnds)?;
-    observer.observe(alloc, "buffer pools", &Kind::BufferPoolEnds)?;
+    for (name, kind) in KINDS {
+        observer.observe(alloc, name, &kind)?;
+    }
     Ok(())
 }
 
@@ -42,6 +39,16 @@ enum Kind {
     ChainEnds,
     BufferPoolEnds,
 }
+
+/// Each kind, and how its line begins.
+const KINDS: [(&str, Kind); 6] = [
+    ("linear pools that are refused", Kind::RefusedPools),
+    ("refused pulls of a linear pool", Kind::RefusedPulls),
+    ("items of a linear pool", Kind::Returns),
+    ("linear pools", Kind::Ends),
+    ("chains", Kind::ChainEnds),
+    ("buffer pools", Kind::BufferPoolEnds),
+];
 
 impl Turns for Kind {
     fn take(&self, alloc: Global, turns: usize) -> Option<()> {

@@ -18,7 +18,7 @@ pub trait Turns {
 }
 
 /// One who looks at the process's memory, and tells what was seen.
-#[derive(Debug, Drop)]
+#[derive(Drop)]
 pub struct Observer<R> {
     rt: R,
     turns: usize,

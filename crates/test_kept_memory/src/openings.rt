@@ -150,7 +150,11 @@ pub fn new_world(alloc: Global) -> Option<Agents> {
 
 /// Makes the values of a page.
 pub fn zeros(alloc: Global) -> Option<Prepared<u32>> {
-    Prepared::make(alloc, &|| Some(0)).ok()
+    Prepared::make(alloc, &zero).ok()
+}
+
+fn zero() -> Option<u32> {
+    Some(0)
 }
 
 /// Creates a pool.

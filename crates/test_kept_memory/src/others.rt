@@ -18,22 +18,9 @@ pub fn observe<R: Files + AllocGlobal + Print, W: Wait + Copy>(
     alloc: Global,
     observer: &mut Observer<R>,
 ) -> Result<()> {
-    observer.observe(
-        alloc,
-        "items of the none pool",
-        &On {
-            rt: *rt,
-            kind: Kind::NonePoolPulls,
-        },
-    )?;
-    observer.observe(
-        alloc,
-        "spin locks",
-        &On {
-            rt: *rt,
-            kind: Kind::Locks,
-        },
-    )?;
+    for (name, kind) in KINDS {
+        observer.observe(alloc, name, &On { rt: *rt, kind })?;
+    }
     Ok(())
 }
 
@@ -43,6 +30,12 @@ enum Kind {
     NonePoolPulls,
     Locks,
 }
+
+/// Each kind, and how its line begins.
+const KINDS: [(&str, Kind); 2] = [
+    ("items of the none pool", Kind::NonePoolPulls),
+    ("spin locks", Kind::Locks),
+];
 
 /// Turns of a kind, with what they wait by.
 #[derive(Clone, Copy)]

@@ -55,54 +55,9 @@ pub fn observe<R: Files + AllocGlobal + Print, W: Wait + Copy>(
     alloc: Global,
     observer: &mut Observer<R>,
 ) -> Result<()> {
-    observer.observe(
-        alloc,
-        "refused pulls of a mutex pool",
-        &On {
-            rt: *rt,
-            kind: Kind::MutexRefuses,
-        },
-    )?;
-    observer.observe(
-        alloc,
-        "items of a mutex pool",
-        &On {
-            rt: *rt,
-            kind: Kind::MutexReturns,
-        },
-    )?;
-    observer.observe(
-        alloc,
-        "mutex pools",
-        &On {
-            rt: *rt,
-            kind: Kind::MutexEnds,
-        },
-    )?;
-    observer.observe(
-        alloc,
-        "refused pulls of a spin lock pool",
-        &On {
-            rt: *rt,
-            kind: Kind::SpinLockRefuses,
-        },
-    )?;
-    observer.observe(
-        alloc,
-        "items of a spin lock pool",
-        &On {
-            rt: *rt,
-            kind: Kind::SpinLockReturns,
-        },
-    )?;
-    observer.observe(
-        alloc,
-        "spin lock pools",
-        &On {
-            rt: *rt,
-            kind: Kind::SpinLockEnds,
-        },
-    )?;
+    for (name, kind) in KINDS {
+        observer.observe(alloc, name, &On { rt: *rt, kind })?;
+    }
     Ok(())
 }
 
@@ -116,6 +71,16 @@ enum Kind {
     SpinLockReturns,
     SpinLockEnds,
 }
+
+/// Each kind, and how its line begins.
+const KINDS: [(&str, Kind); 6] = [
+    ("refused pulls of a mutex pool", Kind::MutexRefuses),
+    ("items of a mutex pool", Kind::MutexReturns),
+    ("mutex pools", Kind::MutexEnds),
+    ("refused pulls of a spin lock pool", Kind::SpinLockRefuses),
+    ("items of a spin lock pool", Kind::SpinLockReturns),
+    ("spin lock pools", Kind::SpinLockEnds),
+];
 
 /// Turns of a kind, with what they wait by.
 #[derive(Clone, Copy)]

@@ -13,7 +13,7 @@ mod stack_object_pools;
 const MOST_TURNS: u32 = 10_000_000;
 
 /// The next message, where it comes within so many turns.
-fn receive<T: Drop, W: Wait>(rt: &W, from: &Receiver<T>) -> Option<T> {
+pub fn receive<T: Drop, W: Wait>(rt: &W, from: &Receiver<T>) -> Option<T> {
     for _ in 0..MOST_TURNS {
         if let Ok(message) = from.try_recv(rt) {
             return Some(message);

@@ -2,6 +2,7 @@
 ghost use Rattle.std.specs.Prelude.{◌≡◌, ◌≤◌, ℕ, [], Option, IfSome, MatchOption};
 
 use crate::assert_equal::assert_equal;
+use crate::threads::is_shared;
 use lockfree_object_pool::clean::{AnyValue, Clean, Empty};
 use lockfree_object_pool::closures::{
     Clear, Copied, Init, InitBy, Keep, Kept, Makes, Reset, ResetBy, Resets, WithCapacity,
@@ -95,7 +96,7 @@ fn by_ready_ones() -> (u32, u32)
 }
 
 /// A part of a hundred.
-#[derive(Clone, Copy, Debug)]
+#[derive(Clone, Copy)]
 struct Percent {
     value: u8,
     ghost in_range: { value ≤ 100 },
@@ -169,8 +170,6 @@ fn bare_closures(rt: HostRuntime) {
     assert_equal(&rt, both, Some((zero, zero)));
     assert_equal(&rt, (made.get(), reset.get()), (1, 1));
 }
-
-fn is_shared<X: Sync>(_value: &X) {}
 
 /// A maker by a closure may be shared where its values may only be sent.
 fn maker_is_shared<T: Send + Drop, F: InitBy<T> + Sync, K: Clean<T> + Send>(

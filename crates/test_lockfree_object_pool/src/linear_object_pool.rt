@@ -1,12 +1,14 @@
 //! The linear pool in use. Here stands what makes and resets the values of its tests.
-ghost use Rattle.std.specs.Prelude.{◌≡◌, None, IfOk};
+ghost use Rattle.std.specs.Prelude.{◌≡◌, ◌≤◌, None, IfOk};
 ghost use Rattle.lockfree_object_pool.specs.LinearPool.{pool_limit};
 
+use crate::made::count_of_calls;
 use lockfree_object_pool::clean::{AnyValue, Clean};
 use lockfree_object_pool::closures::{Init, Keep, Reset};
 use lockfree_object_pool::{LinearObjectPool, LinearOwnedReusable, LinearReusable, PullError};
 use std::alloc::Global;
 use std::mem;
+use std::process::Abort;
 use std::sync::Arc;
 use std::sync::atomic::AtomicUsize;
 use std::sync::atomic::Ordering::SeqCst;
@@ -53,6 +55,18 @@ fn shared(alloc: Global, counts: &Arc<Tally>, refused: usize) -> Result<Arc<Trac
     Ok(Arc::new(alloc, pool)?)
 }
 
+/// A pool of counted values that may have so many pages, in an `Arc`.
+fn shared_within(
+    alloc: Global,
+    counts: &Arc<Tally>,
+    pages: usize,
+) -> Result<Arc<Tracked>, PullError>
+    requires { 1 ≤ pages }
+{
+    let pool = LinearObjectPool::with_limit(alloc, TalliedValues::new(counts)?, Keep, pages)?;
+    Ok(Arc::new(alloc, pool)?)
+}
+
 fn cleared(alloc: Global, calls: &Arc<AtomicUsize>) -> Cleared
     ensures { IfOk result (λ pool. pool_limit pool ≡ None) }
 {
@@ -60,8 +74,16 @@ fn cleared(alloc: Global, calls: &Arc<AtomicUsize>) -> Cleared
     LinearObjectPool::new(alloc, CountedZeros { calls }, ToZero)
 }
 
-/// The same in an `Arc`, where no call is counted.
-fn zeros(alloc: Global) -> Result<Arc<ClearedPool>, PullError> {
-    let calls = new_calls(alloc)?;
-    Ok(Arc::new(alloc, cleared(alloc, &calls)?)?)
+/// The same, which may have so many pages.
+fn bounded(alloc: Global, calls: &Arc<AtomicUsize>, pages: usize) -> Cleared
+    requires { 1 ≤ pages }
+{
+    let calls = Arc::try_clone(calls)?;
+    LinearObjectPool::with_limit(alloc, CountedZeros { calls }, ToZero, pages)
+}
+
+/// A pool without a limit in an `Arc`, where no call is counted.
+fn zeros(rt: &impl Abort, alloc: Global) -> Arc<ClearedPool> {
+    let pool = cleared(alloc, &count_of_calls(rt, alloc)).expect(rt, "a pool is made");
+    Arc::new(alloc, pool).expect(rt, "memory is left")
 }

@@ -7,6 +7,7 @@ use lockfree_object_pool::recycling::{
 };
 use lockfree_object_pool::{LinearObjectPool, PullError};
 use std::alloc::Global;
+use std::process::Abort;
 use std::sync::{Arc, Wait};
 
 mod resets;
@@ -98,21 +99,16 @@ fn an_owned_value_and_its_pool_are_shown(rt: HostRuntime) {
 
 /// A vector or a text, which has a length and room.
 trait Roomy: Recyclable + Drop {
-    fn length(&self) -> usize;
-
-    fn room(&self) -> usize;
+    /// Its length and its room.
+    fn measures(&self) -> (usize, usize);
 
     /// Makes room for so many bytes more, and writes one.
     fn fill(&mut self, room: usize) -> Option<()>;
 }
 
 impl Roomy for Vec<u8> {
-    fn length(&self) -> usize {
-        self.len()
-    }
-
-    fn room(&self) -> usize {
-        self.capacity()
+    fn measures(&self) -> (usize, usize) {
+        (self.len(), self.capacity())
     }
 
     fn fill(&mut self, room: usize) -> Option<()> {
@@ -122,12 +118,8 @@ impl Roomy for Vec<u8> {
 }
 
 impl Roomy for String {
-    fn length(&self) -> usize {
-        self.len()
-    }
-
-    fn room(&self) -> usize {
-        self.capacity()
+    fn measures(&self) -> (usize, usize) {
+        (self.len(), self.capacity())
     }
 
     fn fill(&mut self, room: usize) -> Option<()> {
@@ -141,11 +133,12 @@ impl Roomy for String {
 fn made_and_again<T: Roomy>(alloc: Global, room: usize) -> Option<(usize, (u8, usize, usize))> {
     let pool = Pool::<T>::with_recycler(alloc).ok()?;
     let mut item = pool.pull().ok()?;
-    let made = item.room();
+    let (_, made) = item.measures();
     item.fill(room)?;
     drop(item);
     let again = pool.pull().ok()?;
-    Some((made, (again.page_id(), again.length(), again.room())))
+    let (length, left) = again.measures();
+    Some((made, (again.page_id(), length, left)))
 }
 
 /// Whether the item came back empty, with so much room at least.
@@ -201,13 +194,13 @@ fn a_recyclable_type_that_refuses_has_no_pool(rt: HostRuntime) {
 }
 
 /// How pulls of stack pools are answered whose values are never made.
-fn refusals_of_stacks<W: Wait + Copy>(
+fn refusals_of_stacks<W: Abort + Wait + Copy>(
     rt: &W,
     alloc: Global,
-) -> Result<(Option<PullError>, Option<PullError>), PullError> {
+) -> (Option<PullError>, Option<PullError>) {
     let mutex = MutexPool::<Never>::with_recycler(alloc).pull(rt).err();
-    let spin_lock = SpinLockPool::<Never>::with_recycler(alloc)?;
-    Ok((mutex, spin_lock.pull(rt).err()))
+    let spin_lock = SpinLockPool::<Never>::with_recycler(alloc).expect(rt, "a pool is made");
+    (mutex, spin_lock.pull(rt).err())
 }
 
 #[test]
@@ -216,7 +209,7 @@ fn each_kind_of_pool_tells_that_a_recyclable_type_refused(rt: HostRuntime) {
     let bounded = Pool::<Never>::with_recycler_within(rt.alloc(), 2).err();
     let fixed = FixedPool::<Never>::with_recycler(rt.alloc(), 3).err();
     assert_equal(&rt, (bounded, fixed), (init, init));
-    assert_equal(&rt, refusals_of_stacks(&rt, rt.alloc()), Ok((init, init)));
+    assert_equal(&rt, refusals_of_stacks(&rt, rt.alloc()), (init, init));
 }
 
 /// So they take no memory before they are used.

@@ -1,6 +1,7 @@
 //! Threads that work on one thing that they share. What they do stands in one method, so that a
 //! test starts and joins them by one call.
-use std::alloc::{AllocError, Global};
+use std::alloc::Global;
+use std::ops::Deref;
 use std::sync::Arc;
 use std::sync::atomic::AtomicUsize;
 use std::sync::atomic::Ordering::SeqCst;
@@ -14,6 +15,20 @@ const MOST_TURNS: u32 = 10_000_000;
 pub trait Work: Send + Sync + Drop {
     /// What the thread with this index has to tell, or `None` where something was wrong.
     fn work(&self, index: usize) -> Option<usize>;
+}
+
+/// Takes what may be sent to another thread.
+pub fn is_sent<X: Send>(_value: &X) {}
+
+/// Takes what threads may share.
+pub fn is_shared<X: Sync>(_value: &X) {}
+
+/// What two threads read that share one item.
+pub fn read_twice<X: Deref<Target = u32> + Sync, R: Threads + Sync>(
+    rt: &R,
+    item: &X,
+) -> (u32, u32) {
+    thread::join(rt, || **item, || **item)
 }
 
 /// A place where threads wait until so many have come.
@@ -59,19 +74,6 @@ fn start<X: Work + 'static, R: Threads>(
     Some(started)
 }
 
-/// What they have to tell, in turn. All are joined.
-fn join<R: Threads>(
-    rt: &R,
-    alloc: Global,
-    threads: Vec<JoinHandle<Option<usize>>>,
-) -> Result<Vec<Option<usize>>, AllocError> {
-    let mut told = Vec::with_capacity(alloc, threads.len())?;
-    for thread in threads {
-        told.push(thread.join(rt))?;
-    }
-    Ok(told)
-}
-
 /// Returns what so many threads have to tell, least first, or `None` if something was wrong with
 /// one of them.
 pub fn told_by<X: Work + 'static, R: Threads>(
@@ -82,8 +84,13 @@ pub fn told_by<X: Work + 'static, R: Threads>(
 ) -> Option<Vec<usize>> {
     let started = start(rt, alloc, shared, threads)?;
     let mut told = Vec::with_capacity(alloc, threads).ok()?;
-    for number in join(rt, alloc, started).ok()? {
-        told.push(number?).ok()?;
+    for thread in started {
+        if let Some(number) = thread.join(rt) {
+            told.push(number).ok()?;
+        }
+    }
+    if told.len() != threads {
+        return None;
     }
     told.sort().ok()?;
     Some(told)

@@ -3,6 +3,7 @@
 #![tactic(auto)]
 
 mod measure;
+mod pulls;
 mod task;
 mod turns;
 
@@ -85,7 +86,9 @@ fn main(rt: HostRuntime) -> Result<()> {
 
 /// Does a little of each work on each pool, then of what is asked of one kind alone, and prints
 /// what each gave. Then prints what other words ask for.
-fn show_each<R: Clock + Threads + Wait + AllocGlobal + Print + Copy + Sync>(rt: &R) -> Result<()> {
+fn show_each<R: Clock + Threads + Wait + AllocGlobal + Print + Copy + Send + Sync>(
+    rt: &R,
+) -> Result<()> {
     for kind in KINDS {
         for work in WORKS {
             let task = Task {
@@ -118,7 +121,7 @@ fn asked_for(alloc: Global, line: &str) -> Result<Option<Task>> {
 }
 
 /// Does the task that a task's own words ask for, and prints what it gave.
-fn show_sum<R: Clock + Threads + Wait + AllocGlobal + Print + Copy + Sync>(
+fn show_sum<R: Clock + Threads + Wait + AllocGlobal + Print + Copy + Send + Sync>(
     rt: &R,
     task: Task,
 ) -> Result<()> {
@@ -131,7 +134,7 @@ fn show_sum<R: Clock + Threads + Wait + AllocGlobal + Print + Copy + Sync>(
 
 /// Does a task, and prints what it gave, how many nanoseconds its turns took, and how much memory
 /// the process had at most.
-fn show_time<R: Clock + Files + Threads + Wait + AllocGlobal + Print + Copy + Sync>(
+fn show_time<R: Clock + Files + Threads + Wait + AllocGlobal + Print + Copy + Send + Sync>(
     rt: &R,
     task: Task,
 ) -> Result<()> {

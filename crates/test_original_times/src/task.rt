@@ -16,7 +16,7 @@ pub enum Kind {
 }
 
 /// What is done to the pool, turn by turn.
-#[derive(Clone, Copy, Debug, PartialEq, Eq)]
+#[derive(Clone, Copy, Debug)]
 pub enum Work {
     /// An item is pulled and dropped, while so many others are held.
     Pull { held: usize },
@@ -33,7 +33,7 @@ pub enum Work {
 }
 
 /// A measurement.
-#[derive(Clone, Copy, Debug, PartialEq, Eq)]
+#[derive(Clone, Copy, Debug)]
 pub struct Task {
     pub kind: Kind,
     pub work: Work,

@@ -1,24 +1,19 @@
-//! The turns of each work. Each is given how an item is pulled, so it serves for every pool.
+//! The turns of each work, on any pool.
 ghost use Rattle.std.specs.Prelude.{◌≡◌, IfOk, vec_len};
 
+use crate::pulls::Pulls;
 use lockfree_object_pool::PullError;
 use std::alloc::Global;
-use std::ops::DerefMut;
 
 /// A sum of what items were, or why a pull had none.
 pub type Sum = Result<u64, PullError>;
 
 /// Pulls an item in each turn, adds the turn's number to it, and drops it. Returns the sum of what
 /// the items were then.
-pub fn pull_and_drop<A: DerefMut<Target = u64> + Drop, P: Fn() -> Result<A, PullError>>(
-    pull: &P,
-    turns: u64,
-) -> Sum
-    requires { P.IsAlwaysCallable pull.now }
-{
+pub fn pull_and_drop<R, P: Pulls<R>>(rt: &R, pool: &P, thread: usize, turns: u64) -> Sum {
     let mut sum = 0u64;
     for turn in 0..turns {
-        let mut item = pull()?;
+        let mut item = pool.pull_one(rt, thread)?;
         *item = item.wrapping_add(turn);
         sum = sum.wrapping_add(*item);
     }
@@ -26,28 +21,26 @@ pub fn pull_and_drop<A: DerefMut<Target = u64> + Drop, P: Fn() -> Result<A, Pull
 }
 
 /// Pulls so many items, one after the other.
-pub fn hold<A: DerefMut<Target = u64> + Drop, P: Fn() -> Result<A, PullError>>(
+pub fn hold<R, P: Pulls<R>>(
+    rt: &R,
     alloc: Global,
-    pull: &P,
+    pool: &P,
     count: usize,
-) -> Result<Vec<A>, PullError>
-    requires { P.IsAlwaysCallable pull.now }
+) -> Result<Vec<P::Item>, PullError>
     ensures { IfOk result (λ items. vec_len items ≡ count) }
 {
     let mut items = Vec::with_capacity(alloc, count)?;
     for _ in 0..count {
-        items.push(pull()?)?;
+        items.push(pool.pull_one(rt, 0)?)?;
     }
     Ok(items)
 }
 
 /// Counts how many of so many pulls were refused. An item that one of them gives is dropped.
-pub fn be_refused<A: Drop, P: Fn() -> Result<A, PullError>>(pull: &P, turns: u64) -> u64
-    requires { P.IsAlwaysCallable pull.now }
-{
+pub fn be_refused<R, P: Pulls<R>>(rt: &R, pool: &P, turns: u64) -> u64 {
     let mut refused = 0u64;
     for _ in 0..turns {
-        if pull().is_err() {
+        if pool.pull_one(rt, 0).is_err() {
             refused = refused.wrapping_add(1);
         }
     }

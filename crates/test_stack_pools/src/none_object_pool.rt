@@ -1,13 +1,13 @@
 //! Pools that keep nothing: what is pulled, when `init` is called, and when an item is dropped.
-ghost use Rattle.std.specs.Prelude.{◌≡◌, None, IsOk, IfOk};
+ghost use Rattle.std.specs.Prelude.{◌≡◌, None, Some, IsOk, IfOk};
 ghost use Rattle.lockfree_object_pool.specs.NonePool.{none_init, none_with};
 
 use crate::assert_equal::assert_equal;
 use lockfree_object_pool::{NoneObjectPool, NoneReusable, PullError};
 use std::mem;
 use std::sync::Arc;
-use test_values::counted::Counted;
-use test_values::tally::Tally;
+use test_values::tallied::Tallied;
+use test_values::tally::new_tally;
 
 mod owned;
 
@@ -31,11 +31,18 @@ fn item_shared<T: Sync>(item: &NoneReusable<T>) {
     shared(item);
 }
 
-/// What is pulled is an answer of the closure, and what is read is what was written last.
+/// Makes the items of most pools here.
+fn three() -> Option<u32>
+    ensures { result ≡ Some 3 }
+{
+    Some(3)
+}
+
+/// What is pulled is an answer of the function, and what is read is what was written last.
 fn pulled_and_written() -> Result<(u32, u32), PullError>
     ensures { IfOk result (λ both. (both.0 ≡ 3) × (both.1 ≡ 9)) }
 {
-    let pool = NoneObjectPool::new(|| Some(3u32));
+    let pool = NoneObjectPool::new(three);
     let mut item = pool.pull()?;
     let made = *item;
     *item = 8;
@@ -61,7 +68,7 @@ fn never_refused<I: Fn() -> Option<u32>>(pool: &NoneObjectPool<u32, I>) -> Resul
 
 #[test]
 fn a_written_value_is_gone(rt: HostRuntime) {
-    let pool = NoneObjectPool::new(|| Some(0u32));
+    let pool = NoneObjectPool::new(three);
     let mut item = pool.pull().expect(&rt, "an item is made");
     write(&mut item, 5);
     let written = *item;
@@ -70,29 +77,29 @@ fn a_written_value_is_gone(rt: HostRuntime) {
     assert_equal(
         &rt,
         (written, pulled, pulled_and_written(), never_refused(&pool)),
-        (5, 0, Ok((3, 9)), Ok(0)),
+        (5, 3, Ok((3, 9)), Ok(3)),
     );
 }
 
 #[test]
 fn each_item_is_dropped_once(rt: HostRuntime) {
-    let counts = Tally::new();
-    let pool = Arc::new(rt.alloc(), NoneObjectPool::new(|| Some(counts.make()))).expect(
+    let tally = new_tally(rt.alloc()).expect(&rt, "memory is left");
+    let pool = Arc::new(rt.alloc(), NoneObjectPool::new(|| Tallied::new(&tally))).expect(
         &rt,
         "memory is left",
     );
     let item = pool.pull().expect(&rt, "an item is made");
     let owned = pool.pull_owned().expect(&rt, "an item is made");
-    let held = (item.call, owned.call, counts.now());
+    let held = (item.number, owned.number, tally.now());
     drop(pool);
     drop(item);
-    let dropped = counts.drops();
+    let dropped = tally.drops();
     mem::forget(owned);
-    let attached: NoneReusable<Counted<'_>> = NoneReusable::new(counts.make());
-    drop(attached);
+    let value = Tallied::new(&tally).expect(&rt, "a value is made");
+    drop(NoneReusable::new(value));
     assert_equal(
         &rt,
-        (held, dropped, counts.now()),
+        (held, dropped, tally.now()),
         ((0, 1, (2, 0)), 1, (3, 2)),
     );
 }
@@ -100,10 +107,7 @@ fn each_item_is_dropped_once(rt: HostRuntime) {
 /// So the pool ends while they are out.
 #[test]
 fn items_keep_no_owner_of_their_pool(rt: HostRuntime) {
-    let pool = Arc::new(rt.alloc(), NoneObjectPool::new(|| Some(3u32))).expect(
-        &rt,
-        "memory is left",
-    );
+    let pool = Arc::new(rt.alloc(), NoneObjectPool::new(three)).expect(&rt, "memory is left");
     let item = pool.pull().expect(&rt, "an item is made");
     let owned = pool.pull_owned().expect(&rt, "an item is made");
     assert_equal(&rt, (*item, *owned, Arc::strong_count(&pool)), (3, 3, 1));
@@ -111,7 +115,7 @@ fn items_keep_no_owner_of_their_pool(rt: HostRuntime) {
 
 #[test]
 fn a_pool_and_its_item_are_shown(rt: HostRuntime) {
-    let pool = NoneObjectPool::new(|| Some(3u32));
+    let pool = NoneObjectPool::new(three);
     let item = pool.pull().expect(&rt, "an item is made");
     let shown = format!(in rt.alloc(); "{pool:?} {item:?}").expect(&rt, "memory is left");
     assert_equal(&rt, shown.as_str(), "NoneObjectPool { .. } 3");

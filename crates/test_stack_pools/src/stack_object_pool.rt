@@ -71,6 +71,12 @@ impl<T: Drop, I: Init<T, K>, R: Reset<T, K>, K: Clean<T>> Kind<T, I, R, K>
 pub trait Pulls<T: Drop>: SharedStackPool<T> {
     /// An owner pulls an owned item, a reference a borrowed one.
     fn pull_one<W: Wait + Copy>(&self, rt: &W) -> Result<StackReusable<T, Self, W>, PullError>;
+
+    /// How many values the pool keeps.
+    fn count<W: Wait>(&self, rt: &W) -> usize;
+
+    /// Clears the pool.
+    fn empty<W: Wait>(&self, rt: &W);
 }
 
 impl<
@@ -83,6 +89,14 @@ impl<
     fn pull_one<W: Wait + Copy>(&self, rt: &W) -> Result<StackReusable<T, Self, W>, PullError> {
         self.pull(rt)
     }
+
+    fn count<W: Wait>(&self, rt: &W) -> usize {
+        self.kept(rt)
+    }
+
+    fn empty<W: Wait>(&self, rt: &W) {
+        self.clear(rt);
+    }
 }
 
 impl<
@@ -94,6 +108,14 @@ impl<
 > Pulls<T> for Arc<StackObjectPool<T, I, R, K, F>> {
     fn pull_one<W: Wait + Copy>(&self, rt: &W) -> Result<StackReusable<T, Self, W>, PullError> {
         self.pull_owned(rt)
+    }
+
+    fn count<W: Wait>(&self, rt: &W) -> usize {
+        self.kept(rt)
+    }
+
+    fn empty<W: Wait>(&self, rt: &W) {
+        self.clear(rt);
     }
 }
 
@@ -121,15 +143,6 @@ fn cleared<F: Kind<u32, CountedZeros, Copied<u32, Zero>, Zero>, W: Abort>(
     shared_pool(alloc, CountedZeros { calls }, Copied::new(0)).expect(rt, "a pool is made")
 }
 
-/// `init` refuses at one call, counted from 0.
-fn tracked<F: Kind<Tallied, TalliedValues, Keep, AnyValue>>(
-    alloc: Global,
-    tally: &Arc<Tally>,
-    refused: usize,
-) -> Result<Arc<Tracked<F>>, PullError> {
-    shared_pool(alloc, TalliedValues::new_but(tally, refused)?, Keep)
-}
-
 /// A tally, and a pool of values that it counts, whose `init` refuses at one call, counted from 0.
 fn tallied<F: Kind<Tallied, TalliedValues, Keep, AnyValue>, W: Abort>(
     rt: &W,
@@ -137,7 +150,8 @@ fn tallied<F: Kind<Tallied, TalliedValues, Keep, AnyValue>, W: Abort>(
     refused: usize,
 ) -> (Arc<Tally>, Arc<Tracked<F>>) {
     let tally = new_tally(alloc).expect(rt, "memory is left");
-    let pool = tracked(alloc, &tally, refused).expect(rt, "a pool is made");
+    let init = TalliedValues::new_but(&tally, refused).expect(rt, "an owner is made");
+    let pool = shared_pool(alloc, init, Keep).expect(rt, "a pool is made");
     (tally, pool)
 }
 
@@ -155,4 +169,9 @@ fn held_together<P: Pulls<u32>, W: Abort + Wait + Copy>(rt: &W, pool: &P) -> (u3
     let first = pool.pull_one(rt).expect(rt, "an item is free");
     let second = pool.pull_one(rt).expect(rt, "an item is free");
     (*first, *second)
+}
+
+/// The number of an item that comes back at once.
+fn number_of_next<P: Pulls<Tallied>, W: Abort + Wait + Copy>(rt: &W, pool: &P) -> usize {
+    pool.pull_one(rt).expect(rt, "an item is free").number
 }

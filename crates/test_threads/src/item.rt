@@ -7,6 +7,9 @@ use std::sync::Arc;
 
 /// An item that shows the number that was written to it last.
 pub trait Item: Drop {
+    /// What a report calls such items.
+    const NAME: &'static str;
+
     /// Whether the tally has its makings and drops.
     const COUNTS_DROPS: bool;
 
@@ -30,6 +33,8 @@ pub struct Number {
 }
 
 impl Item for Number {
+    const NAME: &'static str = "numbers";
+
     const COUNTS_DROPS: bool = false;
 
     fn new(_maker: &Maker) -> Option<Number> {
@@ -61,6 +66,8 @@ pub struct Numbers {
 }
 
 impl Item for Numbers {
+    const NAME: &'static str = "lists";
+
     const COUNTS_DROPS: bool = false;
 
     fn new(maker: &Maker) -> Option<Numbers> {
@@ -100,6 +107,8 @@ impl Drop for Tallied {
 }
 
 impl Item for Tallied {
+    const NAME: &'static str = "counted";
+
     const COUNTS_DROPS: bool = true;
 
     fn new(maker: &Maker) -> Option<Tallied> {

@@ -7,12 +7,12 @@ ghost use Rattle.std.specs.Prelude.{◌≤◌};
 
 use crate::item::{Clears, Maker, Tallied};
 use crate::pools::{
-    ITEMS, THREADS, eight_threads, end_of, joined, maker, pulled_to_the_limit, start,
+    Gives, ITEMS, THREADS, Used, eight_threads, end_of, joined, maker, pulled_to_the_limit,
+    usual_work,
 };
 use crate::report::Report;
 use crate::tally::Tally;
-use crate::worker::{Post, Turn, Worker};
-use crossbeam_channel::unbounded;
+use crate::worker::{Turn, Worker};
 use lockfree_object_pool::clean::AnyValue;
 use lockfree_object_pool::{LazyObjectPool, LazyOwnedReusable, LazyReusable, PullError};
 use std::alloc::Global;
@@ -27,23 +27,25 @@ type Lazy = LazyObjectPool<Tallied, Maker, Clears, AnyValue>;
 
 type LazyOwned = LazyOwnedReusable<Tallied, Maker, Clears, AnyValue>;
 
-/// One thread on a lazy pool. It discards some of what it borrows.
-fn use_lazy<W: Wait>(
-    rt: &W,
-    pool: &Arc<Lazy>,
-    mut worker: Worker<LazyOwned>,
-    rounds: u32,
-) -> Report {
-    for round in 0..rounds {
-        match worker.next_turn() {
-            Turn::UseBorrowed if round % 8 == 0 => discard(&mut worker, pool.pull()),
-            Turn::UseBorrowed => worker.use_borrowed(pool.pull()),
-            Turn::UseOwned => worker.use_owned(pool.pull_owned()),
-            Turn::LetGo => worker.let_go(rt),
-            Turn::Receive => worker.receive(rt),
+/// A thread discards some of what it borrows.
+impl<R: Wait> Gives<LazyOwned, R> for Lazy {
+    fn use_borrowed(pool: &Arc<Lazy>, _rt: &R, worker: &mut Worker<LazyOwned>, round: u32) {
+        if round % 8 == 0 {
+            discard(worker, pool.pull());
+        } else {
+            worker.use_borrowed(pool.pull());
         }
     }
-    worker.end()
+
+    fn pull_one(pool: &Arc<Lazy>, _rt: &R) -> Result<LazyOwned, PullError> {
+        pool.pull_owned()
+    }
+}
+
+impl<R: Wait> Used<LazyOwned, R> for Lazy {
+    fn work(pool: &Arc<Lazy>, rt: &R, worker: Worker<LazyOwned>, rounds: u32) -> Report {
+        usual_work(rt, pool, worker, rounds)
+    }
 }
 
 /// Uses an item and discards it.
@@ -66,12 +68,13 @@ pub fn lazy<R: Threads + Wait + Copy + Send + 'static>(
     let tally = Tally::new(alloc)?;
     let pool: Lazy = LazyObjectPool::new(alloc, maker(alloc, &tally)?, Clears, ITEMS)?;
     let pool = Arc::new(alloc, pool)?;
-    let mut report = joined(rt, eight_threads!(use_lazy, rt, alloc, &pool, rounds));
-    let pulled = pulled_to_the_limit(alloc, &mut report, &|| pool.pull_owned())?;
+    let mut report = joined(rt, eight_threads(rt, alloc, &pool, rounds)?);
+    let pulled = pulled_to_the_limit(rt, alloc, &mut report, &pool)?;
     let made = made_for_forgotten_and_five(alloc, &mut report, &pool, &tally)?;
     drop(pool);
-    let report = report.with_pulled(ITEMS + 5, pulled.saturating_add(made));
-    Ok(end_of::<Tallied>(report, &tally))
+    report.end_pulled(ITEMS + 5, pulled.saturating_add(made));
+    end_of::<Tallied>(&mut report, &tally);
+    Ok(report)
 }
 
 /// Discards each item that was not forgotten, and fills the pool up to those and five more. How
@@ -114,6 +117,23 @@ const MOST_MILLISECONDS: u32 = 30_000;
 const MOST_FREED: u32 = 100_000_000;
 
 impl Awaited {
+    /// Does one round of a thread.
+    fn turn<R: Wait + Clock>(
+        self: &Arc<Awaited>,
+        rt: &R,
+        worker: &mut Worker<LazyOwned>,
+        round: u32,
+    ) {
+        let pool = &self.pool;
+        let shortly = Duration::from_micros(SHORTLY);
+        match worker.next_turn() {
+            Turn::UseBorrowed => Awaited::use_borrowed(self, rt, worker, round),
+            Turn::UseOwned => worker.use_once(pool.pull_owned_wait(rt)),
+            Turn::LetGo => worker.use_once(pool.pull_timeout(rt, shortly)),
+            Turn::Receive => worker.use_once(pool.pull_owned_timeout(rt, shortly)),
+        }
+    }
+
     /// Sees whether so many rounds end in time. If they don't, it frees those that wait.
     fn watch<C: Clock>(&self, rt: &C, rounds: u32) -> bool {
         for _ in 0..MOST_MILLISECONDS {
@@ -133,29 +153,37 @@ impl Awaited {
     }
 }
 
-/// One thread that has an item of a small pool at a time, for which it waits. Some waits are so
-/// short that it gives up.
-fn use_awaited<W: Wait + Clock>(
-    rt: &W,
-    awaited: &Arc<Awaited>,
-    mut worker: Worker<LazyOwned>,
-    rounds: u32,
-) -> Report {
-    let pool = &awaited.pool;
-    let shortly = Duration::from_micros(20);
-    for round in 0..rounds {
-        match worker.next_turn() {
-            Turn::UseBorrowed if round % 8 == 0 => discard(&mut worker, pool.pull_wait(rt)),
-            Turn::UseBorrowed => worker.use_once(pool.pull_wait(rt)),
-            Turn::UseOwned => worker.use_once(pool.pull_owned_wait(rt)),
-            Turn::LetGo => worker.use_once(pool.pull_timeout(rt, shortly)),
-            Turn::Receive => worker.use_once(pool.pull_owned_timeout(rt, shortly)),
+/// How many microseconds the waits take of which some end with nothing.
+const SHORTLY: u64 = 20;
+
+/// A thread has an item of the pool at a time, for which it waits. Some waits are so short that it
+/// gives up.
+impl<R: Wait + Clock> Gives<LazyOwned, R> for Awaited {
+    fn use_borrowed(awaited: &Arc<Awaited>, rt: &R, worker: &mut Worker<LazyOwned>, round: u32) {
+        let pulled = awaited.pool.pull_wait(rt);
+        if round % 8 == 0 {
+            discard(worker, pulled);
+        } else {
+            worker.use_once(pulled);
         }
-        awaited.done.fetch_add(1, SeqCst);
     }
-    discard(&mut worker, pool.pull_wait(rt)); // those that wait are woken by this alone
-    awaited.done.fetch_add(1, SeqCst);
-    worker.end()
+
+    fn pull_one(awaited: &Arc<Awaited>, _rt: &R) -> Result<LazyOwned, PullError> {
+        awaited.pool.pull_owned()
+    }
+}
+
+impl<R: Wait + Clock> Used<LazyOwned, R> for Awaited {
+    fn work(awaited: &Arc<Awaited>, rt: &R, mut worker: Worker<LazyOwned>, rounds: u32) -> Report {
+        for round in 0..rounds {
+            awaited.turn(rt, &mut worker, round);
+            awaited.done.fetch_add(1, SeqCst);
+        }
+        // those that wait are woken by this alone
+        discard(&mut worker, awaited.pool.pull_wait(rt));
+        awaited.done.fetch_add(1, SeqCst);
+        worker.end()
+    }
 }
 
 /// Eight threads that wait for the items of a lazy pool: of 1 item, or of fewer than there are
@@ -175,11 +203,13 @@ pub fn waited_for<R: Threads + Wait + Clock + Copy + Send + 'static>(
         done: AtomicU32::new(0),
     };
     let awaited = Arc::new(alloc, awaited)?;
-    let threads = eight_threads!(use_awaited, rt, alloc, &awaited, rounds);
+    let threads = eight_threads(rt, alloc, &awaited, rounds)?;
     let in_time = awaited.watch(rt, rounds.wrapping_add(1).wrapping_mul(THREADS));
-    let mut report = joined(rt, threads).with_late(!in_time);
-    let pulled = pulled_to_the_limit(alloc, &mut report, &|| awaited.pool.pull_owned())?;
+    let mut report = joined(rt, threads);
+    report.end_late(!in_time);
+    let pulled = pulled_to_the_limit(rt, alloc, &mut report, &awaited)?;
     drop(awaited);
-    let report = report.with_pulled(items, pulled);
-    Ok(end_of::<Tallied>(report, &tally))
+    report.end_pulled(items, pulled);
+    end_of::<Tallied>(&mut report, &tally);
+    Ok(report)
 }

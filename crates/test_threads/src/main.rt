@@ -5,8 +5,9 @@
 //! On lazy pools of 1 item and of 3 the threads wait for an item, in a tenth of the rounds. A wait
 //! that doesn't end is ended after half a minute, and told.
 //!
-//! The argument is how many rounds each thread has. A line for each pool and kind of item tells what was seen that may not
-//! be, which is the same in each schedule: nothing. Else the status is 1.
+//! The argument is how many rounds each thread has. A line for each pool and kind of item tells
+//! what was seen that may not be, which is the same in each schedule: nothing. Else the status is
+//! 1.
 //!
 //! Where each of as many threads as a fixed pool has items has one at a time, no pull may be
 //! refused: the last line tells.
@@ -24,7 +25,7 @@ mod stacks;
 mod tally;
 mod worker;
 
-use item::{Number, Numbers, Tallied};
+use item::{Item, Number, Numbers, Tallied};
 use lockfree_object_pool::PullError;
 use report::Report;
 use std::process::ExitCode;
@@ -54,69 +55,60 @@ fn rounds<R: Env + AllocGlobal>(rt: &R) -> Option<u32> {
 /// How many rounds there are for one in which a thread waits.
 const WAITS: u32 = 10;
 
+/// The pools that are used with each kind of item.
+#[derive(Clone, Copy)]
+enum Kind {
+    Linear,
+    Fixed,
+    SpinLock,
+}
+
 /// Each pool with each kind of item.
 fn use_all<R: Print + AllocGlobal + Threads + Wait + Clock + Copy + Send + 'static>(
     rt: &R,
     rounds: u32,
 ) -> io::Result<ExitCode> {
+    let mut is_good = true;
+    for kind in [Kind::Linear, Kind::Fixed, Kind::SpinLock] {
+        is_good &= use_kind::<Number, R>(rt, kind, rounds)?;
+        is_good &= use_kind::<Numbers, R>(rt, kind, rounds)?;
+        is_good &= use_kind::<Tallied, R>(rt, kind, rounds)?;
+    }
+    is_good &= use_lazy(rt, rounds)?;
+    is_good &= tell_refused(rt, &one_each::refused(rt, rt.alloc(), rounds))?;
+    Ok(if is_good {
+        ExitCode::SUCCESS
+    } else {
+        ExitCode::from(1)
+    })
+}
+
+/// Uses a pool with one kind of item. Whether nothing was seen that may not be.
+fn use_kind<
+    T: Item + Send + 'static,
+    R: Print + AllocGlobal + Threads + Wait + Copy + Send + 'static,
+>(rt: &R, kind: Kind, rounds: u32) -> io::Result<bool> {
     let alloc = rt.alloc();
-    let reports = [
-        (
-            "linear, numbers",
-            pools::linear::<Number, R>(rt, alloc, rounds),
-        ),
-        (
-            "linear, lists",
-            pools::linear::<Numbers, R>(rt, alloc, rounds),
-        ),
-        (
-            "linear, counted",
-            pools::linear::<Tallied, R>(rt, alloc, rounds),
-        ),
-        (
-            "fixed, numbers",
-            pools::fixed::<Number, R>(rt, alloc, rounds),
-        ),
-        (
-            "fixed, lists",
-            pools::fixed::<Numbers, R>(rt, alloc, rounds),
-        ),
-        (
-            "fixed, counted",
-            pools::fixed::<Tallied, R>(rt, alloc, rounds),
-        ),
-        (
-            "spin lock, numbers",
-            stacks::spin_lock::<Number, R>(rt, alloc, rounds),
-        ),
-        (
-            "spin lock, lists",
-            stacks::spin_lock::<Numbers, R>(rt, alloc, rounds),
-        ),
-        (
-            "spin lock, counted",
-            stacks::spin_lock::<Tallied, R>(rt, alloc, rounds),
-        ),
-        ("lazy, counted", lazy::lazy(rt, alloc, rounds)),
-        (
-            "lazy of 1 item, which is waited for",
-            lazy::waited_for(rt, alloc, 1, rounds / WAITS),
-        ),
-        (
-            "lazy of 3 items, which are waited for",
-            lazy::waited_for(rt, alloc, 3, rounds / WAITS),
-        ),
-    ];
-    let mut status = ExitCode::SUCCESS;
-    for (name, report) in &reports {
-        if !tell(rt, name, report)? {
-            status = ExitCode::from(1);
-        }
-    }
-    if !tell_refused(rt, &one_each::refused(rt, alloc, rounds))? {
-        status = ExitCode::from(1);
-    }
-    Ok(status)
+    let (name, report) = match kind {
+        Kind::Linear => ("linear", pools::linear::<T, R>(rt, alloc, rounds)),
+        Kind::Fixed => ("fixed", pools::fixed::<T, R>(rt, alloc, rounds)),
+        Kind::SpinLock => ("spin lock", stacks::spin_lock::<T, R>(rt, alloc, rounds)),
+    };
+    tell(rt, name, T::NAME, &report)
+}
+
+/// Uses lazy pools. Whether nothing was seen that may not be.
+fn use_lazy<R: Print + AllocGlobal + Threads + Wait + Clock + Copy + Send + 'static>(
+    rt: &R,
+    rounds: u32,
+) -> io::Result<bool> {
+    let (alloc, waits) = (rt.alloc(), rounds / WAITS);
+    let mut is_good = tell(rt, "lazy", "counted", &lazy::lazy(rt, alloc, rounds))?;
+    let report = lazy::waited_for(rt, alloc, 1, waits);
+    is_good &= tell(rt, "lazy of 1 item", "which is waited for", &report)?;
+    let report = lazy::waited_for(rt, alloc, 3, waits);
+    is_good &= tell(rt, "lazy of 3 items", "which are waited for", &report)?;
+    Ok(is_good)
 }
 
 /// Prints how many pulls were refused though an item was free. Whether none was.
@@ -133,15 +125,20 @@ fn tell_refused<R: Print>(rt: &R, refused: &Result<u32, PullError>) -> io::Resul
     }
 }
 
-/// Prints what was seen on a pool. Whether it was nothing that may not be.
-fn tell<R: Print>(rt: &R, name: &str, report: &Result<Report, PullError>) -> io::Result<bool> {
+/// Prints what was seen on a pool with some items. Whether it was nothing that may not be.
+fn tell<R: Print>(
+    rt: &R,
+    pool: &str,
+    items: &str,
+    report: &Result<Report, PullError>,
+) -> io::Result<bool> {
     match report {
         Ok(report) => {
-            println!(rt; "{name}: {report}")?;
+            println!(rt; "{pool}, {items}: {report}")?;
             Ok(report.is_good())
         }
         Err(refusal) => {
-            println!(rt; "{name}: {refusal}")?;
+            println!(rt; "{pool}, {items}: {refusal}")?;
             Ok(false)
         }
     }

@@ -3,7 +3,7 @@ use std::fmt;
 use std::fmt::{Display, Formatter, Write};
 
 /// What a thread saw that may not be, and what it forgot.
-#[derive(Clone, Copy, Debug, Default)]
+#[derive(Drop)]
 pub struct Report {
     /// Items that another holder wrote to.
     shared: u32,
@@ -27,6 +27,21 @@ pub struct Report {
 }
 
 impl Report {
+    /// Creates a report of nothing.
+    pub fn new() -> Report {
+        Report {
+            shared: 0,
+            unclear: 0,
+            without_memory: 0,
+            refused: 0,
+            untold: 0,
+            forgotten: 0,
+            lost: 0,
+            missing: 0,
+            late: false,
+        }
+    }
+
     /// Counts an item that two holders had.
     pub fn count_shared(&mut self) {
         self.shared = self.shared.saturating_add(1);
@@ -47,48 +62,33 @@ impl Report {
         self.refused = self.refused.saturating_add(1);
     }
 
-    /// Returns what two threads saw together.
-    pub fn with(self, other: Report) -> Report {
-        Report {
-            shared: self.shared.saturating_add(other.shared),
-            unclear: self.unclear.saturating_add(other.unclear),
-            without_memory: self.without_memory.saturating_add(other.without_memory),
-            refused: self.refused.saturating_add(other.refused),
-            untold: self.untold.saturating_add(other.untold),
-            forgotten: self.forgotten.saturating_add(other.forgotten),
-            lost: self.lost.saturating_add(other.lost),
-            missing: self.missing.saturating_add(other.missing),
-            late: self.late || other.late,
-        }
+    /// Adds what another thread saw, before either is ended.
+    pub fn add(&mut self, other: &Report) {
+        self.shared = self.shared.saturating_add(other.shared);
+        self.unclear = self.unclear.saturating_add(other.unclear);
+        self.without_memory = self.without_memory.saturating_add(other.without_memory);
+        self.refused = self.refused.saturating_add(other.refused);
+        self.forgotten = self.forgotten.saturating_add(other.forgotten);
     }
 
-    /// Returns the same at the end, when so many counted items live.
-    pub fn with_living(self, living: usize) -> Report {
-        Report {
-            lost: living.abs_diff(self.forgotten),
-            ..self
-        }
+    /// Ends it, when so many counted items live.
+    pub fn end_living(&mut self, living: usize) {
+        self.lost = living.abs_diff(self.forgotten);
     }
 
-    /// Returns the same at the end, when a pool has so many items, and so many could be pulled.
-    pub fn with_pulled(self, items: usize, pulled: usize) -> Report {
-        Report {
-            missing: items.abs_diff(pulled.saturating_add(self.forgotten)),
-            ..self
-        }
+    /// Ends it, when a pool has so many items, and so many could be pulled.
+    pub fn end_pulled(&mut self, items: usize, pulled: usize) {
+        self.missing = items.abs_diff(pulled.saturating_add(self.forgotten));
     }
 
-    /// Returns the same at the end, when `init` refused so often.
-    pub fn with_refusals(self, refusals: usize) -> Report {
-        Report {
-            untold: refusals.abs_diff(self.refused),
-            ..self
-        }
+    /// Ends it, when `init` refused so often.
+    pub fn end_refused(&mut self, refusals: usize) {
+        self.untold = refusals.abs_diff(self.refused);
     }
 
-    /// The same, where the threads came to their end in time or not.
-    pub fn with_late(self, late: bool) -> Report {
-        Report { late, ..self }
+    /// Ends it, where the threads came to their end in time or not.
+    pub fn end_late(&mut self, late: bool) {
+        self.late = late;
     }
 
     /// Whether nothing was seen that may not be.

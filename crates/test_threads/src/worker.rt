@@ -25,7 +25,7 @@ const MOST_HELD: usize = 12;
 const MOST_FORGOTTEN: usize = 2;
 
 /// What a worker does in a round.
-#[derive(Clone, Copy, Debug, PartialEq, Eq)]
+#[derive(Clone, Copy)]
 pub enum Turn {
     UseBorrowed,
     UseOwned,
@@ -51,7 +51,7 @@ pub struct Worker<A: Drop> {
     report: Report,
 }
 
-impl<T: Item, A: DerefMut<Target = T> + Drop> Worker<A> {
+impl<A: Drop> Worker<A> {
     /// Creates a worker that holds nothing, of a number of its own from 1 on.
     pub fn new(alloc: Global, number: u32, post: Post<A>) -> Worker<A> {
         Worker {
@@ -59,10 +59,12 @@ impl<T: Item, A: DerefMut<Target = T> + Drop> Worker<A> {
             mark: number.wrapping_shl(24),
             held: Vec::new(alloc),
             post,
-            report: Report::default(),
+            report: Report::new(),
         }
     }
+}
 
+impl<T: Item, A: DerefMut<Target = T> + Drop> Worker<A> {
     /// Returns what it does next, with a number of its own that it writes.
     pub fn next_turn(&mut self) -> Turn {
         self.mark = self.mark.wrapping_add(1);

@@ -3,10 +3,11 @@ use super::{drop_elsewhere, five_numbers, write_and_send};
 use crate::assert_equal::assert_equal;
 use crate::made::count_of_calls;
 use crossbeam_channel::{Sender, unbounded};
+use lockfree_object_pool::LinearObjectPool;
 use lockfree_object_pool::clean::AnyValue;
 use lockfree_object_pool::closures::Copied;
-use lockfree_object_pool::{LinearObjectPool, PullError};
 use std::alloc::Global;
+use std::process::Abort;
 use std::sync::atomic::AtomicUsize;
 use std::sync::atomic::Ordering::SeqCst;
 use std::sync::{Arc, Wait};
@@ -16,16 +17,16 @@ use test_values::zeros::CountedZeros;
 /// A pool of zeros that resets to 0.
 type Zeros = LinearObjectPool<u32, CountedZeros, Copied<u32, AnyValue>, AnyValue>;
 
-fn zeros(alloc: Global, calls: &Arc<AtomicUsize>) -> Result<Arc<Zeros>, PullError> {
-    let calls = Arc::try_clone(calls)?;
-    let pool = LinearObjectPool::new(alloc, CountedZeros { calls }, Copied::new(0))?;
-    Ok(Arc::new(alloc, pool)?)
+fn zeros(rt: &impl Abort, alloc: Global, calls: &Arc<AtomicUsize>) -> Arc<Zeros> {
+    let calls = Arc::try_clone(calls).expect(rt, "memory is left");
+    let pool = LinearObjectPool::new(alloc, CountedZeros { calls }, Copied::new(0));
+    Arc::new(alloc, pool.expect(rt, "a pool is made")).expect(rt, "memory is left")
 }
 
 #[test]
 fn owned_items_are_sent_and_come_home(rt: HostRuntime) {
     let calls = count_of_calls(&rt, rt.alloc());
-    let pool = zeros(rt.alloc(), &calls).expect(&rt, "a pool is made");
+    let pool = zeros(&rt, rt.alloc(), &calls);
     let (sender, receiver) = unbounded(rt.alloc()).expect(&rt, "a channel is made");
     let dropper = drop_elsewhere(&rt, receiver).expect(&rt, "a thread is made");
     for _ in 0..5 {
@@ -52,7 +53,7 @@ fn pull_and_send<W: Wait>(rt: &W, pool: &Zeros, number: u32, to: &Sender<u32>) -
 
 #[test]
 fn five_threads_send_what_they_wrote(rt: HostRuntime) {
-    let pool = zeros(rt.alloc(), &count_of_calls(&rt, rt.alloc())).expect(&rt, "a pool is made");
+    let pool = zeros(&rt, rt.alloc(), &count_of_calls(&rt, rt.alloc()));
     let (sender, receiver) = unbounded(rt.alloc()).expect(&rt, "a channel is made");
     let mut threads = Vec::with_capacity(rt.alloc(), 5).expect(&rt, "memory is left");
     for number in 0..5u32 {

@@ -8,7 +8,7 @@ use lockfree_object_pool::closures::Copied;
 use lockfree_object_pool::free_list::FreeList;
 use lockfree_object_pool::made_or_reset::MadeOrReset;
 use lockfree_object_pool::stack_object_pool::StackObjectPool;
-use lockfree_object_pool::{MutexObjectPool, PullError, SpinLockObjectPool};
+use lockfree_object_pool::{MutexObjectPool, SpinLockObjectPool};
 use std::alloc::Global;
 use std::process::Abort;
 use std::sync::atomic::AtomicUsize;
@@ -28,19 +28,16 @@ type MutexZeros = MutexObjectPool<u32, CountedZeros, Copied<u32, AnyValue>, AnyV
 
 type SpinLockZeros = SpinLockObjectPool<u32, CountedZeros, Copied<u32, AnyValue>, AnyValue>;
 
-fn mutex_zeros(alloc: Global, calls: &Arc<AtomicUsize>) -> Result<Arc<MutexZeros>, PullError> {
-    let calls = Arc::try_clone(calls)?;
+fn mutex_zeros(rt: &impl Abort, alloc: Global, calls: &Arc<AtomicUsize>) -> Arc<MutexZeros> {
+    let calls = Arc::try_clone(calls).expect(rt, "memory is left");
     let pool = MutexObjectPool::new(alloc, CountedZeros { calls }, Copied::new(0));
-    Ok(Arc::new(alloc, pool)?)
+    Arc::new(alloc, pool).expect(rt, "memory is left")
 }
 
-fn spin_lock_zeros(
-    alloc: Global,
-    calls: &Arc<AtomicUsize>,
-) -> Result<Arc<SpinLockZeros>, PullError> {
-    let calls = Arc::try_clone(calls)?;
-    let pool = SpinLockObjectPool::new(alloc, CountedZeros { calls }, Copied::new(0))?;
-    Ok(Arc::new(alloc, pool)?)
+fn spin_lock_zeros(rt: &impl Abort, alloc: Global, calls: &Arc<AtomicUsize>) -> Arc<SpinLockZeros> {
+    let calls = Arc::try_clone(calls).expect(rt, "memory is left");
+    let pool = SpinLockObjectPool::new(alloc, CountedZeros { calls }, Copied::new(0));
+    Arc::new(alloc, pool.expect(rt, "a pool is made")).expect(rt, "memory is left")
 }
 
 /// Five items are sent to another thread, which drops them.
@@ -70,14 +67,14 @@ fn owned_items_are_sent_and_come_home(rt: HostRuntime) {
     come_home(
         &rt,
         rt.alloc(),
-        &mutex_zeros(rt.alloc(), &calls).expect(&rt, "a pool is made"),
+        &mutex_zeros(&rt, rt.alloc(), &calls),
         &calls,
     );
     let calls = count_of_calls(&rt, rt.alloc());
     come_home(
         &rt,
         rt.alloc(),
-        &spin_lock_zeros(rt.alloc(), &calls).expect(&rt, "a pool is made"),
+        &spin_lock_zeros(&rt, rt.alloc(), &calls),
         &calls,
     );
 }
@@ -123,16 +120,8 @@ fn five_send<
 #[test]
 fn five_threads_send_what_they_wrote(rt: HostRuntime) {
     let calls = count_of_calls(&rt, rt.alloc());
-    five_send(
-        &rt,
-        rt.alloc(),
-        &mutex_zeros(rt.alloc(), &calls).expect(&rt, "a pool is made"),
-    );
-    five_send(
-        &rt,
-        rt.alloc(),
-        &spin_lock_zeros(rt.alloc(), &calls).expect(&rt, "a pool is made"),
-    );
+    five_send(&rt, rt.alloc(), &mutex_zeros(&rt, rt.alloc(), &calls));
+    five_send(&rt, rt.alloc(), &spin_lock_zeros(&rt, rt.alloc(), &calls));
 }
 
 /// An owned item of the mutex pool goes to another thread, by the pool's own name. One of the spin
@@ -140,8 +129,7 @@ fn five_threads_send_what_they_wrote(rt: HostRuntime) {
 #[test]
 fn an_owned_item_is_dropped_elsewhere(rt: HostRuntime) {
     let calls = count_of_calls(&rt, rt.alloc());
-    let item = mutex_zeros(rt.alloc(), &calls)
-        .expect(&rt, "a pool is made")
+    let item = mutex_zeros(&rt, rt.alloc(), &calls)
         .pull_owned(&rt)
         .expect(&rt, "an item is free");
     thread::spawn(&rt, move || drop(item))

@@ -2,29 +2,25 @@
 //! pool.
 use super::*;
 use crate::assert_equal::assert_equal;
+use crate::threads::is_sent;
 use lockfree_object_pool::{
-    FixedObjectPool, LinearObjectPool, LinearReusable, MutexObjectPool, PullError,
-    SpinLockObjectPool,
+    FixedObjectPool, LinearObjectPool, LinearReusable, MutexObjectPool, SpinLockObjectPool,
 };
+use std::process::Abort;
 use std::thread;
 use std::thread::Threads;
 
-fn is_sent<X: Send>(_value: &X) {}
-
-fn linear_pool<T: Send + Drop, I: InitBy<T> + Send + Sync, R: ResetBy<T> + Send + Sync>(
+/// Linear pools, by a closure that resets and by none, and an item.
+fn linear_pools<T: Send + Drop, I: InitBy<T> + Send + Sync, R: ResetBy<T> + Send + Sync>(
     pool: &LinearObjectPool<T, Makes<T, I, AnyValue>, Resets<T, R, AnyValue>>,
     item: &LinearReusable<'_, T, Makes<T, I, AnyValue>, Resets<T, R, AnyValue>>,
+    kept: &LinearObjectPool<T, Makes<T, I, AnyValue>, Kept<T, AnyValue>>,
 ) {
     is_sent(pool);
     is_shared(pool);
     is_sent(item);
-}
-
-fn kept_pool<T: Send + Drop, I: InitBy<T> + Send + Sync>(
-    pool: &LinearObjectPool<T, Makes<T, I, AnyValue>, Kept<T, AnyValue>>,
-) {
-    is_sent(pool);
-    is_shared(pool);
+    is_sent(kept);
+    is_shared(kept);
 }
 
 fn fixed_pool<T: Send + Drop, I: InitBy<T>, R: ResetBy<T> + Send + Sync>(
@@ -62,22 +58,29 @@ fn added<I: InitBy<Cell<u32>>, R: ResetBy<Cell<u32>>>(pool: &Cells<I, R>) -> Opt
 fn added_by_two<
     I: InitBy<Cell<u32>> + Send + Sync,
     R: ResetBy<Cell<u32>> + Send + Sync,
-    W: Threads + Sync,
->(rt: &W, alloc: Global, init: I, reset: R) -> Result<(Option<u32>, Option<u32>), PullError>
+    W: Abort + Threads + Sync,
+>(rt: &W, alloc: Global, init: I, reset: R) -> (Option<u32>, Option<u32>)
     requires may_make { I.may_make init }
     requires may_reset { R.may_reset reset }
 {
-    let pool: Cells<I, R> = LinearObjectPool::new(alloc, Makes::new(init), Resets::new(reset))?;
-    Ok(thread::join(rt, || added(&pool), || added(&pool)))
+    let pool: Cells<I, R> = LinearObjectPool::new(
+        alloc,
+        Makes::new(init),
+        Resets::new(reset),
+    ).expect(rt, "a pool is made");
+    thread::join(rt, || added(&pool), || added(&pool))
+}
+
+fn new_five() -> Option<Cell<u32>> {
+    Some(Cell::new(5))
+}
+
+fn set_five(cell: &mut Cell<u32>) {
+    cell.set(5);
 }
 
 #[test]
 fn two_threads_share_a_pool_of_cells(rt: HostRuntime) {
-    let found = added_by_two(
-        &rt,
-        rt.alloc(),
-        || Some(Cell::new(5)),
-        |cell: &mut Cell<u32>| cell.set(5),
-    );
-    assert_equal(&rt, found, Ok((Some(6), Some(6))));
+    let found = added_by_two(&rt, rt.alloc(), new_five, set_five);
+    assert_equal(&rt, found, (Some(6), Some(6)));
 }

@@ -9,13 +9,11 @@ ghost use Rattle.lockfree_object_pool.specs.Ledger.{IsPrefixOf};
 use super::callers::{pulled_after, returned_near};
 use super::numbers::{NumberPool, opened_shared};
 use crate::assert_equal::assert_equal;
+use crate::channels::receive;
 use crossbeam_channel::{Receiver, Sender, unbounded};
 use lockfree_object_pool::fixed_object_pool::PoolNote;
 use std::sync::{Arc, Wait};
 use std::thread;
-
-/// A thread that still waits after so many turns gives up, and its test fails.
-const MOST_TURNS: u32 = 10_000_000;
 
 /// What the sender knows of its pool's history, after a return of its own.
 #[derive(Drop)]
@@ -23,17 +21,6 @@ struct Message {
     pool: Arc<NumberPool>,
     note: PoolNote<usize>,
     ghost of_pool: { note_page note ≡ pool_identity (arc_value pool) } by { same_page _ _ },
-}
-
-/// The next message, where it comes within so many turns.
-fn receive<W: Wait>(rt: &W, from: &Receiver<Message>) -> Option<Message> {
-    for _ in 0..MOST_TURNS {
-        if let Ok(message) = from.try_recv(rt) {
-            return Some(message);
-        }
-        thread::yield_now();
-    }
-    None
 }
 
 /// Pulls after all that the sender of a message knew, returns the item, and tells so by a message

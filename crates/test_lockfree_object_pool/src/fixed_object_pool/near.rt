@@ -2,11 +2,12 @@
 ghost use Rattle.std.specs.Prelude.{◌≤◌};
 
 use super::callers::pulled_after;
-use super::numbers::{NumberPool, held, hold, new_pool, opened, opened_shared};
+use super::numbers::{NumberPool, hold, opened, opened_shared};
 use crate::assert_equal::assert_equal;
 use lockfree_object_pool::PullError;
 use std::alloc::Global;
 use std::mem;
+use std::process::Abort;
 use std::sync::Arc;
 
 /// The number of the item that a pull gives. It comes back at once.
@@ -45,30 +46,30 @@ fn a_pull_near_a_page_finds_the_last_item(rt: HostRuntime) {
 
 /// With the first two pages held but item 63, which came back: the numbers of two pulls that are
 /// held together, and of one once the first of these came back.
-fn numbers_at_a_full_page(alloc: Global, pool: &NumberPool) -> Result<[usize; 3], PullError> {
-    let mut first_pages = held(alloc, pool, 64)?;
+fn numbers_at_a_full_page(rt: &impl Abort, alloc: Global, pool: &NumberPool) -> [usize; 3] {
+    let mut first_pages = hold(rt, alloc, pool, 64);
     drop(first_pages.pop());
-    let item = pool.pull()?;
-    let next = pool.pull()?;
+    let item = pool.pull().expect(rt, "an item is free");
+    let next = pool.pull().expect(rt, "an item is free");
     let numbers = (item.number(), next.number());
     drop(item);
-    Ok([numbers.0, numbers.1, pool.pull()?.number()])
+    let again = pool.pull().expect(rt, "an item is free");
+    [numbers.0, numbers.1, again.number()]
 }
 
 #[test]
 fn a_pull_begins_where_an_item_came_back_to_a_full_page(rt: HostRuntime) {
     let pool = opened(&rt, rt.alloc(), 97);
-    let numbers = numbers_at_a_full_page(rt.alloc(), &pool);
-    assert_equal(&rt, numbers, Ok([63, 64, 63]));
+    let numbers = numbers_at_a_full_page(&rt, rt.alloc(), &pool);
+    assert_equal(&rt, numbers, [63, 64, 63]);
 }
 
-/// Whether pulls near pages of any number begin at the page that has this number, counted round and
-/// round.
-fn begin_round(alloc: Global, pages: usize) -> Result<bool, PullError>
+/// Pulls near pages of any number begin at the page that has this number, counted round and round.
+fn begin_round(rt: &impl Abort, alloc: Global, pages: usize)
     requires some_page { 1 ≤ pages }
     requires few { pages ≤ 1_000 }
 {
-    let pool = new_pool(alloc, pages * 32)?;
+    let pool = opened(rt, alloc, pages * 32);
     for number in [
         pages,
         pages + 1,
@@ -77,18 +78,15 @@ fn begin_round(alloc: Global, pages: usize) -> Result<bool, PullError>
         usize::MAX - 1,
         usize::MAX,
     ] {
-        let near = number_near(&pool, number);
-        if near.map(|item| item / 32) != Some(number % pages) {
-            return Ok(false);
-        }
+        let near = number_near(&pool, number).expect(rt, "an item is free");
+        assert_equal(rt, near / 32, number % pages);
     }
-    Ok(true)
 }
 
 #[test]
 fn any_number_names_a_page(rt: HostRuntime) {
     for pages in 1..40usize {
-        assert!(rt; begin_round(rt.alloc(), pages).expect(&rt, "nothing is refused"));
+        begin_round(&rt, rt.alloc(), pages);
     }
 }
 
@@ -102,19 +100,17 @@ fn a_pull_near_a_page_leaves_the_hint(rt: HostRuntime) {
 
 /// The number of an item that an owner pulled near a page, and the number of one that was pulled
 /// then.
-fn numbers_by_owner(pool: &Arc<NumberPool>, page: usize) -> Result<(usize, usize), PullError> {
-    let owner = Arc::try_clone(pool)?;
+fn numbers_by_owner(pool: &Arc<NumberPool>, page: usize) -> Option<(usize, usize)> {
+    let owner = Arc::try_clone(pool).ok()?;
     let note = owner.note();
-    let Ok(item) = owner.pull_by_owner(page, note) else {
-        return Err(PullError::Limit);
-    };
-    Ok((item.number(), pool.pull()?.number()))
+    let item = owner.pull_by_owner(page, note).ok()?;
+    Some((item.number(), next_number(pool)?))
 }
 
 #[test]
 fn a_pull_by_an_owner_leaves_the_hint(rt: HostRuntime) {
     let pool = opened_shared(&rt, rt.alloc(), 97);
-    assert_equal(&rt, numbers_by_owner(&pool, 2), Ok((64, 0)));
+    assert_equal(&rt, numbers_by_owner(&pool, 2), Some((64, 0)));
 }
 
 /// Takes an item near a page and returns it while the page has no other, so that the hint names the
@@ -184,30 +180,30 @@ fn a_place_pulls_at_its_page(rt: HostRuntime) {
 }
 
 /// Takes so many items out for good.
-fn keep_out(pool: &NumberPool, items: usize) -> Result<(), PullError> {
+fn keep_out(rt: &impl Abort, pool: &NumberPool, items: usize) {
     for _ in 0..items {
-        mem::forget(pool.pull()?);
+        mem::forget(pool.pull().expect(rt, "an item is free"));
     }
-    Ok(())
 }
 
 /// The numbers of two items, which come back in turn. So many are taken out for good before the
 /// first, between them, and behind the second.
 fn two_came_back(
+    rt: &impl Abort,
     pool: &NumberPool,
     before: usize,
     between: usize,
     behind: usize,
-) -> Result<(usize, usize), PullError> {
-    keep_out(pool, before)?;
-    let lower = pool.pull()?;
-    keep_out(pool, between)?;
-    let higher = pool.pull()?;
-    keep_out(pool, behind)?;
+) -> (usize, usize) {
+    keep_out(rt, pool, before);
+    let lower = pool.pull().expect(rt, "an item is free");
+    keep_out(rt, pool, between);
+    let higher = pool.pull().expect(rt, "an item is free");
+    keep_out(rt, pool, behind);
     let numbers = (lower.number(), higher.number());
     drop(lower);
     drop(higher);
-    Ok(numbers)
+    numbers
 }
 
 /// Items 160 and 64,000 come back to full pages, in this order. The next pull begins at the page of
@@ -215,11 +211,11 @@ fn two_came_back(
 #[test]
 fn a_pull_begins_at_page_2000_where_an_item_came_back(rt: HostRuntime) {
     let pool = opened(&rt, rt.alloc(), 70_000);
-    let numbers = two_came_back(&pool, 160, 63_839, 5_999);
+    let numbers = two_came_back(&rt, &pool, 160, 63_839, 5_999);
     assert_equal(
         &rt,
         (numbers, next_number(&pool)),
-        (Ok((160, 64_000)), Some(64_000)),
+        ((160, 64_000), Some(64_000)),
     );
 }
 
@@ -227,7 +223,7 @@ fn a_pull_begins_at_page_2000_where_an_item_came_back(rt: HostRuntime) {
 #[test]
 fn a_pull_by_a_note_begins_where_a_hint_says(rt: HostRuntime) {
     let pool = opened(&rt, rt.alloc(), 97);
-    let numbers = two_came_back(&pool, 3, 36, 56);
-    let number = pulled_after(&pool, pool.note()).map(|item| item.number());
-    assert_equal(&rt, (numbers, number), (Ok((3, 40)), Some(40)));
+    let numbers = two_came_back(&rt, &pool, 3, 36, 56);
+    let item = pulled_after(&pool, pool.note()).expect(&rt, "an item is free");
+    assert_equal(&rt, (numbers, item.number()), ((3, 40), 40));
 }

@@ -1,17 +1,17 @@
 //! The pools of numbers that most tests are of: each number is the call that made it.
-ghost use Rattle.std.specs.Prelude.{◌≡◌, ◌≤◌, IfOk};
+ghost use Rattle.std.specs.Prelude.{◌≡◌, ◌≤◌};
 ghost use Rattle.lockfree_object_pool.specs.FixedPool.{pool_items};
 
+use crate::made::count_of_calls;
 use lockfree_object_pool::clean::AnyValue;
 use lockfree_object_pool::closures::{Init, Keep};
 use lockfree_object_pool::fixed_object_pool::near::Near;
-use lockfree_object_pool::{FixedObjectPool, FixedOwnedReusable, FixedReusable, PullError};
+use lockfree_object_pool::{FixedObjectPool, FixedOwnedReusable, FixedReusable};
 use std::alloc::Global;
 use std::process::Abort;
 use std::sync::Arc;
 use std::sync::atomic::AtomicUsize;
 use std::sync::atomic::Ordering::SeqCst;
-use test_values::zeros::new_calls;
 
 /// Makes numbers, of which each is the count of the calls before it.
 #[derive(Drop)]
@@ -37,41 +37,26 @@ pub type NumberNear<'p> = Near<'p, usize, Numbers, Keep, AnyValue>;
 /// A pulled number that keeps an owner of its pool.
 pub type NumberOwnedItem = FixedOwnedReusable<usize, Numbers, Keep, AnyValue>;
 
-/// Creates a pool of so many numbers, of which item `i` is `i`.
-///
-/// # Errors
-///
-/// As of the pool's `new`.
-pub fn new_pool(alloc: Global, items: usize) -> Result<NumberPool, PullError>
-    requires { 1 ≤ items }
-    ensures { IfOk result (λ pool. pool_items pool ≡ items) }
-{
-    counted_pool(alloc, &new_calls(alloc)?, items)
-}
-
-/// Creates such a pool, whose calls of `init` are counted.
-///
-/// # Errors
-///
-/// As of the pool's `new`.
-pub fn counted_pool(
-    alloc: Global,
-    calls: &Arc<AtomicUsize>,
-    items: usize,
-) -> Result<NumberPool, PullError>
-    requires { 1 ≤ items }
-    ensures { IfOk result (λ pool. pool_items pool ≡ items) }
-{
-    let calls = Arc::try_clone(calls)?;
-    FixedObjectPool::new(alloc, Numbers { calls }, Keep, items)
-}
-
-/// Creates such a pool. The test ends if memory is refused.
+/// Creates a pool of so many numbers, of which item `i` is `i`. The test ends if memory is refused.
 pub fn opened(rt: &impl Abort, alloc: Global, items: usize) -> NumberPool
     requires { 1 ≤ items }
     ensures { pool_items result ≡ items }
 {
-    new_pool(alloc, items).expect(rt, "a pool is made")
+    counted_pool(rt, alloc, &count_of_calls(rt, alloc), items)
+}
+
+/// Creates such a pool, whose calls of `init` are counted.
+pub fn counted_pool(
+    rt: &impl Abort,
+    alloc: Global,
+    calls: &Arc<AtomicUsize>,
+    items: usize,
+) -> NumberPool
+    requires { 1 ≤ items }
+    ensures { pool_items result ≡ items }
+{
+    let calls = Arc::try_clone(calls).expect(rt, "memory is left");
+    FixedObjectPool::new(alloc, Numbers { calls }, Keep, items).expect(rt, "a pool is made")
 }
 
 /// Creates the same in an `Arc`.
@@ -89,22 +74,10 @@ pub fn hold<'p>(
     pool: &'p NumberPool,
     items: usize,
 ) -> Vec<NumberItem<'p>> {
-    held(alloc, pool, items).expect(rt, "nothing is refused")
-}
-
-/// Pulls as many items as a list has room for, and returns them in the order of their pulls.
-///
-/// # Errors
-///
-/// As of the pool's pull.
-pub fn held<'p>(
-    alloc: Global,
-    pool: &'p NumberPool,
-    items: usize,
-) -> Result<Vec<NumberItem<'p>>, PullError> {
-    let mut held = Vec::with_capacity(alloc, items)?;
+    let mut held = Vec::with_capacity(alloc, items).expect(rt, "memory is left");
     for _ in 0..items {
-        held.push(pool.pull()?)?;
+        let item = pool.pull().expect(rt, "an item is free");
+        held.push(item).expect(rt, "memory is left");
     }
-    Ok(held)
+    held
 }

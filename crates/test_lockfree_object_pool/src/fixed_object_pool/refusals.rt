@@ -2,11 +2,11 @@
 //! is ever refused.
 ghost use Rattle.std.specs.Prelude.{◌≤◌};
 
-use super::numbers::{NumberNear, NumberPool, new_pool};
+use super::numbers::{NumberNear, NumberPool, opened, opened_shared};
 use crate::assert_equal::assert_equal;
 use crate::threads::{Work, told_by};
-use lockfree_object_pool::PullError;
 use std::alloc::Global;
+use std::process::Abort;
 use std::sync::Arc;
 use std::sync::atomic::AtomicUsize;
 use std::sync::atomic::Ordering::SeqCst;
@@ -111,85 +111,83 @@ fn is_never_refused(pool: &Arc<NumberPool>, rounds: usize) -> bool {
     true
 }
 
-fn new_permitted(alloc: Global, items: usize) -> Result<Arc<Permitted>, PullError>
-    requires { 1 ≤ items }
-{
-    let pool = new_pool(alloc, items)?;
-    let free_permits = AtomicUsize::new(items);
-    Ok(Arc::new(alloc, Permitted { pool, free_permits })?)
-}
-
 /// As many threads as a pool has items, each of which pulls one item at a time.
-fn start_pullers<R: Threads + Sync>(
+fn start_pullers<R: Abort + Threads + Sync>(
     rt: &R,
     alloc: Global,
     count: usize,
     rounds: usize,
-) -> Option<Vec<JoinHandle<bool>>>
+) -> Vec<JoinHandle<bool>>
     requires { 1 ≤ count }
 {
-    let pool = Arc::new(alloc, new_pool(alloc, count).ok()?).ok()?;
-    let mut threads = Vec::with_capacity(alloc, count).ok()?;
+    let pool = opened_shared(rt, alloc, count);
+    let mut threads = Vec::with_capacity(alloc, count).expect(rt, "memory is left");
     for _ in 0..count {
-        let pool = Arc::try_clone(&pool).ok()?;
-        let puller = thread::spawn(rt, move || is_never_refused(&pool, rounds)).ok()?;
-        threads.push(puller).ok()?;
+        let pool = Arc::try_clone(&pool).expect(rt, "memory is left");
+        let puller = thread::spawn(rt, move || is_never_refused(&pool, rounds));
+        threads
+            .push(puller.expect(rt, "a thread is made"))
+            .expect(rt, "memory is left");
     }
-    Some(threads)
+    threads
 }
 
 /// How many of them were refused.
-fn refused<R: Threads + Sync>(rt: &R, alloc: Global, count: usize, rounds: usize) -> Option<usize>
+fn refused<R: Abort + Threads + Sync>(rt: &R, alloc: Global, count: usize, rounds: usize) -> usize
     requires { 1 ≤ count }
 {
     let mut refused = 0usize;
-    for thread in start_pullers(rt, alloc, count, rounds)? {
+    for thread in start_pullers(rt, alloc, count, rounds) {
         if !thread.join(rt) {
             refused = refused.saturating_add(1);
         }
     }
-    Some(refused)
+    refused
 }
 
 #[test]
 fn two_threads_are_never_refused_of_two_items(rt: HostRuntime) {
-    assert_equal(&rt, refused(&rt, rt.alloc(), 2, 50_000), Some(0));
+    assert_equal(&rt, refused(&rt, rt.alloc(), 2, 50_000), 0);
 }
 
 #[test]
 fn three_threads_are_never_refused_of_three_items(rt: HostRuntime) {
-    assert_equal(&rt, refused(&rt, rt.alloc(), 3, 50_000), Some(0));
+    assert_equal(&rt, refused(&rt, rt.alloc(), 3, 50_000), 0);
 }
 
 #[test]
 fn four_threads_are_never_refused_of_four_items(rt: HostRuntime) {
-    assert_equal(&rt, refused(&rt, rt.alloc(), 4, 50_000), Some(0));
+    assert_equal(&rt, refused(&rt, rt.alloc(), 4, 50_000), 0);
 }
 
 #[test]
 fn eight_threads_are_never_refused_of_eight_items(rt: HostRuntime) {
-    assert_equal(&rt, refused(&rt, rt.alloc(), 8, 20_000), Some(0));
+    assert_equal(&rt, refused(&rt, rt.alloc(), 8, 20_000), 0);
 }
 
 #[test]
 fn thirty_two_threads_are_never_refused_of_a_full_word(rt: HostRuntime) {
-    assert_equal(&rt, refused(&rt, rt.alloc(), 32, 5_000), Some(0));
+    assert_equal(&rt, refused(&rt, rt.alloc(), 32, 5_000), 0);
 }
 
 #[test]
 fn thirty_three_threads_are_never_refused_of_two_words(rt: HostRuntime) {
-    assert_equal(&rt, refused(&rt, rt.alloc(), 33, 5_000), Some(0));
+    assert_equal(&rt, refused(&rt, rt.alloc(), 33, 5_000), 0);
 }
 
 #[test]
 fn sixty_four_threads_are_never_refused_of_two_full_words(rt: HostRuntime) {
-    assert_equal(&rt, refused(&rt, rt.alloc(), 64, 2_000), Some(0));
+    assert_equal(&rt, refused(&rt, rt.alloc(), 64, 2_000), 0);
 }
 
 /// Eight threads take turns at three permits.
 #[test]
 fn a_pull_with_a_permit_never_fails(rt: HostRuntime) {
-    let shared = new_permitted(rt.alloc(), 3).expect(&rt, "a pool is made");
+    let permitted = Permitted {
+        pool: opened(&rt, rt.alloc(), 3),
+        free_permits: AtomicUsize::new(3),
+    };
+    let shared = Arc::new(rt.alloc(), permitted).expect(&rt, "memory is left");
     let told = told_by(&rt, rt.alloc(), &shared, 8).expect(&rt, "no pull fails");
     assert_equal(&rt, told.as_slice(), [10_000; 8].as_slice());
 }

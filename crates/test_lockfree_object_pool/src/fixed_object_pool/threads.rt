@@ -1,11 +1,12 @@
 //! Threads that share one pool. Each runs to its end, and a wait for others has a limit.
 ghost use Rattle.std.specs.Prelude.{◌≤◌};
 
-use super::numbers::{NumberPool, held, hold, new_pool};
+use super::numbers::{NumberPool, hold, opened};
 use crate::assert_equal::assert_equal;
 use crate::threads::{Meeting, Work, told_by};
 use lockfree_object_pool::PullError;
 use std::alloc::Global;
+use std::process::Abort;
 use std::sync::Arc;
 use std::thread;
 use std::thread::Threads;
@@ -36,19 +37,15 @@ impl Work for Shared {
     }
 }
 
-fn new_shared(alloc: Global, items: usize, turn: Turn) -> Result<Arc<Shared>, PullError>
+fn new_shared(rt: &impl Abort, alloc: Global, items: usize, turn: Turn) -> Arc<Shared>
     requires { 1 ≤ items }
 {
-    let pool = new_pool(alloc, items)?;
-    let holding = Meeting::new();
-    Ok(Arc::new(
-        alloc,
-        Shared {
-            pool,
-            holding,
-            turn,
-        },
-    )?)
+    let shared = Shared {
+        pool: opened(rt, alloc, items),
+        holding: Meeting::new(),
+        turn,
+    };
+    Arc::new(alloc, shared).expect(rt, "memory is left")
 }
 
 /// The number of an item that is held together with those of four other threads.
@@ -63,7 +60,7 @@ fn hold_one(shared: &Shared) -> Option<usize> {
 
 #[test]
 fn five_threads_hold_the_first_five_items(rt: HostRuntime) {
-    let shared = new_shared(rt.alloc(), 33, Turn::HoldsOne).expect(&rt, "a pool is made");
+    let shared = new_shared(&rt, rt.alloc(), 33, Turn::HoldsOne);
     let numbers = told_by(&rt, rt.alloc(), &shared, 5).expect(&rt, "each thread holds an item");
     assert_equal(&rt, numbers.as_slice(), [0, 1, 2, 3, 4].as_slice());
 }
@@ -80,7 +77,7 @@ fn refused_often(pool: &NumberPool) -> Option<usize> {
 
 #[test]
 fn four_threads_are_refused_while_all_is_held(rt: HostRuntime) {
-    let shared = new_shared(rt.alloc(), 33, Turn::IsRefused).expect(&rt, "a pool is made");
+    let shared = new_shared(&rt, rt.alloc(), 33, Turn::IsRefused);
     let all = hold(&rt, rt.alloc(), &shared.pool, 33);
     let told = told_by(&rt, rt.alloc(), &shared, 4).expect(&rt, "each pull is refused");
     assert_equal(&rt, told.as_slice(), [1_000; 4].as_slice());
@@ -106,21 +103,21 @@ fn write_often(pool: &NumberPool, own: usize) -> Option<usize> {
 
 /// How many of eight threads had their items alone, where all items came back, in a pool of so
 /// many.
-fn writers_meet<R: Threads>(rt: &R, alloc: Global, items: usize) -> Option<usize>
+fn writers_meet<R: Abort + Threads>(rt: &R, alloc: Global, items: usize) -> usize
     requires { 1 ≤ items }
 {
-    let shared = new_shared(alloc, items, Turn::WritesOften).ok()?;
-    let alone = told_by(rt, alloc, &shared, 8)?.len();
-    held(alloc, &shared.pool, items).ok()?;
-    Some(alone)
+    let shared = new_shared(rt, alloc, items, Turn::WritesOften);
+    let alone = told_by(rt, alloc, &shared, 8).expect(rt, "each has its item alone");
+    hold(rt, alloc, &shared.pool, items);
+    alone.len()
 }
 
 #[test]
 fn eight_threads_share_two_items(rt: HostRuntime) {
-    assert_equal(&rt, writers_meet(&rt, rt.alloc(), 2), Some(8));
+    assert_equal(&rt, writers_meet(&rt, rt.alloc(), 2), 8);
 }
 
 #[test]
 fn eight_threads_share_seventy_items(rt: HostRuntime) {
-    assert_equal(&rt, writers_meet(&rt, rt.alloc(), 70), Some(8));
+    assert_equal(&rt, writers_meet(&rt, rt.alloc(), 70), 8);
 }

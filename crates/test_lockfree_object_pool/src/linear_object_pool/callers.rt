@@ -139,7 +139,7 @@ fn owned_written(pool: &Arc<ClearedPool>) -> Option<u32> {
 
 #[test]
 fn a_value_is_written_and_read(rt: HostRuntime) {
-    let pool = zeros(rt.alloc()).expect(&rt, "a pool is made");
+    let pool = zeros(&rt, rt.alloc());
     assert_equal(&rt, written(&pool), Some((7, (0, 0, 9))));
     assert_equal(&rt, owned_written(&pool), Some(7));
     assert_equal(
@@ -147,7 +147,8 @@ fn a_value_is_written_and_read(rt: HostRuntime) {
         (pulled(&pool), pulled_owned(&pool)),
         (Some(0), Some(0)),
     );
-    assert_equal(&rt, of_first(&pool).map(|item| *item), Some(0));
+    let first = of_first(&pool).expect(&rt, "an item is free");
+    assert_equal(&rt, *first, 0);
 }
 
 #[test]

@@ -5,14 +5,15 @@ use lockfree_object_pool::closures::{InitBy, Makes};
 
 /// The refusals of two pulls from a pool whose only page is full, one of them owned.
 fn refusals_past_a_page<I: InitBy<u32>>(
+    rt: &impl Abort,
     alloc: Global,
     init: I,
 ) -> Result<(Option<PullError>, Option<PullError>), PullError>
     requires { I.may_make init }
 {
     let pool = LinearObjectPool::<u32, _, _, AnyValue>::new(alloc, Makes::new(init), Keep)?;
-    let pool = Arc::new(alloc, pool)?;
-    keep_out(&pool, 32)?;
+    let pool = Arc::new(alloc, pool).expect(rt, "memory is left");
+    keep_out(&pool, 32).expect(rt, "32 items are free");
     Ok((pool.pull().err(), pool.pull_owned().err()))
 }
 
@@ -24,7 +25,7 @@ fn a_closure_that_refuses_is_asked_once(rt: HostRuntime) {
         calls.fetch_add(1, SeqCst);
         None
     };
-    let refusals = refusals_past_a_page(rt.alloc(), refuse);
+    let refusals = refusals_past_a_page(&rt, rt.alloc(), refuse);
     assert_equal(
         &rt,
         (refusals, calls.load(SeqCst)),
@@ -43,7 +44,7 @@ fn a_closure_that_refuses_a_growth_is_asked_once_a_pull(rt: HostRuntime) {
         }
     };
     let refused = Some(PullError::Init);
-    let refusals = refusals_past_a_page(rt.alloc(), fill_a_page);
+    let refusals = refusals_past_a_page(&rt, rt.alloc(), fill_a_page);
     assert_equal(
         &rt,
         (refusals, calls.load(SeqCst)),

@@ -13,13 +13,6 @@ use crate::assert_equal::assert_equal;
 use lockfree_object_pool::linear_page::WalkRefusal;
 use lockfree_object_pool::page::PullPass;
 
-fn bounded(alloc: Global, calls: &Arc<AtomicUsize>, pages: usize) -> Cleared
-    requires { 1 ≤ pages }
-{
-    let calls = Arc::try_clone(calls)?;
-    LinearObjectPool::with_limit(alloc, CountedZeros { calls }, ToZero, pages)
-}
-
 #[test]
 fn a_limit_is_told(rt: HostRuntime) {
     let calls = new_calls(rt.alloc()).expect(&rt, "memory is left");

@@ -3,26 +3,29 @@
 use super::*;
 use crate::assert_equal::assert_equal;
 use crate::made::empty_tally;
+use std::process::Abort;
 
 /// The refusal of an owned pull while a page of items is held. The pool's last owner but these lets
 /// it go.
-fn refusal_past_a_page(alloc: Global, pool: Arc<Tracked>) -> Result<Option<PullError>, PullError> {
-    let mut items = Vec::with_capacity(alloc, 32)?;
+fn refusal_past_a_page(rt: &impl Abort, alloc: Global, pool: Arc<Tracked>) -> Option<PullError> {
+    let mut items = Vec::with_capacity(alloc, 32).expect(rt, "memory is left");
     for _ in 0..32 {
-        items.push(pool.pull()?)?;
+        items
+            .push(pool.pull().expect(rt, "an item is free"))
+            .expect(rt, "memory is left");
     }
-    Ok(pool.pull_owned().err())
+    pool.pull_owned().err()
 }
 
 #[test]
 fn refused_pulls_let_their_pool_end(rt: HostRuntime) {
     let counts = empty_tally(&rt, rt.alloc());
     let pool = shared(rt.alloc(), &counts, 32).expect(&rt, "a pool is made");
-    let refusal = refusal_past_a_page(rt.alloc(), pool);
+    let refusal = refusal_past_a_page(&rt, rt.alloc(), pool);
     assert_equal(
         &rt,
         (refusal, counts.now()),
-        (Ok(Some(PullError::Init)), (33, 32)),
+        (Some(PullError::Init), (33, 32)),
     );
 }
 
@@ -37,20 +40,14 @@ fn a_pool_ends_with_its_last_owned_item(rt: HostRuntime) {
     assert_equal(&rt, counts.now(), (32, 32));
 }
 
-/// A pool that may have one page, in an `Arc`.
-fn shared_of_one(alloc: Global, counts: &Arc<Tally>) -> Result<Arc<Tracked>, PullError> {
-    let pool = LinearObjectPool::with_limit(alloc, TalliedValues::new(counts)?, Keep, 1)?;
-    Ok(Arc::new(alloc, pool)?)
-}
-
 #[test]
 fn pulls_refused_at_the_limit_let_their_pool_end(rt: HostRuntime) {
     let counts = empty_tally(&rt, rt.alloc());
-    let pool = shared_of_one(rt.alloc(), &counts).expect(&rt, "a pool is made");
-    let refusal = refusal_past_a_page(rt.alloc(), pool);
+    let pool = shared_within(rt.alloc(), &counts, 1).expect(&rt, "a pool is made");
+    let refusal = refusal_past_a_page(&rt, rt.alloc(), pool);
     assert_equal(
         &rt,
         (refusal, counts.now()),
-        (Ok(Some(PullError::Limit)), (32, 32)),
+        (Some(PullError::Limit), (32, 32)),
     );
 }

@@ -3,7 +3,7 @@
 use super::*;
 use crate::assert_equal::assert_equal;
 use std::process::Abort;
-use test_values::refused::again;
+use test_values::again;
 
 /// What is seen of an item: its place, the number of its value, and how many values live while it
 /// is out.
@@ -60,7 +60,7 @@ fn goes_on<P: Pulls>(rt: &impl Abort, pool: &P, tally: &Tally) {
 
 /// A tally. Where memory was refused, it comes by a second try.
 fn tally_again(rt: &impl Abort, alloc: Global) -> Arc<Tally> {
-    again(&|| new_tally(alloc)).expect(rt, "memory is left")
+    again!(new_tally(alloc)).expect(rt, "memory is left")
 }
 
 /// Takes a new pool's 32 items out for good.
@@ -73,22 +73,16 @@ fn use_up(rt: &impl Abort, pool: &Tracked, tally: &Tally) {
 #[test]
 fn a_pool_goes_on_where_memory_was_refused(rt: HostRuntime) {
     let tally = tally_again(&rt, rt.alloc());
-    let pool = again(&|| shared(rt.alloc(), &tally, NEVER)).expect(&rt, "a pool is made");
+    let pool = again!(shared(rt.alloc(), &tally, NEVER)).expect(&rt, "a pool is made");
     use_up(&rt, &pool, &tally);
     goes_on(&rt, &&*pool, &tally);
-}
-
-/// A pool that may have two pages, in an `Arc`.
-fn shared_of_two(alloc: Global, counts: &Arc<Tally>) -> Result<Arc<Tracked>, PullError> {
-    let pool = LinearObjectPool::with_limit(alloc, TalliedValues::new(counts)?, Keep, 2)?;
-    Ok(Arc::new(alloc, pool)?)
 }
 
 /// Holds with each request for memory refused in turn too.
 #[test]
 fn owned_pulls_go_on_where_memory_was_refused(rt: HostRuntime) {
     let tally = tally_again(&rt, rt.alloc());
-    let pool = again(&|| shared_of_two(rt.alloc(), &tally)).expect(&rt, "a pool is made");
+    let pool = again!(shared_within(rt.alloc(), &tally, 2)).expect(&rt, "a pool is made");
     use_up(&rt, &pool, &tally);
     goes_on(&rt, &pool, &tally);
 }

@@ -2,17 +2,12 @@
 //! parts have to allow.
 use super::*;
 use crate::assert_equal::assert_equal;
-use std::thread;
-use std::thread::Threads;
-
-fn sent<X: Send>(_value: &X) {}
-
-fn shared<X: Sync>(_value: &X) {}
+use crate::threads::{is_sent, is_shared, read_twice};
 
 fn pool_sent<T: Send + Drop, I: Init<T, K> + Send, R: Reset<T, K> + Send, K: Clean<T>>(
     pool: &LinearObjectPool<T, I, R, K>,
 ) {
-    sent(pool);
+    is_sent(pool);
 }
 
 fn pool_shared<
@@ -21,7 +16,7 @@ fn pool_shared<
     R: Reset<T, K> + Send + Sync,
     K: Clean<T>,
 >(pool: &LinearObjectPool<T, I, R, K>) {
-    shared(pool);
+    is_shared(pool);
 }
 
 fn reusables_sent<
@@ -30,8 +25,8 @@ fn reusables_sent<
     R: Reset<T, K> + Send + Sync,
     K: Clean<T>,
 >(item: &LinearReusable<'_, T, I, R, K>, owned: &LinearOwnedReusable<T, I, R, K>) {
-    sent(item);
-    sent(owned);
+    is_sent(item);
+    is_sent(owned);
 }
 
 fn reusables_shared<
@@ -40,21 +35,13 @@ fn reusables_shared<
     R: Reset<T, K> + Send + Sync,
     K: Clean<T>,
 >(item: &LinearReusable<'_, T, I, R, K>, owned: &LinearOwnedReusable<T, I, R, K>) {
-    shared(item);
-    shared(owned);
-}
-
-/// Two threads read one item.
-fn read_twice<R: Threads + Sync>(
-    rt: &R,
-    item: &LinearReusable<'_, u32, CountedZeros, ToZero, Zero>,
-) -> (u32, u32) {
-    thread::join(rt, || **item, || **item)
+    is_shared(item);
+    is_shared(owned);
 }
 
 #[test]
 fn two_threads_read_one_item(rt: HostRuntime) {
-    let pool = zeros(rt.alloc()).expect(&rt, "a pool is made");
+    let pool = zeros(&rt, rt.alloc());
     let mut item = pool.pull().expect(&rt, "an item is free");
     *item = 3;
     assert_equal(&rt, read_twice(&rt, &item), (3, 3));

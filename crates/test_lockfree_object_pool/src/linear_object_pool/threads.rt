@@ -1,6 +1,4 @@
 //! Threads that share one pool. Each runs to its end.
-ghost use Rattle.std.specs.Prelude.{◌≤◌};
-
 use super::*;
 use crate::assert_equal::assert_equal;
 use crate::made::count_of_calls;
@@ -38,36 +36,14 @@ impl Work for Shared {
     }
 }
 
-fn unbounded(
-    alloc: Global,
-    calls: &Arc<AtomicUsize>,
-    turn: Turn,
-) -> Result<Arc<Shared>, PullError> {
+fn shared_by_threads(rt: &impl Abort, alloc: Global, pool: Cleared, turn: Turn) -> Arc<Shared> {
     let shared = Shared {
-        pool: cleared(alloc, calls)?,
+        pool: pool.expect(rt, "a pool is made"),
         holding: Meeting::new(),
         turn,
         alloc,
     };
-    Ok(Arc::new(alloc, shared)?)
-}
-
-fn bounded(
-    alloc: Global,
-    calls: &Arc<AtomicUsize>,
-    pages: usize,
-    turn: Turn,
-) -> Result<Arc<Shared>, PullError>
-    requires { 1 ≤ pages }
-{
-    let calls = Arc::try_clone(calls)?;
-    let shared = Shared {
-        pool: LinearObjectPool::with_limit(alloc, CountedZeros { calls }, ToZero, pages)?,
-        holding: Meeting::new(),
-        turn,
-        alloc,
-    };
-    Ok(Arc::new(alloc, shared)?)
+    Arc::new(alloc, shared).expect(rt, "memory is left")
 }
 
 /// The id of an item of the first page that is held together with those of four other threads.
@@ -83,7 +59,7 @@ fn hold_one(shared: &Shared) -> Option<usize> {
 #[test]
 fn five_threads_hold_the_first_five_items(rt: HostRuntime) {
     let calls = count_of_calls(&rt, rt.alloc());
-    let shared = unbounded(rt.alloc(), &calls, Turn::HoldsOne).expect(&rt, "a pool is made");
+    let shared = shared_by_threads(&rt, rt.alloc(), cleared(rt.alloc(), &calls), Turn::HoldsOne);
     let ids = told_by(&rt, rt.alloc(), &shared, 5).expect(&rt, "each holds an item of page 0");
     assert_equal(
         &rt,
@@ -108,7 +84,12 @@ fn pull_often(pool: &ClearedPool) -> Option<usize> {
 #[test]
 fn eight_threads_see_reset_values(rt: HostRuntime) {
     let calls = count_of_calls(&rt, rt.alloc());
-    let shared = bounded(rt.alloc(), &calls, 2, Turn::PullsOften).expect(&rt, "a pool is made");
+    let shared = shared_by_threads(
+        &rt,
+        rt.alloc(),
+        bounded(rt.alloc(), &calls, 2),
+        Turn::PullsOften,
+    );
     let told = told_by(&rt, rt.alloc(), &shared, 8).expect(&rt, "each item has a reset value");
     assert_equal(&rt, told.as_slice(), [10_000; 8].as_slice());
 }
@@ -132,32 +113,43 @@ fn mark_often(pool: &ClearedPool, mark: u32) -> Option<usize> {
 
 /// The items of ten pages, all of which were out. Eight came back.
 fn all_but_eight<'s>(
+    rt: &impl Abort,
     alloc: Global,
     pool: &'s ClearedPool,
-) -> Result<Vec<LinearReusable<'s, u32, CountedZeros, ToZero, Zero>>, PullError> {
-    let mut kept = Vec::with_capacity(alloc, 312)?;
-    let mut returned = Vec::with_capacity(alloc, 8)?;
+) -> Vec<LinearReusable<'s, u32, CountedZeros, ToZero, Zero>> {
+    let mut kept = Vec::with_capacity(alloc, 312).expect(rt, "memory is left");
+    let mut returned = Vec::with_capacity(alloc, 8).expect(rt, "memory is left");
     for index in 0..320 {
-        let item = pool.pull()?;
+        let item = pool.pull().expect(rt, "an item is free");
         if index % 40 == 0 {
-            returned.push(item)?;
+            returned.push(item).expect(rt, "memory is left");
         } else {
-            kept.push(item)?;
+            kept.push(item).expect(rt, "memory is left");
         }
     }
-    Ok(kept)
+    kept
 }
 
 /// Whether each item has the value of a reset.
 fn are_zero(items: &[LinearReusable<'_, u32, CountedZeros, ToZero, Zero>]) -> bool {
-    items.iter().all(|item| **item == 0)
+    for item in items {
+        if **item != 0 {
+            return false;
+        }
+    }
+    true
 }
 
 #[test]
 fn eight_threads_share_what_ten_full_pages_got_back(rt: HostRuntime) {
     let calls = count_of_calls(&rt, rt.alloc());
-    let shared = unbounded(rt.alloc(), &calls, Turn::MarksOften).expect(&rt, "a pool is made");
-    let kept = all_but_eight(rt.alloc(), &shared.pool).expect(&rt, "items are free");
+    let shared = shared_by_threads(
+        &rt,
+        rt.alloc(),
+        cleared(rt.alloc(), &calls),
+        Turn::MarksOften,
+    );
+    let kept = all_but_eight(&rt, rt.alloc(), &shared.pool);
     let told = told_by(&rt, rt.alloc(), &shared, 8).expect(&rt, "each item has its holder's mark");
     assert_equal(&rt, (told.len(), are_zero(&kept)), (8, true));
 }
@@ -183,9 +175,17 @@ fn hold_eight(shared: &Shared) -> Option<usize> {
 #[test]
 fn five_threads_share_one_page(rt: HostRuntime) {
     let calls = count_of_calls(&rt, rt.alloc());
-    let shared = bounded(rt.alloc(), &calls, 1, Turn::HoldsEight).expect(&rt, "a pool is made");
+    let shared = shared_by_threads(
+        &rt,
+        rt.alloc(),
+        bounded(rt.alloc(), &calls, 1),
+        Turn::HoldsEight,
+    );
     let given = told_by(&rt, rt.alloc(), &shared, 5).expect(&rt, "the limit alone refuses");
-    let sum: usize = given.iter().fold(0, |sum, given| sum.wrapping_add(*given));
+    let mut sum = 0usize;
+    for number in given {
+        sum = sum.wrapping_add(number);
+    }
     assert_equal(&rt, (sum, calls.load(SeqCst)), (32, 32));
 }
 
@@ -208,7 +208,12 @@ fn hold_forty(shared: &Shared) -> Option<usize> {
 fn four_threads_make_a_pool_grow_at_one_time(rt: HostRuntime) {
     for _ in 0..50 {
         let calls = count_of_calls(&rt, rt.alloc());
-        let shared = unbounded(rt.alloc(), &calls, Turn::HoldsForty).expect(&rt, "a pool is made");
+        let shared = shared_by_threads(
+            &rt,
+            rt.alloc(),
+            cleared(rt.alloc(), &calls),
+            Turn::HoldsForty,
+        );
         let told = told_by(&rt, rt.alloc(), &shared, 4).expect(&rt, "no pull is refused");
         assert_equal(&rt, told.as_slice(), [40; 4].as_slice());
     }

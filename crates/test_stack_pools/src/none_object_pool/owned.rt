@@ -4,16 +4,17 @@ use crate::assert_equal::assert_equal;
 
 #[test]
 fn a_closure_that_refuses_is_asked_once_an_owned_pull(rt: HostRuntime) {
-    let counts = Tally::new();
-    let pool = Arc::new(rt.alloc(), NoneObjectPool::new(|| counts.make_but(0))).expect(
-        &rt,
-        "memory is left",
-    );
+    let tally = new_tally(rt.alloc()).expect(&rt, "memory is left");
+    let pool = Arc::new(
+        rt.alloc(),
+        NoneObjectPool::new(|| Tallied::new_but(&tally, 0)),
+    )
+    .expect(&rt, "memory is left");
     let refusal = pool.pull_owned().err();
-    let call = pool.pull_owned().expect(&rt, "an item is made").call;
+    let call = pool.pull_owned().expect(&rt, "an item is made").number;
     assert_equal(
         &rt,
-        (refusal, call, counts.now()),
+        (refusal, call, tally.now()),
         (Some(PullError::Init), 1, (2, 1)),
     );
 }

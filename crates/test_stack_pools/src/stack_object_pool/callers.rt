@@ -34,25 +34,10 @@ fn pulled_owned<
 }
 
 /// A write changes the value alone.
-fn write<
-    K: Clean<u32>,
-    I: Init<u32, K>,
-    R: Reset<u32, K>,
-    F: FreeList<u32, MadeOrReset<I, R, K>>,
-    W: Wait + Copy,
->(item: &mut StackReusable<u32, &StackObjectPool<u32, I, R, K, F>, W>, value: u32)
-    ensures { item.new ≡ stack_with item.old value }
-{
-    **item = value;
-}
-
-fn write_owned<
-    K: Clean<u32>,
-    I: Init<u32, K>,
-    R: Reset<u32, K>,
-    F: FreeList<u32, MadeOrReset<I, R, K>>,
-    W: Wait + Copy,
->(item: &mut StackReusable<u32, Arc<StackObjectPool<u32, I, R, K, F>>, W>, value: u32)
+pub fn write<P: SharedStackPool<u32>, W: Wait + Copy>(
+    item: &mut StackReusable<u32, P, W>,
+    value: u32,
+)
     ensures { item.new ≡ stack_with item.old value }
 {
     **item = value;
@@ -60,10 +45,7 @@ fn write_owned<
 
 /// An attached value is shown until it is written, also where it doesn't meet the condition; a
 /// refusal gives it back.
-fn attached<F: FreeList<u32, MadeOrReset<CountedZeros, Copied<u32, Zero>, Zero>>, W: Wait + Copy>(
-    rt: &W,
-    pool: &Cleared<F>,
-) -> Result<u32, u32>
+pub fn attached<P: SharedStackPool<u32>, W: Wait + Copy>(rt: &W, pool: P) -> Result<u32, u32>
     ensures shown { IfOk result (λ shown. shown ≡ 9) }
     ensures back { IfErr result (λ back. back ≡ 9) }
 {
@@ -82,14 +64,15 @@ fn refusal<F: FreeList<u32, MadeOrReset<CountedZeros, Copied<u32, Zero>, Zero>>,
 }
 
 /// What a borrowed item and an owned one show, to which 7 and 8 are written.
-fn written_and_read<F: Kind<u32, CountedZeros, Copied<u32, Zero>, Zero>, W: Abort + Wait + Copy>(
+pub fn written_and_read<P: Pulls<u32>, A: Pulls<u32>, W: Abort + Wait + Copy>(
     rt: &W,
-    pool: &Arc<Cleared<F>>,
+    pool: &P,
+    owner: &A,
 ) -> (u32, u32) {
-    let mut item = pool.pull(rt).expect(rt, "an item is made");
+    let mut item = pool.pull_one(rt).expect(rt, "an item is made");
     write(&mut item, 7);
-    let mut owned = pool.pull_owned(rt).expect(rt, "an item is made");
-    write_owned(&mut owned, 8);
+    let mut owned = owner.pull_one(rt).expect(rt, "an item is made");
+    write(&mut owned, 8);
     (*item, *owned)
 }
 
@@ -99,7 +82,7 @@ fn shows_what_its_callers_know<
 >(rt: &W, alloc: Global) {
     let calls = new_calls(alloc).expect(rt, "memory is left");
     let pool = cleared::<F, W>(rt, alloc, &calls);
-    let written = written_and_read(rt, &pool);
+    let written = written_and_read(rt, &&*pool, &pool);
     let pulled = (pulled(rt, &pool), pulled_owned(rt, &pool));
     assert_equal(
         rt,

@@ -4,6 +4,21 @@ use crate::assert_equal::assert_equal;
 use lockfree_object_pool::closures::{InitBy, Makes};
 
 /// A refusal of `init` is the answer of a pull at once.
+fn refuses_at_once<P: Pulls<u32>, A: Pulls<u32>, W: Abort + Wait + Copy>(
+    rt: &W,
+    pool: &P,
+    owner: &A,
+    calls: &AtomicUsize,
+) {
+    let borrowed = (pool.pull_one(rt).err(), calls.load(SeqCst));
+    let owned = (owner.pull_one(rt).err(), calls.load(SeqCst));
+    assert_equal(
+        rt,
+        (borrowed, owned),
+        ((Some(PullError::Init), 1), (Some(PullError::Init), 2)),
+    );
+}
+
 fn refuses_at_the_first_call<
     I: InitBy<u32>,
     F: Kind<u32, Makes<u32, I, AnyValue>, Keep, AnyValue>,
@@ -15,13 +30,7 @@ fn refuses_at_the_first_call<
         rt,
         "a pool is made",
     );
-    let borrowed = (pool.pull(rt).err(), calls.load(SeqCst));
-    let owned = (pool.pull_owned(rt).err(), calls.load(SeqCst));
-    assert_equal(
-        rt,
-        (borrowed, owned),
-        ((Some(PullError::Init), 1), (Some(PullError::Init), 2)),
-    );
+    refuses_at_once(rt, &&*pool, &pool, calls);
 }
 
 fn is_asked_once<I: InitBy<u32>, W: Abort + Wait + Copy>(

@@ -5,15 +5,15 @@ use crate::assert_equal::assert_equal;
 use test_values::counted::NEVER;
 
 /// So many owned items, held together.
-fn hold<F: Kind<Tallied, TalliedValues, Keep, AnyValue>, W: Abort + Wait + Copy>(
+fn hold<P: Pulls<Tallied>, W: Abort + Wait + Copy>(
     rt: &W,
     alloc: Global,
-    pool: &Arc<Tracked<F>>,
+    pool: &P,
     count: usize,
-) -> Vec<StackReusable<Tallied, Arc<Tracked<F>>, W>> {
+) -> Vec<StackReusable<Tallied, P, W>> {
     let mut items = Vec::with_capacity(alloc, count).expect(rt, "memory is left");
     for _ in 0..count {
-        let item = pool.pull_owned(rt).expect(rt, "an item is free");
+        let item = pool.pull_one(rt).expect(rt, "an item is free");
         items.push(item).expect(rt, "memory is left");
     }
     items

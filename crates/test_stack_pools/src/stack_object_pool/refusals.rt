@@ -2,8 +2,8 @@
 //! again.
 use super::*;
 use crate::assert_equal::assert_equal;
+use test_values::again;
 use test_values::counted::NEVER;
-use test_values::refused::again;
 
 /// An item, where memory was refused that of a second pull. A pull that is refused hasn't called
 /// `init`.
@@ -21,30 +21,36 @@ fn pull_again<P: Pulls<Tallied>, W: Abort + Wait + Copy>(
 
 /// The numbers of a borrowed item and an owned one that are held together, each with the calls and
 /// the drops then.
-fn two_pulled<F: Kind<Tallied, TalliedValues, Keep, AnyValue>, W: Abort + Wait + Copy>(
+fn two_pulled<P: Pulls<Tallied>, A: Pulls<Tallied>, W: Abort + Wait + Copy>(
     rt: &W,
-    pool: &Arc<Tracked<F>>,
+    pool: &P,
+    owner: &A,
     tally: &Tally,
 ) -> [(usize, (usize, usize)); 2] {
-    let item = pull_again(rt, &&**pool, tally);
+    let item = pull_again(rt, pool, tally);
     let borrowed = (item.number, tally.now());
-    let owned = pull_again(rt, pool, tally);
+    let owned = pull_again(rt, owner, tally);
     drop(item);
     [borrowed, (owned.number, tally.now())]
+}
+
+/// A pool, which is asked for again where memory was refused.
+fn opened_again<F: Kind<Tallied, TalliedValues, Keep, AnyValue>>(
+    alloc: Global,
+    tally: &Arc<Tally>,
+) -> Result<Arc<Tracked<F>>, PullError> {
+    again!(shared_pool(alloc, TalliedValues::new_but(tally, NEVER)?, Keep))
 }
 
 fn goes_on_without_memory<F: Kind<Tallied, TalliedValues, Keep, AnyValue>, W: Abort + Wait + Copy>(
     rt: &W,
     alloc: Global,
 ) {
-    let tally = again(&|| new_tally(alloc)).expect(rt, "memory is left");
-    let pool = again(&|| tracked::<F>(alloc, &tally, NEVER)).expect(rt, "a pool is made");
-    assert_equal(
-        rt,
-        two_pulled(rt, &pool, &tally),
-        [(0, (1, 0)), (1, (2, 0))],
-    );
-    let last = pool.pull(rt).expect(rt, "an item is kept").number;
+    let tally = again!(new_tally(alloc)).expect(rt, "memory is left");
+    let pool: Arc<Tracked<F>> = opened_again(alloc, &tally).expect(rt, "a pool is made");
+    let two = two_pulled(rt, &&*pool, &pool, &tally);
+    assert_equal(rt, two, [(0, (1, 0)), (1, (2, 0))]);
+    let last = number_of_next(rt, &&*pool);
     let kept = tally.now();
     drop(pool);
     assert_equal(rt, (last, kept, tally.now()), (1, (2, 0), (2, 2)));
@@ -64,13 +70,11 @@ fn pulls_go_on_where_memory_was_refused(rt: HostRuntime) {
     );
 }
 
-/// A pool of zeros that counts nothing.
-type Plain<F> = StackObjectPool<u32, Copied<u32, AnyValue>, Keep, AnyValue, F>;
-
+/// A pool of zeros that counts nothing, which is asked for again where memory was refused.
 fn plain<F: Kind<u32, Copied<u32, AnyValue>, Keep, AnyValue>>(
     alloc: Global,
-) -> Result<Arc<Plain<F>>, PullError> {
-    shared_pool(alloc, Copied::new(0), Keep)
+) -> Result<Arc<StackObjectPool<u32, Copied<u32, AnyValue>, Keep, AnyValue, F>>, PullError> {
+    again!(shared_pool(alloc, Copied::new(0), Keep))
 }
 
 /// What an item shows to which a value is attached, or the value where it came back.
@@ -85,7 +89,7 @@ fn gives_back_what_is_not_attached<
     F: Kind<u32, Copied<u32, AnyValue>, Keep, AnyValue>,
     W: Abort + Wait + Copy,
 >(rt: &W, alloc: Global) {
-    let pool = again(&|| plain::<F>(alloc)).expect(rt, "a pool is made");
+    let pool = plain::<F>(alloc).expect(rt, "a pool is made");
     let owner = Arc::try_clone(&pool).expect(rt, "an owner is made");
     let borrowed = shown_or_back(rt, &*pool, 8);
     assert_equal(rt, (borrowed, shown_or_back(rt, owner, 9)), (8, 9));

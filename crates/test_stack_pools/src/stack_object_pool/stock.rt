@@ -8,15 +8,16 @@ use test_values::counted::NEVER;
 
 /// The numbers of a borrowed item and an owned one that are held together, and how many values the
 /// pool keeps while they are, and once the borrowed one came back.
-fn two_pulled<F: Kind<Tallied, TalliedValues, Keep, AnyValue>, W: Abort + Wait + Copy>(
+fn two_pulled<P: Pulls<Tallied>, A: Pulls<Tallied>, W: Abort + Wait + Copy>(
     rt: &W,
-    pool: &Arc<Tracked<F>>,
+    pool: &P,
+    owner: &A,
 ) -> ((usize, usize), (usize, usize)) {
-    let item = pool.pull(rt).expect(rt, "an item is kept");
-    let other = pool.pull_owned(rt).expect(rt, "an item is kept");
-    let (numbers, held) = ((item.number, other.number), pool.kept(rt));
+    let item = pool.pull_one(rt).expect(rt, "an item is kept");
+    let other = owner.pull_one(rt).expect(rt, "an item is kept");
+    let (numbers, held) = ((item.number, other.number), pool.count(rt));
     drop(item);
-    (numbers, (held, pool.kept(rt)))
+    (numbers, (held, pool.count(rt)))
 }
 
 /// A pool is filled with 40 values, and pulls give them without a further call of `init`.
@@ -31,7 +32,12 @@ fn fills<F: Kind<Tallied, TalliedValues, Keep, AnyValue>, W: Abort + Wait + Copy
     let filled = standing(rt, &pool, &tally);
     assert_equal(
         rt,
-        (at_first, filled, two_pulled(rt, &pool), tally.now()),
+        (
+            at_first,
+            filled,
+            two_pulled(rt, &&*pool, &pool),
+            tally.now(),
+        ),
         ((0, (0, 0)), (40, (40, 0)), ((39, 38), (38, 39)), (40, 0)),
     );
 }
@@ -98,31 +104,31 @@ fn a_filling_resets_nothing(rt: HostRuntime) {
 
 /// One item is out while the pool is cleared, and comes back: how the pool stands before, behind
 /// it, and at last.
-fn cleared_beside_one<F: Kind<Tallied, TalliedValues, Keep, AnyValue>, W: Abort + Wait + Copy>(
+fn cleared_beside_one<P: Pulls<Tallied>, W: Abort + Wait + Copy>(
     rt: &W,
-    pool: &Tracked<F>,
+    pool: &P,
     tally: &Tally,
 ) -> [(usize, (usize, usize)); 3] {
-    let item = pool.pull(rt).expect(rt, "an item is kept");
-    let before = standing(rt, pool, tally);
-    pool.clear(rt);
-    let behind = standing(rt, pool, tally);
+    let item = pool.pull_one(rt).expect(rt, "an item is kept");
+    let before = (pool.count(rt), tally.now());
+    pool.empty(rt);
+    let behind = (pool.count(rt), tally.now());
     drop(item);
-    [before, behind, standing(rt, pool, tally)]
+    [before, behind, (pool.count(rt), tally.now())]
 }
 
 /// The numbers of the item that came back and of one that is made beside it and returned, and how
 /// the pool stands once it is cleared twice.
-fn cleared_twice<F: Kind<Tallied, TalliedValues, Keep, AnyValue>, W: Abort + Wait + Copy>(
+fn cleared_twice<P: Pulls<Tallied>, W: Abort + Wait + Copy>(
     rt: &W,
-    pool: &Tracked<F>,
+    pool: &P,
     tally: &Tally,
 ) -> ((usize, usize), (usize, (usize, usize))) {
-    let item = pool.pull(rt).expect(rt, "an item is kept");
-    let made = pool.pull(rt).expect(rt, "an item is made").number;
-    pool.clear(rt);
-    pool.clear(rt);
-    ((item.number, made), standing(rt, pool, tally))
+    let item = pool.pull_one(rt).expect(rt, "an item is kept");
+    let made = number_of_next(rt, pool);
+    pool.empty(rt);
+    pool.empty(rt);
+    ((item.number, made), (pool.count(rt), tally.now()))
 }
 
 /// All kept values are dropped at once, those that are out aren't, and the pool goes on.
@@ -135,7 +141,7 @@ fn clears<F: Kind<Tallied, TalliedValues, Keep, AnyValue>, W: Abort + Wait + Cop
     assert_equal(rt, standing(rt, &pool, &tally), (70_000, (70_000, 0)));
     assert_equal(
         rt,
-        cleared_beside_one(rt, &pool, &tally),
+        cleared_beside_one(rt, &&*pool, &tally),
         [
             (69_999, (70_000, 0)),
             (0, (70_000, 69_999)),
@@ -144,7 +150,7 @@ fn clears<F: Kind<Tallied, TalliedValues, Keep, AnyValue>, W: Abort + Wait + Cop
     );
     assert_equal(
         rt,
-        cleared_twice(rt, &pool, &tally),
+        cleared_twice(rt, &&*pool, &tally),
         ((69_999, 70_000), (0, (70_001, 70_000))),
     );
 }
@@ -156,15 +162,14 @@ fn a_cleared_pool_drops_what_it_keeps(rt: HostRuntime) {
 }
 
 /// The values of a borrowed item and an owned one that leave their pool.
-fn detach_two<F: Kind<Tallied, TalliedValues, Keep, AnyValue>, W: Abort + Wait + Copy>(
+fn detach_two<P: Pulls<Tallied>, A: Pulls<Tallied>, W: Abort + Wait + Copy>(
     rt: &W,
-    pool: &Arc<Tracked<F>>,
+    pool: &P,
+    owner: &A,
 ) -> (Tallied, Tallied) {
-    let first = pool.pull(rt).expect(rt, "an item is kept").detach();
-    (
-        first,
-        pool.pull_owned(rt).expect(rt, "an item is kept").detach(),
-    )
+    let first = pool.pull_one(rt).expect(rt, "an item is kept").detach();
+    let second = owner.pull_one(rt).expect(rt, "an item is kept").detach();
+    (first, second)
 }
 
 /// Two values leave their pool, borrowed and owned: they live on after it, and neither is reset nor
@@ -175,9 +180,9 @@ fn detaches<F: Kind<Tallied, TalliedValues, Keep, AnyValue>, W: Abort + Wait + C
 ) {
     let (tally, pool) = tallied::<F, W>(rt, alloc, NEVER);
     pool.fill(rt, 2).expect(rt, "two values are made");
-    let (first, second) = detach_two(rt, &pool);
+    let (first, second) = detach_two(rt, &&*pool, &pool);
     let detached = standing(rt, &pool, &tally);
-    let made = pool.pull(rt).expect(rt, "an item is made").number;
+    let made = number_of_next(rt, &&*pool);
     drop(pool);
     let numbers = (first.number, second.number, made);
     let ended = tally.now();
@@ -196,6 +201,19 @@ fn a_detached_value_leaves_its_pool(rt: HostRuntime) {
     detaches::<UnderSpinLock<Tallied, TalliedValues, Keep, AnyValue>, _>(&rt, rt.alloc());
 }
 
+/// Two items that are held together are written to and detached: their values, and how many the
+/// pool keeps then.
+fn detached_as_written<P: Pulls<u32>, A: Pulls<u32>, W: Abort + Wait + Copy>(
+    rt: &W,
+    pool: &P,
+    owner: &A,
+) -> (u32, u32, usize) {
+    let mut item = pool.pull_one(rt).expect(rt, "an item is made");
+    let mut other = owner.pull_one(rt).expect(rt, "an item is made");
+    (*item, *other) = (5, 6);
+    (item.detach(), other.detach(), pool.count(rt))
+}
+
 /// A detached value is as it was written: no reset runs.
 fn detaches_as_written<F: Kind<u32, CountedZeros, Copied<u32, Zero>, Zero>, W: Abort + Wait + Copy>(
     rt: &W,
@@ -203,14 +221,8 @@ fn detaches_as_written<F: Kind<u32, CountedZeros, Copied<u32, Zero>, Zero>, W: A
 ) {
     let calls = new_calls(alloc).expect(rt, "memory is left");
     let pool = cleared::<F, W>(rt, alloc, &calls);
-    let mut item = pool.pull(rt).expect(rt, "an item is made");
-    let mut other = pool.pull_owned(rt).expect(rt, "an item is made");
-    (*item, *other) = (5, 6);
-    assert_equal(
-        rt,
-        (item.detach(), other.detach(), pool.kept(rt)),
-        (5, 6, 0),
-    );
+    let detached = detached_as_written(rt, &&*pool, &pool);
+    assert_equal(rt, detached, (5, 6, 0));
 }
 
 #[test]

@@ -1,4 +1,3 @@
-use Rattle.lockfree_object_pool.specs.Note.{note_history}
 use Rattle.test_lockfree_object_pool.proofs.Later.{pull_is_later}
 use Rattle.test_lockfree_object_pool.proofs.fixed_object_pool.callers.pulled_after.Goals as goal
 

@@ -3,8 +3,8 @@ use denote.Param.{param}
 use Rattle.nonblocking_pools.proofs.ReusableShared.{reusable_sync, owned_reusable_sync}
 use Rattle.test_lockfree_object_pool.proofs.linear_object_pool.sends.reusables_shared.Goals as goal
 
-pub shared-requires-sync-X : goal.shared-requires-sync-X
-shared-requires-sync-X g c κs within =
+pub is_shared-requires-sync-X : goal.is_shared-requires-sync-X
+is_shared-requires-sync-X g c κs within =
     let bounds = c.type_bounds in
     record {
       shared = (reusable_sync (param 0 g.row.T) (param 1 g.row.I) (param 2 g.row.R) (param 3 g.row.K) g.I.Init
@@ -15,8 +15,8 @@ shared-requires-sync-X g c κs within =
           }) bounds.send-T bounds.sync-T bounds.sync-I bounds.sync-R).shared;
     }
 
-pub shared-requires-2-sync-X : goal.shared-requires-2-sync-X
-shared-requires-2-sync-X g c κs within =
+pub is_shared-requires-2-sync-X : goal.is_shared-requires-2-sync-X
+is_shared-requires-2-sync-X g c κs within =
     let bounds = c.type_bounds in
     record {
       shared = (owned_reusable_sync (param 0 g.row.T) (param 1 g.row.I) (param 2 g.row.R) (param 3 g.row.K)
