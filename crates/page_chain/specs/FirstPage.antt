@@ -16,7 +16,8 @@ no_link_to_first links known page linked first =
     let start = pow_pos here.row_number in
     omega (arith, here.offset, start, first)
 
--- so the page that a walk from the chain's start came to is the first one where its number is 0: with `on_page` of a pull
+-- so the page of number 0 that a walk came to from the chain's start is the first one, as
+-- `on_page` of a pull says
 pub first_of_walk : {T K O : Type 0} (chain : Chain T K O) (known : PageNumber T K O) (page : TableId)
     → IsWalkedTo (start_of chain) known page → number_of known ≡ 0 → page ≡ first_page chain
 first_of_walk chain known page walked first = elim walked [

@@ -1,5 +1,4 @@
 -- What a user shows that has taken an item of a page or of a fixed pool.
-use Rattle.std.specs.Prelude.{ℕ}
 use Rattle.atomic_table.specs.Seated.{TableId}
 use Rattle.pool_parts.specs.declared.page.holding.Holding.{Holding}
 use Rattle.pool_parts.specs.declared.page.user_view.UserView.{UserView}

@@ -1,5 +1,5 @@
 -- Where the value of a pull comes from: it follows from a legal ledger that ends with the pull.
-use Rattle.std.proofs.Common.{◌≡◌, ◌≢◌, ℕ, List, [], ◌∷◌, Option, Some, None, refl, sym, ap, ◌∙◌, subst, inl, inr}
+use Rattle.std.proofs.Common.{◌≡◌, ◌≢◌, ℕ, List, [], ◌∷◌, Option, Some, refl, sym, ap, ◌∙◌, subst, inl, inr}
 use Rattle.std.proofs.Common.{eq-eqb, ne_eqb}
 use native.Mathlib.Decide.{ℕ_discrete}
 use mathlib.Core.Logic.{dite}
@@ -51,7 +51,8 @@ module _ {T : Type 0} where
       (came_from opening operations id value
       (sym (value_at-elsewhere opening operation operations id differ) ∙ there)))
 
-  -- so it is with what a pull takes, where a legal history ends with this pull: with `legal` and `last` of an item
+  -- so it is with what a pull takes if a legal history ends with it, as `legal` and `last` of an
+  -- item say
   pub pulled_from : (opening : List (Option T)) (history before : History T) (user id : ℕ) (value : T)
       → IsLegal opening history → history ≡ Pull user id value ∷ before → CameFrom opening before id value
   pulled_from opening history before user id value legal last =

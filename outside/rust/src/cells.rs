@@ -1,11 +1,11 @@
 //! Values by their places, each of which only the holder of its place reaches.
-use crate::sys::Out;
+use crate::lanes::Out;
 use std::cell::UnsafeCell;
 
 /// So many bytes behind the values stay free, so that nobody else's memory is on their cache lines.
 const APART: usize = 128;
 
-pub(crate) struct Cells<T>(Vec<UnsafeCell<T>>);
+pub(crate) struct Cells<T>(pub(crate) Vec<UnsafeCell<T>>);
 
 // SAFETY: a value is reached only by the holder of its place, of whom there is one at a time. So to
 // share the cells is to send values from holder to holder.
@@ -21,23 +21,14 @@ impl<T> Cells<T> {
         Some(Cells(cells))
     }
 
-    pub(crate) fn count(&self) -> usize {
-        self.0.len()
-    }
-
-    /// Returns where the value of a place lies, or `None` if there is no such place.
-    pub(crate) fn at(&self, place: usize) -> Option<*mut T> {
-        self.0.get(place).map(UnsafeCell::get)
-    }
-
     /// Borrows the value at a place, which is of this very pool.
-    pub(crate) fn item<'c>(&'c self, out: &'c Out) -> &'c T {
+    pub(crate) fn item<'c>(&'c self, out: &'c Out<T>) -> &'c T {
         // SAFETY: `out` holds the place, and who writes there borrows it to write.
         unsafe { &*self.0[out.place].get() }
     }
 
     /// Borrows the value at a place, which is of this very pool, to write.
-    pub(crate) fn item_mut<'c>(&'c self, out: &'c mut Out) -> &'c mut T {
+    pub(crate) fn item_mut<'c>(&'c self, out: &'c mut Out<T>) -> &'c mut T {
         // SAFETY: `out` holds the place, and nobody else borrows `out`.
         unsafe { &mut *self.0[out.place].get() }
     }

@@ -1,9 +1,8 @@
 //! Items, the handles by which they are pulled, and an item that is out.
 use crate::cells::Cells;
-use crate::lanes::Lanes;
-use crate::sys::{kdr_pool_new, kdr_pool_share, Handle, Out};
+use crate::lanes::{Lanes, Out};
+use crate::sys::{kdr_pool_new, Handle};
 use std::fmt::{self, Debug, Formatter};
-use std::marker::PhantomData;
 use std::ops::{Deref, DerefMut};
 use std::sync::{Mutex, MutexGuard, PoisonError};
 
@@ -17,8 +16,8 @@ pub struct Part<T> {
 /// Idle handles, with room for all that were made, and the first one, of which these are made.
 #[derive(Default)]
 pub(crate) struct Idle {
-    first: Option<Handle>,
-    made: usize,
+    pub(crate) first: Option<Handle>,
+    pub(crate) made: usize,
     pub(crate) handles: Vec<Handle>,
 }
 
@@ -37,19 +36,6 @@ impl<T> Part<T> {
         #[cfg(test)]
         crate::tests::step();
         self.idle.lock().unwrap_or_else(PoisonError::into_inner)
-    }
-}
-
-impl Idle {
-    /// Returns an idle handle, or a new one. `None` if memory is refused.
-    pub(crate) fn handle(&mut self) -> Option<Handle> {
-        self.handles.pop().or_else(|| {
-            self.handles.try_reserve(self.made + 1).ok()?;
-            self.made += 1;
-            let mut further = None;
-            kdr_pool_share(&mut self.first, &mut further);
-            further
-        })
     }
 }
 
@@ -72,17 +58,9 @@ pub trait Source: Sized {
 /// is_shared::<kundratu_pool::Reusable<'static, std::cell::Cell<u32>>>();
 /// ```
 pub struct Guard<P: Deref<Target: Source>> {
-    pool: P,
+    pub(crate) pool: P,
     /// It is given back at the guard's end, and nowhere else.
-    pub(crate) out: Out,
-    item: PhantomData<<P::Target as Source>::Item>,
-}
-
-impl<P: Deref<Target: Source>> Guard<P> {
-    pub(crate) fn new(pool: P, out: Out) -> Self {
-        let item = PhantomData;
-        Guard { pool, out, item }
-    }
+    pub(crate) out: Out<<P::Target as Source>::Item>,
 }
 
 impl<P: Deref<Target: Source>> Deref for Guard<P> {

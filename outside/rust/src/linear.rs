@@ -24,9 +24,9 @@ pub type LinearOwnedReusable<T> = Guard<Arc<LinearObjectPool<T>>>;
 
 /// A pool whose pulls are never refused. It has 32 items at first.
 ///
-/// Its items lie in chunks, each of twice as many items as the one before, and a chunk in eight
-/// parts, each a fixed pool. Who holds which item of a part is decided by the proved library. That a
-/// chunk is made only after each earlier part answered that all its items were out is this module's.
+/// Its items lie in chunks, each of twice as many items as the one before. A chunk lies in eight
+/// parts, each a fixed pool. The proved library decides who holds which item of a part. A chunk is
+/// made only after each earlier part answered that all its items were out: this module sees to it.
 ///
 /// ```
 /// use kundratu_pool::LinearObjectPool;
@@ -65,22 +65,25 @@ impl<T> LinearObjectPool<T> {
     /// earlier chunk had a free item, though each was asked many times.
     #[inline(always)]
     pub fn pull(&self) -> LinearReusable<'_, T> {
-        match self.lanes.pull(self) {
-            Some(Some(out)) => Guard::new(self, out),
-            _ => self.find(self),
+        match self.lanes.own(|lane| lane.pull(self)) {
+            Some(out) => Guard { pool: self, out },
+            None => self.find(self),
         }
     }
 
     /// As [`pull`](LinearObjectPool::pull), with a guard that keeps the pool.
     #[inline(always)]
     pub fn pull_owned(self: &Arc<Self>) -> LinearOwnedReusable<T> {
-        match self.lanes.pull(&**self) {
-            Some(Some(out)) => Guard::new(Arc::clone(self), out),
-            _ => self.find(Arc::clone(self)),
+        let pulled = self.lanes.own(|lane| lane.pull(&**self));
+        let pool = Arc::clone(self);
+        match pulled {
+            Some(out) => Guard { pool, out },
+            None => self.find(pool),
         }
     }
 
-    /// Asks each part, from the thread's home on. If all items are out, it creates the next chunk.
+    /// Asks each part, from the thread's home on, and first those of the greatest chunk, which have
+    /// most items. If all items are out, it creates the next chunk.
     #[cold]
     fn find<P: Deref<Target = Self>>(&self, pool: P) -> Guard<P> {
         let is_made = |chunk: &&OnceLock<_>| chunk.get().is_some();
@@ -89,13 +92,15 @@ impl<T> LinearObjectPool<T> {
         for made in made..=CHUNKS {
             self.make(made - 1);
             for step in 0..made * PARTS * TIMES {
-                let part = step % made * PARTS + (home + step / made) % PARTS;
+                let chunk = made - 1 - step % made;
+                let part = chunk * PARTS + (home + step / made) % PARTS;
                 let pulled = self.lanes.own(|lane| {
-                    lane.go_to(part, None, self)?;
-                    lane.pull()
+                    let there = lane.go_to(part, None, self);
+                    there.unwrap_or_else(Self::refused);
+                    lane.pull(self)
                 });
-                if let Some(out) = pulled.unwrap_or_else(Self::refused) {
-                    return Guard::new(pool, out);
+                if let Some(out) = pulled {
+                    return Guard { pool, out };
                 }
             }
         }

@@ -16,9 +16,7 @@ pub type OwnedReusable<T, R = Reset<T>> = Guard<Arc<Pool<T, R>>>;
 
 /// A pool of a fixed number of items, all made at first.
 ///
-/// A pull waits for no other pull. A thread has handles of its own, which it takes and keeps by
-/// plain reads and writes. If these are too few or too many, it moves some under a short lock. A
-/// thread that comes while 64 others use pools takes a lock at each pull and return.
+/// A pull waits for no other pull, but for a short lock at times: [what it costs](crate) says when.
 pub struct Pool<T, R = Reset<T>> {
     part: Part<T>,
     lanes: Lanes,
@@ -73,21 +71,23 @@ impl<T, R: Fn(&mut T)> Pool<T, R> {
     /// ```
     #[inline(always)]
     pub fn pull(&self) -> Option<Reusable<'_, T, R>> {
-        Some(Guard::new(self, self.lanes.pull(self)??))
+        let out = self.lanes.own(|lane| lane.pull(self))?;
+        Some(Guard { pool: self, out })
     }
 
     /// As [`pull`](Pool::pull), with a guard that keeps the pool.
     #[inline(always)]
     pub fn pull_owned(self: &Arc<Self>) -> Option<OwnedReusable<T, R>> {
-        let out = self.lanes.pull(&**self)??;
-        Some(Guard::new(Arc::clone(self), out))
+        let out = self.lanes.own(|lane| lane.pull(&**self))?;
+        let pool = Arc::clone(self);
+        Some(Guard { pool, out })
     }
 }
 
 impl<T, R> Pool<T, R> {
     /// Returns the number of items.
     pub fn items(&self) -> usize {
-        self.part.cells.count()
+        self.part.cells.0.len()
     }
 }
 

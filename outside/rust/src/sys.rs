@@ -1,13 +1,9 @@
-//! The calls of the C library, as `kundratu_pool.h` declares and describes them, and a place that is
-//! out.
-//!
-//! The calls are safe: what the header asks of a caller is what a mutable borrow of a handle gives.
-//! What is an empty handle to C is `None` here.
+//! The calls of the C library, as `kundratu_pool.h` declares and describes them. What is an empty
+//! handle to C is `None` here.
 use std::ffi::c_void;
-use std::mem::ManuallyDrop;
 use std::ptr::NonNull;
 
-const DONE: u32 = 0;
+pub(crate) const DONE: u32 = 0;
 /// How many places a page has.
 pub(crate) const PAGE: usize = 32;
 
@@ -40,37 +36,4 @@ unsafe extern "C" {
         -> u32;
     pub safe fn kdr_pool_return(handle: &mut Option<Handle>) -> u32;
     pub safe fn kdr_pool_drop(handle: &mut Option<Handle>) -> u32;
-}
-
-/// A place of a part that is out, by the handle that holds it. If this is dropped, the place stays out.
-pub(crate) struct Out {
-    by: ManuallyDrop<Option<Handle>>,
-    pub(crate) part: usize,
-    pub(crate) place: usize,
-}
-
-impl Out {
-    /// Pulls a place of this part by an idle handle of it, first at this page. Numbers of pages are
-    /// counted round and round. The handle stays if all places were out at one moment of the call.
-    #[inline(always)]
-    pub(crate) fn pull(idle: &mut Option<Handle>, part: usize, page: usize) -> Option<Out> {
-        #[cfg(test)]
-        crate::tests::step();
-        let mut place = 0;
-        if kdr_pool_pull_near(idle, page, &mut place) != DONE {
-            return None;
-        }
-        let by = ManuallyDrop::new(idle.take());
-        Some(Out { by, part, place })
-    }
-
-    /// Returns the place, and hands out the handle. From then on there is no such place.
-    #[inline(always)]
-    pub(crate) fn give_back(&mut self) -> Option<Handle> {
-        #[cfg(test)]
-        crate::tests::step();
-        self.place = usize::MAX;
-        kdr_pool_return(&mut self.by);
-        self.by.take()
-    }
 }

@@ -1,49 +1,34 @@
 //! Numbers of threads: while a thread runs, no other one has its number. It is a place of one pool
 //! of the proved library, which a thread holds from its first pull to its end.
-use crate::guard::Part;
-use crate::sys::Out;
-use std::sync::LazyLock;
+use crate::sys::{kdr_pool_new, kdr_pool_pull_near, kdr_pool_share, Handle};
+use std::sync::{Mutex, PoisonError};
 
 /// How many threads have a number at a time.
 pub(crate) const NUMBERS: usize = 64;
 /// No number: of a thread that came when all were out, or that is at its end.
-pub(crate) const NONE: usize = usize::MAX;
+pub(crate) const NONE: usize = NUMBERS;
 
-pub(crate) static ALL: LazyLock<Option<Part<()>>> = LazyLock::new(|| Part::new(NUMBERS, || ()));
+/// A handle of the pool of numbers, of which those of threads are made.
+static FIRST: Mutex<Option<Handle>> = Mutex::new(None);
 
 thread_local! {
-    static OWN: Own = pull();
+    static OWN: (usize, Option<Handle>) = pull();
 }
 
-/// A thread's number, which is returned at the thread's end.
-struct Own {
-    number: usize,
-    out: Option<Out>,
-}
-
-impl Drop for Own {
-    fn drop(&mut self) {
-        if let (Some(out), Some(all)) = (&mut self.out, &*ALL) {
-            all.idle().handles.extend(out.give_back());
-        }
+/// Pulls the least number that is free. The end of its handle returns it.
+fn pull() -> (usize, Option<Handle>) {
+    let first = &mut *FIRST.lock().unwrap_or_else(PoisonError::into_inner);
+    if first.is_none() {
+        kdr_pool_new(NUMBERS, first);
     }
+    let (mut number, mut own) = (NONE, None);
+    kdr_pool_share(first, &mut own);
+    kdr_pool_pull_near(&mut own, 0, &mut number);
+    (number, own)
 }
 
-/// Pulls the least number that is free.
-fn pull() -> Own {
-    let out = ALL.as_ref().and_then(|all| {
-        let idle = &mut *all.idle();
-        let mut handle = idle.handle();
-        let out = Out::pull(&mut handle, 0, 0);
-        idle.handles.extend(handle);
-        out
-    });
-    let number = out.as_ref().map_or(NONE, |out| out.place);
-    Own { number, out }
-}
-
-/// Returns this thread's number, or a greater one than any if it has none.
+/// Returns this thread's number, or `NONE`.
 #[inline(always)]
 pub(crate) fn own() -> usize {
-    OWN.try_with(|own| own.number).unwrap_or(NONE)
+    OWN.try_with(|own| own.0).unwrap_or(NONE)
 }

@@ -45,6 +45,37 @@ macro_rules! keeping_pool {
             }
 
             #[test]
+            fn an_item_is_reset_once_at_each_return() {
+                let pool = $pool::<u32>::new(|| 0, |number| *number += 1);
+                for turns in 0..5 {
+                    assert_eq!(*pool.pull(), turns);
+                }
+            }
+
+            #[test]
+            fn each_of_many_items_is_reset() {
+                let pool = zeros();
+                for _ in 0..2 {
+                    let mut items: Vec<_> = (0..10_000).map(|_| pool.pull()).collect();
+                    assert!(items.iter().all(|item| **item == 0));
+                    items.iter_mut().for_each(|item| **item = 7);
+                }
+            }
+
+            #[test]
+            fn threads_make_no_more_items_than_they_hold() {
+                let made = Arc::new(AtomicUsize::new(0));
+                let count = Arc::clone(&made);
+                let pool = $pool::<usize>::new(move || count.fetch_add(1, SeqCst), |_| {});
+                thread::scope(|scope| {
+                    for _ in 0..4 {
+                        scope.spawn(|| (0..200_000).for_each(|_| drop(pool.pull())));
+                    }
+                });
+                assert!(made.load(SeqCst) <= 32);
+            }
+
+            #[test]
             fn threads_hold_different_items() {
                 let pool = Arc::new(zeros());
                 let (sender, receiver) = mpsc::channel();
@@ -242,6 +273,7 @@ fn a_pool_that_keeps_nothing_makes_each_item() {
         *item += 1;
     }
     *pool.pull_owned() += 1;
+    assert_eq!(Arc::strong_count(&pool), 1);
     assert_eq!(*NoneReusable::new(5), 5);
 }
 
@@ -281,6 +313,7 @@ fn items_are_made_before_they_are_needed_and_dropped_with_their_pool() {
 
 #[test]
 fn a_stack_pool_keeps_all_that_comes_back() {
+    const MANY: usize = 200_000;
     fn made(pull_many: impl Fn()) -> usize {
         let before = MADE.get();
         pull_many();
@@ -291,11 +324,11 @@ fn a_stack_pool_keeps_all_that_comes_back() {
     }
     let init = || MADE.set(MADE.get() + 1);
     let mutex = MutexObjectPool::<()>::new(init, |()| {});
-    let many = || drop((0..1_000).map(|_| mutex.pull()).collect::<Vec<_>>());
-    assert_eq!([made(many), made(many)], [1_000, 0]);
+    let many = || drop((0..MANY).map(|_| mutex.pull()).collect::<Vec<_>>());
+    assert_eq!([made(many), made(many)], [MANY, 0]);
     let spin_lock = SpinLockObjectPool::<()>::new(init, |()| {});
-    let many = || drop((0..1_000).map(|_| spin_lock.pull()).collect::<Vec<_>>());
-    assert_eq!([made(many), made(many)], [1_000, 0]);
+    let many = || drop((0..MANY).map(|_| spin_lock.pull()).collect::<Vec<_>>());
+    assert_eq!([made(many), made(many)], [MANY, 0]);
 }
 
 /// What this crate does in another way.
@@ -304,16 +337,21 @@ mod here {
 
     #[test]
     fn chunks_double_and_each_is_made_only_where_all_items_are_out() {
-        let count = Arc::new(AtomicUsize::new(0));
-        let pool = LinearObjectPool::new(counted(&count), |_| {});
+        let [count, calls] = [(); 2].map(|()| Arc::new(AtomicUsize::new(0)));
+        let (make, called) = (counted(&count), Arc::clone(&calls));
+        let init = move || (called.fetch_add(1, SeqCst), make()).1;
+        let pool = LinearObjectPool::new(init, |_| {});
+        let all_made = || [&count, &calls].map(|number| number.load(SeqCst));
         let mut items = Vec::new();
-        for chunk in 0..6 {
+        for chunk in 0..12 {
             let made = 32 * ((2 << chunk) - 1);
+            items.push(pool.pull());
+            assert_eq!(all_made(), [made; 2]);
             items.extend((items.len()..made).map(|_| pool.pull()));
-            assert_eq!(count.load(SeqCst), made);
+            assert_eq!(all_made(), [made; 2]);
             items.swap_remove(made / 2);
             items.push(pool.pull());
-            assert_eq!(count.load(SeqCst), made);
+            assert_eq!(all_made(), [made; 2]);
         }
     }
 

@@ -1,5 +1,5 @@
-//! Where the items of threads lie. This file has one test, so that its threads have the numbers from
-//! 0 or 1 on.
+//! Where the items of threads lie. This file has one test, so that its threads have the numbers
+//! from 0 or 1 on.
 use kundratu_pool::LinearObjectPool;
 use std::collections::HashSet;
 use std::sync::Barrier;
@@ -9,16 +9,20 @@ use std::thread;
 const THREADS: usize = 8;
 
 /// The cache lines, in pairs, of an item that each of some threads pulls, after one of them held so
-/// many.
-fn lines(held: usize) -> HashSet<usize> {
+/// many, so many times.
+fn lines(held: usize, times: usize) -> HashSet<usize> {
     let pool = LinearObjectPool::<u32>::new(|| 0, |number| *number = 0);
     let [all_run, one_held, all_hold] = [(); 3].map(|()| Barrier::new(THREADS));
     let run = |thread: usize| {
         drop(pool.pull()); // it has its number from now on
         all_run.wait();
         if thread == 0 {
-            (0..held).map(|_| pool.pull()).collect::<Vec<_>>().reverse();
-            drop((0..held).map(|_| pool.pull()).collect::<Vec<_>>());
+            for time in 0..times {
+                let mut items: Vec<_> = (0..held).map(|_| pool.pull()).collect();
+                if time + 1 < times {
+                    items.reverse();
+                }
+            }
         }
         one_held.wait();
         let item = pool.pull();
@@ -36,6 +40,9 @@ fn lines(held: usize) -> HashSet<usize> {
 #[test]
 fn threads_of_a_linear_pool_keep_to_cache_lines_of_their_own() {
     for held in [0, 1, 4, 5, 7] {
-        assert_eq!(lines(held).len(), THREADS, "{held} were held");
+        for times in 1..4 {
+            let lines = lines(held, times);
+            assert_eq!(lines.len(), THREADS, "{held} were held {times} times");
+        }
     }
 }

@@ -7,7 +7,7 @@ use std::ffi::c_void;
 use std::fs::read_to_string;
 use std::process::Command;
 use std::ptr::null_mut;
-use std::sync::{mpsc, Arc, Mutex, PoisonError};
+use std::sync::{mpsc, Arc, Barrier, Mutex, PoisonError};
 use std::{env, iter, thread};
 
 thread_local! {
@@ -205,6 +205,33 @@ fn returns_ask_for_no_memory_whoever_makes_them() {
         other.join().expect("it ends")
     });
     assert_eq!(other, 0);
+}
+
+/// A thread opens a handle at its first pull, unless another one left some in its lane. 64 threads
+/// have a lane each, and all others one.
+#[test]
+fn threads_have_handles_of_their_own() {
+    let _alone = MEASURED.lock().unwrap_or_else(PoisonError::into_inner);
+    const THREADS: usize = 70;
+    let (pool, all_ran) = (zeros(100), Barrier::new(THREADS + 1));
+    let (sender, receiver) = mpsc::channel();
+    let run = || {
+        drop(zeros(1).pull()); // the thread has its number
+        let before = ASKED.get();
+        drop(pool.pull());
+        sender.send(before < ASKED.get()).expect("it is read");
+        all_ran.wait();
+    };
+    let opened = thread::scope(|scope| {
+        let opened = (0..THREADS).map(|_| {
+            scope.spawn(run);
+            receiver.recv().expect("one a thread")
+        });
+        let opened = opened.filter(|opened| *opened).count();
+        all_ran.wait();
+        opened
+    });
+    assert_eq!(opened, 64 + 1);
 }
 
 #[test]

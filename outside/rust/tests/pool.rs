@@ -92,7 +92,7 @@ fn items_are_made_in_their_order() {
         next += 1;
         next - 1
     };
-    let pool = Pool::<usize>::new(40, make, |_| ()).expect("there is memory");
+    let pool = Pool::<usize>::new(300, make, |_| ()).expect("there is memory");
     let held: Vec<_> = std::iter::from_fn(|| pool.pull()).collect();
     assert!(held.iter().all(|item| **item == item.number()));
 }
@@ -128,6 +128,21 @@ fn each_of_many_items_is_reset() {
     let held: Vec<_> = std::iter::from_fn(|| pool.pull()).collect();
     assert_eq!(held.len(), 300);
     assert!(held.iter().all(|item| **item == 0));
+}
+
+#[test]
+fn an_item_is_reset_once_at_each_return() {
+    let pool = Pool::<u32>::new(1, || 0, |number| *number += 1).expect("there is memory");
+    for turns in 0..5 {
+        assert_eq!(*pool.pull().expect("it came back"), turns);
+    }
+}
+
+#[test]
+fn a_pool_may_have_millions_of_items() {
+    let mut made = 0;
+    let pool = Pool::<()>::new(5_000_000, || made += 1, |()| ()).expect("there is memory");
+    assert_eq!((made, pool.items()), (5_000_000, 5_000_000));
 }
 
 #[test]

@@ -1,10 +1,13 @@
 //! All interleavings of two threads: of the library's pulls and returns, each of which is one step,
 //! and of the parts of this crate that are under a lock. What a thread does between has no effect
 //! on others.
+use crate::guard::Source;
 use crate::{threads, LinearObjectPool, OwnedReusable, Pool};
 use std::cell::{Cell, RefCell};
 use std::sync::atomic::{AtomicUsize, Ordering::SeqCst};
+use std::sync::mpsc::channel;
 use std::sync::{Arc, Condvar, Mutex, MutexGuard, PoisonError};
+use std::time::Duration;
 use std::{iter, mem, thread};
 
 #[path = "threads.rs"]
@@ -206,4 +209,31 @@ fn an_item_that_moves_is_found() {
             assert_eq!(count.load(SeqCst), 32);
         }
     }
+}
+
+/// A thread at home returns an item of another part while another thread has that part's lock. It
+/// waits, and the handle is kept.
+#[test]
+fn a_return_waits_for_the_lock_of_a_part() {
+    let _alone = TESTED.lock().unwrap_or_else(PoisonError::into_inner);
+    let pool = Arc::new(LinearObjectPool::<u32>::new(|| 0, |_| ()));
+    let at_home: Vec<_> = (0..4).map(|_| pool.pull_owned()).collect();
+    let other = pool.pull_owned();
+    drop(at_home);
+    let part = other.out.part;
+    let kept = || pool.at(part).0.idle().handles.len();
+    let (before, locking) = (kept(), Arc::clone(&pool));
+    let lock = move || {
+        let (locked, is_locked) = channel();
+        thread::spawn(move || {
+            let _idle = locking.at(part).0.idle();
+            locked.send(()).expect("it is read");
+            thread::sleep(Duration::from_millis(20));
+        });
+        is_locked.recv().expect("it is locked");
+    };
+    MOVE.set(Some((1, Box::new(lock))));
+    drop(other);
+    assert!(MOVE.take().is_none(), "no lock was taken");
+    assert_eq!(kept(), before + 1);
 }

@@ -1,6 +1,6 @@
 //! Numbers of threads.
 use super::TESTED;
-use crate::threads::{own, ALL, NONE, NUMBERS};
+use crate::threads::{own, NONE, NUMBERS};
 use std::cell::RefCell;
 use std::collections::HashSet;
 use std::sync::mpsc::{channel, Sender};
@@ -14,9 +14,6 @@ fn numbers_are_given_back_by_threads_that_end() {
         let number = thread::spawn(own).join().expect("it ends");
         assert!(number < NUMBERS);
     }
-    // They keep few handles, for as many as run at once.
-    let room = ALL.as_ref().map(|all| all.idle().handles.capacity());
-    assert!(room < Some(NUMBERS * 5), "room for {room:?} handles");
 }
 
 #[test]
