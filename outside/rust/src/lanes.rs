@@ -1,6 +1,5 @@
-//! A pool's handles, each of which holds a place or none. A thread has some idle ones in a lane,
-//! which no other thread reaches while it runs: it takes and keeps them by plain reads and writes.
-//! The others lie behind a lock.
+//! A pool's handles. A thread has some idle ones in a lane, which no other thread reaches while it
+//! runs: it takes and keeps them by plain reads and writes. The others lie behind a lock.
 //!
 //! A lane is at one part of its pool: its handles are of that part, and its thread pulls there. It
 //! knows the page where its pulls begin. So threads keep to parts and pages of their own, whichever
@@ -98,8 +97,7 @@ impl Lanes {
 }
 
 impl Lane {
-    /// Pulls a place at the part where the lane is. `None` if all were out at one moment of the
-    /// call, or memory for a handle is refused.
+    /// Pulls a place at the lane's part. `None` if all were out at one moment, or memory lacks.
     #[inline(always)]
     pub fn pull<S: Source>(&mut self, pool: &S) -> Option<Out<S::Item>> {
         if self.count == 0 {

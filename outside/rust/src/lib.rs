@@ -5,13 +5,11 @@
 
 #[allow(unsafe_code)]
 mod cells;
+mod drop_in;
 mod guard;
 #[allow(unsafe_code)]
 mod lanes;
-mod linear;
-mod none;
 mod pool;
-mod stack;
 #[allow(unsafe_code)]
 pub mod sys;
 #[cfg(test)]
@@ -19,10 +17,6 @@ pub mod sys;
 mod tests;
 mod threads;
 
+pub use drop_in::*;
 pub use guard::Guard;
-pub use linear::{LinearObjectPool, LinearOwnedReusable, LinearReusable};
-pub use none::{NoneObjectPool, NoneReusable};
 pub use pool::{NewError, OwnedReusable, Pool, Reset, Reusable};
-pub use stack::{MutexObjectPool, MutexOwnedReusable, MutexReusable};
-pub use stack::{SpinLock, StackGuard, StackObjectPool};
-pub use stack::{SpinLockObjectPool, SpinLockOwnedReusable, SpinLockReusable};

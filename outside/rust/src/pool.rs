@@ -44,9 +44,10 @@ impl<T, R: Fn(&mut T)> Pool<T, R> {
     ///
     /// ```
     /// # use kundratu_pool::Pool;
-    /// let pool = Pool::with_reset(8, String::new, String::clear)?;
+    /// let pool = Pool::with_reset(1, String::new, String::clear)?;
     /// pool.pull().expect("none is held").push('a');
-    /// assert!(pool.pull().expect("it came back").is_empty());
+    /// let item = pool.pull().expect("it came back");
+    /// assert!(item.is_empty() && pool.pull().is_none());
     /// # Ok::<(), kundratu_pool::NewError>(())
     /// ```
     pub fn with_reset(items: usize, init: impl FnMut() -> T, reset: R) -> Result<Self, NewError> {
@@ -61,14 +62,6 @@ impl<T, R: Fn(&mut T)> Pool<T, R> {
     /// Returns an item that was free. `None` if all were out at one moment of the call, or memory
     /// for one more guard is refused, which is asked for only if more items are out than ever
     /// before.
-    ///
-    /// ```
-    /// # use kundratu_pool::Pool;
-    /// let pool = Pool::<u32>::new(1, || 5, |number| *number = 5)?;
-    /// let item = pool.pull().expect("none is held");
-    /// assert!(*item == 5 && pool.pull().is_none());
-    /// # Ok::<(), kundratu_pool::NewError>(())
-    /// ```
     #[inline(always)]
     pub fn pull(&self) -> Option<Reusable<'_, T, R>> {
         let out = self.lanes.own(|lane| lane.pull(self))?;
@@ -82,9 +75,7 @@ impl<T, R: Fn(&mut T)> Pool<T, R> {
         let pool = Arc::clone(self);
         Some(Guard { pool, out })
     }
-}
 
-impl<T, R> Pool<T, R> {
     /// Returns the number of items.
     pub fn items(&self) -> usize {
         self.part.cells.0.len()
@@ -127,7 +118,7 @@ impl Display for NewError {
     }
 }
 
-impl<T, R> Debug for Pool<T, R> {
+impl<T, R: Fn(&mut T)> Debug for Pool<T, R> {
     fn fmt(&self, f: &mut Formatter<'_>) -> fmt::Result {
         f.debug_struct("Pool")
             .field("items", &self.items())

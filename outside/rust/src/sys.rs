@@ -11,8 +11,7 @@ pub(crate) const PAGE: usize = 32;
 #[repr(transparent)]
 pub struct Handle(NonNull<c_void>);
 
-// SAFETY: the library proves that a handle may go to another thread (`Handle: Send` of
-// `crates/fixed_pool_c`).
+// SAFETY: it is proved of the library: its handle, in `crates/fixed_pool_c`, is `Send`.
 unsafe impl Send for Handle {}
 // SAFETY: no call takes a shared handle.
 unsafe impl Sync for Handle {}
@@ -32,8 +31,7 @@ unsafe extern "C" {
     pub safe fn kdr_pool_new(items: usize, out: &mut Option<Handle>) -> u32;
     pub safe fn kdr_pool_share(handle: &mut Option<Handle>, out: &mut Option<Handle>) -> u32;
     pub safe fn kdr_pool_pull(handle: &mut Option<Handle>, place: &mut usize) -> u32;
-    pub safe fn kdr_pool_pull_near(own: &mut Option<Handle>, page: usize, place: &mut usize)
-        -> u32;
+    pub safe fn kdr_pool_pull_near(own: &mut Option<Handle>, page: usize, out: &mut usize) -> u32;
     pub safe fn kdr_pool_return(handle: &mut Option<Handle>) -> u32;
     pub safe fn kdr_pool_drop(handle: &mut Option<Handle>) -> u32;
 }

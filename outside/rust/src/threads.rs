@@ -3,10 +3,9 @@
 use crate::sys::{kdr_pool_new, kdr_pool_pull_near, kdr_pool_share, Handle};
 use std::sync::{Mutex, PoisonError};
 
-/// How many threads have a number at a time.
+/// How many threads have a number at a time. A thread has this as its number if it came when all
+/// were out, or is at its end.
 pub(crate) const NUMBERS: usize = 64;
-/// No number: of a thread that came when all were out, or that is at its end.
-pub(crate) const NONE: usize = NUMBERS;
 
 /// A handle of the pool of numbers, of which those of threads are made.
 static FIRST: Mutex<Option<Handle>> = Mutex::new(None);
@@ -21,14 +20,14 @@ fn pull() -> (usize, Option<Handle>) {
     if first.is_none() {
         kdr_pool_new(NUMBERS, first);
     }
-    let (mut number, mut own) = (NONE, None);
+    let (mut number, mut own) = (NUMBERS, None);
     kdr_pool_share(first, &mut own);
     kdr_pool_pull_near(&mut own, 0, &mut number);
     (number, own)
 }
 
-/// Returns this thread's number, or `NONE`.
+/// Returns this thread's number, or `NUMBERS`.
 #[inline(always)]
 pub(crate) fn own() -> usize {
-    OWN.try_with(|own| own.0).unwrap_or(NONE)
+    OWN.try_with(|own| own.0).unwrap_or(NUMBERS)
 }

@@ -1,6 +1,6 @@
 //! Numbers of threads.
 use super::TESTED;
-use crate::threads::{own, NONE, NUMBERS};
+use crate::threads::{own, NUMBERS};
 use std::cell::RefCell;
 use std::collections::HashSet;
 use std::sync::mpsc::{channel, Sender};
@@ -32,7 +32,7 @@ fn threads_that_run_at_once_have_different_numbers_while_there_are_some() {
         let numbers = threads
             .into_iter()
             .map(|thread| thread.join().expect("it ends"));
-        numbers.filter(|number| *number != NONE).collect()
+        numbers.filter(|number| *number != NUMBERS).collect()
     });
     let different: HashSet<usize> = numbers.iter().copied().collect();
     assert_eq!(different.len(), numbers.len());
@@ -65,5 +65,5 @@ fn a_thread_has_no_number_once_it_was_given_back() {
         LATE.set(Some(Teller(sender)));
     };
     thread::spawn(run).join().expect("it ends");
-    assert!(receiver.iter().any(|number| number == NONE));
+    assert!(receiver.iter().any(|number| number == NUMBERS));
 }
