@@ -153,6 +153,7 @@ impl<T: Drop, I: Init<T, K>, R: Reset<T, K>, K: Clean<T>> FixedObjectPool<T, I, 
     ///
     /// `Limit` if no item was free at one moment of the call (or 2^32 returns and more came within
     /// it, which the counts of the words can't tell from none).
+    #[inline(always)]
     pub fn pull(&self) -> Result<FixedReusable<'_, T, I, R, K>, PullError>
         ensures pool { IfOk result (λ item. (reusable_pool item).now ≡ self.now) }
         ensures pulled { IfOk result (λ item.
@@ -165,7 +166,7 @@ impl<T: Drop, I: Init<T, K>, R: Reset<T, K>, K: Clean<T>> FixedObjectPool<T, I, 
             (reusable_steps item)) }
         ensures refused { IfErr result (λ error. error ≡ Limit) }
     {
-        match self.items.pull() {
+        match self.items.pull_in_order(self.items.hinted(), None) {
             Ok(pulled) => Ok(FixedReusable::new(self, pulled)),
             Err(_) => Err(PullError::Limit),
         }
@@ -188,6 +189,7 @@ impl<T: Drop, I: Init<T, K>, R: Reset<T, K>, K: Clean<T>> FixedObjectPool<T, I, 
     /// ```rust
     /// let item = pool.pull_near(8 * thread)?;
     /// ```
+    #[inline(always)]
     pub fn pull_near(&self, page: usize) -> Result<FixedReusable<'_, T, I, R, K>, PullError>
         ensures pool { IfOk result (λ item. (reusable_pool item).now ≡ self.now) }
         ensures pulled { IfOk result (λ item.
@@ -200,7 +202,8 @@ impl<T: Drop, I: Init<T, K>, R: Reset<T, K>, K: Clean<T>> FixedObjectPool<T, I, 
             (reusable_steps item)) }
         ensures refused { IfErr result (λ error. error ≡ Limit) }
     {
-        match self.items.pull_near(self.items.page_round(page)) {
+        let start = self.items.page_round(page);
+        match self.items.pull_in_order(start, Some(Order::Hinted)) {
             Ok(pulled) => Ok(FixedReusable::new(self, pulled)),
             Err(_) => Err(PullError::Limit),
         }
@@ -324,6 +327,7 @@ impl<T: Drop, I: Init<T, K>, R: Reset<T, K>, K: Clean<T>> FixedObjectPool<T, I, 
     ///
     /// The owner and the note, which now knows that the pool was full at one moment of this call
     /// (or that so many returns came within it as `pull` says).
+    #[inline(always)]
     pub fn pull_by_owner(
         self: Arc<Self>,
         page: usize,

@@ -50,6 +50,7 @@ pub type Fixed = FixedObjectPool<u64, Zero, Zero, AnyValue>;
 impl<'p, R> Pulls<R> for &'p Fixed {
     type Item = FixedReusable<'p, u64, Zero, Zero, AnyValue>;
 
+    #[inline(always)]
     fn pull_one(&self, _rt: &R, _thread: usize) -> Result<Self::Item, PullError> {
         self.pull()
     }
@@ -72,6 +73,7 @@ pub struct Near<'p> {
 impl<'p, R> Pulls<R> for Near<'p> {
     type Item = FixedReusable<'p, u64, Zero, Zero, AnyValue>;
 
+    #[inline(always)]
     fn pull_one(&self, _rt: &R, thread: usize) -> Result<Self::Item, PullError> {
         self.pool.pull_near(thread.wrapping_mul(PAGES_APART))
     }

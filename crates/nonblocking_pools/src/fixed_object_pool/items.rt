@@ -196,6 +196,9 @@ impl<T, K: Clean<T>> FixedItems<T, K> {
 
     /// Pulls an item, or returns a note of a pool that was full at one moment. It begins at the
     /// hinted page, and goes on in the pool's order.
+    ///
+    /// It isn't inlined, so that an owned or a lazy item isn't moved through memory.
+    #[inline(never)]
     pub fn pull(&self) -> Result<PulledItem<T>, PoolNote<T>>
         ensures pulled { IfOk result
             (λ pulled. IsPulledFrom (fixed_identity self.now) (fixed_opening self.now)
@@ -239,7 +242,7 @@ impl<T, K: Clean<T>> FixedItems<T, K> {
 
     /// Pulls an item as `pull` does, from this page on and in this order, or in the pool's own.
     #[inline(always)]
-    fn pull_in_order(
+    pub(super) fn pull_in_order(
         &self,
         start: usize,
         order: Option<Order>,
@@ -309,6 +312,7 @@ impl<T, K: Clean<T>> FixedItems<T, K> {
 
     /// Pulls as `pull_near` does, by a user that knows something of the pool. The pull comes after
     /// all that it knew. A refused pull returns the note, which knows what was found.
+    #[inline(always)]
     pub(super) fn pull_onward(
         &self,
         page: usize,
