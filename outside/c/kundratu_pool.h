@@ -53,7 +53,7 @@ typedef uint32_t kdr_answer;
 
 enum {
     KDR_DONE = 0,       /**< It was done. */
-    KDR_ALL_OUT = 1,    /**< All places were out at one moment of the call. */
+    KDR_ALL_OUT = 1,    /**< All places were out at one moment of the call (or as kdr_pool_pull() says). */
     KDR_HOLDS_ONE = 2,  /**< The handle holds a place already. */
     KDR_HOLDS_NONE = 3, /**< The handle holds no place. */
     KDR_NO_POOL = 4,    /**< The handle has no pool. */
@@ -86,7 +86,7 @@ kdr_answer kdr_pool_new(size_t items, kdr_handle *out) KDR_POINTERS_ARE_VALID KD
 /**
  * @brief Makes a further handle of the same pool, as for another thread or a further place.
  *
- * Handles begin their pulls at pages of their own, so threads that have one each seldom meet.
+ * While there are pages, handles begin their pulls at pages of their own, so threads that have one each seldom meet.
  *
  * @param handle a handle of the pool, whether it holds a place or not. It stays as it was.
  * @param out    another handle, which is empty. Where the answer is KDR_DONE it is a handle of the pool and holds no place.
