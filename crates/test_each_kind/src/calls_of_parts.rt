@@ -25,6 +25,11 @@ fn zeros() -> Zeros {
     Copied::new(0)
 }
 
+/// Makes the values of pages and chains.
+fn new_zero() -> Option<u64> {
+    Some(0)
+}
+
 type Zero = Page<u64, AnyValue>;
 
 /// Slots of a page, by notes.
@@ -54,7 +59,7 @@ fn use_owned(page: &Arc<Zero>) -> Option<u32> {
 
 #[test]
 fn calls_of_a_page_ask_for_no_memory(rt: HostRuntime) {
-    let Ok(page) = Zero::new(rt.alloc(), &|| Some(0)) else {
+    let Ok(page) = Zero::new(rt.alloc(), &new_zero) else {
         return;
     };
     let Ok(page) = Arc::new(rt.alloc(), page) else {
@@ -70,7 +75,7 @@ fn calls_of_a_page_ask_for_no_memory(rt: HostRuntime) {
 
 #[test]
 fn calls_of_a_chain_ask_for_no_memory(rt: HostRuntime) {
-    let Ok(chain) = Chain::<u64, AnyValue>::new(rt.alloc(), &|| Some(0)) else {
+    let Ok(chain) = Chain::<u64, AnyValue>::new(rt.alloc(), &new_zero) else {
         return;
     };
     is_ready(&rt);
@@ -127,7 +132,7 @@ fn calls_of_a_spin_lock_ask_for_no_memory(rt: HostRuntime) {
 
 #[test]
 fn calls_of_a_core_page_ask_for_no_memory(rt: HostRuntime) {
-    let Ok(mut page) = CorePage::<u64, AnyValue>::new(rt.alloc(), &|| Some(0)) else {
+    let Ok(mut page) = CorePage::<u64, AnyValue>::new(rt.alloc(), &new_zero) else {
         return;
     };
     is_ready(&rt);
@@ -228,7 +233,7 @@ fn use_world(world: &mut World<u64, Zeros>) -> [bool; 3] {
 
 /// A world with one agent, which has begun.
 fn world_of_one(alloc: Global) -> Option<World<u64, Zeros>> {
-    let first = Prepared::make(alloc, &|| Some(0)).ok()?;
+    let first = Prepared::make(alloc, &new_zero).ok()?;
     let mut world = World::new(alloc, first, zeros()).ok()?;
     match world.step(Event::Begin) {
         Seen::Began(_) => Some(world),

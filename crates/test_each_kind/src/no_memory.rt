@@ -143,9 +143,10 @@ fn turns_of_a_spin_lock_pool_ask_for_no_memory(rt: HostRuntime) {
 /// Slots of a page, borrowed and owned, and the first page of a chain.
 fn use_pages(rt: &(impl Abort + Print), alloc: Global) -> Result<(), PullError> {
     let tally = new_tally(alloc)?;
-    let page: Page<Tallied, AnyValue> = Page::new(alloc, &|| Tallied::new(&tally))?;
+    let make = || Tallied::new(&tally);
+    let page: Page<Tallied, AnyValue> = Page::new(alloc, &make)?;
     let page = Arc::new(alloc, page)?;
-    let chain: Chain<Tallied, AnyValue> = Chain::new(alloc, &|| Tallied::new(&tally))?;
+    let chain: Chain<Tallied, AnyValue> = Chain::new(alloc, &make)?;
     is_ready(rt);
     let owner = Arc::try_clone(&page)?;
     let slot = page.alloc()?.expect(rt, "an item is free");

@@ -12,6 +12,11 @@ pub struct Worlds;
 
 type Tracked = World<Tallied, OwningReset>;
 
+/// A page's values.
+fn prepared(alloc: Global, init: &OwningInit) -> Result<Prepared<Tallied>, PullError> {
+    Prepared::make(alloc, &|| Init::<Tallied, _>::make(init))
+}
+
 /// A step that is enabled. It is refused where there is no memory.
 fn done(world: &mut Tracked, event: Event<Tallied>) -> Result<Seen, PullError> {
     match world.step(event) {
@@ -38,7 +43,7 @@ fn pull(
             return Ok(());
         }
         if let Seen::Next(_, false) = done(world, Event::ReadNext(agent))? {
-            let page = Prepared::make(alloc, &|| Init::<Tallied, _>::make(init));
+            let page = prepared(alloc, init);
             done(world, Event::MakePage(agent, page))?;
             done(world, Event::ExchangeNext(agent))?;
         }
@@ -77,7 +82,7 @@ impl Kind for Worlds {
         how: Use,
     ) -> Result<(), PullError> {
         let Parts { init, reset } = parts;
-        let first = Prepared::make(alloc, &|| Init::<Tallied, _>::make(&init))?;
+        let first = prepared(alloc, &init)?;
         let mut world = World::new(alloc, first, reset)?;
         for round in 0..how.rounds() {
             let first = how.items.saturating_mul(round);

@@ -2,12 +2,16 @@
 //!
 //! No clause tells of a box that is forgotten, and no test sees one. Here one that is forgotten in
 //! each turn adds up to megabytes. A line for each kind of turn says that nothing is kept, or how
-//! much is; then the status is 1.
+//! much is; then the status is 1. The argument is how many turns there are.
 //!
 //! Before the turns it looks at what openings and pages take, while the process has little: memory
 //! that is taken at an opening and let go again, or never written to, counts too.
+//!
+//! At last it opens pools beside blocks of memory, and sees that each block can be had again. With
+//! the argument `filled` it does this alone, and takes all other memory first.
 #![tactic(auto)]
 
+mod blocks;
 mod cores;
 mod fixed_pools;
 mod linear_pools;
@@ -15,6 +19,7 @@ mod observer;
 mod openings;
 mod others;
 mod pages;
+mod refused_openings;
 mod stack_pools;
 mod supply;
 mod worlds;
@@ -25,15 +30,22 @@ use std::env;
 use std::process::ExitCode;
 use std::rt::Env;
 
-/// How many turns of each kind are observed: the argument.
-fn turns<R: Env + AllocGlobal>(rt: &R) -> Option<usize> {
+/// The argument.
+fn argument<R: Env + AllocGlobal>(rt: &R) -> Option<String> {
     let mut arguments = env::args(rt).ok()?;
     let _name = arguments.next();
-    arguments.next()?.parse().ok()
+    arguments.next()
 }
 
 fn main(rt: HostRuntime) -> Result<ExitCode> {
-    let turns = turns(&rt).context("the argument is how many turns are observed")?;
+    let argument = argument(&rt).context("usage: test_kept_memory TURNS | filled")?;
+    if argument.as_str() == "filled" {
+        return Ok(status(refused_openings::observe(&rt, true)?));
+    }
+    let turns = argument
+        .parse()
+        .ok()
+        .context("the argument is no number of turns")?;
     let mut observer = Observer::new(rt, turns);
     openings::observe(rt.alloc(), &mut observer)?;
     pages::observe(rt.alloc(), &mut observer)?;
@@ -43,9 +55,14 @@ fn main(rt: HostRuntime) -> Result<ExitCode> {
     others::observe(&rt, rt.alloc(), &mut observer)?;
     cores::observe(rt.alloc(), &mut observer)?;
     worlds::observe(rt.alloc(), &mut observer)?;
-    if observer.saw_nothing_kept() {
-        Ok(ExitCode::SUCCESS)
+    let openings_are_good = refused_openings::observe(&rt, false)?;
+    Ok(status(openings_are_good && observer.saw_nothing_kept()))
+}
+
+fn status(is_good: bool) -> ExitCode {
+    if is_good {
+        ExitCode::SUCCESS
     } else {
-        Ok(ExitCode::from(1))
+        ExitCode::from(1)
     }
 }

@@ -5,7 +5,7 @@ use lazy_pools::PullError;
 use std::alloc::Global;
 use std::sync::Arc;
 use std::time::Duration;
-use test_values::refused::again;
+use test_values::again;
 
 /// A pool of two, with an owner.
 fn owned_numbers(alloc: Global) -> Result<Arc<Numbers>, PullError> {
@@ -14,7 +14,7 @@ fn owned_numbers(alloc: Global) -> Result<Arc<Numbers>, PullError> {
 
 #[test]
 fn a_pool_is_made_again_where_memory_was_refused(rt: HostRuntime) {
-    let pool = again(&|| numbers(rt.alloc(), 70)).expect(&rt, "one request alone is refused");
+    let pool = again!(numbers(rt.alloc(), 70)).expect(&rt, "one request alone is refused");
     let first = pool.pull().expect(&rt, "an item is free");
     let second = pool.pull().expect(&rt, "an item is free");
     assert_equal(
@@ -26,7 +26,7 @@ fn a_pool_is_made_again_where_memory_was_refused(rt: HostRuntime) {
 
 #[test]
 fn an_item_takes_no_memory(rt: HostRuntime) {
-    let pool = again(&|| owned_numbers(rt.alloc())).expect(&rt, "one request alone is refused");
+    let pool = again!(owned_numbers(rt.alloc())).expect(&rt, "one request alone is refused");
     for _ in 0..3 {
         let first = pool.pull_owned().expect(&rt, "an item is free");
         let second = pool.pull_wait(&rt).expect(&rt, "an item is free");

@@ -1,7 +1,7 @@
 //! What the program is told by its arguments.
 
 /// The pool that the calls are done on.
-#[derive(Clone, Copy, Debug, PartialEq, Eq)]
+#[derive(Clone, Copy)]
 pub enum Kind {
     Linear,
     Mutex,
@@ -10,7 +10,7 @@ pub enum Kind {
 }
 
 /// The pool, and whether a reset clears what was written.
-#[derive(Clone, Copy, Debug, PartialEq, Eq)]
+#[derive(Clone, Copy)]
 pub struct Arguments {
     pub kind: Kind,
     pub clears: bool,

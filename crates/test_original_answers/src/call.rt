@@ -1,7 +1,7 @@
 //! The calls of a replay, one a line.
 
 /// Where a new item that is held comes from.
-#[derive(Clone, Copy, Debug, PartialEq, Eq)]
+#[derive(Clone, Copy)]
 pub enum Origin {
     /// It is pulled.
     Pool,
@@ -11,7 +11,7 @@ pub enum Origin {
 
 /// A call. Items that are held are named by their places in a list, to which each that comes is
 /// added last; where one goes, the last takes its place.
-#[derive(Clone, Copy, Debug, PartialEq, Eq)]
+#[derive(Clone, Copy)]
 pub enum Call {
     /// An item comes under a borrow of the pool.
     Borrow(Origin),

@@ -13,7 +13,7 @@ pub enum Source {
 }
 
 /// Where an item lies in a linear pool.
-#[derive(Clone, Copy, Debug)]
+#[derive(Clone, Copy)]
 pub struct Place {
     pub page: usize,
     pub id: u8,

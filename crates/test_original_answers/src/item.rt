@@ -21,7 +21,7 @@ impl fmt::Display for Totals<'_> {
 }
 
 /// What is read of an item.
-#[derive(Clone, Copy, Debug)]
+#[derive(Clone, Copy)]
 pub struct Shown {
     pub number: u64,
     pub content: u64,

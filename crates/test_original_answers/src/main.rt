@@ -11,16 +11,11 @@ mod replay;
 
 use anyhow::{Context, Result};
 use arguments::{Arguments, Kind, arguments_of};
-use held::{Given, Source};
 use item::{Item, Numbered, Restore, Totals};
 use lockfree_object_pool::closures::Init;
 use lockfree_object_pool::free_list::FreeList;
-use lockfree_object_pool::{
-    LinearObjectPool, MutexObjectPool, NoneObjectPool, NoneReusable, SpinLockObjectPool,
-};
-use pools::{
-    Linear, Stacked, StackedItems, linear_item, linear_owned_item, stack_item, stack_owned_item,
-};
+use lockfree_object_pool::{LinearObjectPool, MutexObjectPool, NoneObjectPool, SpinLockObjectPool};
+use pools::{Linear, Stacked, StackedItems};
 use replay::replay;
 use std::env;
 use std::sync::{Arc, Wait};
@@ -78,9 +73,7 @@ fn replay_on_linear<R: Input + Print + AllocGlobal>(
     pool: Linear,
 ) -> Result<()> {
     let pool = Arc::new(rt.alloc(), pool)?;
-    let borrowed = |source| linear_item(&pool, source);
-    let owned = |source| linear_owned_item(&pool, source);
-    replay(rt, tally, &borrowed, &owned)
+    replay(rt, tally, &&*pool, &pool)
 }
 
 fn replay_on_stack<R: Input + Print + AllocGlobal + Wait + Copy, F: FreeList<Item, StackedItems>>(
@@ -89,9 +82,7 @@ fn replay_on_stack<R: Input + Print + AllocGlobal + Wait + Copy, F: FreeList<Ite
     pool: Stacked<F>,
 ) -> Result<()> {
     let pool = Arc::new(rt.alloc(), pool)?;
-    let borrowed = |source| stack_item(rt, &pool, source);
-    let owned = |source| stack_owned_item(rt, &pool, source);
-    replay(rt, tally, &borrowed, &owned)
+    replay(rt, tally, &&*pool, &pool)
 }
 
 fn replay_on_none<R: Input + Print + AllocGlobal>(
@@ -101,13 +92,5 @@ fn replay_on_none<R: Input + Print + AllocGlobal>(
 ) -> Result<()> {
     let pool = NoneObjectPool::new(|| init.make());
     let pool = Arc::new(rt.alloc(), pool)?;
-    let borrowed = |source| match source {
-        Source::Pool => Some(Given::nowhere(pool.pull().ok()?)),
-        Source::Caller(item) => Some(Given::nowhere(NoneReusable::new(item))),
-    };
-    let owned = |source| match source {
-        Source::Pool => Some(Given::nowhere(pool.pull_owned().ok()?)),
-        Source::Caller(item) => Some(Given::nowhere(NoneReusable::new(item))),
-    };
-    replay(rt, tally, &borrowed, &owned)
+    replay(rt, tally, &&*pool, &pool)
 }

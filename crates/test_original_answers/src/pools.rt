@@ -1,73 +1,122 @@
-//! How each pool is asked for an item. `None` is a refusal.
+//! How each pool is asked for an item.
+ghost use Rattle.std.specs.Prelude.{⊤};
+ghost use Rattle.std.specs.Arc.{arc_value};
+ghost use Rattle.lockfree_object_pool.specs.NonePool.{none_init};
+
 use crate::held::{Given, Place, Source};
 use crate::item::{Item, Numbered, Restore};
 use lockfree_object_pool::clean::AnyValue;
+use lockfree_object_pool::closures::{Init, Reset};
 use lockfree_object_pool::free_list::FreeList;
 use lockfree_object_pool::made_or_reset::MadeOrReset;
 use lockfree_object_pool::stack_object_pool::StackObjectPool;
 use lockfree_object_pool::stack_reusable::StackReusable;
-use lockfree_object_pool::{LinearObjectPool, LinearOwnedReusable, LinearReusable};
+use lockfree_object_pool::{
+    LinearObjectPool, LinearOwnedReusable, LinearReusable, NoneObjectPool, NoneReusable,
+};
+use std::ops::DerefMut;
 use std::sync::{Arc, Wait};
 
 pub type Linear = LinearObjectPool<Item, Numbered, Restore, AnyValue>;
-
-type LinearItem<'p> = LinearReusable<'p, Item, Numbered, Restore, AnyValue>;
-
-type LinearOwnedItem = LinearOwnedReusable<Item, Numbered, Restore, AnyValue>;
 
 /// What a stack pool keeps.
 pub type StackedItems = MadeOrReset<Numbered, Restore, AnyValue>;
 
 pub type Stacked<F> = StackObjectPool<Item, Numbered, Restore, AnyValue, F>;
 
-type StackItem<'p, F, W> = StackReusable<Item, &'p Stacked<F>, W>;
+/// A reference to a pool, which gives borrowed items, or an owner of one, which gives owned items.
+pub trait Gives<R> {
+    type Came: DerefMut<Target = Item> + Drop;
 
-type StackOwnedItem<F, W> = StackReusable<Item, Arc<Stacked<F>>, W>;
+    /// It may be asked at any time.
+    ghost may_give: { Self → Type 0 } = { λ _. ⊤ };
 
-/// Returns an item of a linear pool, which attaches none.
-pub fn linear_item(pool: &Linear, source: Source) -> Option<Given<LinearItem<'_>>> {
-    let Source::Pool = source else {
-        return None;
-    };
-    let item = pool.pull().ok()?;
-    let (page, id) = (item.page_number(), item.page_id());
-    let place = Some(Place { page, id });
-    Some(Given { item, place })
+    /// Gives an item. `None` is a refusal.
+    fn give(&self, rt: &R, source: Source) -> Option<Given<Self::Came>>
+        requires { may_give self.now };
 }
 
-/// Returns the same with an owner of the pool.
-pub fn linear_owned_item(pool: &Arc<Linear>, source: Source) -> Option<Given<LinearOwnedItem>> {
-    let Source::Pool = source else {
-        return None;
-    };
-    let item = pool.pull_owned().ok()?;
-    let (page, id) = (item.page_number(), item.page_id());
-    let place = Some(Place { page, id });
-    Some(Given { item, place })
+/// A linear pool attaches no item.
+impl<'p, I: Init<Item, AnyValue>, S: Reset<Item, AnyValue>, R> Gives<R>
+    for &'p LinearObjectPool<Item, I, S, AnyValue> {
+    type Came = LinearReusable<'p, Item, I, S, AnyValue>;
+
+    fn give(&self, _rt: &R, source: Source) -> Option<Given<Self::Came>> {
+        let Source::Pool = source else {
+            return None;
+        };
+        let item = self.pull().ok()?;
+        let (page, id) = (item.page_number(), item.page_id());
+        let place = Some(Place { page, id });
+        Some(Given { item, place })
+    }
 }
 
-/// Returns an item of a mutex pool or of a spin lock pool.
-pub fn stack_item<'p, F: FreeList<Item, StackedItems>, W: Wait + Copy>(
-    rt: &W,
-    pool: &'p Stacked<F>,
-    source: Source,
-) -> Option<Given<StackItem<'p, F, W>>> {
-    let item = match source {
-        Source::Pool => pool.pull(rt).ok()?,
-        Source::Caller(item) => StackReusable::new(rt, pool, item).ok()?,
-    };
-    Some(Given::nowhere(item))
+impl<I: Init<Item, AnyValue>, S: Reset<Item, AnyValue>, R> Gives<R>
+    for Arc<LinearObjectPool<Item, I, S, AnyValue>> {
+    type Came = LinearOwnedReusable<Item, I, S, AnyValue>;
+
+    fn give(&self, _rt: &R, source: Source) -> Option<Given<Self::Came>> {
+        let Source::Pool = source else {
+            return None;
+        };
+        let item = self.pull_owned().ok()?;
+        let (page, id) = (item.page_number(), item.page_id());
+        let place = Some(Place { page, id });
+        Some(Given { item, place })
+    }
 }
 
-/// Returns the same with an owner of the pool.
-pub fn stack_owned_item<F: FreeList<Item, StackedItems>, W: Wait + Copy>(
-    rt: &W,
-    pool: &Arc<Stacked<F>>,
-    source: Source,
-) -> Option<Given<StackOwnedItem<F, W>>> {
-    let item = match source {
-        Source::Pool => pool.pull_owned(rt).ok()?,
-        Source::Caller(item) => { StackReusable::new(rt, Arc::try_clone(pool).ok()?, item).ok()? }
-    };
-    Some(Given::nowhere(item))
+impl<F: FreeList<Item, StackedItems>, R: Wait + Copy> Gives<R> for &Stacked<F> {
+    type Came = StackReusable<Item, Self, R>;
+
+    fn give(&self, rt: &R, source: Source) -> Option<Given<Self::Came>> {
+        let item = match source {
+            Source::Pool => self.pull(rt).ok()?,
+            Source::Caller(item) => StackReusable::new(rt, *self, item).ok()?,
+        };
+        Some(Given::nowhere(item))
+    }
+}
+
+impl<F: FreeList<Item, StackedItems>, R: Wait + Copy> Gives<R> for Arc<Stacked<F>> {
+    type Came = StackReusable<Item, Self, R>;
+
+    fn give(&self, rt: &R, source: Source) -> Option<Given<Self::Came>> {
+        let item = match source {
+            Source::Pool => self.pull_owned(rt).ok()?,
+            Source::Caller(item) => {
+                StackReusable::new(rt, Arc::try_clone(self).ok()?, item).ok()?
+            }
+        };
+        Some(Given::nowhere(item))
+    }
+}
+
+impl<I: Fn() -> Option<Item>, R> Gives<R> for &NoneObjectPool<Item, I> {
+    type Came = NoneReusable<Item>;
+
+    ghost may_give = { λ pool. I.pre (none_init pool.now) };
+
+    fn give(&self, _rt: &R, source: Source) -> Option<Given<Self::Came>> {
+        let item = match source {
+            Source::Pool => self.pull().ok()?,
+            Source::Caller(item) => NoneReusable::new(item),
+        };
+        Some(Given::nowhere(item))
+    }
+}
+
+impl<I: Fn() -> Option<Item>, R> Gives<R> for Arc<NoneObjectPool<Item, I>> {
+    type Came = NoneReusable<Item>;
+
+    ghost may_give = { λ pool. I.pre (none_init (arc_value pool)) };
+
+    fn give(&self, _rt: &R, source: Source) -> Option<Given<Self::Came>> {
+        let item = match source {
+            Source::Pool => self.pull_owned().ok()?,
+            Source::Caller(item) => NoneReusable::new(item),
+        };
+        Some(Given::nowhere(item))
+    }
 }

@@ -2,6 +2,7 @@
 use crate::call::{Call, Origin, call_of};
 use crate::held::{Given, Held, Place, Source};
 use crate::item::{Item, Shown, Totals};
+use crate::pools::Gives;
 use anyhow::{Context, Result, ensure};
 use std::io::{BufRead, BufReader, BufWriter, Write};
 use std::ops::DerefMut;
@@ -10,7 +11,7 @@ use std::{fmt, io, mem};
 use test_values::tally::Tally;
 
 /// What a call gave.
-#[derive(Clone, Copy, Debug)]
+#[derive(Clone, Copy)]
 enum Answer {
     /// An item came.
     Came(Shown, Option<Place>),
@@ -41,15 +42,14 @@ impl fmt::Display for Answer {
 
 /// Does the calls of standard input, and answers each by a line, with the counts. At the end the
 /// held items are dropped.
-pub fn replay<
-    R: Input + Print + AllocGlobal,
-    A: DerefMut<Target = Item> + Drop,
-    B: DerefMut<Target = Item> + Drop,
-    P: Fn(Source) -> Option<Given<A>>,
-    Q: Fn(Source) -> Option<Given<B>>,
->(rt: &R, tally: &Arc<Tally>, borrowed: &P, owned: &Q) -> Result<()>
-    requires borrowed { P.IsAlwaysCallable borrowed.now }
-    requires owned { Q.IsAlwaysCallable owned.now }
+pub fn replay<R: Input + Print + AllocGlobal, P: Gives<R>, Q: Gives<R>>(
+    rt: &R,
+    tally: &Arc<Tally>,
+    borrowed: &P,
+    owned: &Q,
+) -> Result<()>
+    requires borrowed { P.may_give borrowed.now }
+    requires owned { Q.may_give owned.now }
 {
     let mut held = Vec::new(rt.alloc());
     let mut output = BufWriter::new(rt.alloc(), io::writer(rt))?;
@@ -58,11 +58,11 @@ pub fn replay<
         let words: Vec<&str> = line.split_whitespace().collect(rt.alloc())?;
         let answer = match call_of(&words).context("a line is no call")? {
             Call::Borrow(origin) => {
-                let given = borrowed(source_of(tally, origin)?);
+                let given = borrowed.give(rt, source_of(tally, origin)?);
                 hold_borrowed(&mut held, given)?
             }
             Call::Own(origin) => {
-                let given = owned(source_of(tally, origin)?);
+                let given = owned.give(rt, source_of(tally, origin)?);
                 hold_owned(&mut held, given)?
             }
             Call::Write { place, content } => write(&mut held, place, content)?,

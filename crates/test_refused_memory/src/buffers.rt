@@ -4,7 +4,6 @@ use crate::refusals::{Refusals, again};
 use lockfree_object_pool::PullError;
 use object_pool_cores::buffers::{Buffer, BufferPool, Clear, WithCapacity, clear, fresh};
 use std::process::Abort;
-use std::test::Fail;
 
 type Buffers = BufferPool<WithCapacity, Clear>;
 
@@ -38,7 +37,7 @@ fn append(
 }
 
 #[test]
-fn an_append_that_was_refused_is_asked_again(rt: HostRuntime) -> Result<(), Fail> {
+fn an_append_that_was_refused_is_asked_again(rt: HostRuntime) {
     let refusals = Refusals::new();
     let pool = new_pool(&rt, &refusals);
     let mut buffer = pool.pull().expect(&rt, "an item is free");
@@ -57,11 +56,11 @@ fn an_append_that_was_refused_is_asked_again(rt: HostRuntime) -> Result<(), Fail
         (again.page_number(), again.page_id(), again.as_slice().len()),
         (0, 0, 0),
     );
-    refusals.tell(&rt)
+    refusals.tell(&rt);
 }
 
 #[test]
-fn a_fresh_buffer_that_was_refused_is_asked_again(rt: HostRuntime) -> Result<(), Fail> {
+fn a_fresh_buffer_that_was_refused_is_asked_again(rt: HostRuntime) {
     let refusals = Refusals::new();
     let mut bytes = again!(
         &rt,
@@ -74,13 +73,13 @@ fn a_fresh_buffer_that_was_refused_is_asked_again(rt: HostRuntime) -> Result<(),
     let filled = bytes.extend_from_slice(&[b'y'; 4096]);
     filled.expect(&rt, "there is room");
     assert_equal(&rt, bytes.len(), 4096);
-    refusals.tell(&rt)
+    refusals.tell(&rt);
 }
 
 /// A buffer that comes again has the room that it grew to. What fits there is appended, whichever
 /// request is refused.
 #[test]
-fn an_append_where_there_is_room_takes_no_memory(rt: HostRuntime) -> Result<(), Fail> {
+fn an_append_where_there_is_room_takes_no_memory(rt: HostRuntime) {
     let refusals = Refusals::new();
     let pool = new_pool(&rt, &refusals);
     let mut first = pool.pull().expect(&rt, "an item is free");
@@ -91,5 +90,5 @@ fn an_append_where_there_is_room_takes_no_memory(rt: HostRuntime) -> Result<(), 
         again.append(b"y").expect(&rt, "there is room");
     }
     assert_equal(&rt, (again.page_id(), again.as_slice().len()), (0, 64));
-    refusals.tell(&rt)
+    refusals.tell(&rt);
 }

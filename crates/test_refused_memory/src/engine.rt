@@ -11,7 +11,6 @@ use std::alloc::Global;
 use std::fmt::Write as _;
 use std::process::Abort;
 use std::sync::Wait;
-use std::test::Fail;
 
 /// The most pulls that are played: one past the first page.
 const MOST_PULLS: usize = 33;
@@ -125,31 +124,31 @@ fn judges(
 }
 
 #[test]
-fn a_linear_pool_tells_of_refused_memory(rt: HostRuntime) -> Result<(), Fail> {
+fn a_linear_pool_tells_of_refused_memory(rt: HostRuntime) {
     let refusals = Refusals::new();
     plays(&rt, &refusals, rt.alloc(), Kind::Linear);
-    refusals.tell(&rt)
+    refusals.tell(&rt);
 }
 
 #[test]
-fn a_bounded_pool_tells_of_refused_memory(rt: HostRuntime) -> Result<(), Fail> {
+fn a_bounded_pool_tells_of_refused_memory(rt: HostRuntime) {
     let refusals = Refusals::new();
     plays(&rt, &refusals, rt.alloc(), Kind::Bounded(2));
-    refusals.tell(&rt)
+    refusals.tell(&rt);
 }
 
 #[test]
-fn a_stack_tells_of_refused_memory(rt: HostRuntime) -> Result<(), Fail> {
+fn a_stack_tells_of_refused_memory(rt: HostRuntime) {
     let refusals = Refusals::new();
     plays(&rt, &refusals, rt.alloc(), Kind::Stack);
-    refusals.tell(&rt)
+    refusals.tell(&rt);
 }
 
 #[test]
-fn fresh_items_tell_of_refused_memory(rt: HostRuntime) -> Result<(), Fail> {
+fn fresh_items_tell_of_refused_memory(rt: HostRuntime) {
     let refusals = Refusals::new();
     plays(&rt, &refusals, rt.alloc(), Kind::None);
-    refusals.tell(&rt)
+    refusals.tell(&rt);
 }
 
 /// A line that takes no memory, and pulls behind it in the same read.
@@ -176,9 +175,9 @@ fn answers_the_first_line(rt: &(impl Wait + Abort), refusals: &Refusals, alloc: 
 }
 
 #[test]
-fn a_line_before_a_refusal_is_answered(rt: HostRuntime) -> Result<(), Fail> {
+fn a_line_before_a_refusal_is_answered(rt: HostRuntime) {
     let refusals = Refusals::new();
     answers_the_first_line(&rt, &refusals, rt.alloc(), Kind::Stack);
     answers_the_first_line(&rt, &refusals, rt.alloc(), Kind::None);
-    refusals.tell(&rt)
+    refusals.tell(&rt);
 }

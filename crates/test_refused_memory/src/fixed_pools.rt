@@ -7,7 +7,6 @@ use lockfree_object_pool::{FixedObjectPool, PullError};
 use std::alloc::Global;
 use std::process::Abort;
 use std::sync::Arc;
-use std::test::Fail;
 use test_values::tallied::{Tallied, TalliedValues};
 use test_values::tally::Tally;
 
@@ -30,18 +29,18 @@ fn opened(rt: &impl Abort, alloc: Global, refusals: &Refusals, tally: &Arc<Tally
 }
 
 #[test]
-fn a_fixed_pool_that_was_refused_is_made_again(rt: HostRuntime) -> Result<(), Fail> {
+fn a_fixed_pool_that_was_refused_is_made_again(rt: HostRuntime) {
     let refusals = Refusals::new();
     let tally = refusals.tally(&rt);
     drop(opened(&rt, rt.alloc(), &refusals, &tally));
     assert_equal(&rt, tally.living(), 0);
-    refusals.tell(&rt)
+    refusals.tell(&rt);
 }
 
 /// Three hundred pulls and returns ask for no memory, whichever request is refused: a refusal would
 /// be another than `Limit`.
 #[test]
-fn pulls_and_returns_in_turn_take_no_memory(rt: HostRuntime) -> Result<(), Fail> {
+fn pulls_and_returns_in_turn_take_no_memory(rt: HostRuntime) {
     let refusals = Refusals::new();
     let tally = refusals.tally(&rt);
     let pool = opened(&rt, rt.alloc(), &refusals, &tally);
@@ -51,5 +50,5 @@ fn pulls_and_returns_in_turn_take_no_memory(rt: HostRuntime) -> Result<(), Fail>
         drop(pool.pull_owned().expect(&rt, "an item is free"));
     }
     assert_equal(&rt, tally.living(), ITEMS);
-    refusals.tell(&rt)
+    refusals.tell(&rt);
 }

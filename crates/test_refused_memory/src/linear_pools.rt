@@ -8,7 +8,6 @@ use std::alloc::Global;
 use std::mem;
 use std::process::Abort;
 use std::sync::Arc;
-use std::test::Fail;
 use test_values::tallied::{Tallied, TalliedValues};
 use test_values::tally::Tally;
 
@@ -60,14 +59,14 @@ fn pull_twice(rt: &impl Abort, pool: &Tracked, tally: &Tally) {
 }
 
 #[test]
-fn a_pull_that_was_refused_is_asked_again(rt: HostRuntime) -> Result<(), Fail> {
+fn a_pull_that_was_refused_is_asked_again(rt: HostRuntime) {
     let refusals = Refusals::new();
     let tally = refusals.tally(&rt);
     let pool = again!(&rt, refusals, unbounded(rt.alloc(), &tally));
     use_up(&rt, &pool, &tally);
     see(&rt, &refusals, &tally, pool.pull().err());
     pull_twice(&rt, &pool, &tally);
-    refusals.tell(&rt)
+    refusals.tell(&rt);
 }
 
 /// Does so with owned items.
@@ -82,7 +81,7 @@ fn pull_owned_twice(rt: &impl Abort, pool: &Arc<Tracked>, tally: &Tally) {
 }
 
 #[test]
-fn an_owned_pull_that_was_refused_is_asked_again(rt: HostRuntime) -> Result<(), Fail> {
+fn an_owned_pull_that_was_refused_is_asked_again(rt: HostRuntime) {
     let refusals = Refusals::new();
     let tally = refusals.tally(&rt);
     let pool = again!(&rt, refusals, bounded(rt.alloc(), &tally));
@@ -91,13 +90,13 @@ fn an_owned_pull_that_was_refused_is_asked_again(rt: HostRuntime) -> Result<(), 
     pull_owned_twice(&rt, &pool, &tally);
     drop(pool);
     assert_equal(&rt, tally.living(), 32);
-    refusals.tell(&rt)
+    refusals.tell(&rt);
 }
 
 /// Where no page may be linked beside those that there are, a refusal is for the limit. Before, it
 /// is for memory.
 #[test]
-fn a_bounded_pull_tells_want_of_memory_from_its_limit(rt: HostRuntime) -> Result<(), Fail> {
+fn a_bounded_pull_tells_want_of_memory_from_its_limit(rt: HostRuntime) {
     let refusals = Refusals::new();
     let tally = refusals.tally(&rt);
     let pool = again!(&rt, refusals, bounded(rt.alloc(), &tally));
@@ -106,5 +105,5 @@ fn a_bounded_pull_tells_want_of_memory_from_its_limit(rt: HostRuntime) -> Result
     forget_page(&rt, &pool);
     assert_equal(&rt, pool.pull().err(), Some(PullError::Limit));
     assert_equal(&rt, tally.living(), 64);
-    refusals.tell(&rt)
+    refusals.tell(&rt);
 }

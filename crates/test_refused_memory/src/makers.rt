@@ -11,7 +11,6 @@ use lockfree_object_pool::{MutexObjectPool, PullError};
 use std::alloc::Global;
 use std::process::Abort;
 use std::sync::Arc;
-use std::test::Fail;
 
 /// A sheet that has its room from the start.
 #[derive(Drop)]
@@ -57,18 +56,18 @@ macro_rules! pulled {
 /// A refusal that a maker hides is missed between those of the rooms: a second item is pulled while
 /// the first is held.
 #[test]
-fn a_recyclable_value_that_memory_was_refused_for_is_told(rt: HostRuntime) -> Result<(), Fail> {
+fn a_recyclable_value_that_memory_was_refused_for_is_told(rt: HostRuntime) {
     let refusals = Refusals::new();
     let pool = MutexPool::<Sheet>::with_recycler(rt.alloc());
     let first = pulled!(&rt, &refusals, pool.pull(&rt));
     let second = pulled!(&rt, &refusals, pool.pull(&rt));
     assert_equal(&rt, (first.letters.len(), second.letters.len()), (0, 0));
-    refusals.tell(&rt)
+    refusals.tell(&rt);
 }
 
 /// As above, of vectors that are made with room.
 #[test]
-fn a_vector_that_memory_was_refused_for_is_told(rt: HostRuntime) -> Result<(), Fail> {
+fn a_vector_that_memory_was_refused_for_is_told(rt: HostRuntime) {
     let refusals = Refusals::new();
     let pool: MutexObjectPool<Vec<u8>, _, _, Empty> = MutexObjectPool::new(
         rt.alloc(),
@@ -78,7 +77,7 @@ fn a_vector_that_memory_was_refused_for_is_told(rt: HostRuntime) -> Result<(), F
     let first = pulled!(&rt, &refusals, pool.pull(&rt));
     let second = pulled!(&rt, &refusals, pool.pull(&rt));
     assert_equal(&rt, (first.len(), second.len()), (0, 0));
-    refusals.tell(&rt)
+    refusals.tell(&rt);
 }
 
 fn lazy_pool(alloc: Global) -> Result<Arc<LazyPool<Sheet>>, PullError> {
@@ -88,7 +87,7 @@ fn lazy_pool(alloc: Global) -> Result<Arc<LazyPool<Sheet>>, PullError> {
 /// A lazy pool, and what makes its values when they are first needed: after a refusal the place is
 /// empty, and is pulled again.
 #[test]
-fn a_lazy_value_that_memory_was_refused_for_is_told(rt: HostRuntime) -> Result<(), Fail> {
+fn a_lazy_value_that_memory_was_refused_for_is_told(rt: HostRuntime) {
     let refusals = Refusals::new();
     let pool = again!(&rt, refusals, lazy_pool(rt.alloc()));
     let first = pulled!(&rt, &refusals, pool.pull());
@@ -97,5 +96,5 @@ fn a_lazy_value_that_memory_was_refused_for_is_told(rt: HostRuntime) -> Result<(
     pulled!(&rt, &refusals, pool.fill(4));
     let numbers = (first.number(), second.number(), third.number());
     assert_equal(&rt, (numbers, pool.made()), ((0, 1, 2), 4));
-    refusals.tell(&rt)
+    refusals.tell(&rt);
 }

@@ -9,7 +9,6 @@ use std::alloc::Global;
 use std::mem;
 use std::process::Abort;
 use std::sync::Arc;
-use std::test::Fail;
 use test_values::tallied::Tallied;
 use test_values::tally::Tally;
 
@@ -20,14 +19,14 @@ fn page(alloc: Global, tally: &Arc<Tally>) -> Result<Page<Tallied, AnyValue>, Pu
 }
 
 #[test]
-fn a_page_that_was_refused_is_asked_again(rt: HostRuntime) -> Result<(), Fail> {
+fn a_page_that_was_refused_is_asked_again(rt: HostRuntime) {
     let refusals = Refusals::new();
     let tally = refusals.tally(&rt);
     let page = again!(&rt, refusals, page(rt.alloc(), &tally));
     assert_equal(&rt, (page.get_mask(), tally.living()), (u32::MAX, 32));
     drop(page);
     assert_equal(&rt, tally.living(), 0);
-    refusals.tell(&rt)
+    refusals.tell(&rt);
 }
 
 /// Takes all items of a page out for good.
@@ -67,7 +66,7 @@ fn used_up(
 }
 
 #[test]
-fn a_link_that_was_refused_is_asked_again(rt: HostRuntime) -> Result<(), Fail> {
+fn a_link_that_was_refused_is_asked_again(rt: HostRuntime) {
     let refusals = Refusals::new();
     let tally = refusals.tally(&rt);
     let chain = used_up(&rt, &refusals, &tally);
@@ -81,11 +80,11 @@ fn a_link_that_was_refused_is_asked_again(rt: HostRuntime) -> Result<(), Fail> {
     let number = next.expect(&rt, "the first page is full").number();
     assert_equal(&rt, (number, tally.living()), (1, 64));
     assert_equal(&rt, first.next().is_some(), true);
-    refusals.tell(&rt)
+    refusals.tell(&rt);
 }
 
 #[test]
-fn a_walk_that_was_refused_is_asked_again(rt: HostRuntime) -> Result<(), Fail> {
+fn a_walk_that_was_refused_is_asked_again(rt: HostRuntime) {
     let refusals = Refusals::new();
     let tally = refusals.tally(&rt);
     let chain = used_up(&rt, &refusals, &tally);
@@ -95,11 +94,11 @@ fn a_walk_that_was_refused_is_asked_again(rt: HostRuntime) -> Result<(), Fail> {
     assert_equal(&rt, (slot.id(), pages, tally.living()), (0, 1, 64));
     let (owned, pages) = again!(&rt, refusals, first.alloc_owned(&make));
     assert_equal(&rt, (owned.id(), pages, tally.living()), (1, 1, 64));
-    refusals.tell(&rt)
+    refusals.tell(&rt);
 }
 
 #[test]
-fn a_bounded_walk_that_was_refused_is_asked_again(rt: HostRuntime) -> Result<(), Fail> {
+fn a_bounded_walk_that_was_refused_is_asked_again(rt: HostRuntime) {
     let refusals = Refusals::new();
     let tally = refusals.tally(&rt);
     let chain = used_up(&rt, &refusals, &tally);
@@ -109,5 +108,5 @@ fn a_bounded_walk_that_was_refused_is_asked_again(rt: HostRuntime) -> Result<(),
     assert_equal(&rt, (owned.id(), pages, tally.living()), (0, 1, 64));
     let (slot, pages) = again!(&rt, refusals, first.alloc_within(2, &make));
     assert_equal(&rt, (slot.id(), pages, tally.living()), (1, 1, 64));
-    refusals.tell(&rt)
+    refusals.tell(&rt);
 }

@@ -11,7 +11,6 @@ use object_pool_cores::sequential::{
 use std::alloc::Global;
 use std::process::Abort;
 use std::sync::Arc;
-use std::test::Fail;
 use test_values::tallied::{Tallied, TalliedValues};
 use test_values::tally::Tally;
 
@@ -116,25 +115,25 @@ fn plays_each_again<P: SequentialPool<u32> + Drop>(
 }
 
 #[test]
-fn a_linear_player_answers_a_command_again_as_with_memory(rt: HostRuntime) -> Result<(), Fail> {
+fn a_linear_player_answers_a_command_again_as_with_memory(rt: HostRuntime) {
     let refusals = Refusals::new();
     let core = linear(&rt, &refusals);
     plays_each_again(&rt, &refusals, rt.alloc(), Pool::Linear, core);
-    refusals.tell(&rt)
+    refusals.tell(&rt);
 }
 
 #[test]
-fn a_stack_player_answers_a_command_again_as_with_memory(rt: HostRuntime) -> Result<(), Fail> {
+fn a_stack_player_answers_a_command_again_as_with_memory(rt: HostRuntime) {
     let refusals = Refusals::new();
     plays_each_again(&rt, &refusals, rt.alloc(), Pool::Stack, stack(rt.alloc()));
-    refusals.tell(&rt)
+    refusals.tell(&rt);
 }
 
 #[test]
-fn a_fresh_player_answers_a_command_again_as_with_memory(rt: HostRuntime) -> Result<(), Fail> {
+fn a_fresh_player_answers_a_command_again_as_with_memory(rt: HostRuntime) {
     let refusals = Refusals::new();
     plays_each_again(&rt, &refusals, rt.alloc(), Pool::Fresh, fresh());
-    refusals.tell(&rt)
+    refusals.tell(&rt);
 }
 
 /// How many pulls a run has.
@@ -213,25 +212,25 @@ fn runs_on<P: SequentialPool<u32> + Drop>(
 }
 
 #[test]
-fn a_run_of_a_linear_player_goes_on_from_the_commands_done(rt: HostRuntime) -> Result<(), Fail> {
+fn a_run_of_a_linear_player_goes_on_from_the_commands_done(rt: HostRuntime) {
     let refusals = Refusals::new();
     let core = linear(&rt, &refusals);
     runs_on(&rt, &refusals, rt.alloc(), Pool::Linear, core);
-    refusals.tell(&rt)
+    refusals.tell(&rt);
 }
 
 #[test]
-fn a_run_of_a_stack_player_goes_on_from_the_commands_done(rt: HostRuntime) -> Result<(), Fail> {
+fn a_run_of_a_stack_player_goes_on_from_the_commands_done(rt: HostRuntime) {
     let refusals = Refusals::new();
     runs_on(&rt, &refusals, rt.alloc(), Pool::Stack, stack(rt.alloc()));
-    refusals.tell(&rt)
+    refusals.tell(&rt);
 }
 
 #[test]
-fn a_run_of_a_fresh_player_goes_on_from_the_commands_done(rt: HostRuntime) -> Result<(), Fail> {
+fn a_run_of_a_fresh_player_goes_on_from_the_commands_done(rt: HostRuntime) {
     let refusals = Refusals::new();
     runs_on(&rt, &refusals, rt.alloc(), Pool::Fresh, fresh());
-    refusals.tell(&rt)
+    refusals.tell(&rt);
 }
 
 /// How many returns and pulls in turn there are.
@@ -260,25 +259,25 @@ fn takes_turns<P: SequentialPool<u32> + Drop>(
 }
 
 #[test]
-fn returns_and_pulls_in_turn_take_no_memory(rt: HostRuntime) -> Result<(), Fail> {
+fn returns_and_pulls_in_turn_take_no_memory(rt: HostRuntime) {
     let refusals = Refusals::new();
     let core = linear(&rt, &refusals);
     takes_turns(&rt, &refusals, rt.alloc(), Pool::Linear, core);
-    refusals.tell(&rt)
+    refusals.tell(&rt);
 }
 
 #[test]
-fn returns_to_a_stack_and_pulls_in_turn_take_no_memory(rt: HostRuntime) -> Result<(), Fail> {
+fn returns_to_a_stack_and_pulls_in_turn_take_no_memory(rt: HostRuntime) {
     let refusals = Refusals::new();
     takes_turns(&rt, &refusals, rt.alloc(), Pool::Stack, stack(rt.alloc()));
-    refusals.tell(&rt)
+    refusals.tell(&rt);
 }
 
 #[test]
-fn returns_and_pulls_of_fresh_items_in_turn_take_no_memory(rt: HostRuntime) -> Result<(), Fail> {
+fn returns_and_pulls_of_fresh_items_in_turn_take_no_memory(rt: HostRuntime) {
     let refusals = Refusals::new();
     takes_turns(&rt, &refusals, rt.alloc(), Pool::Fresh, fresh());
-    refusals.tell(&rt)
+    refusals.tell(&rt);
 }
 
 type Stack = StackCore<Tallied, TalliedValues, Keep, AnyValue>;
@@ -328,7 +327,7 @@ fn writes(
 }
 
 #[test]
-fn a_run_that_was_refused_drops_the_commands_not_done(rt: HostRuntime) -> Result<(), Fail> {
+fn a_run_that_was_refused_drops_the_commands_not_done(rt: HostRuntime) {
     let refusals = Refusals::new();
     let tally = refusals.tally(&rt);
     let mut player = holder(&rt, &refusals, &tally);
@@ -344,13 +343,13 @@ fn a_run_that_was_refused_drops_the_commands_not_done(rt: HostRuntime) -> Result
     // What was written last is held, and lives alone.
     assert_equal(&rt, number_held(&player, 0), Some(done));
     assert_equal(&rt, tally.living(), 1);
-    refusals.tell(&rt)
+    refusals.tell(&rt);
 }
 
 /// The table has room, so an attaching command is a reply in either case. Where memory is refused,
 /// the value is in it.
 #[test]
-fn an_attach_that_was_refused_is_a_reply_with_the_value(rt: HostRuntime) -> Result<(), Fail> {
+fn an_attach_that_was_refused_is_a_reply_with_the_value(rt: HostRuntime) {
     let refusals = Refusals::new();
     let tally = refusals.tally(&rt);
     let mut player = holder(&rt, &refusals, &tally);
@@ -367,16 +366,17 @@ fn an_attach_that_was_refused_is_a_reply_with_the_value(rt: HostRuntime) -> Resu
         _ => None,
     };
     assert_equal(&rt, number, Some(1));
-    refusals.tell(&rt)
+    refusals.tell(&rt);
 }
 
 /// A value for which the player's table has no room is dropped, and so is one that the pool hands
 /// back.
 #[test]
-fn an_attach_that_finds_no_room_drops_the_value(rt: HostRuntime) -> Result<(), Fail> {
+fn an_attach_that_finds_no_room_drops_the_value(rt: HostRuntime) {
     let refusals = Refusals::new();
     let tally = refusals.tally(&rt);
-    let core: Stack = StackCore::new(rt.alloc(), TalliedValues::new(&tally)?, Keep);
+    let init = TalliedValues::new(&tally).expect(&rt, "an owner is made");
+    let core: Stack = StackCore::new(rt.alloc(), init, Keep);
     let mut player = Player::new(rt.alloc(), core);
     let value = Tallied::new(&tally).expect(&rt, "a value takes no memory");
     let is_held = matches!(player.play(Command::Attach(value)), Ok(Reply::Attached(_)));
@@ -386,5 +386,5 @@ fn an_attach_that_finds_no_room_drops_the_value(rt: HostRuntime) -> Result<(), F
     assert_equal(&rt, tally.living(), usize::from(is_held));
     drop(player);
     assert_equal(&rt, tally.living(), 0);
-    refusals.tell(&rt)
+    refusals.tell(&rt);
 }

@@ -4,7 +4,6 @@ use std::alloc::Global;
 use std::cell::Cell;
 use std::process::Abort;
 use std::sync::Arc;
-use std::test::Fail;
 use test_values::tally::{Tally, new_tally};
 
 /// Whether memory was refused until now.
@@ -60,13 +59,13 @@ impl Refusals {
     }
 
     /// Prints whether memory was refused.
-    pub fn tell(&self, rt: &impl Print) -> Result<(), Fail> {
-        let outcome = if self.is_met.get() {
+    pub fn tell(&self, rt: &(impl Abort + Print)) {
+        let told = if self.is_met.get() {
             println!(rt; "a request for memory was refused")
         } else {
             println!(rt; "each request for memory was met")
         };
-        Ok(outcome?)
+        told.expect(rt, "standard output is there");
     }
 }
 

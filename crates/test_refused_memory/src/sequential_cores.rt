@@ -10,7 +10,6 @@ use object_pool_cores::sequential::{
 use std::alloc::Global;
 use std::process::Abort;
 use std::sync::Arc;
-use std::test::Fail;
 use test_values::tallied::{Tallied, TalliedValues};
 use test_values::tally::Tally;
 
@@ -23,12 +22,12 @@ fn page(alloc: Global, tally: &Arc<Tally>) -> Result<CorePage<Tallied, AnyValue>
 }
 
 #[test]
-fn a_page_that_was_refused_is_asked_again(rt: HostRuntime) -> Result<(), Fail> {
+fn a_page_that_was_refused_is_asked_again(rt: HostRuntime) {
     let refusals = Refusals::new();
     let tally = refusals.tally(&rt);
     let page = again!(&rt, refusals, page(rt.alloc(), &tally));
     assert_equal(&rt, (page.get_mask(), tally.living()), (u32::MAX, 32));
-    refusals.tell(&rt)
+    refusals.tell(&rt);
 }
 
 fn unbounded(alloc: Global, tally: &Arc<Tally>) -> Result<Linear, PullError> {
@@ -56,7 +55,7 @@ fn grows(rt: &impl Abort, refusals: &Refusals, core: &mut Linear, tally: &Tally)
 }
 
 #[test]
-fn a_linear_pull_that_was_refused_is_asked_again(rt: HostRuntime) -> Result<(), Fail> {
+fn a_linear_pull_that_was_refused_is_asked_again(rt: HostRuntime) {
     let refusals = Refusals::new();
     let tally = refusals.tally(&rt);
     let mut core = again!(&rt, refusals, unbounded(rt.alloc(), &tally));
@@ -65,7 +64,7 @@ fn a_linear_pull_that_was_refused_is_asked_again(rt: HostRuntime) -> Result<(), 
     let tally = refusals.tally(&rt);
     let mut core = again!(&rt, refusals, bounded(rt.alloc(), &tally));
     grows(&rt, &refusals, &mut core, &tally);
-    refusals.tell(&rt)
+    refusals.tell(&rt);
 }
 
 fn stack(rt: &impl Abort, alloc: Global, tally: &Arc<Tally>) -> Stack {
@@ -85,7 +84,7 @@ fn gives_again(rt: &impl Abort, core: &mut Stack, item: Item<Tallied>, tally: &T
 }
 
 #[test]
-fn a_stack_pull_that_was_refused_is_asked_again(rt: HostRuntime) -> Result<(), Fail> {
+fn a_stack_pull_that_was_refused_is_asked_again(rt: HostRuntime) {
     let refusals = Refusals::new();
     let tally = refusals.tally(&rt);
     let mut core = stack(&rt, rt.alloc(), &tally);
@@ -96,11 +95,11 @@ fn a_stack_pull_that_was_refused_is_asked_again(rt: HostRuntime) -> Result<(), F
     }
     let item = item.expect(&rt, "one request alone is refused");
     gives_again(&rt, &mut core, item, &tally);
-    refusals.tell(&rt)
+    refusals.tell(&rt);
 }
 
 #[test]
-fn an_attached_value_comes_back(rt: HostRuntime) -> Result<(), Fail> {
+fn an_attached_value_comes_back(rt: HostRuntime) {
     let refusals = Refusals::new();
     let tally = refusals.tally(&rt);
     let mut core = stack(&rt, rt.alloc(), &tally);
@@ -115,11 +114,11 @@ fn an_attached_value_comes_back(rt: HostRuntime) -> Result<(), Fail> {
     };
     let item = attached.ok().expect(&rt, "one request alone is refused");
     gives_again(&rt, &mut core, item, &tally);
-    refusals.tell(&rt)
+    refusals.tell(&rt);
 }
 
 #[test]
-fn fresh_items_take_no_memory(rt: HostRuntime) -> Result<(), Fail> {
+fn fresh_items_take_no_memory(rt: HostRuntime) {
     let refusals = Refusals::new();
     let tally = refusals.tally(&rt);
     let init = TalliedValues::new(&tally).expect(&rt, "an owner takes no memory");
@@ -130,5 +129,5 @@ fn fresh_items_take_no_memory(rt: HostRuntime) -> Result<(), Fail> {
         core.give(item);
     }
     assert_equal(&rt, tally.living(), 0);
-    refusals.tell(&rt)
+    refusals.tell(&rt);
 }

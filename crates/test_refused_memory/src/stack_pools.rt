@@ -13,7 +13,6 @@ use lockfree_object_pool::{MutexObjectPool, PullError, SpinLockObjectPool};
 use std::alloc::Global;
 use std::process::Abort;
 use std::sync::{Arc, Mutex, Wait};
-use std::test::Fail;
 use test_values::tallied::{Tallied, TalliedValues};
 use test_values::tally::Tally;
 
@@ -84,13 +83,13 @@ fn pulls<F: Kind<Tallied, TalliedValues>, W: Abort + Wait + Copy>(
 }
 
 #[test]
-fn a_pull_that_was_refused_is_asked_again(rt: HostRuntime) -> Result<(), Fail> {
+fn a_pull_that_was_refused_is_asked_again(rt: HostRuntime) {
     let refusals = Refusals::new();
     let tally = refusals.tally(&rt);
     pulls::<UnderMutex<_, _>, _>(&rt, rt.alloc(), &refusals, &tally);
     let tally = refusals.tally(&rt);
     pulls::<UnderSpinLock<_, _>, _>(&rt, rt.alloc(), &refusals, &tally);
-    refusals.tell(&rt)
+    refusals.tell(&rt);
 }
 
 /// A filling that was refused keeps what it made before, and goes on where it is asked again.
@@ -112,13 +111,13 @@ fn fills<F: Kind<Tallied, TalliedValues>, W: Abort + Wait + Copy>(
 }
 
 #[test]
-fn a_filling_that_was_refused_goes_on(rt: HostRuntime) -> Result<(), Fail> {
+fn a_filling_that_was_refused_goes_on(rt: HostRuntime) {
     let refusals = Refusals::new();
     let tally = refusals.tally(&rt);
     fills::<UnderMutex<_, _>, _>(&rt, rt.alloc(), &refusals, &tally);
     let tally = refusals.tally(&rt);
     fills::<UnderSpinLock<_, _>, _>(&rt, rt.alloc(), &refusals, &tally);
-    refusals.tell(&rt)
+    refusals.tell(&rt);
 }
 
 /// An owned pull and its drop, and an owned pull of what is kept. The end of the pool drops it.
@@ -144,13 +143,13 @@ fn owned_pulls<F: Kind<Tallied, TalliedValues>, W: Abort + Wait + Copy>(
 }
 
 #[test]
-fn an_owned_pull_that_was_refused_is_asked_again(rt: HostRuntime) -> Result<(), Fail> {
+fn an_owned_pull_that_was_refused_is_asked_again(rt: HostRuntime) {
     let refusals = Refusals::new();
     let tally = refusals.tally(&rt);
     owned_pulls::<UnderMutex<_, _>, _>(&rt, rt.alloc(), &refusals, &tally);
     let tally = refusals.tally(&rt);
     owned_pulls::<UnderSpinLock<_, _>, _>(&rt, rt.alloc(), &refusals, &tally);
-    refusals.tell(&rt)
+    refusals.tell(&rt);
 }
 
 /// One more owner of a pool.
@@ -211,11 +210,11 @@ fn attaches<F: Kind<u32, Numbers>, W: Abort + Wait + Copy>(
 }
 
 #[test]
-fn an_attached_value_comes_back(rt: HostRuntime) -> Result<(), Fail> {
+fn an_attached_value_comes_back(rt: HostRuntime) {
     let refusals = Refusals::new();
     attaches::<UnderMutex<_, _>, _>(&rt, rt.alloc(), &refusals);
     attaches::<UnderSpinLock<_, _>, _>(&rt, rt.alloc(), &refusals);
-    refusals.tell(&rt)
+    refusals.tell(&rt);
 }
 
 /// A value that the pool keeps, and one that is attached to an owned item or comes back. The pool
@@ -238,17 +237,17 @@ fn ends_behind_attach<F: Kind<Tallied, TalliedValues>, W: Abort + Wait + Copy>(
 }
 
 #[test]
-fn a_pool_ends_behind_an_owned_attach_that_was_refused(rt: HostRuntime) -> Result<(), Fail> {
+fn a_pool_ends_behind_an_owned_attach_that_was_refused(rt: HostRuntime) {
     let refusals = Refusals::new();
     let tally = refusals.tally(&rt);
     ends_behind_attach::<UnderMutex<_, _>, _>(&rt, rt.alloc(), &refusals, &tally);
     let tally = refusals.tally(&rt);
     ends_behind_attach::<UnderSpinLock<_, _>, _>(&rt, rt.alloc(), &refusals, &tally);
-    refusals.tell(&rt)
+    refusals.tell(&rt);
 }
 
 #[test]
-fn a_lock_gives_its_value_back(rt: HostRuntime) -> Result<(), Fail> {
+fn a_lock_gives_its_value_back(rt: HostRuntime) {
     let refusals = Refusals::new();
     let lock = match SpinLock::new(rt.alloc(), 7u32) {
         Err(back) => {
@@ -260,5 +259,5 @@ fn a_lock_gives_its_value_back(rt: HostRuntime) -> Result<(), Fail> {
     let lock = lock.expect(&rt, "one request alone is refused");
     assert_equal(&rt, *lock.lock(&rt), 7);
     drop(again!(&rt, refusals, Room::<u32>::new(rt.alloc())));
-    refusals.tell(&rt)
+    refusals.tell(&rt);
 }

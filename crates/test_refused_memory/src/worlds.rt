@@ -8,7 +8,6 @@ use object_pool_cores::interleave::{Event, Prepared, Seen, World};
 use std::alloc::Global;
 use std::process::Abort;
 use std::sync::Arc;
-use std::test::Fail;
 use test_values::tallied::Tallied;
 use test_values::tally::Tally;
 
@@ -59,7 +58,7 @@ fn drops_its_values(
 }
 
 #[test]
-fn a_world_that_was_refused_drops_its_values(rt: HostRuntime) -> Result<(), Fail> {
+fn a_world_that_was_refused_drops_its_values(rt: HostRuntime) {
     let refusals = Refusals::new();
     let tally = refusals.tally(&rt);
     let values = values_again(&rt, &refusals, &tally);
@@ -67,7 +66,7 @@ fn a_world_that_was_refused_drops_its_values(rt: HostRuntime) -> Result<(), Fail
     let values = values_again(&rt, &refusals, &tally);
     let world = World::with_limit(rt.alloc(), values, Keep, 2);
     drops_its_values(&rt, &refusals, &tally, world);
-    refusals.tell(&rt)
+    refusals.tell(&rt);
 }
 
 /// An agent that begins, by a second event where the tables couldn't grow.
@@ -82,7 +81,7 @@ fn begin_again<T: Drop>(refusals: &Refusals, world: &mut World<T, Keep>) -> Seen
 }
 
 #[test]
-fn a_begin_that_was_refused_is_asked_again(rt: HostRuntime) -> Result<(), Fail> {
+fn a_begin_that_was_refused_is_asked_again(rt: HostRuntime) {
     let refusals = Refusals::new();
     let mut world = again!(&rt, refusals, unbounded(rt.alloc()));
     for agent in 0..40 {
@@ -91,7 +90,7 @@ fn a_begin_that_was_refused_is_asked_again(rt: HostRuntime) -> Result<(), Fail> 
         assert_equal(&rt, began, Seen::Began(agent));
         assert_equal(&rt, word, Seen::Word(agent, FULL));
     }
-    refusals.tell(&rt)
+    refusals.tell(&rt);
 }
 
 /// Lets 33 agents each clear a bit of the first page, which has 32, and the last one read the link
@@ -106,7 +105,7 @@ fn find_no_item(refusals: &Refusals, world: &mut TalliedWorld) -> Seen {
 }
 
 #[test]
-fn a_page_that_was_refused_is_asked_again(rt: HostRuntime) -> Result<(), Fail> {
+fn a_page_that_was_refused_is_asked_again(rt: HostRuntime) {
     let refusals = Refusals::new();
     let tally = refusals.tally(&rt);
     let mut world = again!(&rt, refusals, tallied_bounded(rt.alloc(), &tally));
@@ -126,7 +125,7 @@ fn a_page_that_was_refused_is_asked_again(rt: HostRuntime) -> Result<(), Fail> {
     let linked = world.step(Event::ExchangeNext(32));
     assert_equal(&rt, linked, Seen::Linked(32));
     assert_equal(&rt, (world.pages(), world.word(1)), (2, Some(FULL)));
-    refusals.tell(&rt)
+    refusals.tell(&rt);
 }
 
 /// How many agents begin in a run.
@@ -157,7 +156,7 @@ fn begins(rt: &impl Abort, refusals: &Refusals, alloc: Global, count: usize) -> 
 }
 
 #[test]
-fn a_run_goes_on_from_the_events_done(rt: HostRuntime) -> Result<(), Fail> {
+fn a_run_goes_on_from_the_events_done(rt: HostRuntime) {
     let refusals = Refusals::new();
     let mut world = again!(&rt, refusals, unbounded(rt.alloc()));
     let mut seen = Vec::new(rt.alloc());
@@ -174,7 +173,7 @@ fn a_run_goes_on_from_the_events_done(rt: HostRuntime) -> Result<(), Fail> {
     assert_equal(&rt, seen.len(), AGENTS);
     let refused = AGENTS.saturating_sub(agents_begun(&rt, &refusals, &seen));
     assert_equal(&rt, refused.max(1), 1);
-    refusals.tell(&rt)
+    refusals.tell(&rt);
 }
 
 /// A world in which agent 0 holds a value, and that value's number.
@@ -221,7 +220,7 @@ fn number_held(world: &TalliedWorld) -> Option<usize> {
 }
 
 #[test]
-fn a_run_that_was_refused_drops_the_events_not_done(rt: HostRuntime) -> Result<(), Fail> {
+fn a_run_that_was_refused_drops_the_events_not_done(rt: HostRuntime) {
     let refusals = Refusals::new();
     let tally = refusals.tally(&rt);
     let (mut world, number) = held_by_one(&rt, &refusals, &tally);
@@ -237,5 +236,5 @@ fn a_run_that_was_refused_drops_the_events_not_done(rt: HostRuntime) -> Result<(
     // What was written last is held, and lives with the page's other values alone.
     assert_equal(&rt, number_held(&world), number.checked_add(done));
     assert_equal(&rt, tally.living(), 32);
-    refusals.tell(&rt)
+    refusals.tell(&rt);
 }

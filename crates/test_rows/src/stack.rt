@@ -4,7 +4,7 @@ use lockfree_object_pool::clean::AnyValue;
 use lockfree_object_pool::stack::{Room, Stack};
 use std::alloc::Global;
 use std::process::Abort;
-use test_values::refused::again;
+use test_values::again;
 
 /// A stack of numbers.
 type Numbers = Stack<u32, AnyValue>;
@@ -12,7 +12,7 @@ type Numbers = Stack<u32, AnyValue>;
 /// Puts a value into a new room, which is asked for again where memory was refused. How many values
 /// are kept then.
 fn put_in_new_room(rt: &impl Abort, alloc: Global, stack: &mut Numbers, value: u32) -> usize {
-    let room = again(&|| Room::new(alloc)).expect(rt, "one request alone is refused");
+    let room = again!(Room::new(alloc)).expect(rt, "one request alone is refused");
     stack.put(room, value);
     stack.kept()
 }

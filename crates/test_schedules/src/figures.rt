@@ -5,7 +5,7 @@ use std::fmt;
 use std::fmt::{Display, Formatter, Write};
 
 /// How often each kind of answer came.
-#[derive(Clone, Copy, Debug, Default)]
+#[derive(Clone, Copy, Default)]
 pub struct Figures {
     pub schedules: u64,
     events: u64,

@@ -15,7 +15,7 @@ use std::alloc::{AllocError, Global};
 use thiserror::Error;
 
 /// What a run may not have.
-#[derive(Clone, Copy, Debug, PartialEq, Eq, Error)]
+#[derive(Clone, Copy, Debug, Error)]
 pub enum Unlawful {
     #[error("an agent opens out of turn")]
     Opening,
@@ -40,7 +40,7 @@ pub enum Unlawful {
 }
 
 /// How far an agent is.
-#[derive(Clone, Copy, Debug, PartialEq, Eq)]
+#[derive(Clone, Copy, PartialEq, Eq)]
 enum Stage {
     Looking,
     /// The number and the value.
@@ -48,7 +48,7 @@ enum Stage {
     Done,
 }
 
-#[derive(Clone, Copy, Debug)]
+#[derive(Clone, Copy)]
 struct Agent {
     stage: Stage,
     /// The act with which it opened, and how many pages there were.
@@ -62,14 +62,14 @@ struct Agent {
 }
 
 /// What lies at a number.
-#[derive(Clone, Copy, Debug, PartialEq, Eq)]
+#[derive(Clone, Copy, PartialEq, Eq)]
 enum Place {
     Free(u32),
     Out,
 }
 
 /// A number, with the last act that returned it.
-#[derive(Clone, Copy, Debug)]
+#[derive(Clone, Copy)]
 struct Numbered {
     place: Place,
     returned: Option<usize>,

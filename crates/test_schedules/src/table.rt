@@ -13,7 +13,7 @@ const FULL: u32 = 4294967295;
 type Asked = Option<usize>;
 
 /// Where an agent is: the page, and what it knows there.
-#[derive(Clone, Copy, Debug, PartialEq, Eq)]
+#[derive(Clone, Copy)]
 pub enum Point {
     Reading(usize, Asked),
     /// The bits that it hasn't tried yet.

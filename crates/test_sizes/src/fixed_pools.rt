@@ -2,14 +2,13 @@
 ghost use Rattle.std.specs.Prelude.{◌≤◌};
 
 use crate::numbers::{Numbers, PAGE_ITEMS};
+use crate::pulls::Fixed;
 use crate::rounds::come_back;
 use crate::wrong::Wrong;
+use lockfree_object_pool::PullError;
 use lockfree_object_pool::closures::Keep;
-use lockfree_object_pool::{FixedObjectPool, PullError};
 use std::alloc::Global;
 use std::sync::Arc;
-
-type Pool = FixedObjectPool<u64, Numbers, Keep>;
 
 /// How many times the pages of another pool a fixed pool has.
 const TIMES: u64 = 4;
@@ -19,13 +18,13 @@ const TIMES: u64 = 4;
 /// # Errors
 ///
 /// `Wrong` names what was seen and may not be.
-pub fn borrowed(alloc: Global, pages: u16) -> Result<(), Wrong>
+pub fn borrowed<R>(rt: &R, alloc: Global, pages: u16) -> Result<(), Wrong>
     requires { 1 ≤ pages }
 {
     let numbers = Numbers::new(alloc)?;
     let items = u64::from(pages) * PAGE_ITEMS * TIMES;
-    let pool: Pool = FixedObjectPool::new(alloc, numbers.share()?, Keep, items as usize)?;
-    come_back(alloc, items, Some(PullError::Limit), &|| pool.pull())?;
+    let pool = Fixed::new(alloc, numbers.share()?, Keep, items as usize)?;
+    come_back(rt, alloc, items, Some(PullError::Limit), &&pool)?;
     numbers.expect_made(items)
 }
 
@@ -34,13 +33,13 @@ pub fn borrowed(alloc: Global, pages: u16) -> Result<(), Wrong>
 /// # Errors
 ///
 /// `Wrong` names what was seen and may not be.
-pub fn owned(alloc: Global, pages: u16) -> Result<(), Wrong>
+pub fn owned<R>(rt: &R, alloc: Global, pages: u16) -> Result<(), Wrong>
     requires { 1 ≤ pages }
 {
     let numbers = Numbers::new(alloc)?;
     let items = u64::from(pages) * PAGE_ITEMS * TIMES;
-    let pool: Pool = FixedObjectPool::new(alloc, numbers.share()?, Keep, items as usize)?;
+    let pool = Fixed::new(alloc, numbers.share()?, Keep, items as usize)?;
     let pool = Arc::new(alloc, pool)?;
-    come_back(alloc, items, Some(PullError::Limit), &|| pool.pull_owned())?;
+    come_back(rt, alloc, items, Some(PullError::Limit), &pool)?;
     numbers.expect_made(items)
 }

@@ -2,25 +2,24 @@
 ghost use Rattle.std.specs.Prelude.{◌≤◌};
 
 use crate::numbers::{Numbers, PAGE_ITEMS};
+use crate::pulls::Lazy;
 use crate::rounds::come_back;
 use crate::wrong::Wrong;
+use lockfree_object_pool::PullError;
 use lockfree_object_pool::closures::Keep;
-use lockfree_object_pool::{LazyObjectPool, PullError};
 use std::alloc::Global;
-
-type Pool = LazyObjectPool<u64, Numbers, Keep>;
 
 /// Pulls each item, which is made when it is first pulled, and no more.
 ///
 /// # Errors
 ///
 /// `Wrong` names what was seen and may not be.
-pub fn borrowed(alloc: Global, pages: u16) -> Result<(), Wrong>
+pub fn borrowed<R>(rt: &R, alloc: Global, pages: u16) -> Result<(), Wrong>
     requires { 1 ≤ pages }
 {
     let numbers = Numbers::new(alloc)?;
     let items = u64::from(pages) * PAGE_ITEMS;
-    let pool: Pool = LazyObjectPool::new(alloc, numbers.share()?, Keep, items as usize)?;
-    come_back(alloc, items, Some(PullError::Limit), &|| pool.pull())?;
+    let pool = Lazy::new(alloc, numbers.share()?, Keep, items as usize)?;
+    come_back(rt, alloc, items, Some(PullError::Limit), &&pool)?;
     numbers.expect_made(items)
 }

@@ -2,32 +2,26 @@
 ghost use Rattle.std.specs.Prelude.{◌≤◌};
 
 use crate::numbers::{Numbers, PAGE_ITEMS};
+use crate::pulls::Linear;
 use crate::rounds::come_back;
 use crate::wrong::Wrong;
+use lockfree_object_pool::PullError;
 use lockfree_object_pool::closures::Keep;
-use lockfree_object_pool::{LinearObjectPool, PullError};
 use std::alloc::Global;
 use std::sync::Arc;
-
-type Pool = LinearObjectPool<u64, Numbers, Keep>;
 
 /// Pulls from a pool with a limit: the last item is given, and no more.
 ///
 /// # Errors
 ///
 /// `Wrong` names what was seen and may not be.
-pub fn bounded(alloc: Global, pages: u16) -> Result<(), Wrong>
+pub fn bounded<R>(rt: &R, alloc: Global, pages: u16) -> Result<(), Wrong>
     requires { 1 ≤ pages }
 {
     let numbers = Numbers::new(alloc)?;
-    let pool: Pool = LinearObjectPool::with_limit(
-        alloc,
-        numbers.share()?,
-        Keep,
-        usize::from(pages),
-    )?;
+    let pool = Linear::with_limit(alloc, numbers.share()?, Keep, usize::from(pages))?;
     let items = u64::from(pages) * PAGE_ITEMS;
-    come_back(alloc, items, Some(PullError::Limit), &|| pool.pull())?;
+    come_back(rt, alloc, items, Some(PullError::Limit), &&pool)?;
     numbers.expect_made(items)
 }
 
@@ -36,19 +30,14 @@ pub fn bounded(alloc: Global, pages: u16) -> Result<(), Wrong>
 /// # Errors
 ///
 /// `Wrong` names what was seen and may not be.
-pub fn bounded_owned(alloc: Global, pages: u16) -> Result<(), Wrong>
+pub fn bounded_owned<R>(rt: &R, alloc: Global, pages: u16) -> Result<(), Wrong>
     requires { 1 ≤ pages }
 {
     let numbers = Numbers::new(alloc)?;
-    let pool: Pool = LinearObjectPool::with_limit(
-        alloc,
-        numbers.share()?,
-        Keep,
-        usize::from(pages),
-    )?;
+    let pool = Linear::with_limit(alloc, numbers.share()?, Keep, usize::from(pages))?;
     let pool = Arc::new(alloc, pool)?;
     let items = u64::from(pages) * PAGE_ITEMS;
-    come_back(alloc, items, Some(PullError::Limit), &|| pool.pull_owned())?;
+    come_back(rt, alloc, items, Some(PullError::Limit), &pool)?;
     numbers.expect_made(items)
 }
 
@@ -57,10 +46,10 @@ pub fn bounded_owned(alloc: Global, pages: u16) -> Result<(), Wrong>
 /// # Errors
 ///
 /// `Wrong` names what was seen and may not be.
-pub fn unbounded(alloc: Global, pages: u16) -> Result<(), Wrong> {
+pub fn unbounded<R>(rt: &R, alloc: Global, pages: u16) -> Result<(), Wrong> {
     let numbers = Numbers::new(alloc)?;
-    let pool: Pool = LinearObjectPool::new(alloc, numbers.share()?, Keep)?;
+    let pool = Linear::new(alloc, numbers.share()?, Keep)?;
     let items = u64::from(pages) * PAGE_ITEMS;
-    come_back(alloc, items, None, &|| pool.pull())?;
+    come_back(rt, alloc, items, None, &&pool)?;
     numbers.expect_made(items)
 }

@@ -20,6 +20,7 @@ mod lazy;
 mod linear_pools;
 mod numbers;
 mod players;
+mod pulls;
 mod rounds;
 mod stack_pools;
 mod wrong;
@@ -132,13 +133,13 @@ fn outcome_of<W: Wait + Copy>(rt: &W, alloc: Global, kind: Kind, pages: u16) -> 
     requires { 1 ≤ pages }
 {
     match kind {
-        Kind::BoundedLinear => linear_pools::bounded(alloc, pages),
-        Kind::BoundedLinearOwned => linear_pools::bounded_owned(alloc, pages),
-        Kind::Linear => linear_pools::unbounded(alloc, pages),
+        Kind::BoundedLinear => linear_pools::bounded(rt, alloc, pages),
+        Kind::BoundedLinearOwned => linear_pools::bounded_owned(rt, alloc, pages),
+        Kind::Linear => linear_pools::unbounded(rt, alloc, pages),
         Kind::Buffers => buffers::bounded(alloc, pages),
-        Kind::Fixed => fixed_pools::borrowed(alloc, pages),
-        Kind::FixedOwned => fixed_pools::owned(alloc, pages),
-        Kind::Lazy => lazy::borrowed(alloc, pages),
+        Kind::Fixed => fixed_pools::borrowed(rt, alloc, pages),
+        Kind::FixedOwned => fixed_pools::owned(rt, alloc, pages),
+        Kind::Lazy => lazy::borrowed(rt, alloc, pages),
         Kind::Mutex => stack_pools::mutex(rt, alloc, pages),
         Kind::SpinLock => stack_pools::spin_lock(rt, alloc, pages),
         Kind::BoundedLinearCore => cores::bounded_linear(alloc, pages),

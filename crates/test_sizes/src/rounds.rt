@@ -1,9 +1,9 @@
 //! Rounds in which each item of a pool is out at one moment.
 use crate::numbers::SeenNumbers;
+use crate::pulls::Pulls;
 use crate::wrong::Wrong;
 use lockfree_object_pool::PullError;
 use std::alloc::Global;
-use std::ops::DerefMut;
 
 /// How many rounds there are: in the second one each item comes again.
 const ROUNDS: u64 = 2;
@@ -14,17 +14,16 @@ const ROUNDS: u64 = 2;
 /// # Errors
 ///
 /// `Wrong` names what was seen and may not be.
-pub fn come_back<A: DerefMut<Target = u64> + Drop, P: Fn() -> Result<A, PullError>>(
+pub fn come_back<P: Pulls<W>, W>(
+    rt: &W,
     alloc: Global,
     items: u64,
     refusal: Option<PullError>,
-    pull: &P,
-) -> Result<(), Wrong>
-    requires { P.IsAlwaysCallable pull.now }
-{
+    pool: &P,
+) -> Result<(), Wrong> {
     for round in 0..ROUNDS {
-        let _held = hold(alloc, items, round, pull)?;
-        if refusal.is_some() && pull().err() != refusal {
+        let _held = hold(rt, alloc, items, round, pool)?;
+        if refusal.is_some() && pool.pull_one(rt).err() != refusal {
             return Err(Wrong::NotRefused);
         }
     }
@@ -32,18 +31,17 @@ pub fn come_back<A: DerefMut<Target = u64> + Drop, P: Fn() -> Result<A, PullErro
 }
 
 /// So many items. Each has its number and the round, and is written with the next round.
-fn hold<A: DerefMut<Target = u64> + Drop, P: Fn() -> Result<A, PullError>>(
+fn hold<P: Pulls<W>, W>(
+    rt: &W,
     alloc: Global,
     items: u64,
     round: u64,
-    pull: &P,
-) -> Result<Vec<A>, Wrong>
-    requires { P.IsAlwaysCallable pull.now }
-{
+    pool: &P,
+) -> Result<Vec<P::Item>, Wrong> {
     let mut seen = SeenNumbers::none(alloc, items)?;
     let mut held = Vec::with_capacity(alloc, items as usize)?;
     for _ in 0..items {
-        let mut item = pull()?;
+        let mut item = pool.pull_one(rt)?;
         seen.see(item.wrapping_sub(round.wrapping_mul(items)))?;
         *item = item.wrapping_add(items);
         held.push(item)?;

@@ -12,13 +12,3 @@ macro_rules! again {
         }
     };
 }
-
-/// Returns the answer. If memory was refused, it is that of a second try.
-pub fn again<X: Drop, F: Fn() -> Result<X, PullError>>(ask: &F) -> Result<X, PullError>
-    requires { F.pre ask.now }
-{
-    match ask() {
-        Err(PullError::Memory) => ask(),
-        answer => answer,
-    }
-}

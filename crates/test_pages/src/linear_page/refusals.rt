@@ -4,7 +4,7 @@ use super::*;
 use crate::assert_equal::assert_equal;
 use crate::zero::{refused, zero};
 use std::mem;
-use test_values::refused::again;
+use test_values::again;
 use test_values::tallied::Tallied;
 use test_values::tally::new_tally;
 
@@ -29,7 +29,7 @@ fn a_refused_page_is_not_linked(rt: HostRuntime) {
 /// Holds with each request for memory refused in turn too: what was refused is asked for again.
 #[test]
 fn a_chain_goes_on_where_memory_was_refused(rt: HostRuntime) {
-    let made = again(&|| Zeros::new(rt.alloc(), &zero));
+    let made = again!(Zeros::new(rt.alloc(), &zero));
     let chain = made.expect(&rt, "a chain is made");
     let first = chain.first();
     forget_all(&rt, &first);

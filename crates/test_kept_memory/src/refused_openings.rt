@@ -4,20 +4,12 @@
 //! opening takes one of the blocks and then another one, or is refused that. What it took it lets
 //! go, so that each block can be had again. No clause tells of a block that an opening forgot, and
 //! no test sees it.
-//!
-//! With the argument `filled` all other memory is taken first, so that openings are refused. It has
-//! to be limited then, as by `ulimit -v`.
-#![tactic(auto)]
-
-mod blocks;
-
-use blocks::{Blocks, fill};
+use crate::blocks::{Blocks, fill};
 use lockfree_object_pool::clean::AnyValue;
 use lockfree_object_pool::closures::{Copied, Keep};
 use lockfree_object_pool::{FixedObjectPool, PullError, SpinLockObjectPool};
 use std::alloc::Global;
-use std::process::ExitCode;
-use std::{env, io};
+use std::io;
 
 /// What makes the items.
 type Zeros = Copied<u64, AnyValue>;
@@ -33,27 +25,25 @@ enum Seen {
     Kept,
 }
 
-fn main(rt: HostRuntime) -> io::Result<ExitCode> {
-    let mut arguments = env::args(&rt)?;
-    let _name = arguments.next();
-    let is_filled = arguments.next().is_some();
-    match observe(rt.alloc(), is_filled) {
-        Ok(Seen::Met) => println!(rt; "openings are met, and keep nothing")?,
-        Ok(Seen::Refused) => println!(rt; "openings are refused, and keep nothing")?,
-        Ok(Seen::Kept) => {
-            println!(rt; "openings keep memory")?;
-            return Ok(ExitCode::from(1));
-        }
-        Err(_) => {
-            println!(rt; "memory is not limited, or too small")?;
-            return Ok(ExitCode::from(1));
-        }
-    }
-    Ok(ExitCode::SUCCESS)
+/// Opens pools, and prints what was seen. Returns whether they kept nothing. Where all other memory
+/// is taken first, openings are refused; it has to be limited then, as by `ulimit -v`.
+///
+/// # Errors
+///
+/// If a line can't be printed.
+pub fn observe<R: AllocGlobal + Print>(rt: &R, is_filled: bool) -> io::Result<bool> {
+    let (line, is_good) = match open_beside_blocks(rt.alloc(), is_filled) {
+        Ok(Seen::Met) => ("openings are met, and keep nothing", true),
+        Ok(Seen::Refused) => ("openings are refused, and keep nothing", true),
+        Ok(Seen::Kept) => ("openings keep memory", false),
+        Err(_) => ("memory is not limited, or too small", false),
+    };
+    println!(rt; "{line}")?;
+    Ok(is_good)
 }
 
 /// Opens pools beside each choice of blocks.
-fn observe(alloc: Global, is_filled: bool) -> Result<Seen, PullError> {
+fn open_beside_blocks(alloc: Global, is_filled: bool) -> Result<Seen, PullError> {
     let mut blocks = Blocks::new(alloc)?;
     let _filling = if is_filled { Some(fill(alloc)?) } else { None };
     let mut seen = Seen::Met;
