@@ -1,8 +1,8 @@
 -- What makes a pull one by least choice.
 use Rattle.std.proofs.Common.{◌≡◌, ℕ, ◌-◌, ◌*◌, Option, List, [], ◌∷◌, length, Ok, sym, ap, ◌∙◌, arith, inr}
 use Rattle.std.specs.List.{slice_get}
-use Rattle.object_pool_cores.specs.Pool.{Pool, Out, IsFree, IsSame, free_with}
-use Rattle.object_pool_cores.specs.Move.{after_pull, after_growth}
+use Rattle.pool_world.specs.Pool.{Pool, Out, IsFree, IsSame, free_with}
+use Rattle.pool_world.specs.Move.{after_pull, after_growth}
 use Rattle.object_pool_cores.specs.LeastChoice.{IsExhausted, PullsLeast, TakesLeast}
 use Rattle.object_pool_cores.specs.Inside.Numbered.{Grows}
 use Rattle.object_pool_cores.specs.Laws.PoolSteps.{grown-new, IsSame-trans, IsSame-with_place}

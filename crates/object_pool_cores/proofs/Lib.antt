@@ -1,9 +1,6 @@
 pub mod CommandWords
 pub mod Cores
-pub mod LegalLedgers
 pub mod LeastChoiceSteps
 pub mod LineSplits
 pub mod ReplyRuns
-pub mod Runs
 pub mod TranscriptRuns
-pub mod World

@@ -17,7 +17,7 @@ use Rattle.object_pool_cores.specs.Fresh.{PullsFresh}
 use Rattle.object_pool_cores.specs.Held.{Playing}
 use Rattle.object_pool_cores.specs.LastIn.{PullsLast, ReturnsLast, AttachesLast}
 use Rattle.object_pool_cores.specs.LeastChoice.{PullsItem, ReturnsItem}
-use Rattle.object_pool_cores.specs.Pool.{Pool, IsSame, opening}
+use Rattle.pool_world.specs.Pool.{Pool, IsSame, opening}
 use Rattle.object_pool_cores.specs.Served.{Serves, ServesAll, ServesFront, StopsWriting}
 
 -- a limit is of 1 page or more

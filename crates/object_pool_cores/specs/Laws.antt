@@ -1,6 +1,5 @@
 -- Proofs of the laws of a sequential pool. An impl names them, so they stand here and not below
--- proofs/. `WorldBounds` is for callers of a world: what its bounds say of a call, and of all calls
--- together.
+-- proofs/. `WorldBounds`, of the crate below, is for callers of a world.
 pub mod PoolSteps
 pub mod NumberedPlaces
 pub mod FreeValues
@@ -9,4 +8,4 @@ pub mod LinearBag
 pub mod LinearTogether
 pub mod StackLaws
 pub mod FreshBag
-pub mod WorldBounds
+pub use Rattle.pool_world.specs.Laws.WorldBounds

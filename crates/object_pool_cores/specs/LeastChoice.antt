@@ -5,8 +5,8 @@ use Rattle.pool_parts.specs.declared.pull_error.PullError.{PullError}
 use Rattle.pool_parts.specs.declared.pull_error.PullError.TheVariants.{Memory, Init, Limit}
 use Rattle.object_pool_cores.specs.declared.sequential.item.Item.{Item}
 use Rattle.object_pool_cores.specs.Inside.SequentialItem.{item_value, item_number}
-use Rattle.object_pool_cores.specs.Pool.{Pool, IsFree, IsOut, IsSame, AllowsPages}
-use Rattle.object_pool_cores.specs.Move.{IsGrowth, after_pull, after_return, after_growth}
+use Rattle.pool_world.specs.Pool.{Pool, IsFree, IsOut, IsSame, AllowsPages}
+use Rattle.pool_world.specs.Move.{IsGrowth, after_pull, after_return, after_growth}
 
 module _ {T : Type 0} where
   -- no number is free

@@ -5,7 +5,6 @@
 
 pub mod buffers;
 pub mod engine;
-pub mod interleave;
-mod numbers;
-mod run_error;
 pub mod sequential;
+
+pub use pool_world::interleave;

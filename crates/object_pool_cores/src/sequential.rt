@@ -13,7 +13,6 @@ mod reply;
 mod sequential_pool;
 mod stack_core;
 
-pub use crate::run_error::RunError;
 pub use attach_error::AttachError;
 pub use command::Command;
 pub use core_page::CorePage;
@@ -21,6 +20,7 @@ pub use item::Item;
 pub use linear_core::LinearCore;
 pub use none_core::NoneCore;
 pub use player::Player;
+pub use pool_world::RunError;
 pub use reply::Reply;
 pub use sequential_pool::SequentialPool;
 pub use stack_core::StackCore;

@@ -21,7 +21,7 @@ use Rattle.object_pool_cores.specs.Linear.{LinearPulls, LinearGives, IsLinearSte
 use Rattle.object_pool_cores.specs.Stack.{StackPulls, StackGives, StackAttaches, stack_init, stack_reset, kept_of}
 use Rattle.object_pool_cores.specs.NoPool.{NonePulls, none_init}
 use Rattle.object_pool_cores.specs.Inside.EngineCore.{IsEngineCore}
-use Rattle.object_pool_cores.specs.Pool.{Pool, opening}
+use Rattle.pool_world.specs.Pool.{Pool, opening}
 use Rattle.object_pool_cores.proofs.LineSplits.{IsLines-none}
 
 abbrev by_copy : ℕ → Option ℕ → Type 0

@@ -2,7 +2,7 @@
 use Rattle.std.proofs.Common.{◌≡◌, ◌≢◌, ℕ, ◌+◌, ◌-◌, ◌*◌, ◌<◌, ◌≤◌, suc, zero, Option, refl, sym, ap, ◌∙◌, arith, inl}
 use Rattle.std.proofs.Common.{inr}
 use Rattle.std.proofs.lemmas.Bool.{cases_lt}
-use Rattle.object_pool_cores.specs.Pool.{Pool, Place, Absent, Free, Out, IsOut, IsPool}
+use Rattle.pool_world.specs.Pool.{Pool, Place, Absent, Free, Out, IsOut, IsPool}
 use Rattle.object_pool_cores.specs.LeastChoice.{IsExhausted, IsLeastFree}
 use Rattle.object_pool_cores.specs.PageProbes.{one_if_out, out_below, out_count, ProbesFew, ProbesEach}
 use Rattle.object_pool_cores.specs.Inside.Numbered.{Numbered, FindsNone, Grows, ProbesPages, TakesLeastOf, listed_pool}

@@ -9,7 +9,7 @@ use Rattle.std.specs.List.{slice_get}
 use Rattle.std.proofs.lemmas.Bool.{cases_lt, cases_eq}
 use Rattle.std.proofs.lemmas.Option.{slice_get_past}
 use Rattle.object_pool_cores.specs.Inside.HeldTable.{listed}
-use Rattle.object_pool_cores.specs.Laws.NumberedPlaces.{slice_get-append_front, slice_get-append_back}
+use Rattle.pool_world.proofs.Places.{slice_get-append_front, slice_get-append_back}
 
 module _ {X : Type 0} where
   pub length-listed : (at : ℕ → Option X) (n : ℕ) → length (listed at n) ≡ n

@@ -11,7 +11,8 @@ use Rattle.nonblocking_pools.specs.Word.{IsLeastBit, ClearsBit}
 use Rattle.object_pool_cores.specs.OnePage.{IsMadePage, IsFreeId, HasNoFreeId, IsMask, TakesLeastId}
 use Rattle.object_pool_cores.specs.Inside.PageWord.{IsCorePage}
 use Rattle.object_pool_cores.specs.Laws.HeldItems.{slice_get-from_set}
-use Rattle.object_pool_cores.specs.Laws.NumberedPlaces.{slice_get-some, value_of-page}
+use Rattle.pool_world.proofs.Places.{slice_get-some}
+use Rattle.object_pool_cores.specs.Laws.NumberedPlaces.{value_of-page}
 
 module _ {T : Type 0} where
   never_out : (values : List T) (id : ℕ) → slice_get (map Some values) id ≡ Some None → ⊥

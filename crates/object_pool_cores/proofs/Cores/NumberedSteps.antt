@@ -5,13 +5,14 @@ use Rattle.std.specs.List.{slice_get}
 use Rattle.std.proofs.lemmas.Bool.{cases_lt}
 use Rattle.std.proofs.lemmas.List.Elements.{All-set}
 use Rattle.std.proofs.lemmas.Option.{slice_get_within, get_or_from_slice_get}
-use Rattle.object_pool_cores.specs.Pool.{Free, IsOut, IsSame, with_place, place_of}
+use Rattle.pool_world.specs.Pool.{Free, IsOut, IsSame, with_place, place_of}
 use Rattle.object_pool_cores.specs.LeastChoice.{TakesLeast}
 use Rattle.object_pool_cores.specs.Inside.Numbered.{Numbered, IsWellNumbered, AreWhole, HasNoneBelow, FindsNone}
 use Rattle.object_pool_cores.specs.Inside.Numbered.{TakesLeastOf}
 use Rattle.object_pool_cores.specs.Inside.Numbered.{laid_out, listed_pool}
 use Rattle.object_pool_cores.specs.OnePage.{IsOutId, TakesLeastId}
-use Rattle.object_pool_cores.specs.Laws.NumberedPlaces.{place_of-out, place_of-free, listed_pool-set}
+use Rattle.pool_world.proofs.Places.{place_of-out, place_of-free}
+use Rattle.object_pool_cores.specs.Laws.NumberedPlaces.{listed_pool-set}
 use Rattle.object_pool_cores.specs.Laws.HeldItems.{slice_get-from_set}
 use Rattle.object_pool_cores.proofs.Cores.PagedPlaces.{length-laid_out, get-laid_out, set-laid_out}
 

@@ -6,7 +6,7 @@ use Rattle.std.proofs.lemmas.Bool.{cases_lt}
 use Rattle.std.proofs.lemmas.List.Elements.{All-head, All-tail}
 use Rattle.object_pool_cores.specs.Inside.Numbered.{laid_out, AreWhole, HasNoneBelow}
 use Rattle.object_pool_cores.specs.OnePage.{HasNoFreeId}
-use Rattle.object_pool_cores.specs.Laws.NumberedPlaces.{slice_get-append_front, slice_get-append_back}
+use Rattle.pool_world.proofs.Places.{slice_get-append_front, slice_get-append_back}
 
 module _ {X : Type 0} where
   -- a place is set in the first or the second of two lists

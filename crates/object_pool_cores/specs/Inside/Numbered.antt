@@ -1,8 +1,8 @@
 -- The items of a sequential linear pool, listed by their numbers.
 use Rattle.std.specs.Prelude.{◌≡◌, ℕ, ◌+◌, ◌-◌, ◌*◌, ◌/◌, ◌%◌, ◌<◌, ◌≤◌, Option, Some, None, List, length, slice_get}
 use Rattle.std.specs.Prelude.{All, [], ◌∷◌, ◌++◌}
-use Rattle.object_pool_cores.specs.Pool.{Pool, IsSame, AllowsPages, place_of}
-use Rattle.object_pool_cores.specs.Move as move
+use Rattle.pool_world.specs.Pool.{Pool, IsSame, AllowsPages, place_of}
+use Rattle.pool_world.specs.Move as move
 use Rattle.object_pool_cores.specs.LeastChoice.{IsExhausted, TakesLeast}
 use Rattle.object_pool_cores.specs.PageProbes.{ProbesEach}
 use Rattle.pool_parts.specs.declared.page.TheConstants.{PAGE_ITEMS}

@@ -4,9 +4,9 @@ use Rattle.std.specs.List.{slice_get}
 use Rattle.std.specs.Prelude.{All}
 use Rattle.std.proofs.lemmas.List.Elements.{All-nil, All-cons}
 use Rattle.object_pool_cores.specs.Bag.{IsPutIn}
-use Rattle.object_pool_cores.specs.Pool.{place_of}
+use Rattle.pool_world.specs.Pool.{place_of}
 use Rattle.object_pool_cores.specs.Inside.Numbered.{free_values}
-use Rattle.object_pool_cores.specs.Laws.NumberedPlaces.{place_of-there}
+use Rattle.pool_world.proofs.Places.{place_of-there}
 
 module _ {T : Type 0} where
   place_of-same : (a b : Option T) → place_of (Some a) ≡ place_of (Some b) → a ≡ b

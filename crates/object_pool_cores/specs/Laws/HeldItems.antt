@@ -4,7 +4,7 @@ use Rattle.std.proofs.Common.{◌∙◌, inl, inr, ◌⊎◌, length-set, arith}
 use Rattle.std.specs.List.{slice_get}
 use Rattle.std.proofs.lemmas.Bool.{cases_eq}
 use Rattle.std.proofs.lemmas.Option.{slice_get_within}
-use Rattle.object_pool_cores.specs.Laws.NumberedPlaces.{slice_get-set_same, slice_get-set_other}
+use Rattle.pool_world.proofs.Places.{slice_get-set_same, slice_get-set_other}
 
 module _ {X : Type 0} where
   -- what is read of a list that was set at one place

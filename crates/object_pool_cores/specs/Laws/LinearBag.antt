@@ -7,14 +7,15 @@ use Rattle.pool_parts.specs.declared.pull_error.PullError.{PullError}
 use Rattle.object_pool_cores.specs.declared.sequential.item.Item.{Item}
 use Rattle.object_pool_cores.specs.declared.sequential.linear_core.LinearCore.{LinearCore}
 use Rattle.object_pool_cores.specs.Inside.SequentialItem.{item_value}
-use Rattle.object_pool_cores.specs.Pool.{Free, Out, IsFree, IsSame, with_place, place_of}
-use Rattle.object_pool_cores.specs.Move.{after_growth}
+use Rattle.pool_world.specs.Pool.{Free, Out, IsFree, IsSame, with_place, place_of}
+use Rattle.pool_world.specs.Move.{after_growth}
 use Rattle.object_pool_cores.specs.LeastChoice.{IsExhausted, TakesLeast, GrowsFirst, PullsLeast, PullsItem}
 use Rattle.object_pool_cores.specs.Bag.{IsPutIn, IsFresh, PullsFromBag, ReturnsToBag, pulled_value}
 use Rattle.object_pool_cores.specs.Inside.Numbered.{Numbered, listed_pool, free_values}
 use Rattle.object_pool_cores.specs.Linear.{LinearPulls, LinearGives}
 use Rattle.object_pool_cores.specs.Laws.PoolSteps.{at-with_place, free-grown}
-use Rattle.object_pool_cores.specs.Laws.NumberedPlaces.{place_of-free, place_of-out, listed_pool-set}
+use Rattle.pool_world.proofs.Places.{place_of-free, place_of-out}
+use Rattle.object_pool_cores.specs.Laws.NumberedPlaces.{listed_pool-set}
 use Rattle.object_pool_cores.specs.Laws.FreeValues.{same_places, free_values-taken, free_values-put, free_values-none}
 use Rattle.object_pool_cores.specs.Laws.FreeValues.{free_values-All}
 

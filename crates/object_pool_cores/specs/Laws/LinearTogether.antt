@@ -8,8 +8,8 @@ use Rattle.object_pool_cores.specs.declared.sequential.item.Item.{Item}
 use Rattle.object_pool_cores.specs.declared.sequential.linear_core.LinearCore.{LinearCore}
 use Rattle.object_pool_cores.specs.Attach.{RefusesAttach}
 use Rattle.object_pool_cores.specs.Inside.SequentialItem.{item_value, item_number, with_value}
-use Rattle.object_pool_cores.specs.Pool.{Pool, Absent, Free, Out, IsFree, IsOut, IsPool, IsSame, with_place}
-use Rattle.object_pool_cores.specs.Move.{after_growth}
+use Rattle.pool_world.specs.Pool.{Pool, Absent, Free, Out, IsFree, IsOut, IsPool, IsSame, with_place}
+use Rattle.pool_world.specs.Move.{after_growth}
 use Rattle.object_pool_cores.specs.LeastChoice.{PullsLeast}
 use Rattle.object_pool_cores.specs.Linear.{core_pool, limit_of, LinearPulls, LinearGives, HeldTogether, IsOutOf}
 use Rattle.object_pool_cores.specs.Laws.PoolSteps.{with_place-same, with_place-other, grown-old}

@@ -1,60 +1,19 @@
 -- The places of a list of numbered items, and the pool that the list stands for.
 use Rattle.std.proofs.Common.{◌≡◌, ◌≢◌, ℕ, ◌+◌, ◌-◌, ◌<◌, suc, zero, Option, Some, None, List, [], ◌∷◌, length, refl}
-use Rattle.std.proofs.Common.{sym, ap, ◌∙◌, arith, add-suc, map, slice_set, ◌/◌, ◌++◌, length-append, length-set}
+use Rattle.std.proofs.Common.{sym, ap, ◌∙◌, arith, map, slice_set, ◌/◌, ◌++◌, length-append, length-set}
 use Rattle.std.proofs.Common.{inl, inr, ◌*◌}
 use Rattle.std.specs.Prelude.{All}
 use Rattle.std.specs.List.{slice_get}
 use Rattle.std.proofs.lemmas.Bool.{cases_lt, cases_eq}
 use Rattle.std.proofs.lemmas.List.{length-map}
 use Rattle.std.proofs.lemmas.Option.{get_or_from_slice_get, slice_get_within, slice_get_cases, slice_get_past}
-use Rattle.object_pool_cores.specs.Pool.{IsPool, IsSame, AllowsPages, Absent, Free, Out, free_with, place_of}
-use Rattle.object_pool_cores.specs.Pool.{with_place}
-use Rattle.object_pool_cores.specs.Move.{after_growth}
+use Rattle.pool_world.specs.Pool.{IsPool, IsSame, AllowsPages, free_with, place_of}
+use Rattle.pool_world.specs.Pool.{with_place}
+use Rattle.pool_world.specs.Move.{after_growth}
+use Rattle.pool_world.proofs.Places.{place_of-there, slice_get-set_same, slice_get-set_other, slice_get-append_front}
+use Rattle.pool_world.proofs.Places.{slice_get-append_back}
 use Rattle.object_pool_cores.specs.Laws.PoolSteps.{with_place-same, with_place-other, grown-old, grown-new}
 use Rattle.object_pool_cores.specs.Inside.Numbered.{Numbered, IsWellNumbered, Grows, listed_pool}
-
-module _ {T : Type 0} where
-  -- a free place has that value
-  pub place_of-free : (place : Option (Option T)) (v : T) → place_of place ≡ Free v → place ≡ Some (Some v)
-  place_of-free None v e = cc
-  place_of-free (Some None) v e = cc
-  place_of-free (Some (Some w)) v e = cc
-
--- what lies at a place of a list that was set at one place, or that another list comes behind
-module _ {X : Type 0} where
-  pub slice_get-set_same :
-      (xs : List X) (n : ℕ) (x : X) → n < length xs → slice_get (slice_set xs n x) n ≡ Some x
-  slice_get-set_same [] n x within = absurd (omega arith)
-  slice_get-set_same (y ∷ xs) zero x within = refl
-  slice_get-set_same (y ∷ xs) (suc n) x within = slice_get-set_same xs n x (omega arith)
-
-  pub slice_get-set_other :
-      (xs : List X) (n m : ℕ) (x : X) → m ≢ n → slice_get (slice_set xs n x) m ≡ slice_get xs m
-  slice_get-set_other [] n m x other = refl
-  slice_get-set_other (y ∷ xs) zero zero x other = absurd (other refl)
-  slice_get-set_other (y ∷ xs) zero (suc m) x other = refl
-  slice_get-set_other (y ∷ xs) (suc n) zero x other = refl
-  slice_get-set_other (y ∷ xs) (suc n) (suc m) x other = slice_get-set_other xs n m x (λ e. other (ap suc e))
-
-  pub slice_get-some : (xs : List X) (n : ℕ) → n < length xs → (x : X) × (slice_get xs n ≡ Some x)
-  slice_get-some xs n within = elim (slice_get_cases xs n).1 [
-    | inl some ↦ (some.0, some.2)
-    | inr none ↦ absurd (omega (arith, none.0))
-  ]
-
-  pub slice_get-append_front :
-      (xs ys : List X) (n : ℕ) → n < length xs → slice_get (xs ++ ys) n ≡ slice_get xs n
-  slice_get-append_front [] ys n within = absurd (omega arith)
-  slice_get-append_front (x ∷ xs) ys zero within = refl
-  slice_get-append_front (x ∷ xs) ys (suc n) within = slice_get-append_front xs ys n (omega arith)
-
-  pub slice_get-append_back : (xs ys : List X) (n : ℕ) → slice_get (xs ++ ys) (n + length xs) ≡ slice_get ys n
-  slice_get-append_back [] ys n = ap (slice_get ys) (omega arith)
-  slice_get-append_back (x ∷ xs) ys n = rw add-suc (slice_get-append_back xs ys n)
-
-  pub slice_get-append_last : (xs : List X) (last : X) → slice_get (xs ++ last ∷ []) (length xs) ≡ Some last
-  slice_get-append_last [] last = refl
-  slice_get-append_last (x ∷ xs) last = slice_get-append_last xs last
 
 -- a pool that isn't at its limit may have a page more
 AllowsPages-more : (limit : Option ℕ) (pages : ℕ) → AllowsPages limit pages → limit ≢ Some pages
@@ -106,17 +65,6 @@ module _ {T : Type 0} where
   }
 
 module _ {T : Type 0} where
-  -- what stands in a list is a place
-  pub place_of-there : (place : Option T) → place_of (Some place) ≢ Absent
-  place_of-there None = λ e. cc
-  place_of-there (Some v) = λ e. cc
-
-  -- an out place holds nothing
-  pub place_of-out : (place : Option (Option T)) → place_of place ≡ Out → place ≡ Some None
-  place_of-out None e = cc
-  place_of-out (Some None) e = refl
-  place_of-out (Some (Some v)) e = cc
-
   -- sound items are a pool
   pub IsPool-sound :
       (meets : T → Type 0) (items : Numbered T) → IsWellNumbered meets items → IsPool items.limit (listed_pool items)

@@ -3,8 +3,8 @@ use Rattle.std.proofs.Common.{◌≡◌, ◌≢◌, ℕ, ◌-◌, ◌*◌, ◌<�
 use Rattle.std.proofs.Common.{inr, ◌⊎◌}
 use Rattle.std.specs.List.{slice_get}
 use Rattle.std.proofs.lemmas.Bool.{cases_lt, cases_eq, eq-eqb, ne_eqb, lt-ltb, le-ltb}
-use Rattle.object_pool_cores.specs.Pool.{Pool, Place, Free, IsFree, IsSame, free_with, with_place}
-use Rattle.object_pool_cores.specs.Move.{after_growth}
+use Rattle.pool_world.specs.Pool.{Pool, Place, Free, IsFree, IsSame, free_with, with_place}
+use Rattle.pool_world.specs.Move.{after_growth}
 use Rattle.object_pool_cores.specs.LeastChoice.{IsExhausted}
 
 module _ {T : Type 0} where

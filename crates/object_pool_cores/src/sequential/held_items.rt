@@ -6,8 +6,7 @@ ghost use Rattle.std.specs.HashMap.{get};
 ghost use Rattle.object_pool_cores.specs.Inside.SequentialItem.{with_value};
 ghost use Rattle.object_pool_cores.specs.Held.{held_at, value_of, IsReplaced};
 
-use crate::run_error::RunError;
-use crate::sequential::Item;
+use crate::sequential::{Item, RunError};
 use std::alloc::Global;
 use std::collections::HashMap;
 use std::marker::Model;

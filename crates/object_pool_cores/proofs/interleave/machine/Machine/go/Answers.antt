@@ -1,5 +1,0 @@
-use Rattle.object_pool_cores.proofs.World.LinkCapacity.{room-moved}
-use Rattle.object_pool_cores.proofs.interleave.machine.Machine.go.Goals as goal
-
-pub invariant_of-self : goal.invariant_of-self
-invariant_of-self g c = room-moved _ _ c.args.agent c.args.point c.self.invariant c.requires.room

@@ -1,6 +1,0 @@
-use Rattle.std.proofs.Common.{arith}
-use Rattle.object_pool_cores.proofs.World.LowestBit.{lowest_is}
-use Rattle.object_pool_cores.proofs.interleave.moves.split_lowest.Goals as goal
-
-pub returns-in-Some-clause-lowest : goal.returns-in-Some-clause-lowest
-returns-in-Some-clause-lowest c = lowest_is _ _ (omega arith) c.requires c.in-Some.ensures.least

@@ -1,0 +1,4 @@
+pub mod LegalLedgers
+pub mod Places
+pub mod Runs
+pub mod World

@@ -1,0 +1,21 @@
+use Rattle.std.proofs.Common.{◌≡◌, Some, slice_get, arith, nat_lt, ◌==◌, ◌+◌, length, true, false, refl}
+use Rattle.std.proofs.lemmas.Bool.Decides.{nat_tests}
+use Rattle.std.proofs.lemmas.Grind.{common_steps}
+use Rattle.std.proofs.lemmas.Option.{gets}
+use Rattle.pool_world.specs.World.Machine.{is_limit}
+use Rattle.pool_world.specs.declared.interleave.point.Point.TheVariants.{AtLink}
+use Rattle.pool_world.proofs.interleave.machine.Machine.read_next.Goals as goal
+
+pub returns-clause-step : goal.returns-clause-step
+returns-clause-step g c =
+    let at : slice_get c.self.inside.agents.items c.args.agent
+    ≡ Some (AtLink c.in-Some-AtLink.page c.in-Some-AtLink.asked) =
+    grind (arith, common_steps, gets, c.in-Some-AtLink.ensures.lookup) in
+    let linked : nat_lt c.in-Some-AtLink.page (length c.self.inside.pages.items) ≡ true = grind (arith, nat_tests) in
+    let below : is_limit c.self.inside.limit (c.in-Some-AtLink.page + 1) ≡ false =
+    grind (arith, nat_tests, c.is_last_allowed.ensures) in
+    let more : (length c.self.inside.pages.items == c.in-Some-AtLink.page + 1) ≡ false =
+    grind (arith, nat_tests, c.is_last.ensures) in
+    let next = c.comes_to.ensures.value in
+    let gone = c.go-2.ensures.state in
+    rw (← c.self.view_is) (rw at (rw (linked, below, more) (refl, (cc))))

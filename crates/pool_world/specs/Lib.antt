@@ -1,0 +1,5 @@
+pub mod Laws
+pub mod Move
+pub mod Pool
+pub mod Run
+pub mod World

@@ -1,0 +1,14 @@
+-- The room that a world keeps for links.
+use Rattle.std.specs.Prelude.{ℕ, ◌+◌, ◌<◌, ⊤}
+use Rattle.pool_world.specs.declared.interleave.point.Point.{Point}
+use Rattle.pool_world.specs.declared.interleave.point.Point.TheVariants.{Linking}
+
+-- an agent that is about to link a page has room for it
+abbrev pub HasLinkCapacity : {T : Type 0} → ℕ → Point T → Type 0
+HasLinkCapacity capacity (Linking k values) = k + 1 < capacity
+HasLinkCapacity capacity _ = ⊤
+
+-- it isn't about to link a page
+abbrev pub LinksNoPage : {T : Type 0} → Point T → Type 0
+LinksNoPage (Linking k values) = ⊥
+LinksNoPage _ = ⊤
