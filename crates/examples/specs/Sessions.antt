@@ -9,7 +9,7 @@ use Rattle.lockfree_object_pool.specs.LinearPool.{owned_item, pool_limit}
 use Rattle.pool_parts.specs.declared.clean.Empty.{Empty}
 use Rattle.pool_parts.specs.declared.closures.vectors.Clear.{Clear}
 use Rattle.pool_parts.specs.declared.closures.vectors.WithCapacity.{WithCapacity}
-use Rattle.nonblocking_pools.specs.declared.linear_owned_reusable.LinearOwnedReusable.{LinearOwnedReusable}
+use Rattle.linear_pools.specs.declared.linear_owned_reusable.LinearOwnedReusable.{LinearOwnedReusable}
 use Rattle.examples.specs.declared.sessions.Sessions.{Sessions}
 
 -- a basket, as the pool hands it out

@@ -3,8 +3,8 @@
 
 ghost use Rattle.std.specs.Prelude.{◌≡◌, IfOk};
 
-use nonblocking_pools::PullError;
-use nonblocking_pools::recycling::Pool;
+use linear_pools::PullError;
+use linear_pools::recycling::Pool;
 use std::alloc::Global;
 use std::io;
 

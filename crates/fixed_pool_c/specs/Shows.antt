@@ -3,12 +3,12 @@ use Rattle.std.specs.Prelude.{⊤}
 use Rattle.std.specs.Arc.{arc_value}
 use Rattle.std.specs.declared.alloc.Global.{Global}
 use Rattle.std.specs.declared.sync.Arc.{Arc}
-use Rattle.nonblocking_pools.specs.FixedReusable.{reusable_pool}
+use Rattle.fixed_pools.specs.FixedReusable.{reusable_pool}
 use Rattle.pool_parts.specs.declared.clean.AnyValue.{AnyValue}
 use Rattle.pool_parts.specs.declared.closures.ready.Copied.{Copied}
 use Rattle.pool_parts.specs.declared.closures.ready.Keep.{Keep}
-use Rattle.nonblocking_pools.specs.declared.fixed_object_pool.FixedObjectPool.{FixedObjectPool}
-use Rattle.nonblocking_pools.specs.declared.fixed_reusable.FixedReusableOf.{FixedReusableOf}
+use Rattle.fixed_pools.specs.declared.fixed_object_pool.FixedObjectPool.{FixedObjectPool}
+use Rattle.fixed_pools.specs.declared.fixed_reusable.FixedReusableOf.{FixedReusableOf}
 use Rattle.pool_parts.specs.declared.page.note.PageNote.{PageNote}
 use Rattle.fixed_pool_c.specs.declared.held.Hand.{Hand}
 use Rattle.fixed_pool_c.specs.declared.held.Last.{Last}

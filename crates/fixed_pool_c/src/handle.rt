@@ -7,7 +7,7 @@ ghost use Rattle.fixed_pool_c.specs.declared.held.Last.{Last};
 
 use crate::held::{Hand, Held, Last};
 use crate::loose::Loose;
-use nonblocking_pools::fixed_object_pool::PoolNote;
+use fixed_pools::fixed_object_pool::PoolNote;
 use std::alloc::Global;
 use std::marker::Model;
 use std::mem::{ManuallyDrop, replace};

@@ -1,14 +1,14 @@
 //! The parts of an open handle: its pool, and a place of it or none.
 ghost use Rattle.std.specs.Prelude.{◌≡◌};
 ghost use Rattle.std.specs.Arc.{arc_value};
-ghost use Rattle.nonblocking_pools.specs.FixedPool.{pool_identity};
-ghost use Rattle.nonblocking_pools.specs.Note.{note_page};
-ghost use Rattle.nonblocking_pools.specs.OneProof.{same_page};
+ghost use Rattle.fixed_pools.specs.FixedPool.{pool_identity};
+ghost use Rattle.pool_parts.specs.Note.{note_page};
+ghost use Rattle.pool_parts.specs.Inside.OneProof.{same_page};
 
-use nonblocking_pools::clean::AnyValue;
-use nonblocking_pools::closures::{Copied, Keep};
-use nonblocking_pools::fixed_object_pool::PoolNote;
-use nonblocking_pools::{FixedObjectPool, FixedOwnedReusable};
+use fixed_pools::clean::AnyValue;
+use fixed_pools::closures::{Copied, Keep};
+use fixed_pools::fixed_object_pool::PoolNote;
+use fixed_pools::{FixedObjectPool, FixedOwnedReusable};
 use std::mem::ManuallyDrop;
 use std::sync::Arc;
 use std::sync::atomic::AtomicUsize;

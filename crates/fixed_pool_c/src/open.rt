@@ -8,8 +8,8 @@ ghost use Rattle.fixed_pool_c.specs.declared.held.Hand.{Hand as HandShown};
 
 use crate::answer::{NO_MEMORY, NO_POOL};
 use crate::held::{Hand, Held, Idle, PlacePool};
-use nonblocking_pools::closures::{Copied, Keep};
-use nonblocking_pools::page::PAGE_ITEMS;
+use fixed_pools::closures::{Copied, Keep};
+use fixed_pools::page::PAGE_ITEMS;
 use std::alloc::Global;
 use std::sync::Arc;
 use std::sync::atomic::AtomicUsize;

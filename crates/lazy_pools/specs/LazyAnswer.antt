@@ -1,11 +1,9 @@
 -- What the answers of a pool show whose items are made one at a time.
 use Rattle.std.specs.Prelude.{◌≡◌, ⊤, List, Option, Some, None, IfSome, Result, Ok}
 use Rattle.atomic_table.specs.Seated.{TableId}
-use Rattle.pool_parts.specs.Answers.{IsMadeOrReset}
-use Rattle.nonblocking_pools.specs.FixedAnswer.{IsPulledFrom, IsFullNote}
-use Rattle.nonblocking_pools.specs.FixedItem.{item_with}
+use Rattle.fixed_pools.specs.FixedAnswer.{IsPulledFrom, IsFullNote}
+use Rattle.pool_parts.specs.Item.{item_with, Item}
 use Rattle.pool_parts.specs.FullSeen.{IsAllOut}
-use Rattle.pool_parts.specs.Item.{Item}
 use Rattle.pool_parts.specs.Note.{IsReturned}
 use Rattle.lazy_pools.specs.declared.lazy_object_pool.lazy_refused.LazyRefused.{LazyRefused}
 use Rattle.lazy_pools.specs.declared.lazy_object_pool.lazy_refused.LazyRefused.TheVariants.{Busy, NotMade}
@@ -35,11 +33,6 @@ module _ {T : Type 0} where
     pub left : T
     pub by_reset : leaves value left
     pub returned : IsReturned (item_with place (Some left)) note
-
-  -- what may lie at a place
-  abbrev pub IsKeptPlace : {I R : Type 0} → (T → Type 0) → (I → Option T → Type 0) → (R → T → T → Type 0) → Option T
-      → Type 0
-  IsKeptPlace meets answers leaves place = IfSome place (λ value. meets value × IsMadeOrReset answers leaves value)
 
 -- a pull gave no item: each was observed taken, or init may answer None
 abbrev pub RefusesLazily : Type 0 → PullError → Type 0

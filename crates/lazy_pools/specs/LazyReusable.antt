@@ -1,21 +1,15 @@
 -- What an item that is out of a lazy pool shows.
-use Rattle.std.specs.Prelude.{ℕ, Option, Some}
-use Rattle.lazy_pools.specs.declared.lazy_object_pool.lazy_item.LazyItem.{LazyItem}
+use Rattle.std.specs.Prelude.{Option, Some}
 use Rattle.lazy_pools.specs.declared.lazy_reusable.LazyReusableOf.{LazyReusableOf}
 use Rattle.pool_parts.specs.declared.page.holding.Holding.{Holding}
-use Rattle.nonblocking_pools.specs.FixedAnswer.{returns_since}
-use Rattle.nonblocking_pools.specs.StepCount.{StepCount, steps_of}
 use Rattle.pool_parts.specs.Holding.{held_item}
 use Rattle.pool_parts.specs.Item.{Item}
+use Rattle.pool_parts.specs.declared.page.user_view.UserView.{UserView}
 
 module _ {T : Type 0} where
   -- the place that its holder has, with a value
   abbrev pub held_place : Holding (Option T) → T → Item (Option T)
   held_place holding value = held_item holding (Some value)
-
-  -- the place of an item, with its value
-  abbrev pub lazy_item_place : LazyItem T → Item (Option T)
-  lazy_item_place item = held_place item.holding item.value
 
 module _ {T P : Type 0} where
   -- the borrow or the owner of the pool that the value returns to
@@ -30,13 +24,9 @@ module _ {T P : Type 0} where
   abbrev pub lazy_value : LazyReusableOf T P → T
   lazy_value reusable = reusable.value
 
-  -- what its pull has read and tried
-  abbrev pub lazy_steps : LazyReusableOf T P → StepCount
-  lazy_steps reusable = steps_of reusable.taken.holding.seat.me.0
-
-  -- how many returns came within its pull, since the pull's first load
-  abbrev pub lazy_returns : LazyReusableOf T P → ℕ
-  lazy_returns reusable = returns_since reusable.taken.holding.seat.me.0
+  -- what the user that pulled it knows of the pool
+  abbrev pub lazy_view : LazyReusableOf T P → UserView (Option T)
+  lazy_view reusable = reusable.taken.holding.seat.me.0
 
   -- the same item with another value
   abbrev pub lazy_with : LazyReusableOf T P → T → LazyReusableOf T P

@@ -1,3 +1,4 @@
+pub mod Inside
 pub mod LazyAnswer
 pub mod LazyLends
 pub mod LazyNear

@@ -20,14 +20,14 @@ ghost use Rattle.std.specs.Arc.{arc_value};
 use crate::lazy_owned_reusable::LazyOwnedReusable;
 use crate::lazy_reusable::LazyReusable;
 use crate::waiters::Waiters;
+use fixed_pools::fixed_object_pool::PoolNote;
+use fixed_pools::fixed_object_pool::items::FixedItems;
+use fixed_pools::fixed_object_pool::items::order::Order;
+use fixed_pools::fixed_object_pool::items::pulled_item::PulledItem;
 use kept_place::KeptPlace;
 use lazy_item::LazyItem;
 use lazy_refused::LazyRefused;
 use near::Near;
-use nonblocking_pools::fixed_object_pool::PoolNote;
-use nonblocking_pools::fixed_object_pool::items::FixedItems;
-use nonblocking_pools::fixed_object_pool::items::order::Order;
-use nonblocking_pools::fixed_object_pool::items::pulled_item::PulledItem;
 use pool_parts::PullError;
 use pool_parts::clean::{AnyValue, Clean};
 use pool_parts::closures::{Init, Reset};
@@ -103,15 +103,19 @@ impl<T: Drop, I: Init<T, K>, R: Reset<T, K>, K: Clean<T>> Drop for LazyObjectPoo
 
 impl<T: Drop, I: Init<T, K>, R: Reset<T, K>, K: Clean<T>> LazyObjectPool<T, I, R, K> {
     ghost use Rattle.pool_parts.specs.Answers.{IsMadeOrReset};
-    ghost use Rattle.nonblocking_pools.specs.FixedAnswer.{IsPulledFrom};
-    ghost use Rattle.nonblocking_pools.specs.FixedItem.{pulled_item};
-    ghost use Rattle.nonblocking_pools.specs.StepCount.{IsWithin, no_steps, passes_to_take};
+    ghost use Rattle.fixed_pools.specs.FixedAnswer.{IsPulledFrom};
+    ghost use Rattle.fixed_pools.specs.Inside.FixedItem.{pulled_item};
+    ghost use Rattle.fixed_pools.specs.StepCount.{IsWithin, no_steps, passes_to_take};
     ghost use Rattle.pool_parts.specs.Holding.{holding_page, held_item};
     ghost use Rattle.pool_parts.specs.Items.{IsFilled};
-    ghost use Rattle.lazy_pools.specs.LazyAnswer.{IsBroughtBack, IsKeptPlace, IsPulledLazily, RefusesLazily, RefusesOnePass, RefusesWaiting};
+    ghost use Rattle.lazy_pools.specs.LazyAnswer.{IsBroughtBack, IsPulledLazily, RefusesLazily, RefusesOnePass, RefusesWaiting};
+    ghost use Rattle.lazy_pools.specs.Inside.LazyItem.{IsKeptPlace};
     ghost use Rattle.lazy_pools.specs.LazyNear.{lazy_near_pool};
     ghost use Rattle.lazy_pools.specs.LazyPool.{lazy_identity, lazy_items, lazy_pages, lazy_opening, lazy_init, lazy_reset};
-    ghost use Rattle.lazy_pools.specs.LazyReusable.{lazy_pool, lazy_place, lazy_value, lazy_steps, lazy_returns, lazy_item_place, held_place};
+    ghost use Rattle.lazy_pools.specs.LazyReusable.{lazy_pool, lazy_place, lazy_value, held_place, lazy_view};
+    ghost use Rattle.lazy_pools.specs.Inside.LazyItem.{lazy_item_place};
+    ghost use Rattle.fixed_pools.specs.StepCount.{steps_of};
+    ghost use Rattle.fixed_pools.specs.FixedAnswer.{returns_since};
     ghost use Rattle.pool_parts.specs.Note.{note_page, witness_page, IsNoteOf, HasLearned, IsReturned};
     ghost use Rattle.pool_parts.specs.Refusal.{RefusesMaking, RefusesPull};
 
@@ -180,8 +184,8 @@ impl<T: Drop, I: Init<T, K>, R: Reset<T, K>, K: Clean<T>> LazyObjectPool<T, I, R
         ensures made_or_reset { IfOk result (λ item.
             IsMadeOrReset I.answers R.leaves (lazy_value item)) }
         ensures brief { IfOk result (λ item.
-            IsWithin (lazy_pages self.now * passes_to_take (lazy_returns item)) no_steps
-            (lazy_steps item)) }
+            IsWithin (lazy_pages self.now * passes_to_take (returns_since (lazy_view item))) no_steps
+            (steps_of (lazy_view item))) }
         ensures refused { IfErr result (RefusesLazily (I.answers (lazy_init self.now) None)) }
     {
         match self.places.pull() {
@@ -223,7 +227,7 @@ impl<T: Drop, I: Init<T, K>, R: Reset<T, K>, K: Clean<T>> LazyObjectPool<T, I, R
         ensures made_or_reset { IfOk result (λ item.
             IsMadeOrReset I.answers R.leaves (lazy_value item)) }
         ensures brief { IfOk result (λ item.
-            IsWithin (lazy_pages self.now) no_steps (lazy_steps item)) }
+            IsWithin (lazy_pages self.now) no_steps (steps_of (lazy_view item))) }
         ensures refused { IfErr result
             (RefusesOnePass (lazy_identity self.now) (lazy_opening self.now)
             (I.answers (lazy_init self.now) None)) }
@@ -252,8 +256,8 @@ impl<T: Drop, I: Init<T, K>, R: Reset<T, K>, K: Clean<T>> LazyObjectPool<T, I, R
         ensures made_or_reset { IfOk result (λ item.
             IsMadeOrReset I.answers R.leaves (lazy_value item)) }
         ensures brief { IfOk result (λ item.
-            IsWithin (lazy_pages (arc_value self.now) * passes_to_take (lazy_returns item)) no_steps
-            (lazy_steps item)) }
+            IsWithin (lazy_pages (arc_value self.now) * passes_to_take (returns_since (lazy_view item))) no_steps
+            (steps_of (lazy_view item))) }
         ensures refused { IfErr result
             (RefusesPull ⊤ (I.answers (lazy_init (arc_value self.now)) None)) }
     {

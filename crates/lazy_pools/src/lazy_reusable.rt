@@ -8,7 +8,7 @@ ghost use Rattle.lazy_pools.specs.LazyPool.{lazy_identity, lazy_reset};
 
 use crate::lazy_object_pool::LazyObjectPool;
 use crate::lazy_object_pool::lazy_item::LazyItem;
-use nonblocking_pools::fixed_object_pool::PoolNote;
+use fixed_pools::fixed_object_pool::PoolNote;
 use pool_parts::clean::{AnyValue, Clean};
 use pool_parts::closures::{Init, Reset};
 use pool_parts::lender::Lender;
@@ -125,7 +125,7 @@ pub(crate) struct TakenPlace<T, P: SharedLazyPool<T>> {
 impl<T, P: SharedLazyPool<T>> Model for TakenPlace<T, P> {
     ghost use Rattle.std.specs.Prelude.{◌≡◌, ◌<◌, Option};
     ghost use Rattle.pool_parts.specs.Holding.{holding_page};
-    ghost use Rattle.nonblocking_pools.specs.PoolAndHolding.{PoolAndHolding};
+    ghost use Rattle.fixed_pools.specs.Inside.FixedItem.{PoolAndHolding};
 
     ghost Value = { PoolAndHolding (Option T) P };
 
@@ -159,10 +159,11 @@ pub type LazyReusable<'p, T, I, R, K = AnyValue> = LazyReusableOf<
 
 impl<T: Drop, P: SharedLazyPool<T>> LazyReusableOf<T, P> {
     ghost use Rattle.lazy_pools.specs.LazyAnswer.{IsBroughtBack};
-    ghost use Rattle.nonblocking_pools.specs.FixedAnswer.{returns_since};
-    ghost use Rattle.nonblocking_pools.specs.StepCount.{steps_of};
-    ghost use Rattle.lazy_pools.specs.LazyReusable.{lazy_pool, lazy_place, lazy_value, lazy_steps, lazy_returns, lazy_item_place};
-    ghost use Rattle.nonblocking_pools.specs.FixedItem.{item_with};
+    ghost use Rattle.fixed_pools.specs.FixedAnswer.{returns_since};
+    ghost use Rattle.fixed_pools.specs.StepCount.{steps_of};
+    ghost use Rattle.lazy_pools.specs.LazyReusable.{lazy_pool, lazy_place, lazy_value, lazy_view};
+    ghost use Rattle.lazy_pools.specs.Inside.LazyItem.{lazy_item_place};
+    ghost use Rattle.pool_parts.specs.Item.{item_with};
     ghost use Rattle.pool_parts.specs.Note.{witness_page, witness_history};
     ghost use Rattle.pool_parts.specs.declared.page.TheConstants.{PAGE_ITEMS};
 
@@ -172,8 +173,8 @@ impl<T: Drop, P: SharedLazyPool<T>> LazyReusableOf<T, P> {
         ensures pool { lazy_pool result ≡ pool }
         ensures place { lazy_place result ≡ lazy_item_place item }
         ensures value { lazy_value result ≡ item.value }
-        ensures steps { lazy_steps result ≡ steps_of (holding_view item.holding) }
-        ensures returns { lazy_returns result ≡ returns_since (holding_view item.holding) }
+        ensures steps { steps_of (lazy_view result) ≡ steps_of (holding_view item.holding) }
+        ensures returns { returns_since (lazy_view result) ≡ returns_since (holding_view item.holding) }
     {
         let LazyItem { holding, value } = item;
         LazyReusableOf {

@@ -1,7 +1,7 @@
 //! Pools of items that are made when they are first needed, and whose pulls may wait for one.
 //!
 //! A call that may wait takes a permission to; no other pull and no return waits. A program that
-//! isn't allowed to wait takes `nonblocking_pools`, below this crate.
+//! isn't allowed to wait takes `nonblocking_pools`.
 #![tactic(auto)]
 
 pub mod lazy_object_pool;

@@ -4,8 +4,8 @@ ghost use Rattle.std.specs.Prelude.{◌≡◌, ◌≤◌, IfOk, IfErr};
 use crate::lazy_object_pool::LazyObjectPool;
 use crate::lazy_owned_reusable::LazyOwnedReusable;
 use crate::lazy_reusable::LazyReusable;
-pub use nonblocking_pools::recycling::{Recyclable, Recycler};
 use pool_parts::PullError;
+pub use pool_parts::recycling::{Recyclable, Recycler};
 use std::alloc::Global;
 
 /// The lazy pool of a [`Recyclable`] type: each of its values is made when it is first needed.

@@ -11,7 +11,7 @@ use Rattle.atomic_table.specs.Table.{State, Me, keeps, takes, gives, opening, re
 use Rattle.atomic_table.proofs.Lists.{at_last, at_longer, at_set, set_here}
 use Rattle.lockfree_object_pool.specs.declared.spin_lock.rule.Visitor.{Visitor}
 use Rattle.lockfree_object_pool.specs.declared.spin_lock.rule.Visitor.TheVariants.{Passing, Holder}
-use Rattle.lockfree_object_pool.specs.Lock.{IsLock, HasValue, HasNothing, TakesIfFree}
+use Rattle.lockfree_object_pool.specs.Inside.Lock.{IsLock, HasValue, HasNothing, TakesIfFree}
 use Rattle.pool_parts.proofs.PageItems.{at_snoc_last, only_one}
 
 no_holder : (j : ℕ) → get_elem? (Passing ∷ []) j ≡ some Holder → ⊥

@@ -1,6 +1,6 @@
 pub mod Guard
 pub mod GuardLends
-pub mod Lock
+pub mod Inside
 pub mod StackLends
 pub mod StackPool
 pub use Rattle.nonblocking_pools.specs.Answers
@@ -8,19 +8,15 @@ pub use Rattle.nonblocking_pools.specs.FullSeen
 pub use Rattle.nonblocking_pools.specs.Holding
 pub use Rattle.nonblocking_pools.specs.Item
 pub use Rattle.nonblocking_pools.specs.Items
-pub use Rattle.nonblocking_pools.specs.Kept
 pub use Rattle.nonblocking_pools.specs.LastIn
 pub use Rattle.nonblocking_pools.specs.Ledger
 pub use Rattle.nonblocking_pools.specs.Lends
 pub use Rattle.nonblocking_pools.specs.Note
-pub use Rattle.nonblocking_pools.specs.OneProof
 pub use Rattle.nonblocking_pools.specs.Origin
 pub use Rattle.nonblocking_pools.specs.OwnedSlot
 pub use Rattle.nonblocking_pools.specs.Page
-pub use Rattle.nonblocking_pools.specs.PageRule
 pub use Rattle.nonblocking_pools.specs.Refusal
 pub use Rattle.nonblocking_pools.specs.Slot
-pub use Rattle.nonblocking_pools.specs.Taking
 pub use Rattle.nonblocking_pools.specs.Word
 pub use Rattle.nonblocking_pools.specs.FirstPage
 pub use Rattle.nonblocking_pools.specs.LinearPage
@@ -28,7 +24,6 @@ pub use Rattle.nonblocking_pools.specs.LinkNote
 pub use Rattle.nonblocking_pools.specs.LinkRow
 pub use Rattle.nonblocking_pools.specs.Walk
 pub use Rattle.nonblocking_pools.specs.FixedAnswer
-pub use Rattle.nonblocking_pools.specs.FixedItem
 pub use Rattle.nonblocking_pools.specs.FixedLends
 pub use Rattle.nonblocking_pools.specs.FixedPool
 pub use Rattle.nonblocking_pools.specs.FixedReusable
@@ -37,7 +32,6 @@ pub use Rattle.nonblocking_pools.specs.LinearPool
 pub use Rattle.nonblocking_pools.specs.Near
 pub use Rattle.nonblocking_pools.specs.NoneLends
 pub use Rattle.nonblocking_pools.specs.NonePool
-pub use Rattle.nonblocking_pools.specs.PoolAndHolding
 pub use Rattle.nonblocking_pools.specs.StepCount
 pub use Rattle.lazy_pools.specs.LazyAnswer
 pub use Rattle.lazy_pools.specs.LazyLends

@@ -5,7 +5,7 @@
 //! all others waiting.
 ghost use Rattle.std.specs.Prelude.{◌≡◌, [], ◌∷◌, Some, IfErr, IfOk, IfSome};
 ghost use Rattle.lockfree_object_pool.specs.Guard.{lock_of, guard_value};
-ghost use Rattle.lockfree_object_pool.specs.Lock.{HasValue};
+ghost use Rattle.lockfree_object_pool.specs.Inside.Lock.{HasValue};
 
 use crate::spin_lock::rule::{OneHolder, Take, Visitor};
 use crate::spin_lock::turn::Turn;

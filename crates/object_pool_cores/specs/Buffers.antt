@@ -1,9 +1,10 @@
 -- What a buffer pool and its buffers show.
 use Rattle.std.specs.Prelude.{ℕ, List, Option, vec_capacity}
 use Rattle.std.specs.Global.{Vec}
-use Rattle.nonblocking_pools.specs.LinearPool.{pool_init, pool_limit, reusable_item, reusable_page, reusable_number}
-use Rattle.nonblocking_pools.specs.LinearPool.{IsOnPage}
-use Rattle.nonblocking_pools.specs.declared.linear_reusable.LinearReusable.{LinearReusable}
+use Rattle.linear_pools.specs.LinearPool.{pool_init, pool_limit, reusable_item, reusable_page}
+use Rattle.page_chain.specs.Walk.{number_of}
+use Rattle.linear_pools.specs.LinearPool.{IsOnPage}
+use Rattle.linear_pools.specs.declared.linear_reusable.LinearReusable.{LinearReusable}
 use Rattle.object_pool_cores.specs.declared.buffers.BufferPool.{BufferPool}
 use Rattle.object_pool_cores.specs.declared.buffers.buffer.Buffer.{Buffer}
 
@@ -35,7 +36,7 @@ module _ {I R K : Type 0} where
 
   -- the number of the buffer's page in the pool
   abbrev pub page_of : Buffer I R (Vec ℕ) K → ℕ
-  page_of buffer = reusable_number buffer.item
+  page_of buffer = number_of (reusable_page buffer.item)
 
   -- the number of the buffer in its page
   abbrev pub buffer_id : Buffer I R (Vec ℕ) K → ℕ

@@ -1,8 +1,8 @@
 -- A stack: a list of kept values, last returned first.
 use Rattle.std.specs.Prelude.{◌≡◌, Option, Some, None, List, Result, Ok, Err, ◌⊎◌}
 use Rattle.pool_parts.specs.declared.pull_error.PullError.{PullError}
-use Rattle.nonblocking_pools.specs.LastIn.{TakesFirst, StaysEmpty, PutsInFront}
-use Rattle.nonblocking_pools.specs.Refusal.{RefusesMaking}
+use Rattle.pool_parts.specs.LastIn.{TakesFirst, StaysEmpty, PutsInFront}
+use Rattle.pool_parts.specs.Refusal.{RefusesMaking}
 use Rattle.object_pool_cores.specs.declared.sequential.item.Item.{Item}
 use Rattle.object_pool_cores.specs.declared.sequential.attach_error.AttachError.{AttachError}
 use Rattle.object_pool_cores.specs.declared.sequential.attach_error.AttachError.TheVariants.{Memory}

@@ -4,9 +4,10 @@
 //! is dropped.
 ghost use Rattle.std.specs.Prelude.{◌≡◌, ◌≤◌, ◌<◌, [], None, Some, IfOk, IfErr, IsSome, IfSome, vec_capacity};
 
-use nonblocking_pools::clean::Clean;
-use nonblocking_pools::closures::{Init, Reset};
-use nonblocking_pools::{LinearObjectPool, PullError};
+use linear_pools::LinearObjectPool;
+use pool_parts::PullError;
+use pool_parts::clean::Clean;
+use pool_parts::closures::{Init, Reset};
 use std::alloc::Global;
 use std::fmt::{self, Debug, Formatter, Write};
 
@@ -14,8 +15,8 @@ mod buffer;
 
 pub use buffer::Buffer;
 /// The condition that each buffer meets while it lies in its pool: it has no bytes.
-pub use nonblocking_pools::clean::Empty;
-pub use nonblocking_pools::closures::{Clear, WithCapacity};
+pub use pool_parts::clean::Empty;
+pub use pool_parts::closures::{Clear, WithCapacity};
 
 /// Makes an empty buffer with room for `capacity` bytes.
 ///
@@ -63,7 +64,7 @@ pub struct BufferPool<I: Init<T, K>, R: Reset<T, K>, T = Vec<u8>, K: Clean<T> = 
 }
 
 impl<I: Init<Vec<u8>, Empty>, R: Reset<Vec<u8>, Empty>> BufferPool<I, R> {
-    ghost use Rattle.nonblocking_pools.specs.Refusal.{RefusesMaking, RefusesPull};
+    ghost use Rattle.pool_parts.specs.Refusal.{RefusesMaking, RefusesPull};
     ghost use Rattle.object_pool_cores.specs.Buffers.{maker_of, limit_of_pages, bytes_of, page_of, IsOnItsPage};
 
     /// Creates a pool of one page, which grows to at most `pages` pages of 32 buffers.

@@ -1,4 +1,5 @@
 pub mod FirstPage
+pub mod Inside
 pub mod LinearPage
 pub mod LinkNote
 pub mod LinkRow
@@ -8,17 +9,13 @@ pub use Rattle.pool_parts.specs.FullSeen
 pub use Rattle.pool_parts.specs.Holding
 pub use Rattle.pool_parts.specs.Item
 pub use Rattle.pool_parts.specs.Items
-pub use Rattle.pool_parts.specs.Kept
 pub use Rattle.pool_parts.specs.LastIn
 pub use Rattle.pool_parts.specs.Ledger
 pub use Rattle.pool_parts.specs.Lends
 pub use Rattle.pool_parts.specs.Note
-pub use Rattle.pool_parts.specs.OneProof
 pub use Rattle.pool_parts.specs.Origin
 pub use Rattle.pool_parts.specs.OwnedSlot
 pub use Rattle.pool_parts.specs.Page
-pub use Rattle.pool_parts.specs.PageRule
 pub use Rattle.pool_parts.specs.Refusal
 pub use Rattle.pool_parts.specs.Slot
-pub use Rattle.pool_parts.specs.Taking
 pub use Rattle.pool_parts.specs.Word

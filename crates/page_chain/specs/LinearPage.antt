@@ -1,11 +1,11 @@
 -- What a chain and a page of it show.
-use Rattle.std.specs.Prelude.{◌≡◌, ℕ, ◌+◌, ◌<◌, List, Option, Some, IfSome}
+use Rattle.std.specs.Prelude.{◌≡◌, ℕ, ◌+◌, ◌<◌, Some, IfSome}
 use Rattle.std.specs.Arc.{arc_value}
 use Rattle.atomic_table.specs.Seated.{TableId}
 use Rattle.pool_parts.specs.Item.{Item}
 use Rattle.page_chain.specs.LinkNote.{known_link, known_next}
 use Rattle.page_chain.specs.LinkRow.{link_at}
-use Rattle.pool_parts.specs.Page.{page_identity, page_opening}
+use Rattle.pool_parts.specs.Page.{page_identity}
 use Rattle.pool_parts.specs.declared.clean.Clean.{Ghosts}
 use Rattle.page_chain.specs.declared.linear_page.Chain.{Chain}
 use Rattle.page_chain.specs.declared.linear_page.LinearPage.{LinearPage}
@@ -15,10 +15,6 @@ use Rattle.pool_parts.specs.declared.page.TheConstants.{PAGE_ITEMS}
 -- which page the chain's first one is
 abbrev pub first_page : {T K O : Type 0} → Chain T K O → TableId
 first_page chain = page_identity (arc_value chain.first)
-
--- the values that the chain's first page opened with, by id
-abbrev pub first_opening : {T K O : Type 0} → Chain T K O → List (Option T)
-first_opening chain = page_opening (arc_value chain.first)
 
 module _ {T K O : Type 0} {opens : Ghosts O T} where
   -- which page it is

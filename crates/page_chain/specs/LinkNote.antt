@@ -12,10 +12,6 @@ module _ {T K O : Type 0} {opens : Ghosts O T} where
   abbrev pub known_link : LinkNote T K O opens → ℕ × ℕ
   known_link note = (note.row.cell, note.offset.value)
 
-  -- which cell the link is
-  abbrev pub link_cell : LinkNote T K O opens → ℕ
-  link_cell note = note.link.cell
-
   -- which page the note knows to be linked
   abbrev pub known_next : LinkNote T K O opens → Option TableId
   known_next note = option_map (λ page. page_identity (arc_value page)) note.link.known

@@ -1,5 +1,5 @@
 -- Where a walk along the links of a chain came to.
-use Rattle.std.specs.Prelude.{◌≡◌, ◌⊎◌, ℕ, ◌+◌, ◌-◌, ◌<◌, ◌≤◌, List, Option, Some, IfSome, ⊤}
+use Rattle.std.specs.Prelude.{◌≡◌, ◌⊎◌, ℕ, ◌+◌, ◌-◌, ◌<◌, ◌≤◌, List, Option, Some, IfSome}
 use Rattle.std.specs.Arc.{arc_value}
 use Rattle.std.specs.Option.{option_map}
 use Rattle.std.specs.declared.alloc.Global.{Global}
@@ -8,16 +8,12 @@ use Rattle.pool_parts.specs.FullSeen.{full_page}
 use Rattle.pool_parts.specs.Item.{Item, IsItemOf, IsPulled}
 use Rattle.pool_parts.specs.Items.{IsFilled}
 use Rattle.page_chain.specs.LinearPage.{first_page, shown_page, page_number}
-use Rattle.page_chain.specs.LinkNote.{known_link, known_next}
 use Rattle.page_chain.specs.LinkRow.{IsLinkTo, cell_in_row}
 use Rattle.pool_parts.specs.Page.{page_identity}
-use Rattle.pool_parts.specs.Slot.{slot_item}
 use Rattle.pool_parts.specs.declared.clean.Clean.{Ghosts}
 use Rattle.page_chain.specs.declared.linear_page.Chain.{Chain}
 use Rattle.page_chain.specs.declared.linear_page.LinearPage.{LinearPage}
-use Rattle.page_chain.specs.declared.linear_page.link_note.LinkNote.{LinkNote}
 use Rattle.page_chain.specs.declared.linear_page.page_number.PageNumber.{PageNumber}
-use Rattle.page_chain.specs.declared.linear_page.walk.KnownFull.{KnownFull}
 use Rattle.page_chain.specs.declared.linear_page.walk.LimitSeen.{LimitSeen}
 use Rattle.page_chain.specs.declared.linear_page.walk.WalkRefusal.{WalkRefusal}
 use Rattle.page_chain.specs.declared.linear_page.walk.WalkRefusal.TheVariants.{Limit, Making}
@@ -25,8 +21,6 @@ use Rattle.pool_parts.specs.declared.page.full_seen.FullSeen.{FullSeen}
 use Rattle.pool_parts.specs.declared.pull_error.PullError.{PullError}
 use Rattle.pool_parts.specs.declared.pull_error.PullError.TheVariants.{Limit as LimitCause}
 use Rattle.pool_parts.specs.Refusal.{RefusesMaking}
-use Rattle.pool_parts.specs.declared.page.full_seen.Allocated.{Allocated}
-use Rattle.pool_parts.specs.declared.page.full_seen.Allocated.TheVariants.{Slot, Full}
 use Rattle.pool_parts.specs.declared.page.TheConstants.{PAGE_ITEMS}
 
 -- where a walk starts: the links of its chain, a page of that chain, and the page's number
@@ -59,33 +53,10 @@ module _ {T K O : Type 0} where
   IsWalkedTo start known page =
       ((known.number ≡ start.number) × (page ≡ start.page)) ⊎ IsLinkedAt start.links known page
 
-module _ {T K : Type 0} where
-  -- what a page of a chain answers to a pull: an item of this page, which opened with 32 values of
-  -- this kind, pulled as its history tells; or each of its ids was observed taken
-  abbrev pub IsAnsweredBy : (T → Type 0) → (T → Type 0) → TableId → Allocated T K → Type 0
-  IsAnsweredBy meets may_open page (Slot slot) =
-      IsItemOf meets page (slot_item slot) × IsFilled PAGE_ITEMS may_open (slot_item slot).opening
-      × IsPulled (slot_item slot)
-  IsAnsweredBy meets may_open page (Full seen) = full_page seen ≡ page
-
-  -- an item that a page gives has the values in its history that the page opened with
-  abbrev pub IsOpenedWith : List (Option T) → Allocated T K → Type 0
-  IsOpenedWith opening (Slot slot) = (slot_item slot).opening ≡ opening
-  IsOpenedWith opening (Full seen) = ⊤
-
 module _ {T K O : Type 0} {opens : Ghosts O T} where
   -- the start of a walk that begins at this page
   abbrev pub start_at : LinearPage T K O opens → Start
   start_at page = record { links = page.directory.now; page = shown_page page; number = page_number page }
-
-  -- a note of the link to the page of this number knows that page
-  pub record IsKnownAt (links : List (Global × ℕ)) (number : ℕ) (note : LinkNote T K O opens) (page : TableId) : Type 0 where
-    pub is_link : IsLinkTo links number (known_link note)
-    pub knows : known_next note ≡ Some page
-
-  -- the page of this number was found full
-  abbrev pub IsFullAt : List (Global × ℕ) → KnownFull T K O opens → Type 0
-  IsFullAt links full = IsKnownAt links full.number full.note (full_page full.seen)
 
 -- the page of this number, as a walk comes to it, was found full in one pull
 pub record WasFull (T K O : Type 0) (start : Start) (number : ℕ) : Type 0 where

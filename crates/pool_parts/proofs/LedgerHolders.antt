@@ -8,7 +8,7 @@ use Rattle.pool_parts.specs.declared.page.history.Operation.TheVariants.{Pull, R
 use Rattle.pool_parts.specs.Ledger.{History, user_of, id_of, operations_of, held_id, left_by, value_at}
 use Rattle.pool_parts.specs.Ledger.{MayFollow, IsLegal, NoOperationOn}
 use Rattle.pool_parts.specs.declared.page.user_view.UserView.{UserView}
-use Rattle.pool_parts.specs.PageRule.{GoesOn}
+use Rattle.pool_parts.specs.Inside.PageRule.{GoesOn}
 use Rattle.pool_parts.proofs.Ledger.{behind, operations_of_own, operations_of_other, value_at-here}
 use Rattle.pool_parts.proofs.Ledger.{value_at-elsewhere}
 

@@ -8,8 +8,8 @@ use mathlib.Core.Logic.{dite}
 use Rattle.atomic_table.proofs.Lists.{at_set, at_snoc, at_longer, set_here, set_else}
 use Rattle.pool_parts.specs.declared.page.user_view.UserView.{UserView}
 use Rattle.pool_parts.specs.Ledger.{History, user_of, operations_of, held_id, IsPrefixOf}
-use Rattle.pool_parts.specs.PageRule.{User, HasMet, AllHaveMet}
-use Rattle.pool_parts.specs.Meeting.{Meets, introduced_to}
+use Rattle.pool_parts.specs.Inside.PageRule.{User, HasMet, AllHaveMet}
+use Rattle.pool_parts.specs.Inside.Meeting.{Meets, introduced_to}
 use Rattle.pool_parts.proofs.Ledger.{at_below, operations_of_own, operations_of_other}
 use Rattle.pool_parts.proofs.LedgerHolders.{held, longer_own}
 

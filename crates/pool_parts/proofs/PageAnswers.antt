@@ -8,10 +8,11 @@ use Rattle.pool_parts.specs.declared.page.full_seen.FullSeen.{FullSeen}
 use Rattle.pool_parts.specs.declared.page.full_seen.Allocated.{Allocated}
 use Rattle.pool_parts.specs.declared.page.full_seen.Allocated.TheVariants.{Slot, Full}
 use Rattle.pool_parts.specs.Item.{Item, IsPulled}
-use Rattle.pool_parts.specs.Note.{note_page, note_view, note_opening, note_history, IsReturned, IsPulledAfter}
+use Rattle.pool_parts.specs.Note.{note_page, note_view, IsReturned, IsPulledAfter}
 use Rattle.pool_parts.specs.Ledger.{History, operations_of, IsPrefixOf, WasOutBetween}
-use Rattle.pool_parts.specs.PageRule.{GoesOn, StartsFrom, KnowsOut}
-use Rattle.pool_parts.specs.FullSeen.{full_page, full_view, IsAllOut, IsAnswerFrom, IsAnswerOf, IsAnswerAfter}
+use Rattle.pool_parts.specs.Inside.PageRule.{GoesOn, StartsFrom, KnowsOut}
+use Rattle.pool_parts.specs.FullSeen.{full_page, full_view, IsAllOut, IsAnswerOf, IsAnswerAfter}
+use Rattle.pool_parts.specs.Inside.Taking.{IsAnswerFrom}
 use Rattle.pool_parts.proofs.Ledger.{legal_of, prefix_further, out_longer}
 use Rattle.pool_parts.proofs.LedgerHolders.{spared_return}
 
@@ -56,9 +57,9 @@ module _ {T : Type 0} where
     pub pulled_after : (note : PageNote T) → StartsFrom (note_view note) start
         → IsPulledAfter note (item_known page known id value)
     pulled_after note starts =
-        let further = prefix_further (note_history note) start.operations
+        let further = prefix_further (note_view note).operations start.operations
         (goes.operations.0 ++ start.operations) starts.after_known (goes.operations.0, refl) in
-        let last : known.operations ≡ Pull known.user id value ∷ (further.0 ++ note_history note) =
+        let last : known.operations ≡ Pull known.user id value ∷ (further.0 ++ (note_view note).operations) =
         goes.operations.1 ∙ ap (λ operations. Pull known.user id value ∷ operations) further.1 in
         let same_user = goes.same_user ∙ starts.same_user in
         record {
@@ -70,7 +71,7 @@ module _ {T : Type 0} where
           only = goes.sound.own_operations ∙ goes.own ∙ ap (λ own.
               Pull known.user id value ∷ own)
               (starts.own_same ∙ sym starts.own_before
-              ∙ ap (λ user. operations_of user (note_history note)) (sym same_user));
+              ∙ ap (λ user. operations_of user (note_view note).operations) (sym same_user));
         }
 
   -- what a call found that observed each of so many items taken, since its user stood here at its load
@@ -113,7 +114,7 @@ module _ {T : Type 0} where
         others = spared.0;
         last = spared.1;
         untouched = spared.2;
-        only = ap (λ user. operations_of user (note_history note)) (sym same.same_user) ∙ same.sound.own_operations
+        only = ap (λ user. operations_of user (note_view note).operations) (sym same.same_user) ∙ same.sound.own_operations
             ∙ same.own ∙ ap (λ own. Return old.user id value ∷ own) (sym same.own_before);
       }
 
@@ -141,6 +142,6 @@ module _ {T K : Type 0} where
         slot.value is.1 note starts,
   )
   answer_after meets page note start (Full seen) starts is = record {
-    all_out = found_out _ page (note_opening note) start seen is.0 starts.same_opening is.1 is.2;
+    all_out = found_out _ page (note_view note).opening start seen is.0 starts.same_opening is.1 is.2;
     after_note = after_known (note_view note) start (full_view seen) starts is.1;
   }

@@ -12,8 +12,8 @@ use Rattle.pool_parts.specs.declared.page.user_view.UserView.{UserView}
 use Rattle.pool_parts.specs.declared.page.history.Operation.{Operation}
 use Rattle.pool_parts.specs.Ledger.{History, user_of, id_of, operations_of, held_id, left_by, value_at}
 use Rattle.pool_parts.specs.Ledger.{MayFollow, IsLegal, IsPrefixOf, returns_on}
-use Rattle.pool_parts.specs.Word.{item_bit, count_in}
-use Rattle.pool_parts.specs.PageRule.{PageState, first_view, item_of, HasHistory, Knows, GoesOn, IsSound}
+use Rattle.pool_parts.specs.Inside.Word.{item_bit, count_in}
+use Rattle.pool_parts.specs.Inside.PageRule.{PageState, first_view, item_of, HasHistory, Knows, GoesOn, IsSound}
 use Rattle.pool_parts.proofs.Ledger.{operations_of_own, operations_of_other, value_at-here}
 use Rattle.pool_parts.proofs.Ledger.{value_at-elsewhere, informed_later, informed_set, at_below}
 use Rattle.pool_parts.proofs.Ledger.{prefix_same, prefix_further}

@@ -8,8 +8,8 @@ use native.Mathlib.Decide.{ℕ_discrete}
 use mathlib.Core.Logic.{dite}
 use Rattle.atomic_table.proofs.Lists.{at_set, at_snoc, set_here, set_else}
 use Rattle.pool_parts.specs.declared.page.user_view.UserView.{UserView}
-use Rattle.pool_parts.specs.Word.{item_bit}
-use Rattle.pool_parts.specs.PageRule.{PageState, IsSet, UserHolds, IsPage}
+use Rattle.pool_parts.specs.Inside.Word.{item_bit}
+use Rattle.pool_parts.specs.Inside.PageRule.{PageState, IsSet, UserHolds, IsPage}
 use Rattle.pool_parts.proofs.WordBits.{Turns}
 
 -- what stands in a list of one element

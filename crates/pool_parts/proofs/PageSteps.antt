@@ -17,11 +17,12 @@ use Rattle.pool_parts.specs.declared.page.user_view.UserView.{UserView}
 use Rattle.pool_parts.specs.declared.page.history.Operation.{Operation}
 use Rattle.pool_parts.specs.declared.page.history.Operation.TheVariants.{Pull, Return}
 use Rattle.pool_parts.specs.Ledger.{History, operations_of, value_at, MayFollow, IsLegal, IsPrefixOf, returns_on}
-use Rattle.pool_parts.specs.Word.{whole_word, count_in, SetsBit, ClearsBit, item_bit}
-use Rattle.pool_parts.specs.PageRule.{PageState, User, first_view, item_of, IsSet, IsClear, HasHistory, IsKept, IsSound}
-use Rattle.pool_parts.specs.PageRule.{IsInformed, Knows, GoesOn, Takes, Misses, Loads, LoadsAgain, LoadsOn}
-use Rattle.pool_parts.specs.PageRule.{Counts, Clears, GivesBack, AllHaveMet, told_of, gone_view, witness_of}
-use Rattle.pool_parts.specs.Meeting.{Meets, introduction_of}
+use Rattle.pool_parts.specs.Inside.Word.{whole_word, count_in, item_bit}
+use Rattle.pool_parts.specs.Word.{SetsBit, ClearsBit}
+use Rattle.pool_parts.specs.Inside.PageRule.{PageState, User, first_view, item_of, IsSet, IsClear, HasHistory, IsKept, IsSound}
+use Rattle.pool_parts.specs.Inside.PageRule.{IsInformed, Knows, GoesOn, Takes, Misses, Loads, LoadsAgain, LoadsOn}
+use Rattle.pool_parts.specs.Inside.PageRule.{Counts, Clears, GivesBack, AllHaveMet, told_of, gone_view, witness_of}
+use Rattle.pool_parts.specs.Inside.Meeting.{Meets, introduction_of}
 use Rattle.pool_parts.proofs.Ledger.{prefix_same, at_below}
 use Rattle.pool_parts.proofs.Meetings.{met_set, met_same, met_snoc, met_nobody}
 use Rattle.pool_parts.proofs.WordBits.{lacks_one, and_clears, Raises, raises, item_bit_of, Turns, turns, same_count}

@@ -5,8 +5,8 @@ use native.Mathlib.Decide.{ℕ_discrete}
 use mathlib.Core.Logic.{dite}
 use Rattle.pool_parts.specs.Word.{ClearsBit, IsLeastBit}
 use Rattle.pool_parts.specs.Ledger.{History, IsPrefixOf, WasOutBetween}
-use Rattle.pool_parts.specs.PageRule.{User, item_of, GoesOn, Misses}
-use Rattle.pool_parts.specs.Taking.{MissesAll}
+use Rattle.pool_parts.specs.Inside.PageRule.{User, item_of, GoesOn, Misses}
+use Rattle.pool_parts.specs.Inside.Taking.{MissesAll}
 use Rattle.pool_parts.proofs.Ledger.{still_out, out_since}
 
 -- the bits are tried from the lowest on, so a bit that is left has at most as many tries before it as there are bits

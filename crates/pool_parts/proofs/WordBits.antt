@@ -14,7 +14,8 @@ use Rattle.std.proofs.lemmas.Nat.Bits.{bit_at_ones_above, bit_at_or, bit_at-zero
 use Rattle.std.proofs.lemmas.Nat.Bits.{bit_at_cat_low, bit_at_cat_high}
 use Rattle.std.proofs.lemmas.Nat.{or_lt}
 use lib.Pow.{pow_mono, ones_lt}
-use Rattle.pool_parts.specs.Word.{all_bits, whole_word, count_in, IsLowHalf, SetsBit, ClearsBit, item_bit, IsAllFree}
+use Rattle.pool_parts.specs.Inside.Word.{all_bits, whole_word, count_in, IsLowHalf, item_bit, IsAllFree}
+use Rattle.pool_parts.specs.Word.{SetsBit, ClearsBit}
 
 -- one less turns the lowest set bit off, the bits below it on, and leaves those above it
 bit_at-less_one : (k word : ℕ) → bit_at word k ≡ 1 → ((i : ℕ) → i < k → bit_at word i ≡ 0) → (i : ℕ)

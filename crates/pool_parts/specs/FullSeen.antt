@@ -1,17 +1,15 @@
 -- What the answer of a page to a pull shows.
-use Rattle.std.specs.Prelude.{◌≡◌, ℕ, ◌+◌, ◌<◌, ◌≤◌, ◌∷◌, [], List, Option}
+use Rattle.std.specs.Prelude.{◌≡◌, ℕ, ◌+◌, ◌<◌, ◌≤◌, List, Option}
 use Rattle.atomic_table.specs.Seated.{TableId}
-use Rattle.pool_parts.specs.declared.page.history.Operation.TheVariants.{Pull}
 use Rattle.pool_parts.specs.declared.page.user_view.UserView.{UserView}
 use Rattle.pool_parts.specs.declared.page.note.PageNote.{PageNote}
 use Rattle.pool_parts.specs.declared.page.full_seen.FullSeen.{FullSeen}
 use Rattle.pool_parts.specs.declared.page.full_seen.Allocated.{Allocated}
 use Rattle.pool_parts.specs.declared.page.full_seen.Allocated.TheVariants.{Slot, Full}
 use Rattle.pool_parts.specs.Item.{IsItemOf, IsPulledOf}
-use Rattle.pool_parts.specs.Note.{note_view, note_opening, note_history, IsPulledAfter}
-use Rattle.pool_parts.specs.Ledger.{History, IsLegal, IsPrefixOf, WasOutBetween}
-use Rattle.pool_parts.specs.PageRule.{GoesOn}
-use Rattle.pool_parts.specs.Slot.{slot_item, slot_view}
+use Rattle.pool_parts.specs.Note.{note_view, IsPulledAfter}
+use Rattle.pool_parts.specs.Ledger.{IsLegal, IsPrefixOf, WasOutBetween}
+use Rattle.pool_parts.specs.Slot.{slot_item}
 use Rattle.pool_parts.specs.declared.page.TheConstants.{PAGE_ITEMS}
 
 module _ {T : Type 0} where
@@ -22,14 +20,6 @@ module _ {T : Type 0} where
   -- what the user of the call knows of the page
   abbrev pub full_view : FullSeen T → UserView T
   full_view seen = seen.seat.me.0
-
-  -- the page's history up to that user's first load
-  abbrev pub full_since : FullSeen T → History T
-  full_since seen = (full_view seen).since
-
-  -- the page's history up to that user's last step
-  abbrev pub full_history : FullSeen T → History T
-  full_history seen = (full_view seen).operations
 
   -- each of the items of this page or fixed pool, which has so many, was observed taken by one user, since its first load
   pub record IsAllOut (count : ℕ) (page : TableId) (opening : List (Option T)) (seen : FullSeen T) : Type 0 where
@@ -44,8 +34,8 @@ module _ {T : Type 0} where
 
   -- the same of a user that goes on from a note: its first load stands after all that the note knew
   pub record IsAllOutAfter (count : ℕ) (page : TableId) (note : PageNote T) (seen : FullSeen T) : Type 0 where
-    pub all_out : IsAllOut count page (note_opening note) seen
-    pub after_note : IsPrefixOf (note_history note) (full_since seen)
+    pub all_out : IsAllOut count page (note_view note).opening seen
+    pub after_note : IsPrefixOf (note_view note).operations (full_view seen).since
 
   -- this user has read the page's word once, and has tried so many bits at most
   pub record IsBrief (known : UserView T) : Type 0 where
@@ -73,12 +63,3 @@ module _ {T K : Type 0} where
   abbrev pub IsAnswerAfter : (T → Type 0) → TableId → PageNote T → Allocated T K → Type 0
   IsAnswerAfter meets page note (Slot slot) = IsItemOf meets page (slot_item slot) × IsPulledAfter note (slot_item slot)
   IsAnswerAfter meets page note (Full seen) = IsAllOutAfter PAGE_ITEMS page note seen
-
-  -- what a user may be answered that stands here: a pull is its one operation more; a full page was found so by it
-  abbrev pub IsAnswerFrom : (T → Type 0) → TableId → UserView T → Allocated T K → Type 0
-  IsAnswerFrom meets page start (Slot slot) =
-      let item = slot_item slot in
-      IsItemOf meets page item × GoesOn (Pull item.holder item.id item.value ∷ []) start (slot_view slot)
-  IsAnswerFrom meets page start (Full seen) =
-      (full_page seen ≡ page) × GoesOn [] start (full_view seen)
-      × ((id : ℕ) → id < PAGE_ITEMS → WasOutBetween start.opening start.since (full_history seen) id)

@@ -41,3 +41,7 @@ module _ {T : Type 0} where
     pub is_item : IsItemOf meets page item
     pub same_opening : item.opening ≡ opening
     pub pulled : IsPulled item
+
+  -- the same item with another value
+  abbrev pub item_with : Item T → T → Item T
+  item_with item value = record item { value = value }

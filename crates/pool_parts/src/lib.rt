@@ -1,8 +1,8 @@
 //! The parts of object pools.
 //!
-//! They are: the condition of a pool's values, their initializers and resets, why a pull is
-//! refused, pages of items that threads share without a lock, and the list of values that a stack
-//! pool keeps.
+//! They are: the condition of a pool's values, their initializers and resets, types that define
+//! these for themselves, why a pull is refused, pages of items that threads share without a lock,
+//! and the list of values that a stack pool keeps.
 //!
 //! No call waits for another thread.
 #![tactic(auto)]
@@ -13,6 +13,7 @@ pub mod lender;
 pub mod made_or_reset;
 pub mod page;
 pub mod pull_error;
+pub mod recycling;
 pub mod stack;
 
 pub use pull_error::PullError;

@@ -16,8 +16,9 @@
 //! single bits.
 ghost use Rattle.std.specs.Prelude.{◌≡◌, ◌==◌, ◌+◌, ◌-◌, ◌^◌, ◌<◌, ◌≤◌, ◌↔◌, ℕ, [], false, Option, None, Some, IsTrue, IsNone, IfSome, IsOk, IfOk, IfErr, bit_and, bit_or};
 ghost use Rattle.std.specs.Int.{w32, bit_at, bit_not};
-ghost use Rattle.pool_parts.specs.Items.{items_identity, items_raise};
-ghost use Rattle.pool_parts.specs.Word.{IsLeastBit, SetsBit, ClearsBit, IsLowHalf, whole_word, count_in};
+ghost use Rattle.pool_parts.specs.Inside.Items.{items_identity, items_raise};
+ghost use Rattle.pool_parts.specs.Word.{IsLeastBit, SetsBit, ClearsBit};
+ghost use Rattle.pool_parts.specs.Inside.Word.{IsLowHalf, whole_word, count_in};
 ghost use Rattle.pool_parts.specs.declared.page.TheConstants.{PAGE_ITEMS};
 
 use crate::PullError;
@@ -154,12 +155,13 @@ impl<T: Drop, K: Clean<T>> Drop for Page<T, K> {
 
 impl<T, K: Clean<T>> Page<T, K> {
     ghost use Rattle.pool_parts.specs.Answers.{MayMake};
-    ghost use Rattle.pool_parts.specs.FullSeen.{IsAnswerOf, IsAnswerFrom, IsAnswerAfter, IsBrief, IsBriefAfter, answer_view};
+    ghost use Rattle.pool_parts.specs.FullSeen.{IsAnswerOf, IsAnswerAfter, IsBrief, IsBriefAfter, answer_view};
+    ghost use Rattle.pool_parts.specs.Inside.Taking.{IsAnswerFrom};
     ghost use Rattle.pool_parts.specs.Holding.{holding_page, held_item};
     ghost use Rattle.pool_parts.specs.Item.{IsPulledOf};
     ghost use Rattle.pool_parts.specs.Note.{note_page, witness_page, IsReturned, IsNoteOf, HasLearned};
     ghost use Rattle.pool_parts.specs.Page.{page_identity, page_opening, OpensWith};
-    ghost use Rattle.pool_parts.specs.PageRule.{IsSound, IsOutNow, item_of};
+    ghost use Rattle.pool_parts.specs.Inside.PageRule.{IsSound, IsOutNow, item_of};
     ghost use Rattle.pool_parts.specs.Refusal.{RefusesMaking};
     ghost use Rattle.pool_parts.specs.Slot.{slot_item, slot_view};
 

@@ -30,7 +30,7 @@ pub struct Room<T> {
 
 impl<T> Model for Room<T> {
     ghost use Rattle.std.specs.Prelude.{⊤, box_value};
-    ghost use Rattle.pool_parts.specs.Kept.{IsVacant};
+    ghost use Rattle.pool_parts.specs.Inside.Kept.{IsVacant};
 
     ghost Value = { ⊤ };
 
@@ -84,7 +84,7 @@ pub struct Stack<T, K: Clean<T>> {
 
 impl<T, K: Clean<T>> Model for Stack<T, K> {
     ghost use Rattle.std.specs.Prelude.{List, All};
-    ghost use Rattle.pool_parts.specs.Kept.{kept_values, IsFullChain};
+    ghost use Rattle.pool_parts.specs.Inside.Kept.{kept_values, IsFullChain};
 
     ghost Value = { List T };
 

@@ -13,8 +13,8 @@
 
 mod blocks;
 mod cores;
-mod fixed_pools;
-mod linear_pools;
+mod fixed_pool;
+mod linear_pool;
 mod observer;
 mod openings;
 mod others;
@@ -49,8 +49,8 @@ fn main(rt: HostRuntime) -> Result<ExitCode> {
     let mut observer = Observer::new(rt, turns);
     openings::observe(rt.alloc(), &mut observer)?;
     pages::observe(rt.alloc(), &mut observer)?;
-    linear_pools::observe(rt.alloc(), &mut observer)?;
-    fixed_pools::observe(rt.alloc(), &mut observer)?;
+    linear_pool::observe(rt.alloc(), &mut observer)?;
+    fixed_pool::observe(rt.alloc(), &mut observer)?;
     stack_pools::observe(&rt, rt.alloc(), &mut observer)?;
     others::observe(&rt, rt.alloc(), &mut observer)?;
     cores::observe(rt.alloc(), &mut observer)?;

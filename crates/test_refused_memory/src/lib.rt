@@ -11,9 +11,9 @@ mod buffers;
 #[cfg(test)]
 mod engine;
 #[cfg(test)]
-mod fixed_pools;
+mod fixed_pool;
 #[cfg(test)]
-mod linear_pools;
+mod linear_pool;
 #[cfg(test)]
 mod makers;
 #[cfg(test)]

@@ -7,7 +7,7 @@ mod assert_equal;
 #[cfg(test)]
 mod buffers;
 #[cfg(test)]
-mod linear_pools;
+mod linear_pool;
 #[cfg(test)]
 mod none_pool;
 #[cfg(test)]

@@ -15,9 +15,9 @@ ghost use Rattle.std.specs.Prelude.{◌≤◌};
 
 mod buffers;
 mod cores;
-mod fixed_pools;
+mod fixed_pool;
 mod lazy;
-mod linear_pools;
+mod linear_pool;
 mod numbers;
 mod players;
 mod pulls;
@@ -133,12 +133,12 @@ fn outcome_of<W: Wait + Copy>(rt: &W, alloc: Global, kind: Kind, pages: u16) -> 
     requires { 1 ≤ pages }
 {
     match kind {
-        Kind::BoundedLinear => linear_pools::bounded(rt, alloc, pages),
-        Kind::BoundedLinearOwned => linear_pools::bounded_owned(rt, alloc, pages),
-        Kind::Linear => linear_pools::unbounded(rt, alloc, pages),
+        Kind::BoundedLinear => linear_pool::bounded(rt, alloc, pages),
+        Kind::BoundedLinearOwned => linear_pool::bounded_owned(rt, alloc, pages),
+        Kind::Linear => linear_pool::unbounded(rt, alloc, pages),
         Kind::Buffers => buffers::bounded(alloc, pages),
-        Kind::Fixed => fixed_pools::borrowed(rt, alloc, pages),
-        Kind::FixedOwned => fixed_pools::owned(rt, alloc, pages),
+        Kind::Fixed => fixed_pool::borrowed(rt, alloc, pages),
+        Kind::FixedOwned => fixed_pool::owned(rt, alloc, pages),
         Kind::Lazy => lazy::borrowed(rt, alloc, pages),
         Kind::Mutex => stack_pools::mutex(rt, alloc, pages),
         Kind::SpinLock => stack_pools::spin_lock(rt, alloc, pages),

@@ -1,6 +1,6 @@
 //! Two items that are held, as two rows of a table of one's own.
 ghost use Rattle.std.specs.Prelude.{◌≡◌, ◌<◌, length, slice_get, Some};
-ghost use Rattle.nonblocking_pools.specs.FixedReusable.{reusable_item};
+ghost use Rattle.fixed_pools.specs.FixedReusable.{reusable_item};
 
 use lockfree_object_pool::FixedReusable;
 use lockfree_object_pool::clean::AnyValue;

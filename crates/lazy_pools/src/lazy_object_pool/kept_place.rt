@@ -1,6 +1,6 @@
 //! The condition of the places of a lazy pool: empty, or with a value that was made by an
 //! initializer or left by a reset.
-ghost use Rattle.lazy_pools.specs.LazyAnswer.{IsKeptPlace};
+ghost use Rattle.lazy_pools.specs.Inside.LazyItem.{IsKeptPlace};
 
 use pool_parts::clean::Clean;
 use pool_parts::closures::{Init, Reset};

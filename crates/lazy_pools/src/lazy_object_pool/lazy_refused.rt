@@ -1,5 +1,5 @@
 //! Why a pull gave no item of a lazy pool, where its error is no `PullError`.
-use nonblocking_pools::fixed_object_pool::{BusySeen, PoolNote};
+use fixed_pools::fixed_object_pool::{BusySeen, PoolNote};
 
 /// Why [`super::LazyObjectPool::try_pull`] gave no item.
 ///

@@ -2,17 +2,17 @@
 ghost use Rattle.std.specs.Prelude.{IfSome};
 
 use super::LazyObjectPool;
-use nonblocking_pools::fixed_object_pool::items::pulled_item::PulledItem;
+use fixed_pools::fixed_object_pool::items::pulled_item::PulledItem;
 use pool_parts::clean::Clean;
 use pool_parts::closures::{Init, Reset};
 use std::sync::Wait;
 use std::time::{Clock, Duration, Instant};
 
 impl<T: Drop, I: Init<T, K>, R: Reset<T, K>, K: Clean<T>> LazyObjectPool<T, I, R, K> {
-    ghost use Rattle.lazy_pools.specs.LazyAnswer.{IsKeptPlace};
+    ghost use Rattle.lazy_pools.specs.Inside.LazyItem.{IsKeptPlace};
     ghost use Rattle.lazy_pools.specs.LazyPool.{lazy_identity, lazy_opening};
-    ghost use Rattle.nonblocking_pools.specs.FixedAnswer.{IsPulledFrom};
-    ghost use Rattle.nonblocking_pools.specs.FixedItem.{pulled_item};
+    ghost use Rattle.fixed_pools.specs.FixedAnswer.{IsPulledFrom};
+    ghost use Rattle.fixed_pools.specs.Inside.FixedItem.{pulled_item};
 
     /// Takes a free place, or waits until one is returned.
     pub(super) fn place_waiting<W: Wait>(&self, rt: &W) -> PulledItem<Option<T>>

@@ -14,7 +14,7 @@ pub enum Visitor {
 pub struct OneHolder;
 
 impl<T> TableRule<Option<T>, Visitor, ()> for OneHolder {
-    ghost use Rattle.lockfree_object_pool.specs.Lock.{IsLock};
+    ghost use Rattle.lockfree_object_pool.specs.Inside.Lock.{IsLock};
     ghost use Rattle.lockfree_object_pool.specs.declared.spin_lock.rule.Visitor.TheVariants.{Passing};
 
     ghost holds = { λ _. IsLock };
@@ -26,7 +26,7 @@ impl<T> TableRule<Option<T>, Visitor, ()> for OneHolder {
 pub struct Take;
 
 impl<T> Play<Option<T>, Visitor> for Take {
-    ghost use Rattle.lockfree_object_pool.specs.Lock.{TakesIfFree};
+    ghost use Rattle.lockfree_object_pool.specs.Inside.Lock.{TakesIfFree};
 
     ghost then = { λ _ _ word after. TakesIfFree word after };
 }
@@ -35,7 +35,7 @@ impl<T> Play<Option<T>, Visitor> for Take {
 pub struct Free;
 
 impl<T> Play<Option<T>, Visitor> for Free {
-    ghost use Rattle.lockfree_object_pool.specs.Lock.{HasNothing};
+    ghost use Rattle.lockfree_object_pool.specs.Inside.Lock.{HasNothing};
 
     ghost then = { λ _ _ _ after. HasNothing after };
 }

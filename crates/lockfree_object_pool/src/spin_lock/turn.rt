@@ -1,6 +1,6 @@
 //! The turn of a lock's one holder, while the value is out.
 ghost use Rattle.std.specs.Prelude.{◌≡◌};
-ghost use Rattle.lockfree_object_pool.specs.Lock.{HasNothing};
+ghost use Rattle.lockfree_object_pool.specs.Inside.Lock.{HasNothing};
 
 use crate::spin_lock::rule::{Free, Visitor};
 use crate::spin_lock::{FREE, PLACE, SpinLock, WORD};

@@ -7,7 +7,7 @@ use Rattle.std.proofs.lemmas.Bool.{cases_lt}
 use Rattle.std.proofs.lemmas.List.{length-map}
 use Rattle.std.proofs.lemmas.Nat.Bits.{bit_at-zero, bit_at_ones, bit_at-trailing_zeros}
 use Rattle.std.proofs.lemmas.Option.{get_or_from_slice_get, slice_get_within}
-use Rattle.nonblocking_pools.specs.Word.{IsLeastBit, ClearsBit}
+use Rattle.pool_parts.specs.Word.{IsLeastBit, ClearsBit}
 use Rattle.object_pool_cores.specs.OnePage.{IsMadePage, IsFreeId, HasNoFreeId, IsMask, TakesLeastId}
 use Rattle.object_pool_cores.specs.Inside.PageWord.{IsCorePage}
 use Rattle.object_pool_cores.specs.Laws.HeldItems.{slice_get-from_set}

@@ -2,10 +2,11 @@
 ghost use Rattle.std.specs.Prelude.{◌≡◌, ◌<◌, ◌≤◌, ◌+◌, ◌++◌, [], length, IsOk, OnOk, OnErr, IfErr};
 
 use crate::buffers::Empty;
-use nonblocking_pools::clean::Clean;
-use nonblocking_pools::closures::{Init, Reset};
-use nonblocking_pools::page::PageId;
-use nonblocking_pools::{LinearReusable, PullError};
+use linear_pools::LinearReusable;
+use pool_parts::PullError;
+use pool_parts::clean::Clean;
+use pool_parts::closures::{Init, Reset};
+use pool_parts::page::PageId;
 use std::fmt::{self, Debug, Formatter, Write};
 
 /// A pulled buffer. Its drop resets it and returns it to its pool.

@@ -7,7 +7,7 @@ ghost use Rattle.object_pool_cores.specs.ReplyText.{refusal_text, attach_refusal
 use crate::sequential::AttachError;
 use arrayvec::ArrayString;
 use itoa::Buffer;
-use nonblocking_pools::PullError;
+use pool_parts::PullError;
 
 /// The length of the longest reply, with its line feed.
 pub(super) const LONGEST_REPLY: usize = 92;

@@ -2,12 +2,12 @@
 ghost use Rattle.std.specs.Prelude.{◌≡◌, ◌↔◌, ◌<◌, Option, Some, None, MatchOption, IsTrue, IfOk, IfErr, IfSome};
 ghost use Rattle.std.specs.Prelude.{slice_set};
 ghost use Rattle.object_pool_cores.specs.OnePage.{IsMadePage, HasNoFreeId, IsMask, IsOutId, TakesLeastId};
-ghost use Rattle.nonblocking_pools.specs.Answers.{MayMake};
-ghost use Rattle.nonblocking_pools.specs.Refusal.{RefusesMaking};
+ghost use Rattle.pool_parts.specs.Answers.{MayMake};
+ghost use Rattle.pool_parts.specs.Refusal.{RefusesMaking};
 
-use nonblocking_pools::PullError;
-use nonblocking_pools::clean::Clean;
-use nonblocking_pools::page::{PAGE_ITEMS, PageId, take_least, with_bit};
+use pool_parts::PullError;
+use pool_parts::clean::Clean;
+use pool_parts::page::{PAGE_ITEMS, PageId, take_least, with_bit};
 use std::alloc::Global;
 use std::marker::{Model, PhantomData};
 use std::sync::Mutex;

@@ -3,7 +3,7 @@ ghost use Rattle.std.specs.Prelude.{◌≡◌, IsTrue, IsSome, Some, None};
 ghost use Rattle.std.specs.Borrow.{Lends, sem};
 ghost use Rattle.object_pool_cores.specs.Inside.SequentialItem.{item_value, item_number, has_room, with_value};
 
-use nonblocking_pools::stack::Room;
+use pool_parts::stack::Room;
 use std::ops::{Deref, DerefMut};
 
 /// An item that was pulled from a sequential pool.

@@ -10,9 +10,9 @@ ghost use Rattle.object_pool_cores.specs.Linear.{HeldTogether, IsOutOf};
 
 use crate::sequential::numbered_items::NumberedItems;
 use crate::sequential::{AttachError, Item, SequentialPool};
-use nonblocking_pools::PullError;
-use nonblocking_pools::clean::Clean;
-use nonblocking_pools::closures::{Init, Reset};
+use pool_parts::PullError;
+use pool_parts::clean::Clean;
+use pool_parts::closures::{Init, Reset};
 use std::alloc::Global;
 
 /// A pool of pages of 32 items each, which are known by their numbers. A pull gives the least free

@@ -5,9 +5,9 @@ ghost use Rattle.object_pool_cores.specs.Attach.{RefusesAttach};
 ghost use Rattle.object_pool_cores.specs.NoPool.{none_init, NonePulls};
 
 use crate::sequential::{AttachError, Item, SequentialPool};
-use nonblocking_pools::PullError;
-use nonblocking_pools::clean::AnyValue;
-use nonblocking_pools::closures::Init;
+use pool_parts::PullError;
+use pool_parts::clean::AnyValue;
+use pool_parts::closures::Init;
 use std::marker::PhantomData;
 use std::sync::Mutex;
 

@@ -6,15 +6,15 @@ ghost use Rattle.object_pool_cores.specs.Inside.SequentialItem.{item_value, item
 ghost use Rattle.object_pool_cores.specs.PageProbes.{ProbesEach};
 ghost use Rattle.object_pool_cores.specs.OnePage.{IsMadePage, HasNoFreeId};
 ghost use Rattle.object_pool_cores.specs.Inside.Numbered.{AreWhole, HasNoneBelow, laid_out};
-ghost use Rattle.nonblocking_pools.specs.Refusal.{RefusesMaking};
+ghost use Rattle.pool_parts.specs.Refusal.{RefusesMaking};
 ghost use Rattle.pool_world.specs.Pool.{IsOut, IsPool, IsSame};
 ghost use Rattle.pool_world.specs.Move.{after_return};
 
 use crate::sequential::{CorePage, Item};
-use nonblocking_pools::PullError;
-use nonblocking_pools::clean::Clean;
-use nonblocking_pools::closures::Init;
-use nonblocking_pools::page::PAGE_ITEMS;
+use pool_parts::PullError;
+use pool_parts::clean::Clean;
+use pool_parts::closures::Init;
+use pool_parts::page::PAGE_ITEMS;
 use pool_world::numbers::{number, page_and_id};
 use std::alloc::Global;
 use std::marker::Model;

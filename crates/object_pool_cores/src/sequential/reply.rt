@@ -1,6 +1,6 @@
 //! What a player replies.
 use crate::sequential::AttachError;
-use nonblocking_pools::PullError;
+use pool_parts::PullError;
 
 /// The reply to one command.
 ///

@@ -9,7 +9,7 @@ ghost use Rattle.object_pool_cores.specs.Attach.{refused_value};
 ghost use Rattle.object_pool_cores.specs.Bag.{PullsFromBag, ReturnsToBag, pulled_value};
 
 use crate::sequential::{AttachError, Item};
-use nonblocking_pools::PullError;
+use pool_parts::PullError;
 
 /// A pool that one owner uses. Its ghost members say what it gives and takes, and its laws tie them
 /// together.

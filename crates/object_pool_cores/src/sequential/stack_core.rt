@@ -4,10 +4,10 @@ ghost use Rattle.object_pool_cores.specs.Inside.SequentialItem.{item_value, has_
 ghost use Rattle.object_pool_cores.specs.Stack.{kept_of, stack_init, stack_reset, StackPulls, StackGives, StackAttaches, HoldRooms};
 
 use crate::sequential::{AttachError, Item, SequentialPool};
-use nonblocking_pools::PullError;
-use nonblocking_pools::clean::Clean;
-use nonblocking_pools::closures::{Init, Reset};
-use nonblocking_pools::stack::{Room, Stack};
+use pool_parts::PullError;
+use pool_parts::clean::Clean;
+use pool_parts::closures::{Init, Reset};
+use pool_parts::stack::{Room, Stack};
 use std::alloc::Global;
 
 /// A pool that keeps what was returned. An item brings its own room, so a return takes no memory.

@@ -91,7 +91,8 @@ impl<T: Drop, K: Clean<T>, O: Clean<T>> Directory<T, K, O> {
     ghost use Rattle.page_chain.specs.LinkRow.{IsLinkTo, link_at};
     ghost use Rattle.pool_parts.specs.Page.{page_identity};
     ghost use Rattle.pool_parts.specs.Holding.{holding_page};
-    ghost use Rattle.page_chain.specs.Walk.{IsKnownAt, IsLinkedAt};
+    ghost use Rattle.page_chain.specs.Inside.Walk.{IsKnownAt};
+    ghost use Rattle.page_chain.specs.Walk.{IsLinkedAt};
 
     /// Creates a directory of no links.
     ///
@@ -238,7 +239,8 @@ impl<'c, T: Drop, K: Clean<T>, O: Clean<T>> LinkPlace<'c, T, K, O> {
     ghost use Rattle.std.specs.Prelude.{None, Some, IfNone};
     ghost use Rattle.std.specs.Arc.{arc_value};
     ghost use Rattle.page_chain.specs.LinkRow.{link_at};
-    ghost use Rattle.page_chain.specs.LinkNote.{IsNewNoteOf, known_link, known_next, link_cell};
+    ghost use Rattle.page_chain.specs.LinkNote.{IsNewNoteOf, known_link, known_next};
+    ghost use Rattle.page_chain.specs.Inside.Links.{link_cell};
     ghost use Rattle.pool_parts.specs.Page.{page_identity};
 
     /// Returns the word of the page's hint and the hint's place in it, if the row exists.

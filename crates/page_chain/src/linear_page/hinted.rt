@@ -16,11 +16,13 @@ ghost use Rattle.std.specs.Arc.{arc_value};
 ghost use Rattle.pool_parts.specs.Answers.{MayOpen};
 ghost use Rattle.pool_parts.specs.FullSeen.{full_page, IsAnswerAfter};
 ghost use Rattle.pool_parts.specs.Note.{note_page};
-ghost use Rattle.page_chain.specs.LinearPage.{first_page, first_opening};
+ghost use Rattle.page_chain.specs.LinearPage.{first_page};
+ghost use Rattle.page_chain.specs.Inside.Links.{first_opening};
 ghost use Rattle.pool_parts.specs.Page.{page_identity};
 ghost use Rattle.pool_parts.specs.Refusal.{RefusesPull};
 ghost use Rattle.pool_parts.specs.Slot.{slot_item};
-ghost use Rattle.page_chain.specs.Walk.{start_of, number_of, IsAnsweredBy, IsOpenedWith, IsKnownAt, IsTaken, IsRefusedBy, cause_of};
+ghost use Rattle.page_chain.specs.Walk.{start_of, number_of, IsTaken, IsRefusedBy, cause_of};
+ghost use Rattle.page_chain.specs.Inside.Walk.{IsAnsweredBy, IsOpenedWith, IsKnownAt};
 
 use super::opened_page::OpenedPage;
 use super::walk::{KnownFull, WalkEnd, WalkRefusal};

@@ -1,7 +1,7 @@
 //! What a caller has learned of the link from a page to the next.
 ghost use Rattle.std.specs.Prelude.{◌≡◌, Some, IfSome};
 ghost use Rattle.page_chain.specs.LinkRow.{cell_in_row};
-ghost use Rattle.pool_parts.specs.OneProof.{same_holding};
+ghost use Rattle.pool_parts.specs.Inside.OneProof.{same_holding};
 
 use super::directory::Row;
 use super::opened_page::OpenedPage;

@@ -2,7 +2,7 @@
 ghost use Rattle.std.specs.Prelude.{◌≡◌};
 ghost use Rattle.std.specs.Arc.{arc_value};
 ghost use Rattle.pool_parts.specs.Page.{page_identity, page_opening, OpensWith};
-ghost use Rattle.page_chain.specs.Walk.{IsAnsweredBy, IsOpenedWith};
+ghost use Rattle.page_chain.specs.Inside.Walk.{IsAnsweredBy, IsOpenedWith};
 
 use atomic_table::Badge;
 use pool_parts::clean::Clean;

@@ -7,7 +7,8 @@ ghost use Rattle.atomic_table.specs.Seated.{TableId};
 ghost use Rattle.page_chain.specs.LinkNote.{known_link, known_next};
 ghost use Rattle.page_chain.specs.LinkRow.{cell_in_row};
 ghost use Rattle.pool_parts.specs.Page.{page_identity};
-ghost use Rattle.page_chain.specs.Walk.{number_of, IsKnownAt, IsLinkedAt};
+ghost use Rattle.page_chain.specs.Walk.{number_of, IsLinkedAt};
+ghost use Rattle.page_chain.specs.Inside.Walk.{IsKnownAt};
 
 use super::LinkNote;
 use super::directory::{LinkPlace, Row};

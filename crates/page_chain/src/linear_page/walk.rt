@@ -10,7 +10,8 @@ ghost use Rattle.pool_parts.specs.OwnedSlot.{owned_slot_item};
 ghost use Rattle.pool_parts.specs.Page.{page_identity};
 ghost use Rattle.pool_parts.specs.Refusal.{RefusesMaking, RefusesPull};
 ghost use Rattle.pool_parts.specs.Slot.{slot_item};
-ghost use Rattle.page_chain.specs.Walk.{start_at, number_of, IsAnsweredBy, IsFullAt, IsKnownAt, IsTaken, IsRefusedBy, cause_of};
+ghost use Rattle.page_chain.specs.Walk.{start_at, number_of, IsTaken, IsRefusedBy, cause_of};
+ghost use Rattle.page_chain.specs.Inside.Walk.{IsAnsweredBy, IsFullAt, IsKnownAt};
 ghost use Rattle.page_chain.specs.declared.linear_page.walk.WalkRefusal.TheVariants.{Making};
 ghost use Rattle.pool_parts.specs.declared.page.TheConstants.{PAGE_ITEMS};
 

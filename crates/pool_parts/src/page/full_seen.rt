@@ -1,6 +1,6 @@
 //! What a pull has once it has seen each item of a page, or of a fixed pool, in use.
 ghost use Rattle.std.specs.Prelude.{ℕ, ◌<◌};
-ghost use Rattle.pool_parts.specs.PageRule.{KnowsOut};
+ghost use Rattle.pool_parts.specs.Inside.PageRule.{KnowsOut};
 
 use super::PageSlot;
 use super::user_view::UserSeat;

@@ -1,6 +1,6 @@
 //! What a user has that took an item.
 ghost use Rattle.std.specs.Prelude.{◌≡◌, [], ◌∷◌, Some, None, false};
-ghost use Rattle.pool_parts.specs.OneProof.{same_holding, same_carrying};
+ghost use Rattle.pool_parts.specs.Inside.OneProof.{same_holding, same_carrying};
 
 use super::items::Items;
 use super::user_view::UserSeat;
@@ -20,7 +20,7 @@ pub struct Holding<T> {
 
 impl<T> Holding<T> {
     ghost use Rattle.pool_parts.specs.Holding.{holding_page, holding_view};
-    ghost use Rattle.pool_parts.specs.Items.{items_identity};
+    ghost use Rattle.pool_parts.specs.Inside.Items.{items_identity};
     ghost use Rattle.pool_parts.specs.Note.{witness_page, witness_history};
     ghost use Rattle.pool_parts.specs.Page.{page_identity};
 

@@ -34,12 +34,13 @@ pub struct Items<T, K: Clean<T>> {
 
 impl<T, K: Clean<T>> Items<T, K> {
     ghost use Rattle.pool_parts.specs.Answers.{MayMake};
-    ghost use Rattle.pool_parts.specs.Taking.{MissesAll, TakesOne};
-    ghost use Rattle.pool_parts.specs.Items.{items_identity, items_opening, items_raise, IsFilled};
+    ghost use Rattle.pool_parts.specs.Inside.Taking.{MissesAll, TakesOne};
+    ghost use Rattle.pool_parts.specs.Inside.Items.{items_identity, items_opening, items_raise};
+    ghost use Rattle.pool_parts.specs.Items.{IsFilled};
     ghost use Rattle.pool_parts.specs.Note.{note_page, witness_page, witness_history, IsNoteOf, HasLearned};
-    ghost use Rattle.pool_parts.specs.PageRule.{IsOutNow, IsSound, item_of};
+    ghost use Rattle.pool_parts.specs.Inside.PageRule.{IsOutNow, IsSound, item_of};
     ghost use Rattle.pool_parts.specs.Refusal.{RefusesMaking};
-    ghost use Rattle.pool_parts.specs.Word.{IsAllFree};
+    ghost use Rattle.pool_parts.specs.Inside.Word.{IsAllFree};
 
     /// Creates so many free items, as the words say: item `i` is the answer of call `i` of `init`,
     /// counted from 0. A return raises its word's count by `raise`.

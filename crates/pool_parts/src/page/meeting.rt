@@ -9,8 +9,8 @@ use crate::clean::Clean;
 
 impl<T, K: Clean<T>> Items<T, K> {
     ghost use Rattle.pool_parts.specs.Holding.{holding_page};
-    ghost use Rattle.pool_parts.specs.Items.{items_identity};
-    ghost use Rattle.pool_parts.specs.Meeting.{Meets, HoldsSame, introduced_to};
+    ghost use Rattle.pool_parts.specs.Inside.Items.{items_identity};
+    ghost use Rattle.pool_parts.specs.Inside.Meeting.{Meets, HoldsSame, introduced_to};
 
     /// Reads a word by a user, which is told the history so far.
     fn meet(&self, seat: &mut UserSeat<T>)

@@ -1,7 +1,7 @@
 //! What somebody knows of a page's history while no item is held: a note, which may pull on from
 //! there, and a witness.
 ghost use Rattle.std.specs.Prelude.{◌≡◌, [], None, false};
-ghost use Rattle.pool_parts.specs.OneProof.{same_holding, same_carrying};
+ghost use Rattle.pool_parts.specs.Inside.OneProof.{same_holding, same_carrying};
 
 use super::user_view::UserSeat;
 
@@ -52,12 +52,12 @@ pub struct Returned<T> {
 }
 
 impl<T> PageNote<T> {
-    ghost use Rattle.pool_parts.specs.Note.{note_page, note_history, witness_page, witness_history};
+    ghost use Rattle.pool_parts.specs.Note.{note_page, witness_page, witness_history, note_view};
 
     /// Returns what the note knows, for another to be told.
     pub fn into_witness(self) -> Witness<T>
         ensures page { witness_page result ≡ note_page self }
-        ensures history { witness_history result ≡ note_history self }
+        ensures history { witness_history result ≡ (note_view self).operations }
     {
         let PageNote { seat } = self;
         Witness { seat }

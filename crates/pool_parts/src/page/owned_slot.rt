@@ -1,7 +1,7 @@
 //! A slot that owns its page with others, in place of a borrow.
 ghost use Rattle.std.specs.Prelude.{◌≡◌, ◌≢◌, ◌<◌};
 ghost use Rattle.std.specs.Arc.{arc_value};
-ghost use Rattle.pool_parts.specs.OneProof.{same_page};
+ghost use Rattle.pool_parts.specs.Inside.OneProof.{same_page};
 ghost use Rattle.pool_parts.specs.Holding.{holding_page};
 ghost use Rattle.pool_parts.specs.Page.{page_identity};
 ghost use Rattle.pool_parts.specs.declared.page.TheConstants.{PAGE_ITEMS};

@@ -24,7 +24,7 @@ pub struct PageRule<K> {
 }
 
 impl<T, K: Clean<T>> TableRule<Option<T>, UserView<T>, Opening<T>> for PageRule<K> {
-    ghost use Rattle.pool_parts.specs.PageRule.{IsKept, first_view};
+    ghost use Rattle.pool_parts.specs.Inside.PageRule.{IsKept, first_view};
 
     ghost holds = { λ key. IsKept K.meets key.raise.value key.values.value.items };
 
@@ -35,7 +35,7 @@ impl<T, K: Clean<T>> TableRule<Option<T>, UserView<T>, Opening<T>> for PageRule<
 pub struct Look;
 
 impl<T> Play<Option<T>, UserView<T>> for Look {
-    ghost use Rattle.pool_parts.specs.PageRule.{Loads};
+    ghost use Rattle.pool_parts.specs.Inside.PageRule.{Loads};
 
     ghost then = { λ step first word new. Loads first.0 step.word word new };
 }
@@ -45,7 +45,7 @@ impl<T> Play<Option<T>, UserView<T>> for Look {
 pub struct LookAgain;
 
 impl<T> Play<Option<T>, UserView<T>> for LookAgain {
-    ghost use Rattle.pool_parts.specs.PageRule.{LoadsAgain};
+    ghost use Rattle.pool_parts.specs.Inside.PageRule.{LoadsAgain};
 
     ghost then = { λ step old word new. LoadsAgain step.word old word new };
 }
@@ -54,7 +54,7 @@ impl<T> Play<Option<T>, UserView<T>> for LookAgain {
 pub struct LookOn;
 
 impl<T> Play<Option<T>, UserView<T>> for LookOn {
-    ghost use Rattle.pool_parts.specs.PageRule.{LoadsOn};
+    ghost use Rattle.pool_parts.specs.Inside.PageRule.{LoadsOn};
 
     ghost then = { λ step old word new. LoadsOn step.word old word new };
 }
@@ -63,8 +63,8 @@ impl<T> Play<Option<T>, UserView<T>> for LookOn {
 pub struct Count;
 
 impl<T> Play<Option<T>, UserView<T>> for Count {
-    ghost use Rattle.pool_parts.specs.PageRule.{Counts};
-    ghost use Rattle.pool_parts.specs.Word.{count_in};
+    ghost use Rattle.pool_parts.specs.Inside.PageRule.{Counts};
+    ghost use Rattle.pool_parts.specs.Inside.Word.{count_in};
 
     ghost then = { λ step old word new.
         Counts step.slots step.word old word (count_in word) new };
@@ -74,7 +74,7 @@ impl<T> Play<Option<T>, UserView<T>> for Count {
 pub struct Witnesses;
 
 impl<T> Split<UserView<T>> for Witnesses {
-    ghost use Rattle.pool_parts.specs.PageRule.{witness_of};
+    ghost use Rattle.pool_parts.specs.Inside.PageRule.{witness_of};
 
     ghost left = { λ known. known };
 
@@ -85,7 +85,7 @@ impl<T> Split<UserView<T>> for Witnesses {
 pub struct Tells;
 
 impl<T> Join<UserView<T>> for Tells {
-    ghost use Rattle.pool_parts.specs.PageRule.{told_of, gone_view};
+    ghost use Rattle.pool_parts.specs.Inside.PageRule.{told_of, gone_view};
 
     ghost both = { told_of };
 
@@ -96,7 +96,7 @@ impl<T> Join<UserView<T>> for Tells {
 pub struct Introduces;
 
 impl<T> Split<UserView<T>> for Introduces {
-    ghost use Rattle.pool_parts.specs.Meeting.{introduction_of};
+    ghost use Rattle.pool_parts.specs.Inside.Meeting.{introduction_of};
 
     ghost left = { λ known. known };
 
@@ -107,7 +107,7 @@ impl<T> Split<UserView<T>> for Introduces {
 pub struct Meet;
 
 impl<T> Play<Option<T>, UserView<T>> for Meet {
-    ghost use Rattle.pool_parts.specs.Meeting.{Meets};
+    ghost use Rattle.pool_parts.specs.Inside.Meeting.{Meets};
 
     ghost then = { λ _ old _ new. Meets old new };
 }
@@ -118,7 +118,7 @@ pub struct ClearBit<K> {
 }
 
 impl<T, K: Clean<T>> Play<Option<T>, UserView<T>> for ClearBit<K> {
-    ghost use Rattle.pool_parts.specs.PageRule.{Clears};
+    ghost use Rattle.pool_parts.specs.Inside.PageRule.{Clears};
 
     ghost then = { λ step old word new.
         Clears K.meets step.slots step.word step.first old word new };
@@ -128,7 +128,7 @@ impl<T, K: Clean<T>> Play<Option<T>, UserView<T>> for ClearBit<K> {
 pub struct SetBit;
 
 impl<T> Play<Option<T>, UserView<T>> for SetBit {
-    ghost use Rattle.pool_parts.specs.PageRule.{GivesBack};
+    ghost use Rattle.pool_parts.specs.Inside.PageRule.{GivesBack};
 
     ghost then = { λ _ old _ new. GivesBack old new };
 }

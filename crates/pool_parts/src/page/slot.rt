@@ -1,7 +1,7 @@
 //! A slot: an item in use, with a borrow of its page.
 ghost use Rattle.std.specs.Prelude.{◌≡◌, ◌≢◌, ◌<◌};
 ghost use Rattle.std.specs.Arc.{arc_value};
-ghost use Rattle.pool_parts.specs.OneProof.{same_page};
+ghost use Rattle.pool_parts.specs.Inside.OneProof.{same_page};
 ghost use Rattle.pool_parts.specs.Holding.{holding_page};
 ghost use Rattle.pool_parts.specs.Page.{page_identity};
 ghost use Rattle.pool_parts.specs.declared.page.TheConstants.{PAGE_ITEMS};
@@ -25,7 +25,7 @@ pub struct TakenId<'s, T, K: Clean<T>> {
 
 impl<'s, T, K: Clean<T>> TakenId<'s, T, K> {
     ghost use Rattle.pool_parts.specs.Slot.{taken_id, taken_page, taken_view, taken_item};
-    ghost use Rattle.pool_parts.specs.Note.{note_page, note_opening, witness_page, witness_history, IsNoteOf, IsReturned, HasLearned};
+    ghost use Rattle.pool_parts.specs.Note.{note_page, witness_page, witness_history, IsNoteOf, IsReturned, HasLearned, note_view};
 
     /// Returns the number of the item in its page.
     pub fn id(&self) -> PageId
@@ -60,7 +60,7 @@ impl<'s, T, K: Clean<T>> TakenId<'s, T, K> {
 
     /// Returns a note of the page, by a user that did nothing. It costs one load.
     pub fn note(&self) -> PageNote<T>
-        ensures { IsNoteOf (taken_page self.now) (note_opening result) result }
+        ensures { IsNoteOf (taken_page self.now) (note_view result).opening result }
     {
         self.page.note()
     }

@@ -11,8 +11,8 @@ use crate::clean::Clean;
 
 impl<T, K: Clean<T>> Items<T, K> {
     ghost use Rattle.pool_parts.specs.Holding.{holding_page, holding_view};
-    ghost use Rattle.pool_parts.specs.Items.{items_identity, items_opening, items_raise};
-    ghost use Rattle.pool_parts.specs.PageRule.{Loads, LoadsAgain, LoadsOn, Counts, Misses, MovesOut, GoesOn, first_view, item_of};
+    ghost use Rattle.pool_parts.specs.Inside.Items.{items_identity, items_opening, items_raise};
+    ghost use Rattle.pool_parts.specs.Inside.PageRule.{Loads, LoadsAgain, LoadsOn, Counts, Misses, MovesOut, GoesOn, first_view, item_of};
 
     /// Reads the bits of a word, by a new user, which then knows the items of it that are in use.
     pub fn look(&self, page: usize) -> (u32, UserSeat<T>)

@@ -1,10 +1,10 @@
 //! Callers that rest on a pool's history: what stands before what, what a refusal shows, and which
 //! refusals may come.
 ghost use Rattle.std.specs.Prelude.{◌≡◌, ◌<◌, ◌⊎◌, ◌↔◌, ℕ, ◌∷◌, IfSome, IfErr, IsTrue};
-ghost use Rattle.lockfree_object_pool.specs.FullSeen.{full_since, full_history};
+ghost use Rattle.lockfree_object_pool.specs.FullSeen.{full_view};
 ghost use Rattle.lockfree_object_pool.specs.FixedPool.{pool_identity, pool_items, pool_opening};
 ghost use Rattle.lockfree_object_pool.specs.FixedReusable.{reusable_item};
-ghost use Rattle.lockfree_object_pool.specs.Note.{note_page, note_history};
+ghost use Rattle.lockfree_object_pool.specs.Note.{note_page, note_view};
 ghost use Rattle.lockfree_object_pool.specs.Ledger.{History, IsPrefixOf, WasOutBetween};
 ghost use Rattle.pool_parts.specs.declared.page.history.Operation.TheVariants.{Return};
 ghost use Rattle.pool_parts.specs.declared.pull_error.PullError.TheVariants.{Limit};
@@ -24,7 +24,7 @@ pub fn pulled_after<'p>(pool: &'p NumberPool, note: PoolNote<usize>) -> Option<N
     requires { note_page note ≡ pool_identity pool.now }
     ensures pool { IfSome result (λ item. (reusable_item item).page ≡ pool_identity pool.now) }
     ensures after { IfSome result (λ item.
-        IsPrefixOf (note_history note) (reusable_item item).history) }
+        IsPrefixOf (note_view note).operations (reusable_item item).history) }
 {
     let pass = PullPass::new();
     match pool.try_pull_from(&pass, note) {
@@ -37,7 +37,7 @@ pub fn pulled_after<'p>(pool: &'p NumberPool, note: PoolNote<usize>) -> Option<N
 /// operation that the note knows.
 pub fn returned_near(pool: &NumberPool, page: usize, number: usize) -> Option<PoolNote<usize>>
     ensures pool { IfSome result (λ note. note_page note ≡ pool_identity pool.now) }
-    ensures last { IfSome result (λ note. EndsWithReturn number (note_history note)) }
+    ensures last { IfSome result (λ note. EndsWithReturn number (note_view note).operations) }
 {
     let mut item = pool.pull_near(page).ok()?;
     *item = number;
@@ -49,7 +49,7 @@ pub fn returned_near(pool: &NumberPool, page: usize, number: usize) -> Option<Po
 fn returned_alone(pool: &NumberPool, number: usize) -> Option<PoolNote<usize>>
     requires { pool_items pool.now ≡ 1 }
     ensures pool { IfSome result (λ note. note_page note ≡ pool_identity pool.now) }
-    ensures last { IfSome result (λ note. EndsWithReturnOf 0 number (note_history note)) }
+    ensures last { IfSome result (λ note. EndsWithReturnOf 0 number (note_view note).operations) }
 {
     let mut item = pool.pull().ok()?;
     *item = number;
@@ -66,13 +66,13 @@ fn pulled_again<'p>(
 ) -> Option<(NumberItem<'p>, bool)>
     requires of_pool { note_page note ≡ pool_identity pool.now }
     requires one_item { pool_items pool.now ≡ 1 }
-    requires returned { EndsWithReturnOf 0 number (note_history note) }
+    requires returned { EndsWithReturnOf 0 number (note_view note).operations }
     ensures returned { IfSome result (λ pulled. WasReturnedBefore (reusable_item pulled.0)) }
     ensures same { IfSome result (λ pulled.
         IsTrue pulled.1 ↔ ((reusable_item pulled.0).value ≡ number)) }
     ensures unless_used { IfSome result (λ pulled.
         ((reusable_item pulled.0).value ≡ number)
-        ⊎ WasUsedSince (note_history note) (reusable_item pulled.0)) }
+        ⊎ WasUsedSince (note_view note).operations (reusable_item pulled.0)) }
 {
     let pass = PullPass::new();
     match pool.try_pull_from(&pass, note) {
@@ -92,7 +92,7 @@ fn refused_while_out<'p>(
 ) -> Option<BusySeen<'p, usize>>
     requires { number < pool_items pool.now }
     ensures { IfSome result (λ busy.
-        WasOutBetween (pool_opening pool.now) (full_since busy) (full_history busy) number) }
+        WasOutBetween (pool_opening pool.now) (full_view busy).since (full_view busy).operations number) }
 {
     match pool.try_pull(pass) {
         Ok(_) => None,
@@ -125,11 +125,11 @@ fn handed_on<'p, R: Threads + Sync>(rt: &R, pool: &'p NumberPool) -> Option<Numb
         rt,
         || -> Option<PoolNote<usize>>
             ensures pool { IfSome result (λ note. note_page note ≡ pool_identity pool.entry.now) }
-            ensures last { IfSome result (λ note. EndsWithReturn 5 (note_history note)) }
+            ensures last { IfSome result (λ note. EndsWithReturn 5 (note_view note).operations) }
         { returned_near(pool, 0, 5) },
         || -> Option<PoolNote<usize>>
             ensures pool { IfSome result (λ note. note_page note ≡ pool_identity pool.entry.now) }
-            ensures last { IfSome result (λ note. EndsWithReturn 6 (note_history note)) }
+            ensures last { IfSome result (λ note. EndsWithReturn 6 (note_view note).operations) }
         { returned_near(pool, 2, 6) },
     );
     pulled_after_both(pool, first?, second?)
@@ -144,9 +144,9 @@ pub fn pulled_after_both<'p>(
     requires first { note_page first ≡ pool_identity pool.now }
     requires second { note_page second ≡ pool_identity pool.now }
     ensures after_first { IfSome result (λ item.
-        IsPrefixOf (note_history first) (reusable_item item).history) }
+        IsPrefixOf (note_view first).operations (reusable_item item).history) }
     ensures after_second { IfSome result (λ item.
-        IsPrefixOf (note_history second) (reusable_item item).history) }
+        IsPrefixOf (note_view second).operations (reusable_item item).history) }
 {
     let mut both = first;
     pool.tell(&mut both, second.into_witness());

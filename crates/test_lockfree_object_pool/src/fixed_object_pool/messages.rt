@@ -2,8 +2,8 @@
 ghost use Rattle.std.specs.Prelude.{◌≡◌, IfSome};
 ghost use Rattle.std.specs.Arc.{arc_value};
 ghost use Rattle.lockfree_object_pool.specs.FixedPool.{pool_identity};
-ghost use Rattle.lockfree_object_pool.specs.Note.{note_page, note_history};
-ghost use Rattle.lockfree_object_pool.specs.OneProof.{same_page};
+ghost use Rattle.lockfree_object_pool.specs.Note.{note_page, note_view};
+ghost use Rattle.pool_parts.specs.Inside.OneProof.{same_page};
 ghost use Rattle.lockfree_object_pool.specs.Ledger.{IsPrefixOf};
 
 use super::callers::{pulled_after, returned_near};
@@ -29,7 +29,7 @@ fn answered(message: Message) -> Option<Message>
     ensures pool { IfSome result (λ answer.
         pool_identity (arc_value answer.pool) ≡ pool_identity (arc_value message.pool)) }
     ensures after { IfSome result (λ answer.
-        IsPrefixOf (note_history message.note) (note_history answer.note)) }
+        IsPrefixOf (note_view message.note).operations (note_view answer.note).operations) }
 {
     let Message { pool, note } = message;
     let Some(item) = pulled_after(&pool, note) else {

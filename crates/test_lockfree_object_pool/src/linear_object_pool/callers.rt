@@ -1,6 +1,7 @@
 //! Proved callers: what they know of a pulled value, of its place, and of a refusal.
 ghost use Rattle.std.specs.Prelude.{◌≡◌, ◌<◌, ℕ, Option, None, Some, IfOk, IfErr, IfSome};
-ghost use Rattle.lockfree_object_pool.specs.LinearPool.{pool_first_page, pool_limit, reusable_item, reusable_number, reusable_with, owned_with};
+ghost use Rattle.lockfree_object_pool.specs.LinearPool.{pool_first_page, pool_limit, reusable_item, reusable_with, owned_with, reusable_page};
+ghost use Rattle.lockfree_object_pool.specs.Walk.{number_of};
 ghost use Rattle.pool_parts.specs.declared.pull_error.PullError.TheVariants.{Memory};
 
 use super::*;
@@ -49,7 +50,7 @@ fn write_owned<K: Clean<u32>, I: Init<u32, K>, R: Reset<u32, K>>(
 fn read_back<K: Clean<u32>, I: Init<u32, K>, R: Reset<u32, K>>(
     mut item: LinearReusable<'_, u32, I, R, K>,
 ) -> (usize, u8, u32)
-    ensures number { result.0 ≡ reusable_number item.entry }
+    ensures number { result.0 ≡ number_of (reusable_page item.entry) }
     ensures id { result.1 ≡ (reusable_item item.entry).id }
     ensures value { result.2 ≡ 9 }
 {

@@ -1,7 +1,7 @@
 //! Callers that rest on the history of the first page: what one thread returned, it pulls again.
 ghost use Rattle.std.specs.Prelude.{◌≡◌, ◌⊎◌, ◌↔◌, IfSome, IsTrue};
 ghost use Rattle.lockfree_object_pool.specs.LinearPool.{pool_first_page, reusable_item};
-ghost use Rattle.lockfree_object_pool.specs.Note.{note_page, note_history};
+ghost use Rattle.lockfree_object_pool.specs.Note.{note_page, note_view};
 ghost use Rattle.test_lockfree_object_pool.specs.Returned.{EndsWithReturnOf, WasReturnedBefore, WasUsedSince};
 
 use super::*;
@@ -19,7 +19,7 @@ type NumberItem<'p> = LinearReusable<'p, u32, Copied<u32, AnyValue>, Keep>;
 /// that the note knows.
 fn returned_first(pool: &NumberPool, number: u32) -> Option<PageNote<u32>>
     ensures page { IfSome result (λ note. note_page note ≡ pool_first_page pool.now) }
-    ensures last { IfSome result (λ note. EndsWithReturnOf 0 number (note_history note)) }
+    ensures last { IfSome result (λ note. EndsWithReturnOf 0 number (note_view note).operations) }
 {
     let mut item = pool.pull().ok()?;
     if item.page_number() != 0 || item.page_id() != 0 {
@@ -38,13 +38,13 @@ fn pulled_again<'p>(
     number: u32,
 ) -> Option<(NumberItem<'p>, bool)>
     requires of_page { note_page note ≡ pool_first_page pool.now }
-    requires returned { EndsWithReturnOf 0 number (note_history note) }
+    requires returned { EndsWithReturnOf 0 number (note_view note).operations }
     ensures returned { IfSome result (λ pulled. WasReturnedBefore (reusable_item pulled.0)) }
     ensures same { IfSome result (λ pulled.
         IsTrue pulled.1 ↔ ((reusable_item pulled.0).value ≡ number)) }
     ensures unless_used { IfSome result (λ pulled.
         ((reusable_item pulled.0).value ≡ number)
-        ⊎ WasUsedSince (note_history note) (reusable_item pulled.0)) }
+        ⊎ WasUsedSince (note_view note).operations (reusable_item pulled.0)) }
 {
     let pass = PullPass::new();
     let Ok(item) = pool.try_pull_from(&pass, note) else {

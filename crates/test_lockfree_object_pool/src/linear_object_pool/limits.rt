@@ -3,7 +3,7 @@ ghost use Rattle.std.specs.Prelude.{◌≡◌, ℕ, ◌+◌, ◌≤◌, Some, If
 ghost use Rattle.lockfree_object_pool.specs.LinearPool.{pool_limit, pool_start};
 ghost use Rattle.lockfree_object_pool.specs.Walk.{WasFull};
 ghost use Rattle.pool_parts.specs.declared.made_or_reset.MadeOrReset.{MadeOrReset};
-ghost use Rattle.nonblocking_pools.specs.declared.linear_object_pool.answer_of.AnswerOf.{AnswerOf};
+ghost use Rattle.linear_pools.specs.declared.linear_object_pool.answer_of.AnswerOf.{AnswerOf};
 ghost use Rattle.test_values.specs.declared.zeros.CountedZeros.{CountedZeros};
 ghost use Rattle.test_values.specs.declared.zeros.ToZero.{ToZero};
 ghost use Rattle.test_values.specs.declared.zeros.Zero.{Zero};

@@ -1,7 +1,7 @@
 //! Callers that need a page's history: what comes before what, and that two histories are of one
 //! page.
 ghost use Rattle.std.specs.Prelude.{◌≡◌, ◌⊎◌, ℕ, ◌∷◌, IfSome};
-ghost use Rattle.page_chain.specs.Note.{note_page, note_history};
+ghost use Rattle.page_chain.specs.Note.{note_page, note_view};
 ghost use Rattle.page_chain.specs.OwnedSlot.{owned_slot_item};
 ghost use Rattle.page_chain.specs.Page.{page_identity};
 ghost use Rattle.page_chain.specs.Ledger.{History, IsPrefixOf};
@@ -33,7 +33,7 @@ fn pulled_after<'s>(
     requires { note_page note ≡ page_identity page.now }
     ensures page { IfSome result (λ slot. (slot_item slot).page ≡ page_identity page.now) }
     ensures after { IfSome result (λ slot.
-        IsPrefixOf (note_history note) (slot_item slot).history) }
+        IsPrefixOf (note_view note).operations (slot_item slot).history) }
 {
     let pass = PullPass::new();
     match page.try_alloc_from(&pass, note) {
@@ -46,7 +46,7 @@ fn pulled_after<'s>(
 fn returned_five(page: &NumberPage) -> Option<PageNote<u32>>
     ensures page { IfSome result (λ note. note_page note ≡ page_identity page.now) }
     ensures last { IfSome result (λ note.
-        (user id : ℕ) × (before : History ℕ) × (note_history note ≡ Return user id 5 ∷ before)) }
+        (user id : ℕ) × (before : History ℕ) × ((note_view note).operations ≡ Return user id 5 ∷ before)) }
 {
     let mut slot = page.alloc().ok()??;
     *slot = 5;
@@ -70,7 +70,7 @@ fn handed_on<'s, R: Threads + Sync>(
         || -> Option<PageNote<u32>>
             ensures page { IfSome result (λ note. note_page note ≡ page_identity page.entry.now) }
             ensures last { IfSome result (λ note. (user id : ℕ) × (before : History ℕ)
-                × (note_history note ≡ Return user id 5 ∷ before)) }
+                × ((note_view note).operations ≡ Return user id 5 ∷ before)) }
         { returned_five(page) },
         || -> Option<PageNote<u32>>
             ensures page { IfSome result (λ note. note_page note ≡ page_identity page.entry.now) }
@@ -86,8 +86,8 @@ fn compared(page: &NumberPage, one: PageNote<u32>, other: PageNote<u32>) -> Page
     requires one { note_page one ≡ page_identity page.now }
     requires other { note_page other ≡ page_identity page.now }
     ensures page { note_page result ≡ page_identity page.now }
-    ensures compared { IsPrefixOf (note_history one) (note_history other)
-        ⊎ IsPrefixOf (note_history other) (note_history one) }
+    ensures compared { IsPrefixOf (note_view one).operations (note_view other).operations
+        ⊎ IsPrefixOf (note_view other).operations (note_view one).operations }
 {
     let mut both = one;
     page.tell(&mut both, other.into_witness());
@@ -99,7 +99,7 @@ fn compared(page: &NumberPage, one: PageNote<u32>, other: PageNote<u32>) -> Page
 fn told_of_pull(page: &NumberPage, slot: &mut PageSlot<'_, u32, AnyValue>) -> PageNote<u32>
     requires { (slot_item slot.old).page ≡ page_identity page.now }
     ensures page { note_page result ≡ page_identity page.now }
-    ensures knows { IsPrefixOf (slot_item slot.old).history (note_history result) }
+    ensures knows { IsPrefixOf (slot_item slot.old).history (note_view result).operations }
     ensures same_item { slot_item slot.new ≡ slot_item slot.old }
 {
     let mut note = page.note();
@@ -110,7 +110,7 @@ fn told_of_pull(page: &NumberPage, slot: &mut PageSlot<'_, u32, AnyValue>) -> Pa
 /// An owned slot's return is told alike.
 fn owned_returned<K: Clean<u32>>(slot: OwnedSlot<u32, K>) -> PageNote<u32>
     requires { K.meets (owned_slot_item slot).value }
-    ensures { IsPrefixOf (owned_slot_item slot).history (note_history result) }
+    ensures { IsPrefixOf (owned_slot_item slot).history (note_view result).operations }
 {
     slot.free()
 }

@@ -1,5 +1,5 @@
 use denote.Param.Send.{sendable}
-use Rattle.nonblocking_pools.proofs.ReusableShared.{reusable_sync}
+use Rattle.linear_pools.proofs.ReusableShared.{reusable_sync}
 use Rattle.pool_parts.proofs.closures.ready.Copied.TheSendSync as copied
 use Rattle.pool_parts.proofs.closures.ready.Keep.TheSendSync as keep
 use Rattle.examples.proofs.calling.shared.read_twice.Goals as goal

@@ -1,6 +1,6 @@
 use Rattle.std.proofs.Common.{◌≡◌, Some, sym, ap, ◌∙◌, subst}
-use Rattle.nonblocking_pools.specs.FixedPool.{pool_items, pool_pages, pool_opening}
-use Rattle.nonblocking_pools.specs.Items.{IsFilled}
+use Rattle.fixed_pools.specs.FixedPool.{pool_items, pool_pages, pool_opening}
+use Rattle.pool_parts.specs.Items.{IsFilled}
 use Rattle.fixed_pool_c.specs.Shows.{PlacePool}
 use Rattle.fixed_pool_c.proofs.held.Held.first.Goals as goal
 

@@ -1,6 +1,6 @@
 use Rattle.std.proofs.Common.{refl, ap, subst}
-use Rattle.nonblocking_pools.specs.FixedPool.{pool_identity, pool_opening}
-use Rattle.nonblocking_pools.specs.Note.{IsNoteOf}
+use Rattle.fixed_pools.specs.FixedPool.{pool_identity, pool_opening}
+use Rattle.pool_parts.specs.Note.{IsNoteOf}
 use Rattle.fixed_pool_c.specs.Shows.{PlacePool}
 use Rattle.fixed_pool_c.specs.declared.held.Held.{Held}
 use Rattle.fixed_pool_c.proofs.held.Held.open.Goals as goal

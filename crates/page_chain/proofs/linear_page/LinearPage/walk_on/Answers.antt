@@ -1,6 +1,7 @@
 use Rattle.std.proofs.Common.{rules, arith, sym, subst, inr}
 use Rattle.pool_parts.specs.Slot.{slot_item}
-use Rattle.page_chain.specs.Walk.{start_at, IsKnownAt}
+use Rattle.page_chain.specs.Walk.{start_at}
+use Rattle.page_chain.specs.Inside.Walk.{IsKnownAt}
 use Rattle.page_chain.proofs.FullPages.{one_more_full}
 use Rattle.page_chain.proofs.linear_page.LinearPage.walk_on.Goals as goal
 

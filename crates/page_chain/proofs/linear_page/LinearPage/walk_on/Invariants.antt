@@ -2,7 +2,8 @@ use Rattle.std.proofs.Common.{◌≡◌, ℕ, ◌-◌, ◌≤◌, ◌<◌, IfSom
 use Rattle.std.specs.Arc.{arc_value}
 use Rattle.pool_parts.specs.FullSeen.{full_page}
 use Rattle.pool_parts.specs.Page.{page_identity}
-use Rattle.page_chain.specs.Walk.{start_at, number_of, IsFullAt, IsWalkedTo, WasFull}
+use Rattle.page_chain.specs.Walk.{start_at, number_of, IsWalkedTo, WasFull}
+use Rattle.page_chain.specs.Inside.Walk.{IsFullAt}
 use Rattle.page_chain.proofs.linear_page.LinearPage.walk_on.Given as goal
 
 abbrev pub invariant-loop-pass : goal.invariant-loop-pass

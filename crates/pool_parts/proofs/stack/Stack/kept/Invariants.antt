@@ -1,5 +1,5 @@
 use Rattle.std.proofs.Common.{◌≡◌, length, min, ◌+◌, ◌≤◌}
-use Rattle.pool_parts.specs.Kept.{kept_values, IsFullChain}
+use Rattle.pool_parts.specs.Inside.Kept.{kept_values, IsFullChain}
 use Rattle.pool_parts.proofs.stack.Stack.kept.Given as goal
 
 -- the counted places and those to come are all, up to the count's end

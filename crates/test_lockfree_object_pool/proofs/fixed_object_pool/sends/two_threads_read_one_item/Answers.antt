@@ -1,5 +1,5 @@
 use denote.Param.Send.{sendable}
-use Rattle.nonblocking_pools.proofs.FixedShared.{borrowed_reusable_sync}
+use Rattle.fixed_pools.proofs.FixedShared.{borrowed_reusable_sync}
 use Rattle.pool_parts.proofs.closures.ready.Copied.TheSendSync as copied
 use Rattle.test_lockfree_object_pool.proofs.fixed_object_pool.sends.two_threads_read_one_item.Goals as goal
 

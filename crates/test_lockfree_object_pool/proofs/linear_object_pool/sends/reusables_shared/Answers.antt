@@ -1,6 +1,6 @@
 use mir.Syntax.{named}
 use denote.Param.{param}
-use Rattle.nonblocking_pools.proofs.ReusableShared.{reusable_sync, owned_reusable_sync}
+use Rattle.linear_pools.proofs.ReusableShared.{reusable_sync, owned_reusable_sync}
 use Rattle.test_lockfree_object_pool.proofs.linear_object_pool.sends.reusables_shared.Goals as goal
 
 pub is_shared-requires-sync-X : goal.is_shared-requires-sync-X

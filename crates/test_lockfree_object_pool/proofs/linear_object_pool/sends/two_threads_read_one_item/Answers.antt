@@ -1,5 +1,5 @@
 use denote.Param.Send.{sendable}
-use Rattle.nonblocking_pools.proofs.ReusableShared.{reusable_sync}
+use Rattle.linear_pools.proofs.ReusableShared.{reusable_sync}
 use Rattle.test_values.proofs.zeros.CountedZeros.TheSendSync as zeros
 use Rattle.test_values.proofs.zeros.ToZero.TheSendSync as to_zero
 use Rattle.test_lockfree_object_pool.proofs.linear_object_pool.sends.two_threads_read_one_item.Goals as goal

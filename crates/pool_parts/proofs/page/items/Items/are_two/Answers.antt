@@ -1,6 +1,6 @@
 use Rattle.std.proofs.Common.{◌∙◌, ap, sym, subst, Some}
-use Rattle.pool_parts.specs.PageRule.{User}
-use Rattle.pool_parts.specs.Meeting.{Meets, introduced_to}
+use Rattle.pool_parts.specs.Inside.PageRule.{User}
+use Rattle.pool_parts.specs.Inside.Meeting.{Meets, introduced_to}
 use Rattle.pool_parts.proofs.Meetings.{two_items}
 use Rattle.pool_parts.proofs.page.items.Items.are_two.Goals as goal
 

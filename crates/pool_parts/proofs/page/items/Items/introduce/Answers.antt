@@ -1,6 +1,6 @@
 use Rattle.std.proofs.Common.{arith, ◌∙◌, ap}
 use Rattle.pool_parts.proofs.PageSteps.{introduces, tells}
-use Rattle.pool_parts.specs.PageRule.{User}
+use Rattle.pool_parts.specs.Inside.PageRule.{User}
 use Rattle.pool_parts.proofs.page.items.Items.introduce.Goals as goal
 
 pub split_seat-introduction-requires : goal.split_seat-introduction-requires

@@ -1,5 +1,5 @@
 use Rattle.std.proofs.Common.{sym, subst, refl}
-use Rattle.pool_parts.specs.Word.{IsAllFree}
+use Rattle.pool_parts.specs.Inside.Word.{IsAllFree}
 use Rattle.pool_parts.proofs.PageOpens.{opens}
 use Rattle.pool_parts.proofs.page.items.Items.new.Goals as goal
 

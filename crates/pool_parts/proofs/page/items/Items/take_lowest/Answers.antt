@@ -2,7 +2,7 @@ use Rattle.std.proofs.Common.{◌≡◌, ℕ, ◌<◌, ap, ◌∙◌, ◌∷◌,
 use Rattle.std.specs.Int.{bit_at}
 use Rattle.std.proofs.lemmas.Nat.Bits.{bit_at-zero}
 use Rattle.pool_parts.specs.Ledger.{WasOutBetween}
-use Rattle.pool_parts.specs.PageRule.{item_of}
+use Rattle.pool_parts.specs.Inside.PageRule.{item_of}
 use Rattle.pool_parts.proofs.Ledger.{goes_on_further}
 use Rattle.pool_parts.proofs.Taking.{more_tried, out_or_untried, word_missed}
 use Rattle.pool_parts.proofs.page.items.Items.take_lowest.Goals as goal

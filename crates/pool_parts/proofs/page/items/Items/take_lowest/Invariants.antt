@@ -1,7 +1,7 @@
 use Rattle.std.proofs.Common.{◌≡◌, ℕ, ◌+◌, ◌<◌, ◌≤◌, [], None}
 use Rattle.std.specs.Int.{bit_at}
 use Rattle.pool_parts.specs.Ledger.{WasOutBetween}
-use Rattle.pool_parts.specs.PageRule.{GoesOn, item_of}
+use Rattle.pool_parts.specs.Inside.PageRule.{GoesOn, item_of}
 use Rattle.pool_parts.proofs.page.items.Items.take_lowest.Given as goal
 
 abbrev pub invariant-loop-rest : goal.invariant-loop-rest

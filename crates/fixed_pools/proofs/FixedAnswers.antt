@@ -1,0 +1,64 @@
+-- What a pool answers, told by what the answer shows and no longer by its user's view.
+use Rattle.std.proofs.Common.{◌≡◌, List, Option, ℕ, ◌+◌, ◌*◌, ◌<◌, ◌≤◌, ◌∙◌, sym, subst, arith}
+use Rattle.atomic_table.specs.Seated.{TableId}
+use Rattle.pool_parts.specs.declared.page.full_seen.FullSeen.{FullSeen}
+use Rattle.pool_parts.specs.declared.page.note.PageNote.{PageNote}
+use Rattle.pool_parts.specs.declared.page.user_view.UserView.{UserView}
+use Rattle.fixed_pools.specs.FixedAnswer.{IsPulledWith, IsFullSince, FoundFull, returns_between, returns_since}
+use Rattle.fixed_pools.specs.Inside.FixedCount.{FindsFull}
+use Rattle.fixed_pools.specs.StepCount.{StepCount, IsWithin, steps_of}
+use Rattle.pool_parts.specs.Note.{note_view}
+use Rattle.pool_parts.specs.FullSeen.{full_page, IsAllOut}
+use Rattle.pool_parts.specs.Inside.PageRule.{User, StartsFrom, IsSound, KnowsOut}
+use Rattle.pool_parts.specs.Inside.Taking.{MissesAll, TakesOne}
+use Rattle.pool_parts.proofs.Ledger.{legal_of}
+use Rattle.pool_parts.proofs.PageAnswers.{item_known, pulled_after, found_out, was_out_from, knows_out}
+
+module _ {T : Type 0} where
+  -- the item that a pull by a note took
+  pub item_pulled_with : (meets : T → Type 0) (pool : TableId) (note : PageNote T) (start known : User T)
+      (seated : TableId) (id : ℕ) (value : T)
+      → StartsFrom (note_view note) start.0 → TakesOne meets pool.slots id value start known → seated ≡ pool
+      → IsPulledWith pool note (item_known seated known.0 id value)
+  item_pulled_with meets pool note start known seated id value starts taken same = record {
+    of_pool = same;
+    in_pool = taken.in_pool;
+    pulled = pulled_after seated start.0 known.0 id value taken.goes_on note starts;
+  }
+
+  -- what a user has seen that observed each item taken
+  pub found_all_out : (count : ℕ) (pool : TableId) (opening : List (Option T)) (start : User T) (seen : FullSeen T)
+      → full_page seen ≡ pool → start.0.opening ≡ opening → IsSound start.0 → MissesAll 0 count start seen.seat.me
+      → IsAllOut count pool opening seen
+  found_all_out count pool opening start seen of_pool opened sound missed =
+      let known = seen.seat.me.0 in
+      found_out count pool opening start.0 seen of_pool opened missed.goes_on (λ id within.
+      was_out_from start.0 known id missed.goes_on sound.since_load (missed.each_was_out id (omega arith) within))
+
+  pub knows_all_out : (count : ℕ) (start known : User T) → IsSound start.0 → MissesAll 0 count start known → (id : ℕ)
+      → id < count → KnowsOut known.0 id
+  knows_all_out count start known sound missed id within =
+      knows_out start.0 known.0 id missed.goes_on sound.since_load (missed.each_was_out id (omega arith) within)
+
+  -- what a user has seen that found the pool full
+  pub found_full : (items : ℕ) (opening : List (Option T)) (start known : User T) → start.0.opening ≡ opening
+      → start.0.since ≡ start.0.operations → FindsFull items start known → FoundFull items opening known.0
+  found_full items opening start known opened from_now found =
+      let goes = found.reads_on.goes_on in
+      let same = goes.same_opening ∙ opened in
+      record {
+        same_opening = same;
+        legal = legal_of opening known.0 same goes.sound;
+        goes_on = goes.sound.since_load;
+        full = subst (λ since. IsFullSince items since known.0) (sym (goes.same_since ∙ from_now)) found.full;
+      }
+
+  -- what a call has read and tried, by the returns since its first load
+  pub within_passes : (passes : ℕ → ℕ) (words : ℕ) (before : StepCount) (start known : UserView T)
+      → known.since ≡ start.operations → start.loads ≡ before.loads + 1 → start.tries ≡ before.tries
+      → known.loads + 1 ≤ start.loads + words * passes (returns_between start.operations known.operations)
+      → known.tries ≤ start.tries + 32 * (words * passes (returns_between start.operations known.operations))
+      → IsWithin (words * passes (returns_since known)) before (steps_of known)
+  within_passes passes words before start known since loads tries fewer fewer_tries =
+      subst (λ from. IsWithin (words * passes (returns_between from known.operations)) before (steps_of known)) (sym since)
+      record { loads = omega arith; tries = omega arith }

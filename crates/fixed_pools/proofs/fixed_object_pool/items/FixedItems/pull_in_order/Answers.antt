@@ -1,0 +1,37 @@
+use Rattle.std.proofs.Common.{◌∙◌}
+use Rattle.fixed_pools.specs.StepCount.{passes_to_take, passes_to_refuse, no_steps}
+use Rattle.fixed_pools.proofs.FixedAnswers.{found_full, within_passes}
+use Rattle.pool_parts.proofs.PageAnswers.{pulled}
+use Rattle.fixed_pools.proofs.fixed_object_pool.items.FixedItems.pull_in_order.Goals as goal
+
+pub returns-in-Some-clause-pulled : goal.returns-in-Some-clause-pulled
+returns-in-Some-clause-pulled g c =
+    let looked = c.look-word.ensures.found in
+    let taken = c.in-Some.ensures.outcome in
+    record {
+      of_pool = c.take_or_full.ensures.pool ∙ c.look-word.ensures.items;
+      in_pool = taken.in_pool;
+      same_opening = taken.goes_on.same_opening ∙ looked.same_opening;
+      pulled = pulled _ _ _ _ _ taken.goes_on looked.did_nothing;
+    }
+
+pub returns-in-Some-clause-brief : goal.returns-in-Some-clause-brief
+returns-in-Some-clause-brief g c =
+    let looked = c.look-word.ensures.found in
+    within_passes passes_to_take _ no_steps c.look-word.result.1.me.0 c.take_or_full.new.seat.me.0 (c.in-Some.ensures.outcome.goes_on.same_since ∙ looked.from_now)
+    looked.loads looked.tries c.in-Some.ensures.loads c.in-Some.ensures.tries
+
+pub returns-in-None-clause-full : goal.returns-in-None-clause-full
+returns-in-None-clause-full g c =
+    let looked = c.look-word.ensures.found in
+    record {
+      of_pool = c.take_or_full.ensures.pool ∙ c.look-word.ensures.items;
+      found = found_full _ _ _ _ looked.same_opening looked.from_now c.in-None.ensures.outcome;
+    }
+
+pub returns-in-None-clause-full_brief : goal.returns-in-None-clause-full_brief
+returns-in-None-clause-full_brief g c =
+    let looked = c.look-word.ensures.found in
+    within_passes passes_to_refuse _ no_steps c.look-word.result.1.me.0 c.take_or_full.new.seat.me.0
+    (c.in-None.ensures.outcome.reads_on.goes_on.same_since ∙ looked.from_now)
+    looked.loads looked.tries c.in-None.ensures.loads c.in-None.ensures.tries

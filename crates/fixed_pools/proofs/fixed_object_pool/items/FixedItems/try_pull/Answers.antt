@@ -1,0 +1,29 @@
+use Rattle.std.proofs.Common.{◌∙◌, ap, arith}
+use Rattle.atomic_table.specs.Seated.{TableId}
+use Rattle.fixed_pools.proofs.FixedAnswers.{found_all_out, knows_all_out}
+use Rattle.pool_parts.proofs.PageAnswers.{pulled}
+use Rattle.fixed_pools.proofs.fixed_object_pool.items.FixedItems.try_pull.Goals as goal
+
+pub returns-clause-pulled : goal.returns-clause-pulled
+returns-clause-pulled g c =
+    let looked = c.look-word.ensures.found in
+    let taken = c.in-Ok.ensures.taken in
+    record {
+      of_pool = c.take.ensures.pool ∙ c.look-word.ensures.items;
+      in_pool = taken.in_pool;
+      same_opening = taken.goes_on.same_opening ∙ looked.same_opening;
+      pulled = pulled _ _ _ _ _ taken.goes_on looked.did_nothing;
+    }
+
+pub returns-in_default-clause-busy : goal.returns-in_default-clause-busy
+returns-in_default-clause-busy g c =
+    found_all_out _ _ _ _ _ (c.take.ensures.pool ∙ c.look-word.ensures.items)
+    c.look-word.ensures.found.same_opening c.look-word.ensures.found.sound c.in_default.ensures.missed
+
+pub invariant_of-result : goal.invariant_of-result
+invariant_of-result g c =
+    let same = ap (λ (pool : TableId). pool.slots) (c.take.ensures.pool ∙ c.look-word.ensures.items) in
+    record {
+      found = ∣ (λ id within. knows_all_out _ _ _ c.look-word.ensures.found.sound c.in_default.ensures.missed id
+          (omega arith)) ∣₁;
+    }

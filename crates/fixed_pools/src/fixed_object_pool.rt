@@ -1,0 +1,385 @@
+//! A pool of a fixed number of items, all made up front. Threads pull and return without a lock,
+//! and no call needs memory after the opening, but for one more owner.
+//!
+//! The items lie 32 to a page, and a page is one word. All words lie in one table, so one
+//! sequential history has the pulls and returns of the whole pool. No pull and no return waits for
+//! another thread. The upper half of each word counts the returns of its page, so a pull that took
+//! nothing sees whether an item came back while it looked.
+ghost use Rattle.std.specs.Prelude.{◌≡◌, ◌+◌, ◌*◌, ◌/◌, ◌<◌, ◌≤◌, None, Some, IfOk, IfErr, ◌⊎◌};
+ghost use Rattle.std.specs.Arc.{arc_value};
+ghost use Rattle.pool_parts.specs.declared.pull_error.PullError.TheVariants.{Memory, Limit};
+
+use crate::fixed_owned_reusable::FixedOwnedReusable;
+use crate::fixed_reusable::FixedReusable;
+use items::FixedItems;
+use items::order::Order;
+use near::Near;
+use pool_parts::PullError;
+use pool_parts::clean::{AnyValue, Clean};
+use pool_parts::closures::{Init, Reset};
+use pool_parts::made_or_reset::MadeOrReset;
+use pool_parts::page::holding::Holding;
+use pool_parts::page::{FullSeen, PageNote, PullPass, Witness};
+use std::alloc::Global;
+use std::fmt::{self, Debug, Formatter, Write};
+use std::sync::Arc;
+
+pub mod items;
+pub mod near;
+
+/// What is known of a fixed pool's history while no item is held. It has no bytes.
+///
+/// # Examples
+///
+/// ```rust
+/// let note = pool.note();
+/// let item = pool.try_pull_from(&pass, note).ok()?; // comes after all that the note knew
+/// ```
+pub type PoolNote<T> = PageNote<T>;
+
+/// The evidence of a pull of one pass that took no item: each item of the pool was seen in use
+/// since the pass was made, by a word that was read or by a try of its own bit.
+///
+/// # Examples
+///
+/// ```rust
+/// match pool.try_pull(&pass) {
+///     Ok(item) => Some(item.number()),
+///     Err(_busy) => None, // it shows that each item was seen in use
+/// }
+/// ```
+pub type BusySeen<'p, T> = FullSeen<'p, T>;
+
+/// The result of [`FixedObjectPool::try_pull`]: an item, or that each one was seen in use.
+///
+/// # Examples
+///
+/// ```rust
+/// match pool.try_pull(&pass) {
+///     Ok(item) => Some(item.number()),
+///     Err(_busy) => None, // it shows that each item was seen in use
+/// }
+/// ```
+pub type FixedPulled<'s, 'p, T, I, R, K = AnyValue> = Result<
+    FixedReusable<'s, T, I, R, K>,
+    BusySeen<'p, T>,
+>;
+
+/// A pool of a fixed number of items.
+///
+/// # Examples
+///
+/// ```rust
+/// let pool = FixedObjectPool::<u32, _, _>::new(alloc, Copied::new(0), Copied::new(0), 1_000)?;
+/// let mut item = pool.pull()?; // takes no memory
+/// *item = 5;
+/// drop(item); // the value is 0 again, and in the pool
+/// ```
+pub struct FixedObjectPool<T, I: Init<T, K>, R: Reset<T, K>, K: Clean<T> = AnyValue> {
+    reset: R,
+    pub(crate) items: FixedItems<T, MadeOrReset<I, R, K>>,
+}
+
+/// Not derived: the proof of a caller that drops it has one call here, and a derived drop has that
+/// of each field.
+impl<T: Drop, I: Init<T, K>, R: Reset<T, K>, K: Clean<T>> Drop for FixedObjectPool<T, I, R, K> {
+    fn drop(self) {
+        let FixedObjectPool { reset: _, items: _ } = self;
+    }
+}
+
+impl<T: Drop, I: Init<T, K>, R: Reset<T, K>, K: Clean<T>> FixedObjectPool<T, I, R, K> {
+    ghost use Rattle.pool_parts.specs.Answers.{IsMadeOrReset};
+    ghost use Rattle.fixed_pools.specs.FixedAnswer.{IsPulledFrom, IsPulledWith, IsFullNoteAfter, returns_since};
+    ghost use Rattle.fixed_pools.specs.StepCount.{steps_of};
+    ghost use Rattle.pool_parts.specs.FullSeen.{full_view};
+    ghost use Rattle.pool_parts.specs.Note.{IsGivenBack};
+    ghost use Rattle.pool_parts.specs.FullSeen.{IsAllOut, IsAllOutAfter};
+    ghost use Rattle.fixed_pools.specs.FixedPool.{pool_identity, pool_items, pool_pages, pool_opening, pool_reset};
+    ghost use Rattle.pool_parts.specs.Holding.{holding_page, held_item};
+    ghost use Rattle.fixed_pools.specs.Near.{near_pool};
+    ghost use Rattle.pool_parts.specs.Items.{IsFilled};
+    ghost use Rattle.fixed_pools.specs.FixedReusable.{reusable_pool, reusable_item, reusable_view};
+    ghost use Rattle.fixed_pools.specs.StepCount.{steps_of};
+    ghost use Rattle.fixed_pools.specs.StepCount.{IsWithin, no_steps, passes_to_take, passes_to_refuse};
+    ghost use Rattle.pool_parts.specs.Note.{note_page, note_view, witness_page, IsNoteOf, HasLearned};
+    ghost use Rattle.pool_parts.specs.Refusal.{RefusesMaking};
+
+    /// Creates a pool of `items` free items. Item `i` is the answer of call `i` of `init`, counted
+    /// from 0.
+    ///
+    /// # Errors
+    ///
+    /// `Memory`, or `Init` at the first `None`. The items that were made are dropped.
+    ///
+    /// # Examples
+    ///
+    /// ```rust
+    /// let pool = FixedObjectPool::<u32, _, _>::new(alloc, Copied::new(0), Copied::new(0), 8)?;
+    /// ```
+    pub fn new(
+        alloc: Global,
+        init: I,
+        reset: R,
+        items: usize,
+    ) -> Result<FixedObjectPool<T, I, R, K>, PullError>
+        requires some_item { 1 ≤ items }
+        ensures reset { IfOk result (λ pool. pool_reset pool ≡ reset) }
+        ensures items { IfOk result (λ pool. pool_items pool ≡ items) }
+        ensures pages { IfOk result (λ pool. pool_pages pool ≡ (items + 31) / 32) }
+        ensures opened { IfOk result (λ pool.
+            IsFilled items (λ made. I.answers init (Some made)) (pool_opening pool)) }
+        ensures refused { IfErr result (RefusesMaking (I.answers init None)) }
+    {
+        let maker = &init;
+        let items = FixedItems::new(alloc, items, Order::Round, &|| maker.make())?;
+        Ok(FixedObjectPool { reset, items })
+    }
+
+    /// Returns the number of items of the pool.
+    pub fn items(&self) -> usize
+        ensures { result ≡ pool_items self.now }
+    {
+        self.items.count()
+    }
+
+    /// Pulls a free item, beginning at the page that a hint names.
+    ///
+    /// It passes over the words of the pool, each read once and each set bit tried once. Most pulls
+    /// take an item within this first pass. One that took nothing makes a second pass. If that
+    /// takes nothing either, and the words count no more returns than before, the pull fails: no
+    /// item was free at one moment. Otherwise it goes on. So a third pass comes only after another
+    /// thread's return: a pull is lock-free. [`FixedObjectPool::try_pull`] makes one pass, and is
+    /// wait-free. Both count steps of this source. On x86-64 the step that clears a bit is compiled
+    /// to a loop.
+    ///
+    /// # Errors
+    ///
+    /// `Limit` if no item was free at one moment of the call (or 2^32 returns and more came within
+    /// it, which the counts of the words can't tell from none).
+    #[inline(always)]
+    pub fn pull(&self) -> Result<FixedReusable<'_, T, I, R, K>, PullError>
+        ensures pool { IfOk result (λ item. (reusable_pool item).now ≡ self.now) }
+        ensures pulled { IfOk result (λ item.
+            IsPulledFrom (pool_identity self.now) (pool_opening self.now) (reusable_item item)) }
+        ensures meets { IfOk result (λ item. K.meets (reusable_item item).value) }
+        ensures made_or_reset { IfOk result (λ item.
+            IsMadeOrReset I.answers R.leaves (reusable_item item).value) }
+        ensures brief { IfOk result (λ item.
+            IsWithin (pool_pages self.now * passes_to_take (returns_since (reusable_view item))) no_steps
+            (steps_of (reusable_view item))) }
+        ensures refused { IfErr result (λ error. error ≡ Limit) }
+    {
+        match self.items.pull_in_order(self.items.hinted(), None) {
+            Ok(pulled) => Ok(FixedReusable::new(self, pulled)),
+            Err(_) => Err(PullError::Limit),
+        }
+    }
+
+    /// Pulls a free item as `pull` does, but begins at this page, counted round and round. If the
+    /// page has no free item, it goes on at the hinted page, then at those behind that one, then
+    /// from page 0 on.
+    ///
+    /// Threads that keep to pages of their own share no word of items: as long as the page has a
+    /// free item, the pull neither reads nor sets the hint. A return to a page that was full reads
+    /// it, and may set it. [`FixedObjectPool::near`] chooses the pages.
+    ///
+    /// # Errors
+    ///
+    /// `Limit`, as of `pull`.
+    ///
+    /// # Examples
+    ///
+    /// ```rust
+    /// let item = pool.pull_near(8 * thread)?;
+    /// ```
+    #[inline(always)]
+    pub fn pull_near(&self, page: usize) -> Result<FixedReusable<'_, T, I, R, K>, PullError>
+        ensures pool { IfOk result (λ item. (reusable_pool item).now ≡ self.now) }
+        ensures pulled { IfOk result (λ item.
+            IsPulledFrom (pool_identity self.now) (pool_opening self.now) (reusable_item item)) }
+        ensures meets { IfOk result (λ item. K.meets (reusable_item item).value) }
+        ensures made_or_reset { IfOk result (λ item.
+            IsMadeOrReset I.answers R.leaves (reusable_item item).value) }
+        ensures brief { IfOk result (λ item.
+            IsWithin (pool_pages self.now * passes_to_take (returns_since (reusable_view item))) no_steps
+            (steps_of (reusable_view item))) }
+        ensures refused { IfErr result (λ error. error ≡ Limit) }
+    {
+        let start = self.items.page_round(page);
+        match self.items.pull_in_order(start, Some(Order::Hinted)) {
+            Ok(pulled) => Ok(FixedReusable::new(self, pulled)),
+            Err(_) => Err(PullError::Limit),
+        }
+    }
+
+    /// Returns a place for one thread to begin its pulls at: each call names the next page, eight
+    /// words further, so that threads don't meet while their pages have free items.
+    ///
+    /// # Examples
+    ///
+    /// ```rust
+    /// let near = pool.near();
+    /// let item = near.pull()?;
+    /// ```
+    pub fn near(&self) -> Near<'_, T, I, R, K>
+        ensures { near_pool result ≡ self.now }
+    {
+        Near::new(self, self.items.next_own_page())
+    }
+
+    /// Pulls as `pull` does, by one pass, and shows what it found if it took no item. It is
+    /// wait-free, as `pull` says.
+    ///
+    /// # Errors
+    ///
+    /// The evidence that each item was out during this call.
+    pub fn try_pull<'s, 'p>(&'s self, pass: &'p PullPass) -> FixedPulled<'s, 'p, T, I, R, K>
+        ensures pool { IfOk result (λ item. (reusable_pool item).now ≡ self.now) }
+        ensures pulled { IfOk result (λ item.
+            IsPulledFrom (pool_identity self.now) (pool_opening self.now) (reusable_item item)) }
+        ensures meets { IfOk result (λ item. K.meets (reusable_item item).value) }
+        ensures made_or_reset { IfOk result (λ item.
+            IsMadeOrReset I.answers R.leaves (reusable_item item).value) }
+        ensures brief { IfOk result (λ item.
+            IsWithin (pool_pages self.now) no_steps (steps_of (reusable_view item))) }
+        ensures busy { IfErr result (IsAllOut (pool_identity self.now).slots
+            (pool_identity self.now) (pool_opening self.now)) }
+        ensures busy_brief { IfErr result (λ busy.
+            IsWithin (pool_pages self.now) no_steps (steps_of (full_view busy))) }
+    {
+        Ok(FixedReusable::new(self, self.items.try_pull(pass)?))
+    }
+
+    /// Pulls as `try_pull` does, by a user that knows something of the pool. The pull comes after
+    /// all that the note knew.
+    ///
+    /// # Errors
+    ///
+    /// The evidence that each item was out during this call.
+    pub fn try_pull_from<'s, 'p>(
+        &'s self,
+        pass: &'p PullPass,
+        note: PoolNote<T>,
+    ) -> FixedPulled<'s, 'p, T, I, R, K>
+        requires { note_page note ≡ pool_identity self.now }
+        ensures pool { IfOk result (λ item. (reusable_pool item).now ≡ self.now) }
+        ensures pulled { IfOk result (λ item.
+            IsPulledWith (pool_identity self.now) note (reusable_item item)) }
+        ensures meets { IfOk result (λ item. K.meets (reusable_item item).value) }
+        ensures made_or_reset { IfOk result (λ item.
+            IsMadeOrReset I.answers R.leaves (reusable_item item).value) }
+        ensures brief { IfOk result (λ item.
+            IsWithin (pool_pages self.now) (steps_of (note_view note)) (steps_of (reusable_view item))) }
+        ensures busy { IfErr result
+            (IsAllOutAfter (pool_identity self.now).slots (pool_identity self.now) note) }
+        ensures busy_brief { IfErr result (λ busy.
+            IsWithin (pool_pages self.now) (steps_of (note_view note)) (steps_of (full_view busy))) }
+    {
+        let pulled = self.items.pull_from(pass, note)?;
+        Ok(FixedReusable::new(self, pulled))
+    }
+
+    /// Returns a note of this pool, which knows some prefix of its history.
+    pub fn note(&self) -> PoolNote<T>
+        ensures { IsNoteOf (pool_identity self.now) (pool_opening self.now) result }
+    {
+        self.items.shared.note()
+    }
+
+    /// Adds what a witness knows to what a note knows. Afterwards both their histories are prefixes
+    /// of the note's.
+    pub fn tell(&self, note: &mut PoolNote<T>, other: Witness<T>)
+        requires note { note_page note.old ≡ pool_identity self.now }
+        requires other { witness_page other ≡ pool_identity self.now }
+        ensures { HasLearned note.old other note.new }
+    {
+        self.items.shared.tell(note, other);
+    }
+
+    /// Pulls as `pull` does. The reusable owns the pool with others: it becomes one more owner
+    /// before an item is taken.
+    ///
+    /// # Errors
+    ///
+    /// `Limit`, as of `pull`, and `Memory` if the pool can have no more owners.
+    pub fn pull_owned(self: &Arc<Self>) -> Result<FixedOwnedReusable<T, I, R, K>, PullError>
+        ensures pool { IfOk result (λ item. arc_value (reusable_pool item) ≡ arc_value self.now) }
+        ensures pulled { IfOk result (λ item.
+            IsPulledFrom (pool_identity (arc_value self.now)) (pool_opening (arc_value self.now))
+            (reusable_item item)) }
+        ensures meets { IfOk result (λ item. K.meets (reusable_item item).value) }
+        ensures made_or_reset { IfOk result (λ item.
+            IsMadeOrReset I.answers R.leaves (reusable_item item).value) }
+        ensures brief { IfOk result (λ item.
+            IsWithin (pool_pages (arc_value self.now) * passes_to_take (returns_since (reusable_view item)))
+            no_steps (steps_of (reusable_view item))) }
+        ensures refused { IfErr result (λ error. (error ≡ Memory) ⊎ (error ≡ Limit)) }
+    {
+        let owner = Arc::try_clone(self)?;
+        let Ok(pulled) = self.items.pull() else {
+            return Err(PullError::Limit);
+        };
+        Ok(FixedOwnedReusable::new(owner, pulled))
+    }
+
+    /// Pulls as `pull_near` does, by an owner of the pool that has a note of it. The reusable takes
+    /// over both, so no owner is counted, and the pull comes after all that the note knew.
+    /// `give_back_with_owner` hands both out again.
+    ///
+    /// # Errors
+    ///
+    /// The owner and the note, which now knows that the pool was full at one moment of this call
+    /// (or that so many returns came within it as `pull` says).
+    #[inline(always)]
+    pub fn pull_by_owner(
+        self: Arc<Self>,
+        page: usize,
+        note: PoolNote<T>,
+    ) -> Result<FixedOwnedReusable<T, I, R, K>, (Arc<Self>, PoolNote<T>)>
+        requires { note_page note ≡ pool_identity (arc_value self) }
+        ensures pool { IfOk result (λ item. arc_value (reusable_pool item) ≡ arc_value self) }
+        ensures pulled { IfOk result (λ item.
+            IsPulledWith (pool_identity (arc_value self)) note (reusable_item item)) }
+        ensures meets { IfOk result (λ item. K.meets (reusable_item item).value) }
+        ensures made_or_reset { IfOk result (λ item.
+            IsMadeOrReset I.answers R.leaves (reusable_item item).value) }
+        ensures brief { IfOk result (λ item.
+            IsWithin (pool_pages (arc_value self) * passes_to_take (returns_since (reusable_view item)))
+            (steps_of (note_view note)) (steps_of (reusable_view item))) }
+        ensures same_owner { IfErr result (λ kept. arc_value kept.0 ≡ arc_value self) }
+        ensures full { IfErr result (λ kept.
+            IsFullNoteAfter (pool_identity (arc_value self)) note kept.1) }
+        ensures full_brief { IfErr result (λ kept.
+            IsWithin
+            (pool_pages (arc_value self) * passes_to_refuse (returns_since (note_view kept.1)))
+            (steps_of (note_view note)) (steps_of (note_view kept.1))) }
+    {
+        let start = self.items.page_round(page);
+        match self.items.pull_onward(start, note) {
+            Ok(pulled) => Ok(FixedOwnedReusable::new(self, pulled)),
+            Err(note) => Err((self, note)),
+        }
+    }
+
+    /// Resets the value of an item and returns it.
+    pub(crate) fn give(&self, holding: Holding<T>, value: T) -> PoolNote<T>
+        requires of_pool { holding_page holding ≡ pool_identity self.now }
+        requires in_pool { holding.number < pool_items self.now }
+        ensures { IsGivenBack (R.leaves (pool_reset self.now)) (held_item holding value) result }
+    {
+        let mut left = value;
+        self.reset.reset(&mut left);
+        PageNote {
+            seat: self.items.give(holding, left),
+        }
+    }
+}
+
+impl<T: Drop, I: Init<T, K>, R: Reset<T, K>, K: Clean<T>> Debug for FixedObjectPool<T, I, R, K> {
+    fn fmt<W: Write>(&self, f: &mut Formatter<W>) -> fmt::Result {
+        f.debug_struct("FixedObjectPool")
+            .field("items", &self.items())
+            .finish_non_exhaustive()
+    }
+}

@@ -1,0 +1,371 @@
+//! The items of a fixed pool: a word for each page, and what a pull and a return do there.
+ghost use Rattle.std.specs.Prelude.{◌≡◌, ◌+◌, ◌-◌, ◌*◌, ◌/◌, ◌^◌, ◌<◌, ◌≤◌, ℕ, [], ◌∷◌, Option, None, Some, IfOk, IfErr, MatchOption, false, vec_len};
+ghost use Rattle.std.specs.Int.{bit_at};
+ghost use Rattle.pool_parts.specs.Inside.Items.{items_identity, items_raise};
+ghost use Rattle.pool_parts.specs.Inside.Word.{IsAllFree};
+
+use crate::fixed_object_pool::{BusySeen, PoolNote};
+use order::Order;
+use pool_parts::PullError;
+use pool_parts::clean::Clean;
+use pool_parts::page::holding::Holding;
+use pool_parts::page::items::{Items, TakenValue};
+use pool_parts::page::user_view::UserSeat;
+use pool_parts::page::{PAGE_ITEMS, PageNote, PullPass};
+use pulled_item::PulledItem;
+use std::alloc::{AllocError, Global};
+use std::sync::atomic::AtomicU64;
+use std::sync::atomic::Ordering::SeqCst;
+
+mod at;
+mod full;
+pub mod order;
+mod pass;
+pub mod pulled_item;
+
+/// How many words share a cache line.
+const WORDS_APART: usize = 8;
+
+/// Returns the word of a page of which the first `count` items are free.
+fn low_bits(count: usize) -> u64
+    requires { count ≤ 32 }
+    ensures { result ≡ 2 ^ count - 1 }
+{
+    (1 << count) - 1
+}
+
+/// Returns the words of `count` free items.
+fn free_words(alloc: Global, count: usize) -> Result<Vec<u64>, AllocError>
+    requires { 1 ≤ count }
+    ensures pages { IfOk result (λ words. vec_len words ≡ (count + 31) / 32) }
+    ensures all_free { IfOk result (λ words. IsAllFree count words.items) }
+{
+    let last = (count - 1) / PAGE_ITEMS;
+    let mut words = vec![in alloc; u32::MAX as u64; last + 1]?;
+    words[last] = low_bits(count - PAGE_ITEMS * last);
+    Ok(words)
+}
+
+/// The items of a fixed pool. A page is one word, and the words lie side by side.
+#[derive(Drop)]
+pub struct FixedItems<T, K: Clean<T>> {
+    pub shared: Items<T, K>,
+    count: usize,
+    pages: usize,
+    order: Order,
+    /// The page at which the next pull starts. It promises nothing.
+    hint: AtomicU64,
+    /// How many pages were named by `next_own_page`. It promises nothing.
+    own_pages: AtomicU64,
+    ghost counted: { count ≡ (items_identity shared).slots },
+    ghost paged: { pages ≡ (items_identity shared).words },
+    ghost counts_returns: { items_raise shared ≡ 1 },
+}
+
+impl<T, K: Clean<T>> FixedItems<T, K> {
+    ghost use Rattle.pool_parts.specs.Answers.{MayMake};
+    ghost use Rattle.fixed_pools.specs.FixedAnswer.{IsPulledFrom, IsPulledWith, IsFullNote, IsFullNoteAfter, returns_since};
+    ghost use Rattle.pool_parts.specs.FullSeen.{full_view};
+    ghost use Rattle.pool_parts.specs.FullSeen.{IsAllOut, IsAllOutAfter};
+    ghost use Rattle.fixed_pools.specs.Inside.FixedItem.{fixed_identity, fixed_opening};
+    ghost use Rattle.fixed_pools.specs.Inside.FixedItem.{pulled_item, pulled_view};
+    ghost use Rattle.pool_parts.specs.Inside.Taking.{MissesAll, TakesOne};
+    ghost use Rattle.fixed_pools.specs.StepCount.{IsWithin, no_steps, steps_of, passes_to_take, passes_to_refuse};
+    ghost use Rattle.pool_parts.specs.Holding.{holding_page, holding_view};
+    ghost use Rattle.pool_parts.specs.Items.{IsFilled};
+    ghost use Rattle.pool_parts.specs.Note.{note_page, note_view};
+    ghost use Rattle.pool_parts.specs.Inside.PageRule.{GoesOn, IsOutNow, IsSound, item_of};
+    ghost use Rattle.pool_parts.specs.Refusal.{RefusesMaking};
+    ghost use Rattle.pool_parts.specs.declared.page.history.Operation.TheVariants.{Return};
+
+    /// Creates `count` free items. Item `i` is the answer of call `i` of `init`, counted from 0.
+    ///
+    /// It stops at the first `None`. If it fails, the items that were made are dropped.
+    pub fn new<I: Fn() -> Option<T>>(
+        alloc: Global,
+        count: usize,
+        order: Order,
+        init: &I,
+    ) -> Result<FixedItems<T, K>, PullError>
+    where
+        T: Drop,
+        requires some_item { 1 ≤ count }
+        requires may_make { MayMake I.pre I.post K.meets init.now }
+        ensures refused { IfErr result (RefusesMaking (I.post init.now None)) }
+        ensures count { IfOk result (λ fixed. (fixed_identity fixed).slots ≡ count) }
+        ensures pages { IfOk result (λ fixed. (fixed_identity fixed).words ≡ (count + 31) / 32) }
+        ensures opened { IfOk result
+            (λ fixed. IsFilled count (λ made. I.post init.now (Some made)) (fixed_opening fixed)) }
+    {
+        let Some(_) = count.checked_add(PAGE_ITEMS - 1) else {
+            return Err(PullError::Memory);
+        };
+        let words = free_words(alloc, count)?;
+        let shared = Items::new(alloc, count, &words, 1, init)?;
+        Ok(FixedItems {
+            shared,
+            count,
+            pages: words.len(),
+            order,
+            hint: AtomicU64::new(0),
+            own_pages: AtomicU64::new(0),
+        })
+    }
+
+    /// Returns the number of items.
+    pub fn count(&self) -> usize
+        ensures { result ≡ (fixed_identity self.now).slots }
+    {
+        self.count
+    }
+
+    /// Returns the page of this number, where the pages are counted round and round.
+    ///
+    /// A division takes as long as an atomic step, so it is made only for a number that is past the
+    /// pages.
+    pub fn page_round(&self, page: usize) -> usize
+        ensures { result < (fixed_identity self.now).words }
+    {
+        if page < self.pages {
+            page
+        } else {
+            page % self.pages
+        }
+    }
+
+    /// Returns the page at which a pull starts.
+    pub(super) fn hinted(&self) -> usize
+        ensures { result < (fixed_identity self.now).words }
+    {
+        let hint = self.hint.load(SeqCst) as usize;
+        if hint < self.pages { hint } else { 0 }
+    }
+
+    /// Returns a page for one more user that begins at a page of its own.
+    ///
+    /// Each is a cache line further than the one before. Once the pages have come round, each is
+    /// one page further than the round before, so in a small pool users share a page only if there
+    /// are more users than pages.
+    pub fn next_own_page(&self) -> usize
+        ensures { result < (fixed_identity self.now).words }
+    {
+        let number = self.own_pages.fetch_add(1, SeqCst) as usize;
+        let lines = self.pages.div_ceil(WORDS_APART);
+        let page = WORDS_APART * (number % lines) + number / lines % WORDS_APART;
+        self.page_round(page)
+    }
+
+    /// Sets the hint to a page that may have a free item. If it names the page already, that costs
+    /// only a load.
+    fn set_hint(&self, page: usize) {
+        if self.hint.load(SeqCst) != page as u64 {
+            self.hint.store(page as u64, SeqCst);
+        }
+    }
+
+    /// Pulls an item by one pass, or returns the evidence that each one was seen in use.
+    ///
+    /// It begins at the hinted page, and goes on in the pool's order. Each word is read once at
+    /// most, and each bit that was set in it is cleared, lowest first, until one was still set.
+    /// Beyond its first page it hints at the page of its item.
+    pub fn try_pull<'p>(&self, pass: &'p PullPass) -> Result<PulledItem<T>, BusySeen<'p, T>>
+        ensures pulled { IfOk result
+            (λ pulled. IsPulledFrom (fixed_identity self.now) (fixed_opening self.now)
+            (pulled_item pulled)) }
+        ensures meets { IfOk result (λ pulled. K.meets pulled.value) }
+        ensures brief { IfOk result
+            (λ pulled. IsWithin (fixed_identity self.now).words no_steps
+            (steps_of (pulled_view pulled))) }
+        ensures busy { IfErr result (IsAllOut (fixed_identity self.now).slots
+            (fixed_identity self.now) (fixed_opening self.now)) }
+        ensures busy_brief { IfErr result
+            (λ busy. IsWithin (fixed_identity self.now).words no_steps (steps_of (full_view busy))) }
+    {
+        let page = self.hinted();
+        let (word, mut seat) = self.shared.look(page);
+        let Ok(taken) = self.take(&mut seat, page, word, None) else {
+            return Err(BusySeen { seat, pass });
+        };
+        Ok(PulledItem {
+            holding: Holding {
+                seat,
+                number: taken.number,
+            },
+            value: taken.value,
+        })
+    }
+
+    /// Pulls an item, or returns a note of a pool that was full at one moment. It begins at the
+    /// hinted page, and goes on in the pool's order.
+    ///
+    /// It isn't inlined, so that an owned or a lazy item isn't moved through memory.
+    #[inline(never)]
+    pub fn pull(&self) -> Result<PulledItem<T>, PoolNote<T>>
+        ensures pulled { IfOk result
+            (λ pulled. IsPulledFrom (fixed_identity self.now) (fixed_opening self.now)
+            (pulled_item pulled)) }
+        ensures meets { IfOk result (λ pulled. K.meets pulled.value) }
+        ensures brief { IfOk result
+            (λ pulled. IsWithin
+            ((fixed_identity self.now).words * passes_to_take (returns_since (pulled_view pulled)))
+            no_steps (steps_of (pulled_view pulled))) }
+        ensures full { IfErr result
+            (IsFullNote (fixed_identity self.now) (fixed_opening self.now)) }
+        ensures full_brief { IfErr result
+            (λ note. IsWithin
+            ((fixed_identity self.now).words * passes_to_refuse (returns_since (note_view note)))
+            no_steps (steps_of (note_view note))) }
+    {
+        self.pull_in_order(self.hinted(), None)
+    }
+
+    /// Pulls an item as `pull` does, but begins at this page, and goes on at the hinted one. While
+    /// this page has a free item it neither reads nor sets the hint.
+    pub fn pull_near(&self, start: usize) -> Result<PulledItem<T>, PoolNote<T>>
+        requires { start < (fixed_identity self.now).words }
+        ensures pulled { IfOk result
+            (λ pulled. IsPulledFrom (fixed_identity self.now) (fixed_opening self.now)
+            (pulled_item pulled)) }
+        ensures meets { IfOk result (λ pulled. K.meets pulled.value) }
+        ensures brief { IfOk result
+            (λ pulled. IsWithin
+            ((fixed_identity self.now).words * passes_to_take (returns_since (pulled_view pulled)))
+            no_steps (steps_of (pulled_view pulled))) }
+        ensures full { IfErr result
+            (IsFullNote (fixed_identity self.now) (fixed_opening self.now)) }
+        ensures full_brief { IfErr result
+            (λ note. IsWithin
+            ((fixed_identity self.now).words * passes_to_refuse (returns_since (note_view note)))
+            no_steps (steps_of (note_view note))) }
+    {
+        self.pull_in_order(start, Some(Order::Hinted))
+    }
+
+    /// Pulls an item as `pull` does, from this page on and in this order, or in the pool's own.
+    #[inline(always)]
+    pub(super) fn pull_in_order(
+        &self,
+        start: usize,
+        order: Option<Order>,
+    ) -> Result<PulledItem<T>, PoolNote<T>>
+        requires { start < (fixed_identity self.now).words }
+        ensures pulled { IfOk result
+            (λ pulled. IsPulledFrom (fixed_identity self.now) (fixed_opening self.now)
+            (pulled_item pulled)) }
+        ensures meets { IfOk result (λ pulled. K.meets pulled.value) }
+        ensures brief { IfOk result
+            (λ pulled. IsWithin
+            ((fixed_identity self.now).words * passes_to_take (returns_since (pulled_view pulled)))
+            no_steps (steps_of (pulled_view pulled))) }
+        ensures full { IfErr result
+            (IsFullNote (fixed_identity self.now) (fixed_opening self.now)) }
+        ensures full_brief { IfErr result
+            (λ note. IsWithin
+            ((fixed_identity self.now).words * passes_to_refuse (returns_since (note_view note)))
+            no_steps (steps_of (note_view note))) }
+    {
+        let (word, mut seat) = self.shared.look(start);
+        match self.take_or_full(&mut seat, start, word, order) {
+            Some(taken) => Ok(PulledItem {
+                holding: Holding {
+                    seat,
+                    number: taken.number,
+                },
+                value: taken.value,
+            }),
+            None => Err(PoolNote { seat }),
+        }
+    }
+
+    /// Pulls as `try_pull` does, by a user that knows something of the pool. The pull comes after
+    /// all that it knew.
+    pub(super) fn pull_from<'p>(
+        &self,
+        pass: &'p PullPass,
+        note: PoolNote<T>,
+    ) -> Result<PulledItem<T>, BusySeen<'p, T>>
+        requires { note_page note ≡ fixed_identity self.now }
+        ensures pulled { IfOk result
+            (λ pulled. IsPulledWith (fixed_identity self.now) note (pulled_item pulled)) }
+        ensures meets { IfOk result (λ pulled. K.meets pulled.value) }
+        ensures brief { IfOk result
+            (λ pulled. IsWithin (fixed_identity self.now).words (steps_of (note_view note))
+            (steps_of (pulled_view pulled))) }
+        ensures busy { IfErr result
+            (IsAllOutAfter (fixed_identity self.now).slots (fixed_identity self.now) note) }
+        ensures busy_brief { IfErr result
+            (λ busy. IsWithin (fixed_identity self.now).words (steps_of (note_view note)) (steps_of (full_view busy))) }
+    {
+        let PageNote { mut seat } = note;
+        let start = self.hinted();
+        let word = self.shared.look_again(&mut seat, start);
+        let Ok(taken) = self.take(&mut seat, start, word, None) else {
+            return Err(BusySeen { seat, pass });
+        };
+        Ok(PulledItem {
+            holding: Holding {
+                seat,
+                number: taken.number,
+            },
+            value: taken.value,
+        })
+    }
+
+    /// Pulls as `pull_near` does, by a user that knows something of the pool. The pull comes after
+    /// all that it knew. A refused pull returns the note, which knows what was found.
+    #[inline(always)]
+    pub(super) fn pull_onward(
+        &self,
+        page: usize,
+        note: PoolNote<T>,
+    ) -> Result<PulledItem<T>, PoolNote<T>>
+        requires page { page < (fixed_identity self.now).words }
+        requires note { note_page note ≡ fixed_identity self.now }
+        ensures pulled { IfOk result
+            (λ pulled. IsPulledWith (fixed_identity self.now) note (pulled_item pulled)) }
+        ensures meets { IfOk result (λ pulled. K.meets pulled.value) }
+        ensures brief { IfOk result
+            (λ pulled. IsWithin
+            ((fixed_identity self.now).words * passes_to_take (returns_since (pulled_view pulled)))
+            (steps_of (note_view note)) (steps_of (pulled_view pulled))) }
+        ensures full { IfErr result (IsFullNoteAfter (fixed_identity self.now) note) }
+        ensures full_brief { IfErr result
+            (λ later. IsWithin
+            ((fixed_identity self.now).words * passes_to_refuse (returns_since (note_view later)))
+            (steps_of (note_view note)) (steps_of (note_view later))) }
+    {
+        let PageNote { mut seat } = note;
+        let word = self.shared.look_again(&mut seat, page);
+        match self.take_or_full(&mut seat, page, word, Some(Order::Hinted)) {
+            Some(taken) => Ok(PulledItem {
+                holding: Holding {
+                    seat,
+                    number: taken.number,
+                },
+                value: taken.value,
+            }),
+            None => Err(PageNote { seat }),
+        }
+    }
+
+    /// Moves the value back and sets its bit, by the user that has the item. It hints at a page
+    /// that was full.
+    pub fn give(&self, holding: Holding<T>, value: T) -> UserSeat<T>
+        requires pool { holding_page holding ≡ fixed_identity self.now }
+        requires in_pool { holding.number < (fixed_identity self.now).slots }
+        requires meets { K.meets value }
+        ensures pool { result.table_id ≡ holding_page holding }
+        ensures carries_none { result.me.1 ≡ [] }
+        ensures holds_none { result.me.0.held ≡ None }
+        ensures here { result.me.0.gone ≡ false }
+        ensures returned { GoesOn (Return result.me.0.user holding.number value ∷ [])
+            (holding_view holding) result.me.0 }
+    {
+        let page = holding.number / PAGE_ITEMS;
+        let (seat, was_full) = self.shared.give(holding, value, 1);
+        if was_full {
+            self.set_hint(page);
+        }
+        seat
+    }
+}

@@ -1,0 +1,14 @@
+use Rattle.std.proofs.Common.{rules}
+use Rattle.linear_pools.proofs.linear_object_pool.LinearObjectPool.pull.Goals as goal
+
+pub returns-in-Slot-clause-pulled : goal.returns-in-Slot-clause-pulled
+returns-in-Slot-clause-pulled g c = record {
+  in_page = search rules;
+  on_page = search rules;
+  within = search rules;
+  opened = search rules;
+  same_opening = search rules;
+  pulled = search rules;
+  meets_condition = search rules;
+  made_or_reset = search rules;
+}

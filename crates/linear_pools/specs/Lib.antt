@@ -1,0 +1,2 @@
+pub mod LinearLends
+pub mod LinearPool

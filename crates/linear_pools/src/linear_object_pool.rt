@@ -1,0 +1,334 @@
+//! A pool over a chain of pages: threads pull and return without a lock.
+//!
+//! A pull takes a free item of the first page, or of a page that a hint names, or of the first page
+//! along the links that has one. If each page was full it makes a further page. No pull and no
+//! return waits for another thread.
+ghost use Rattle.std.specs.Prelude.{◌≡◌, ◌≤◌, ◌<◌, Option, None, Some, IsSome, IfOk, IfErr};
+ghost use Rattle.std.specs.Arc.{arc_value};
+ghost use Rattle.std.specs.Option.{option_map};
+
+use crate::linear_owned_reusable::LinearOwnedReusable;
+use crate::linear_reusable::LinearReusable;
+pub use answer_of::AnswerOf;
+use page_chain::linear_page::{Chain, WalkEnd, WalkRefusal};
+use page_limit::PageLimit;
+use pool_parts::PullError;
+use pool_parts::clean::{AnyValue, Clean};
+use pool_parts::closures::{Init, Reset};
+use pool_parts::made_or_reset::MadeOrReset;
+use pool_parts::page::{Allocated, FullSeen, PageNote, PullPass};
+use std::alloc::Global;
+use std::fmt::{self, Debug, Formatter, Write};
+use std::sync::Arc;
+
+mod answer_of;
+mod page_limit;
+
+/// Why [`LinearObjectPool::try_pull`] took no item: each page up to the pool's limit was found
+/// full, or no further page could be made.
+///
+/// # Examples
+///
+/// ```rust
+/// match pool.try_pull(&pass) {
+///     Ok(item) => Ok(item.page_id()),
+///     Err(refusal) => Err(refusal.cause()), // `Limit`, `Memory` or `Init`
+/// }
+/// ```
+pub type LinearRefusal<'p, T, I, R, K = AnyValue> = WalkRefusal<
+    'p,
+    T,
+    MadeOrReset<I, R, K>,
+    AnswerOf<I, K>,
+>;
+
+/// The result of [`LinearObjectPool::try_pull`].
+///
+/// # Examples
+///
+/// ```rust
+/// match pool.try_pull(&pass) {
+///     Ok(item) => Ok(item.page_id()),
+///     Err(refusal) => Err(refusal.cause()), // `Limit`, `Memory` or `Init`
+/// }
+/// ```
+pub type LinearPulled<'s, 'p, T, I, R, K = AnyValue> = Result<
+    LinearReusable<'s, T, I, R, K>,
+    LinearRefusal<'p, T, I, R, K>,
+>;
+
+/// A pool whose items lie in pages of 32. It opens with one page, and makes a further one if each
+/// page is full.
+///
+/// # Examples
+///
+/// ```rust
+/// let pool = LinearObjectPool::<u32, _, _>::new(alloc, Copied::new(0), Copied::new(0))?;
+/// let mut item = pool.pull()?;
+/// *item = 5;
+/// drop(item); // the value is 0 again, and in the pool
+/// ```
+pub struct LinearObjectPool<T, I: Init<T, K>, R: Reset<T, K>, K: Clean<T> = AnyValue> {
+    init: I,
+    reset: R,
+    pub(crate) chain: Chain<T, MadeOrReset<I, R, K>, AnswerOf<I, K>>,
+    limit: Option<PageLimit>,
+}
+
+/// Not derived: the proof of a caller that drops it has one call here, and a derived drop has that
+/// of each field.
+impl<T: Drop, I: Init<T, K>, R: Reset<T, K>, K: Clean<T>> Drop for LinearObjectPool<T, I, R, K> {
+    fn drop(self) {
+        let LinearObjectPool {
+            init: _,
+            reset: _,
+            chain: _,
+            limit: _,
+        } = self;
+    }
+}
+
+impl<T: Drop, I: Init<T, K>, R: Reset<T, K>, K: Clean<T>> LinearObjectPool<T, I, R, K> {
+    ghost use Rattle.pool_parts.specs.Answers.{IsMadeOrReset};
+    ghost use Rattle.pool_parts.specs.FullSeen.{full_page};
+    ghost use Rattle.linear_pools.specs.LinearPool.{pool_init, pool_reset, pool_limit, pool_first_page};
+    ghost use Rattle.linear_pools.specs.LinearPool.{reusable_pool, reusable_item, reusable_page};
+    ghost use Rattle.linear_pools.specs.LinearPool.{owned_pool, owned_item, owned_page, Pulls, PullsAfter, IsLinearRefusal};
+    ghost use Rattle.page_chain.specs.Walk.{number_of, cause_of};
+    ghost use Rattle.pool_parts.specs.Note.{note_page};
+    ghost use Rattle.pool_parts.specs.Refusal.{RefusesMaking, RefusesPull};
+    ghost use Rattle.pool_parts.specs.Slot.{slot_item};
+
+    /// Creates a pool of one page, which grows by a page if each is full.
+    ///
+    /// # Errors
+    ///
+    /// `Memory`, or `Init` at the first `None`. The items that were made are dropped.
+    ///
+    /// # Examples
+    ///
+    /// ```rust
+    /// let pool = LinearObjectPool::<u32, _, _>::new(alloc, Copied::new(0), Copied::new(0))?;
+    /// ```
+    pub fn new(alloc: Global, init: I, reset: R) -> Result<LinearObjectPool<T, I, R, K>, PullError>
+        ensures init { IfOk result (λ pool. pool_init pool ≡ init) }
+        ensures reset { IfOk result (λ pool. pool_reset pool ≡ reset) }
+        ensures limit { IfOk result (λ pool. pool_limit pool ≡ None) }
+        ensures refused { IfErr result (RefusesMaking (I.answers init None)) }
+    {
+        LinearObjectPool::with_page_limit(alloc, init, reset, None)
+    }
+
+    /// Creates a pool of one page, which grows to at most `pages` pages.
+    ///
+    /// # Errors
+    ///
+    /// As `new`.
+    ///
+    /// # Examples
+    ///
+    /// ```rust
+    /// // at most 64 items
+    /// let pool = LinearObjectPool::<u32, _, _>::with_limit(alloc, Copied::new(0), Keep, 2)?;
+    /// ```
+    pub fn with_limit(
+        alloc: Global,
+        init: I,
+        reset: R,
+        pages: usize,
+    ) -> Result<LinearObjectPool<T, I, R, K>, PullError>
+        requires some_page { 1 ≤ pages }
+        ensures init { IfOk result (λ pool. pool_init pool ≡ init) }
+        ensures reset { IfOk result (λ pool. pool_reset pool ≡ reset) }
+        ensures limit { IfOk result (λ pool. pool_limit pool ≡ Some pages) }
+        ensures refused { IfErr result (RefusesMaking (I.answers init None)) }
+    {
+        LinearObjectPool::with_page_limit(alloc, init, reset, Some(PageLimit { pages }))
+    }
+
+    fn with_page_limit(
+        alloc: Global,
+        init: I,
+        reset: R,
+        limit: Option<PageLimit>,
+    ) -> Result<LinearObjectPool<T, I, R, K>, PullError>
+        ensures init { IfOk result (λ pool. pool_init pool ≡ init) }
+        ensures reset { IfOk result (λ pool. pool_reset pool ≡ reset) }
+        ensures limit { IfOk result (λ pool. pool_limit pool ≡ option_map (λ limit. limit.pages) limit) }
+        ensures refused { IfErr result (RefusesMaking (I.answers init None)) }
+    {
+        let maker = &init;
+        let chain = Chain::new(alloc, &|| maker.make())?;
+        Ok(LinearObjectPool {
+            init,
+            reset,
+            chain,
+            limit,
+        })
+    }
+
+    /// Returns how many pages the pool may have, if it has a limit.
+    pub fn limit(&self) -> Option<usize>
+        ensures { result ≡ pool_limit self.now }
+    {
+        let PageLimit { pages } = self.limit.as_ref()?;
+        Some(*pages)
+    }
+
+    /// Pulls a free item, which nobody else has until it is dropped. It waits for no other thread.
+    ///
+    /// It asks the first page, then one that a hint names, then each page in turn. Of a page it
+    /// takes the lowest free item.
+    ///
+    /// A pull that finds no hint asks each linked page, so making many pages costs the square of
+    /// their number. The call that links page `2^b` also makes the links of as many pages.
+    ///
+    /// # Errors
+    ///
+    /// - `Limit` if each item of as many pages as the limit allows was seen in use in this call.
+    /// - `Memory`, or `Init` at the first `None`, if it has to make a page. Then no page is linked.
+    pub fn pull(&self) -> Result<LinearReusable<'_, T, I, R, K>, PullError>
+        ensures pool { IfOk result (λ item. reusable_pool item ≡ self.now) }
+        ensures pulled { IfOk result (λ item.
+            Pulls K.meets I.answers R.leaves self.now (reusable_page item) (reusable_item item)) }
+        ensures refused { IfErr result
+            (RefusesPull (IsSome (pool_limit self.now)) (I.answers (pool_init self.now) None)) }
+    {
+        let pass = PullPass::new();
+        match self.chain.ask_first(&pass) {
+            Allocated::Slot(slot) => Ok(LinearReusable::new(self, slot, self.chain.first_number())),
+            Allocated::Full(seen) => match self.pull_further(seen) {
+                Ok(reached) => Ok(LinearReusable::new(self, reached.slot, reached.number)),
+                Err(refusal) => Err(refusal.cause()),
+            },
+        }
+    }
+
+    /// Pulls as `pull` does, and shows what it found if it took no item.
+    ///
+    /// # Errors
+    ///
+    /// - `Limit`, with the evidence that each page up to the limit was full during this call.
+    /// - `Making`, with the reason why no further page could be made.
+    pub fn try_pull<'s, 'p>(&'s self, pass: &'p PullPass) -> LinearPulled<'s, 'p, T, I, R, K>
+        ensures pool { IfOk result (λ item. reusable_pool item ≡ self.now) }
+        ensures pulled { IfOk result (λ item.
+            Pulls K.meets I.answers R.leaves self.now (reusable_page item) (reusable_item item)) }
+        ensures refused { IfErr result (IsLinearRefusal I.answers self.now) }
+    {
+        match self.chain.ask_first(pass) {
+            Allocated::Slot(slot) => {
+                let number = self.chain.first_number();
+                Ok(LinearReusable::new(self, slot, number))
+            }
+            Allocated::Full(seen) => match self.pull_further(seen) {
+                Ok(
+                    WalkEnd {
+                        slot,
+                        number,
+                        page: _,
+                    },
+                ) => Ok(LinearReusable::new(self, slot, number)),
+                Err(refusal) => Err(refusal),
+            },
+        }
+    }
+
+    /// Pulls as `try_pull` does, by a user that knows something of the first page. If its item is
+    /// of that page, the pull comes after all that the note knew.
+    ///
+    /// # Errors
+    ///
+    /// As `try_pull`.
+    pub fn try_pull_from<'s, 'p>(
+        &'s self,
+        pass: &'p PullPass,
+        note: PageNote<T>,
+    ) -> LinearPulled<'s, 'p, T, I, R, K>
+        requires { note_page note ≡ pool_first_page self.now }
+        ensures pool { IfOk result (λ item. reusable_pool item ≡ self.now) }
+        ensures pulled { IfOk result (λ item. PullsAfter K.meets I.answers R.leaves self.now note
+            (reusable_page item) (reusable_item item)) }
+        ensures refused { IfErr result (IsLinearRefusal I.answers self.now) }
+    {
+        match self.chain.ask_first_from(pass, note) {
+            Allocated::Slot(slot) => {
+                let number = self.chain.first_number();
+                Ok(LinearReusable::new(self, slot, number))
+            }
+            Allocated::Full(seen) => match self.pull_further(seen) {
+                Ok(
+                    WalkEnd {
+                        slot,
+                        number,
+                        page: _,
+                    },
+                ) => Ok(LinearReusable::new(self, slot, number)),
+                Err(refusal) => Err(refusal),
+            },
+        }
+    }
+
+    /// Pulls as `pull` does. The reusable owns the pool with others: it becomes one more owner
+    /// before an item is taken.
+    ///
+    /// # Errors
+    ///
+    /// As `pull`, and `Memory` if the pool can have no more owners.
+    pub fn pull_owned(self: &Arc<Self>) -> Result<LinearOwnedReusable<T, I, R, K>, PullError>
+        ensures pool { IfOk result (λ item. owned_pool item ≡ arc_value self.now) }
+        ensures pulled { IfOk result (λ item.
+            Pulls K.meets I.answers R.leaves (arc_value self.now) (owned_page item) (owned_item item)) }
+        ensures refused { IfErr result (RefusesPull (IsSome (pool_limit (arc_value self.now)))
+            (I.answers (pool_init (arc_value self.now)) None)) }
+    {
+        let owner = Arc::try_clone(self)?;
+        let pass = PullPass::new();
+        match self.chain.ask_first(&pass) {
+            Allocated::Slot(slot) => {
+                let number = self.chain.first_number();
+                Ok(LinearOwnedReusable::new(owner, slot, number))
+            }
+            Allocated::Full(seen) => match self.pull_further(seen) {
+                Ok(reached) => Ok(LinearOwnedReusable::new(owner, reached.slot, reached.number)),
+                Err(refusal) => Err(refusal.cause()),
+            },
+        }
+    }
+
+    /// Pulls on after the first page was found full. It returns the item with its page's number.
+    #[inline]
+    fn pull_further<'s, 'p>(
+        &'s self,
+        seen: FullSeen<'p, T>,
+    ) -> Result<WalkEnd<'s, T, MadeOrReset<I, R, K>, AnswerOf<I, K>>, LinearRefusal<'p, T, I, R, K>>
+        requires { full_page seen ≡ pool_first_page self.now }
+        ensures pulled { IfOk result (λ reached.
+            Pulls K.meets I.answers R.leaves self.now reached.number (slot_item reached.slot)) }
+        ensures past_first { IfOk result (λ reached. 0 < number_of reached.number) }
+        ensures evidence { IfErr result (IsLinearRefusal I.answers self.now) }
+        ensures refused { IfErr result (λ refusal.
+            RefusesPull (IsSome (pool_limit self.now)) (I.answers (pool_init self.now) None)
+            (cause_of refusal)) }
+    {
+        let init = &self.init;
+        self.chain.pull_further(seen, self.limit(), &|| init.make())
+    }
+
+    /// Leaves a value as it is kept.
+    pub(crate) fn reset(&self, value: &mut T)
+        ensures leaves { R.leaves (pool_reset self.now) value.old value.new }
+        ensures meets { K.meets value.new }
+        ensures made_or_reset { IsMadeOrReset I.answers R.leaves value.new }
+    {
+        self.reset.reset(value);
+    }
+}
+
+impl<T: Drop, I: Init<T, K>, R: Reset<T, K>, K: Clean<T>> Debug for LinearObjectPool<T, I, R, K> {
+    fn fmt<W: Write>(&self, f: &mut Formatter<W>) -> fmt::Result {
+        f.debug_struct("LinearObjectPool")
+            .field("limit", &self.limit())
+            .finish_non_exhaustive()
+    }
+}

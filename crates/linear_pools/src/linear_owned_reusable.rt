@@ -1,0 +1,196 @@
+//! A value that was pulled from a linear pool, with an owner of the pool.
+ghost use Rattle.std.specs.Prelude.{◌≡◌, ◌<◌};
+ghost use Rattle.std.specs.Arc.{arc_value};
+ghost use Rattle.pool_parts.specs.Holding.{holding_page};
+ghost use Rattle.page_chain.specs.Walk.{start_of, IsWalkedTo};
+ghost use Rattle.pool_parts.specs.declared.page.TheConstants.{PAGE_ITEMS};
+
+use crate::linear_object_pool::{AnswerOf, LinearObjectPool};
+use page_chain::linear_page::PageNumber;
+use pool_parts::clean::{AnyValue, Clean};
+use pool_parts::closures::{Init, Reset};
+use pool_parts::made_or_reset::MadeOrReset;
+use pool_parts::page::holding::Holding;
+use pool_parts::page::{PageId, PageNote, PageSlot, Witness};
+use std::fmt::{self, Debug, Formatter, Write};
+use std::ops::{Deref, DerefMut};
+use std::sync::Arc;
+
+/// An item that was taken by an owner of its pool, without its value. Its page is found by the
+/// page's number.
+#[derive(Drop)]
+pub(crate) struct OwnedTakenItem<T: Drop, I: Init<T, K>, R: Reset<T, K>, K: Clean<T>> {
+    pool: Arc<LinearObjectPool<T, I, R, K>>,
+    holding: Holding<T>,
+    number: PageNumber<T, MadeOrReset<I, R, K>, AnswerOf<I, K>>,
+    ghost on_page: { ∥ IsWalkedTo (start_of (arc_value pool).chain) number
+        (holding_page holding) ∥₁ },
+    ghost in_page: { holding.number < PAGE_ITEMS },
+}
+
+/// A pulled value. Its drop resets it and returns it to its page.
+///
+/// # Examples
+///
+/// ```rust
+/// let pool = Arc::new(alloc, pool)?;
+/// let mut item = pool.pull_owned()?;
+/// drop(pool); // the item keeps the pool alive
+/// *item = 5;
+/// ```
+pub struct LinearOwnedReusable<T: Drop, I: Init<T, K>, R: Reset<T, K>, K: Clean<T> = AnyValue> {
+    taken: OwnedTakenItem<T, I, R, K>,
+    value: T,
+}
+
+impl<T: Drop, I: Init<T, K>, R: Reset<T, K>, K: Clean<T>> LinearOwnedReusable<T, I, R, K> {
+    ghost use Rattle.pool_parts.specs.Note.{IsGivenBack};
+    ghost use Rattle.linear_pools.specs.LinearPool.{pool_reset, owned_pool, owned_item, owned_page, IsOnPage};
+    ghost use Rattle.page_chain.specs.Walk.{number_of};
+    ghost use Rattle.pool_parts.specs.Note.{note_page, witness_page, witness_history, IsNoteOf, HasLearned, note_view};
+    ghost use Rattle.pool_parts.specs.Slot.{slot_item};
+
+    pub(crate) fn new(
+        pool: Arc<LinearObjectPool<T, I, R, K>>,
+        slot: PageSlot<'_, T, MadeOrReset<I, R, K>>,
+        number: PageNumber<T, MadeOrReset<I, R, K>, AnswerOf<I, K>>,
+    ) -> LinearOwnedReusable<T, I, R, K>
+        requires { IsOnPage (arc_value pool) number (slot_item slot) }
+        ensures pool { owned_pool result ≡ arc_value pool }
+        ensures item { owned_item result ≡ slot_item slot.entry }
+        ensures page { owned_page result ≡ number }
+    {
+        let (holding, value) = slot.into_holding();
+        LinearOwnedReusable {
+            taken: OwnedTakenItem {
+                pool,
+                holding,
+                number,
+            },
+            value,
+        }
+    }
+
+    /// Returns the number of the item's page in the pool, counted from 0.
+    pub fn page_number(&self) -> usize
+        ensures { result ≡ number_of (owned_page self.now) }
+    {
+        self.taken.number.get()
+    }
+
+    /// Returns what the holder knows of the item's page, for another user. It costs one load.
+    pub fn witness(&mut self) -> Witness<T>
+        ensures page { witness_page result ≡ (owned_item self.old).page }
+        ensures history { witness_history result ≡ (owned_item self.old).history }
+        ensures same_item { owned_item self.new ≡ owned_item self.old }
+        ensures same_pool { owned_pool self.new ≡ owned_pool self.old }
+        ensures same_page { owned_page self.new ≡ owned_page self.old }
+    {
+        let taken = &mut self.taken;
+        let page = taken.pool.chain.page_at(&mut taken.number, &taken.holding);
+        taken.holding.witness_of(page)
+    }
+
+    /// Returns a note of the item's page, by a user that did nothing. It costs one load.
+    ///
+    /// It knows some prefix of the page's history; which one, no contract can say.
+    pub fn note(&mut self) -> PageNote<T>
+        ensures note { IsNoteOf (owned_item self.old).page (note_view result).opening result }
+        ensures same_item { owned_item self.new ≡ owned_item self.old }
+        ensures same_pool { owned_pool self.new ≡ owned_pool self.old }
+        ensures same_page { owned_page self.new ≡ owned_page self.old }
+    {
+        let taken = &mut self.taken;
+        let page = taken.pool.chain.page_at(&mut taken.number, &taken.holding);
+        page.note()
+    }
+
+    /// Adds what a witness knows of the item's page to what a note knows. Afterwards both their
+    /// histories are prefixes of the note's.
+    pub fn tell(&mut self, note: &mut PageNote<T>, other: Witness<T>)
+        requires note { note_page note.old ≡ (owned_item self.old).page }
+        requires other { witness_page other ≡ (owned_item self.old).page }
+        ensures learned { HasLearned note.old other note.new }
+        ensures same_item { owned_item self.new ≡ owned_item self.old }
+        ensures same_pool { owned_pool self.new ≡ owned_pool self.old }
+        ensures same_page { owned_page self.new ≡ owned_page self.old }
+    {
+        let taken = &mut self.taken;
+        let page = taken.pool.chain.page_at(&mut taken.number, &taken.holding);
+        page.tell(note, other);
+    }
+
+    /// Resets the value and returns it, as the drop does. The note knows the page's history up to
+    /// this return.
+    #[inline(always)]
+    pub fn give_back(self) -> PageNote<T>
+        ensures { IsGivenBack (R.leaves (pool_reset (owned_pool self))) (owned_item self) result }
+    {
+        let LinearOwnedReusable { taken, mut value } = self;
+        let OwnedTakenItem {
+            pool,
+            holding,
+            number,
+        } = taken;
+        pool.reset(&mut value);
+        pool.chain.free(number, holding, value)
+    }
+
+    /// Returns the number of the item in its page.
+    pub fn page_id(&self) -> PageId
+        ensures value { result ≡ (owned_item self.now).id }
+        ensures in_page { result < PAGE_ITEMS }
+    {
+        self.taken.holding.number as PageId
+    }
+}
+
+impl<T: Drop, I: Init<T, K>, R: Reset<T, K>, K: Clean<T>> Deref
+    for LinearOwnedReusable<T, I, R, K> {
+    type Target = T;
+
+    ghost use Rattle.linear_pools.specs.LinearPool.{owned_item};
+
+    ghost deref_gives = { λ reusable value. value ≡ (owned_item reusable).value };
+
+    fn deref(&self) -> &T {
+        &self.value
+    }
+}
+
+impl<T: Drop, I: Init<T, K>, R: Reset<T, K>, K: Clean<T>> DerefMut
+    for LinearOwnedReusable<T, I, R, K> {
+    ghost use Rattle.std.specs.Borrow.{sem};
+    ghost use Rattle.linear_pools.specs.LinearLends.{LendsLinearOwnedValue};
+    ghost use Rattle.linear_pools.specs.LinearPool.{owned_item};
+
+    ghost deref_mut_gives = { λ reusable value. value ≡ (owned_item reusable).value };
+
+    fn deref_mut(&mut self) -> &mut T
+        ensures* writes_back { sem 𝓛
+            (LendsLinearOwnedValue T.row I.row R.row K.row I.Init R.Reset K.Clean self.entry
+            result) }
+        ensures shows { result.now ≡ (owned_item self.old).value }
+    {
+        &mut self.value
+    }
+}
+
+impl<T: Drop, I: Init<T, K>, R: Reset<T, K>, K: Clean<T>> Drop for LinearOwnedReusable<T, I, R, K> {
+    // Inlined, so that the item isn't handed on through memory.
+    #[inline(always)]
+    fn drop(self) {
+        self.give_back();
+    }
+}
+
+impl<T: Debug + Drop, I: Init<T, K>, R: Reset<T, K>, K: Clean<T>> Debug
+    for LinearOwnedReusable<T, I, R, K> {
+    ghost use Rattle.linear_pools.specs.LinearPool.{owned_item};
+
+    ghost debug_output = { λ reusable. T.debug_output (owned_item reusable).value };
+
+    fn fmt<W: Write>(&self, f: &mut Formatter<W>) -> fmt::Result {
+        Debug::fmt(&self.value, f)
+    }
+}

@@ -1,6 +1,0 @@
-pub mod FixedAnswers
-pub mod FixedCounts
-pub mod FixedRounds
-pub mod FixedShared
-pub mod PoolWords
-pub mod ReusableShared
