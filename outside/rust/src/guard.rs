@@ -1,7 +1,6 @@
 //! Items, the handles by which they are pulled, and an item that is out.
-use crate::cells::Cells;
-use crate::lanes::{Lanes, Out};
-use crate::sys::{kdr_pool_new, Handle};
+use crate::lanes::{Cells, Lane, Lanes, Out};
+use crate::sys::Handle;
 use std::fmt::{self, Debug, Formatter};
 use std::ops::{Deref, DerefMut};
 use std::sync::{Mutex, MutexGuard, PoisonError};
@@ -19,15 +18,13 @@ pub(crate) struct Idle {
     pub(crate) first: Option<Handle>,
     pub(crate) made: usize,
     pub(crate) handles: Vec<Handle>,
+    pub(crate) spare: Vec<Handle>, // room for a lane that has none
 }
 
 impl<T> Part<T> {
-    /// Creates a part of so many items, which isn't 0. `None` if memory is refused.
+    /// Creates a part of so many items, with no handle. `None` if memory is refused.
     pub(crate) fn new(items: usize, mut init: impl FnMut() -> T) -> Option<Part<T>> {
-        let mut idle = Idle::default();
-        kdr_pool_new(items, &mut idle.first);
-        idle.first.as_ref()?;
-        let (cells, idle) = (Cells::new((0..items).map(|_| init()))?, Mutex::new(idle));
+        let (cells, idle) = (Cells::new((0..items).map(|_| init()))?, Mutex::default());
         Some(Part { cells, idle })
     }
 
@@ -44,10 +41,14 @@ impl<T> Part<T> {
 pub trait Source: Sized {
     type Item;
     type Reset: Fn(&mut Self::Item);
+    /// How many parts it may have.
+    const PARTS: usize;
 
-    /// Returns the part of this number, which is there, the lanes and the reset. It calls nothing
-    /// of the user's.
-    fn at(&self, part: usize) -> (&Part<Self::Item>, &Lanes, &Self::Reset);
+    /// Returns a place's part, the lanes and the reset. It calls nothing of the user's.
+    fn at(&self, at: usize) -> (&Part<Self::Item>, &Lanes, &Self::Reset);
+
+    /// Keeps a handle of this part, where the lane isn't. If this is dropped, it is closed.
+    fn keep_elsewhere(&self, _lane: &mut Lane, _part: usize, _own: Option<Handle>) {}
 }
 
 /// An item that is out, of a pool that is held by a borrow or by an owner. Its end resets the item
@@ -60,20 +61,20 @@ pub trait Source: Sized {
 pub struct Guard<P: Deref<Target: Source>> {
     pub(crate) pool: P,
     /// It is given back at the guard's end, and nowhere else.
-    pub(crate) out: Out<<P::Target as Source>::Item>,
+    pub(crate) out: Out<P::Target>,
 }
 
 impl<P: Deref<Target: Source>> Deref for Guard<P> {
     type Target = <P::Target as Source>::Item;
 
     fn deref(&self) -> &Self::Target {
-        self.pool.at(self.out.part).0.cells.item(&self.out)
+        self.pool.at(self.out.at).0.cells.item(&self.out)
     }
 }
 
 impl<P: Deref<Target: Source>> DerefMut for Guard<P> {
     fn deref_mut(&mut self) -> &mut Self::Target {
-        self.pool.at(self.out.part).0.cells.item_mut(&mut self.out)
+        self.pool.at(self.out.at).0.cells.item_mut(&mut self.out)
     }
 }
 
@@ -81,7 +82,7 @@ impl<P: Deref<Target: Source>> Drop for Guard<P> {
     /// Resets the item and brings it back. If the reset panics, the item is never pulled again.
     #[inline(always)]
     fn drop(&mut self) {
-        let (part, lanes, reset) = self.pool.at(self.out.part);
+        let (part, lanes, reset) = self.pool.at(self.out.at);
         reset(part.cells.item_mut(&mut self.out));
         lanes.give_back(&mut self.out, &*self.pool);
     }

@@ -3,8 +3,6 @@
 #![deny(unsafe_code)]
 #![forbid(unsafe_op_in_unsafe_fn)]
 
-#[allow(unsafe_code)]
-mod cells;
 mod drop_in;
 mod guard;
 #[allow(unsafe_code)]

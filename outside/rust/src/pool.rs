@@ -1,11 +1,9 @@
 //! The pool of a fixed number of items.
 use crate::guard::{Guard, Part, Source};
 use crate::lanes::Lanes;
-use crate::sys::PAGE;
-use std::error::Error;
+use crate::sys::{kdr_pool_new, DONE, PAGE};
 use std::fmt::{self, Debug, Display, Formatter};
-use std::ops::Deref;
-use std::sync::Arc;
+use std::{error::Error, ops::Deref, sync::Arc};
 
 /// A reset of any closure.
 pub type Reset<T> = Box<dyn Fn(&mut T) + Send + Sync>;
@@ -54,8 +52,10 @@ impl<T, R: Fn(&mut T)> Pool<T, R> {
         if items == 0 {
             return Err(NewError::NoItems);
         }
-        let part = Part::new(items, init).ok_or(NewError::Memory)?;
-        let lanes = Lanes::new(1, items.div_ceil(PAGE)).ok_or(NewError::Memory)?;
+        let part = Part::new(items, init);
+        let part = part.filter(|part| kdr_pool_new(items, &mut part.idle().first) == DONE);
+        let lanes = Lanes::new(1, items.div_ceil(PAGE));
+        let (part, lanes) = part.zip(lanes).ok_or(NewError::Memory)?;
         Ok(Pool { part, lanes, reset })
     }
 
@@ -64,15 +64,13 @@ impl<T, R: Fn(&mut T)> Pool<T, R> {
     /// before.
     #[inline(always)]
     pub fn pull(&self) -> Option<Reusable<'_, T, R>> {
-        let out = self.lanes.own(|lane| lane.pull(self))?;
-        Some(Guard { pool: self, out })
+        self.lanes.pull(self).map(|out| Guard { pool: self, out })
     }
 
     /// As [`pull`](Pool::pull), with a guard that keeps the pool.
     #[inline(always)]
     pub fn pull_owned(self: &Arc<Self>) -> Option<OwnedReusable<T, R>> {
-        let out = self.lanes.own(|lane| lane.pull(&**self))?;
-        let pool = Arc::clone(self);
+        let (out, pool) = (self.lanes.pull(&**self)?, Arc::clone(self));
         Some(Guard { pool, out })
     }
 
@@ -85,6 +83,7 @@ impl<T, R: Fn(&mut T)> Pool<T, R> {
 impl<T, R: Fn(&mut T)> Source for Pool<T, R> {
     type Item = T;
     type Reset = R;
+    const PARTS: usize = 1;
 
     fn at(&self, _: usize) -> (&Part<T>, &Lanes, &R) {
         (&self.part, &self.lanes, &self.reset)
@@ -94,7 +93,7 @@ impl<T, R: Fn(&mut T)> Source for Pool<T, R> {
 impl<T, R: Fn(&mut T), P: Deref<Target = Pool<T, R>>> Guard<P> {
     /// Returns the item's number in its pool, counted from 0.
     pub fn number(&self) -> usize {
-        self.out.place
+        self.out.at
     }
 }
 

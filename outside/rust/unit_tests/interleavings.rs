@@ -211,16 +211,18 @@ fn an_item_that_moves_is_found() {
     }
 }
 
-/// A thread at home returns an item of another part while another thread has that part's lock. It
-/// waits, and the handle is kept.
+/// A thread at home returns an item of a third part while another thread has the lock of a part
+/// whose handles it kept. It waits, and they are kept there.
 #[test]
 fn a_return_waits_for_the_lock_of_a_part() {
     let _alone = TESTED.lock().unwrap_or_else(PoisonError::into_inner);
     let pool = Arc::new(LinearObjectPool::<u32>::new(|| 0, |_| ()));
     let at_home: Vec<_> = (0..4).map(|_| pool.pull_owned()).collect();
-    let other = pool.pull_owned();
+    let others: Vec<_> = (0..4).map(|_| pool.pull_owned()).collect();
+    let third = pool.pull_owned();
     drop(at_home);
-    let part = other.out.part;
+    let part = others[0].out.at % LinearObjectPool::<u32>::PARTS;
+    drop(others);
     let kept = || pool.at(part).0.idle().handles.len();
     let (before, locking) = (kept(), Arc::clone(&pool));
     let lock = move || {
@@ -233,7 +235,7 @@ fn a_return_waits_for_the_lock_of_a_part() {
         is_locked.recv().expect("it is locked");
     };
     MOVE.set(Some((1, Box::new(lock))));
-    drop(other);
+    drop(third);
     assert!(MOVE.take().is_none(), "no lock was taken");
-    assert_eq!(kept(), before + 1);
+    assert_eq!(kept(), before + 3);
 }

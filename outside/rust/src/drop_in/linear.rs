@@ -1,10 +1,11 @@
 //! A pool that grows, by the names of lockfree-object-pool 0.1.6.
 use crate::guard::{Guard, Part, Source};
-use crate::lanes::Lanes;
+use crate::lanes::{Lane, Lanes};
 use crate::pool::Reset;
-use crate::sys::PAGE;
+use crate::sys::{kdr_pool_new, Handle, DONE, PAGE};
 use crate::threads;
 use std::alloc::{handle_alloc_error, Layout};
+use std::mem::swap;
 use std::ops::Deref;
 use std::sync::{Arc, OnceLock};
 
@@ -65,7 +66,7 @@ impl<T> LinearObjectPool<T> {
     /// earlier chunk had a free item, though each was asked many times.
     #[inline(always)]
     pub fn pull(&self) -> LinearReusable<'_, T> {
-        match self.lanes.own(|lane| lane.pull(self)) {
+        match self.lanes.pull(self) {
             Some(out) => Guard { pool: self, out },
             None => self.find(self),
         }
@@ -74,7 +75,7 @@ impl<T> LinearObjectPool<T> {
     /// As [`pull`](LinearObjectPool::pull), with a guard that keeps the pool.
     #[inline(always)]
     pub fn pull_owned(self: &Arc<Self>) -> LinearOwnedReusable<T> {
-        let pulled = self.lanes.own(|lane| lane.pull(&**self));
+        let pulled = self.lanes.pull(&**self);
         let pool = Arc::clone(self);
         match pulled {
             Some(out) => Guard { pool, out },
@@ -89,17 +90,26 @@ impl<T> LinearObjectPool<T> {
         let is_made = |chunk: &&OnceLock<_>| chunk.get().is_some();
         let made = self.chunks.iter().take_while(is_made).count();
         let home = threads::own() % PARTS;
+        let at = self.lanes.own(|lane| lane.part);
+        if self.open(at) {
+            if let Some(out) = self.lanes.pull(self) {
+                return Guard { pool, out };
+            }
+        }
         for made in made..=CHUNKS {
             self.make(made - 1);
+            let first = if at / PARTS == made - 1 { at + 1 } else { home };
             for step in 0..made * PARTS * TIMES {
                 let chunk = made - 1 - step % made;
-                let part = chunk * PARTS + (home + step / made) % PARTS;
-                let pulled = self.lanes.own(|lane| {
-                    let there = lane.go_to(part, None, self);
-                    there.unwrap_or_else(Self::refused);
-                    lane.pull(self)
+                let part = chunk * PARTS + (first + step / made) % PARTS;
+                self.open(part);
+                self.lanes.own(|lane| {
+                    self.go_to(lane, part);
+                    if lane.next.is_none() {
+                        lane.find_next(self).unwrap_or_else(Self::refused);
+                    }
                 });
-                if let Some(out) = pulled {
+                if let Some(out) = self.lanes.pull(self) {
                     return Guard { pool, out };
                 }
             }
@@ -116,6 +126,24 @@ impl<T> LinearObjectPool<T> {
         });
     }
 
+    /// Makes the first handle of a part, if it isn't there. Whether it is made.
+    ///
+    /// A part's first thread makes it: the library's small blocks come from that thread's memory,
+    /// and share no cache line with those of a part that another thread made.
+    fn open(&self, part: usize) -> bool {
+        let part = self.at(part).0;
+        kdr_pool_new(part.cells.0.len(), &mut part.idle().first) == DONE
+    }
+
+    /// Brings a lane to this part. It leaves its handles where it was.
+    fn go_to(&self, lane: &mut Lane, part: usize) {
+        if lane.part != part {
+            let left = lane.idle.drain(..).chain(lane.next.take());
+            self.at(lane.part).0.idle().handles.extend(left);
+            lane.part = part;
+        }
+    }
+
     fn refused<A>() -> A {
         handle_alloc_error(Layout::new::<T>())
     }
@@ -124,10 +152,37 @@ impl<T> LinearObjectPool<T> {
 impl<T> Source for LinearObjectPool<T> {
     type Item = T;
     type Reset = Reset<T>;
+    const PARTS: usize = CHUNKS * PARTS;
 
-    fn at(&self, part: usize) -> (&Part<T>, &Lanes, &Reset<T>) {
+    fn at(&self, at: usize) -> (&Part<T>, &Lanes, &Reset<T>) {
+        let part = at % Self::PARTS;
         let chunk = self.chunks[part / PARTS].get();
         let parts = chunk.expect("it was made before a pull");
         (&parts[part % PARTS], &self.lanes, &self.reset)
+    }
+
+    /// A lane comes home with a handle of a home. It sends others on their way, so that it takes a
+    /// lock for some of the same part, and not for each.
+    fn keep_elsewhere(&self, lane: &mut Lane, part: usize, own: Option<Handle>) {
+        let home = threads::own() % PARTS;
+        if part % PARTS == home && lane.part % PARTS != home {
+            self.go_to(lane, part);
+            lane.next = own;
+            return;
+        }
+        let (to, away) = &mut lane.away;
+        if *to != part || away.len() == away.capacity() {
+            if !away.is_empty() {
+                self.at(*to).0.idle().handles.append(away);
+            }
+            *to = part;
+        }
+        if away.capacity() == 0 {
+            let here = &mut *self.at(part).0.idle();
+            here.handles.extend(own);
+            swap(away, &mut here.spare);
+        } else {
+            away.extend(own);
+        }
     }
 }
