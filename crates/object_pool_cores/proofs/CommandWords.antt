@@ -1,10 +1,14 @@
 -- What the words of a line say of its numbers.
 use Rattle.std.proofs.Common.{◌≡◌, ◌≢◌, ℕ, List, [], ◌∷◌, ◌++◌, refl, sym, ap, ◌∙◌, arith}
-use Rattle.std.specs.Prelude.{codes, slice_index}
+use Rattle.std.specs.Prelude.{All, codes, slice_index}
 use Rattle.std.specs.Char.{IsAsciiDigit}
 use Rattle.std.proofs.lemmas.List.Elements.{All-head, All-tail, All-weaker}
 use Rattle.object_pool_cores.specs.declared.sequential.command.Command.TheVariants.{Pull, Write, Return, Forget, Attach}
-use Rattle.object_pool_cores.specs.CommandText.{IsNumber, HasNoSpace, AreNumbers, IsBadLine}
+use Rattle.object_pool_cores.specs.CommandText.{IsNumber, AreNumbers, IsBadLine}
+
+-- no byte is a space
+abbrev pub HasNoSpace : List ℕ → Type 0
+HasNoSpace text = All (λ byte. byte ≢ 32) text
 
 -- a number has no space
 HasNoSpace-number : (text : List ℕ) (n : ℕ) → IsNumber text n → HasNoSpace text

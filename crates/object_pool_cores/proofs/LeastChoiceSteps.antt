@@ -1,21 +1,21 @@
 -- What makes a pull one by least choice.
 use Rattle.std.proofs.Common.{◌≡◌, ℕ, ◌-◌, ◌*◌, Option, List, [], ◌∷◌, length, Ok, sym, ap, ◌∙◌, arith, inr}
 use Rattle.std.specs.List.{slice_get}
-use Rattle.pool_world.specs.Pool.{Pool, Out, IsFree, IsSame, free_with}
-use Rattle.pool_world.specs.Move.{after_pull, after_growth}
+use Rattle.pool_world.specs.Pool.{Pool, Out, Free, IsSame, free_with, with_place, after_growth}
 use Rattle.object_pool_cores.specs.LeastChoice.{IsExhausted, PullsLeast, TakesLeast}
 use Rattle.object_pool_cores.specs.Inside.Numbered.{Grows}
 use Rattle.object_pool_cores.specs.Laws.PoolSteps.{grown-new, IsSame-trans, IsSame-with_place}
 
 module _ {T : Type 0} (limit : Option ℕ) (answers : Option T → Type 0) where
   -- the first number of a page more is free
-  pub IsFree-grown : (old middle : Pool T) → Grows limit answers old middle → (v : T) × IsFree middle (32 * old.pages) v
-  IsFree-grown old middle grows = first grows.values grows.legal.0 (grows.grown.places (32 * old.pages)
+  pub free-first : (old middle : Pool T) → Grows limit answers old middle
+      → (v : T) × (middle.at (32 * old.pages) ≡ Free v)
+  free-first old middle grows = first grows.values grows.legal.0 (grows.grown.places (32 * old.pages)
       ∙ grown-new old grows.values (32 * old.pages) (omega arith))
     where
       first : (values : List T) → length values ≡ 32
           → middle.at (32 * old.pages) ≡ free_with (slice_get values (32 * old.pages - 32 * old.pages))
-          → (v : T) × IsFree middle (32 * old.pages) v
+          → (v : T) × (middle.at (32 * old.pages) ≡ Free v)
       first [] count e = absurd (omega arith)
       first (v ∷ values) count e = let none : 32 * old.pages - 32 * old.pages ≡ 0 = omega arith in
           (v, e ∙ ap (λ n. free_with (slice_get (v ∷ values) n)) none)
@@ -24,11 +24,9 @@ module _ {T : Type 0} (limit : Option ℕ) (answers : Option T → Type 0) where
   TakesLeast-same : (a b : Pool T) (n : ℕ) (v : T) (new : Pool T) → IsSame a b → TakesLeast a n v new
       → TakesLeast b n v new
   TakesLeast-same a b n v new same takes = record {
-    least = record {
-      free = sym (same.places n) ∙ takes.least.free;
-      least = λ m w free. takes.least.least m w (same.places m ∙ free);
-    };
-    taken = IsSame-trans new (after_pull a n) (after_pull b n) takes.taken (IsSame-with_place a b n Out same);
+    free = sym (same.places n) ∙ takes.free;
+    least = λ m w free. takes.least m w (same.places m ∙ free);
+    taken = IsSame-trans new (with_place a n Out) (with_place b n Out) takes.taken (IsSame-with_place a b n Out same);
   }
 
   -- the least number of a page more was pulled, where none was free before

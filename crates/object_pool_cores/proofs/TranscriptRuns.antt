@@ -10,8 +10,8 @@ use Rattle.object_pool_cores.specs.declared.sequential.attach_error.AttachError.
 use Rattle.object_pool_cores.specs.Held.{Playing}
 use Rattle.object_pool_cores.specs.Lines.{ended, HasNoLineFeed, with_last_line}
 use Rattle.object_pool_cores.specs.Transcript.{AnswersLine, Transcript}
-use Rattle.object_pool_cores.specs.Served.{AppendsPart, Serves, ServesFront, ServesLines, ServesAllLines}
-use Rattle.object_pool_cores.specs.Served.{ServesFrontLines, AnswersLast, AnswersLastLine}
+use Rattle.object_pool_cores.specs.Served.{AppendsPart, ServesLines, ServesFrontLines, ServesAllLines}
+use Rattle.object_pool_cores.specs.Served.{AnswersLastLine}
 use Rattle.object_pool_cores.proofs.LineSplits.{IsLines-rest, IsLines-byte, IsLines-feed, IsLines-join, IsLines-front}
 
 -- a part of what comes behind a text
@@ -54,8 +54,8 @@ module _ {P : Type 0} (pulls : P → Result (Item ℕ) PullError → P → Type 
 
   module _ (old : Playing P ℕ) (before : Option (List ℕ)) where
     pub Serves-byte : (bytes rest : List ℕ) (new : Playing P ℕ) (after : Option (List ℕ)) (byte : ℕ) → byte ≢ 10
-        → Serves pulls gives attaches old before bytes rest new after
-        → Serves pulls gives attaches old before (bytes ++ byte ∷ []) (rest ++ byte ∷ []) new after
+        → ServesLines pulls gives attaches Appends old before bytes rest new after
+        → ServesLines pulls gives attaches Appends old before (bytes ++ byte ∷ []) (rest ++ byte ∷ []) new after
     Serves-byte bytes rest new after byte other served = record {
       lines = served.lines;
       text = served.text;
@@ -65,9 +65,10 @@ module _ {P : Type 0} (pulls : P → Result (Item ℕ) PullError → P → Type 
     }
 
     pub Serves-line : (bytes rest text : List ℕ) (middle new : Playing P ℕ) (between after : Option (List ℕ))
-        → Serves pulls gives attaches old before bytes rest middle between
+        → ServesLines pulls gives attaches Appends old before bytes rest middle between
         → AnswersLine pulls gives attaches middle rest text new
-        → Appends between after text → Serves pulls gives attaches old before (bytes ++ 10 ∷ []) [] new after
+        → Appends between after text
+        → ServesLines pulls gives attaches Appends old before (bytes ++ 10 ∷ []) [] new after
     Serves-line bytes rest text middle new between after served answer written = record {
       lines = served.lines ++ rest ∷ [];
       text = served.text ++ text;
@@ -78,9 +79,9 @@ module _ {P : Type 0} (pulls : P → Result (Item ℕ) PullError → P → Type 
     }
 
     pub Serves-join : (bytes more rest last : List ℕ) (middle new : Playing P ℕ) (between after : Option (List ℕ))
-        → Serves pulls gives attaches old before bytes rest middle between
-        → Serves pulls gives attaches middle between (rest ++ more) last new after
-        → Serves pulls gives attaches old before (bytes ++ more) last new after
+        → ServesLines pulls gives attaches Appends old before bytes rest middle between
+        → ServesLines pulls gives attaches Appends middle between (rest ++ more) last new after
+        → ServesLines pulls gives attaches Appends old before (bytes ++ more) last new after
     Serves-join bytes more rest last middle new between after served next = record {
       lines = served.lines ++ next.lines;
       text = served.text ++ next.text;
@@ -91,8 +92,9 @@ module _ {P : Type 0} (pulls : P → Result (Item ℕ) PullError → P → Type 
 
     -- nothing more was written
     pub ServesFront-kept : (bytes rest all back : List ℕ) (last : Playing P ℕ) (between after : Option (List ℕ))
-        → Serves pulls gives attaches old before bytes rest last between → Keeps between after → all ≡ bytes ++ back
-        → ServesFront pulls gives attaches old before all after
+        → ServesLines pulls gives attaches Appends old before bytes rest last between
+        → Keeps between after → all ≡ bytes ++ back
+        → ServesFrontLines pulls gives attaches Appends old before all after
     ServesFront-kept bytes rest all back last between after served kept cut = record {
       front = bytes;
       back = back;
@@ -109,13 +111,14 @@ module _ {P : Type 0} (pulls : P → Result (Item ℕ) PullError → P → Type 
     }
 
     -- a last line that has no byte is none
-    pub AnswersLast-none : (rest : List ℕ) → rest ≡ [] → AnswersLast pulls gives attaches old before rest before
+    pub AnswersLast-none : (rest : List ℕ) → rest ≡ []
+        → AnswersLastLine pulls gives attaches Appends old before rest before
     AnswersLast-none [] e = record { text = []; last = old; told = (refl, refl); written = Appends-nil before }
     AnswersLast-none (byte ∷ rest) e = cc
 
     -- a rest without a line feed has no line to serve
     pub Serves-none : (rest : List ℕ) → HasNoLineFeed rest
-        → Serves pulls gives attaches old before (rest ++ []) rest old before
+        → ServesLines pulls gives attaches Appends old before (rest ++ []) rest old before
     Serves-none rest clear = record {
       lines = [];
       text = [];
@@ -129,7 +132,7 @@ module _ {P : Type 0} (pulls : P → Result (Item ℕ) PullError → P → Type 
         (behind : (first between after : Option (List ℕ)) (text bytes : List ℕ) → Appends first between text
         → Writes between after bytes → Writes first after (text ++ bytes)) where
       pub ServesFront-join : (bytes more rest : List ℕ) (middle : Playing P ℕ) (between after : Option (List ℕ))
-          → Serves pulls gives attaches old before bytes rest middle between
+          → ServesLines pulls gives attaches Appends old before bytes rest middle between
           → ServesFrontLines pulls gives attaches Writes middle between (rest ++ more) after
           → ServesFrontLines pulls gives attaches Writes old before (bytes ++ more) after
       ServesFront-join bytes more rest middle between after served part =
@@ -154,7 +157,7 @@ module _ {P : Type 0} (pulls : P → Result (Item ℕ) PullError → P → Type 
 
       -- a last line joins the lines before it
       pub ServesAll-last : (bytes rest : List ℕ) (middle : Playing P ℕ) (between after : Option (List ℕ))
-          → Serves pulls gives attaches old before bytes rest middle between
+          → ServesLines pulls gives attaches Appends old before bytes rest middle between
           → AnswersLastLine pulls gives attaches Writes middle between rest after
           → ServesAllLines pulls gives attaches Writes old before bytes after
       ServesAll-last bytes rest middle between after served last =
@@ -188,7 +191,7 @@ module _ {P : Type 0} (pulls : P → Result (Item ℕ) PullError → P → Type 
 
       -- what was gathered is written
       pub Serves-written : (bytes rest text : List ℕ) (new : Playing P ℕ) (after : Option (List ℕ))
-          → Serves pulls gives attaches old (Some []) bytes rest new (Some text) → Writes before after text
+          → ServesLines pulls gives attaches Appends old (Some []) bytes rest new (Some text) → Writes before after text
           → ServesLines pulls gives attaches Writes old before bytes rest new after
       Serves-written bytes rest text new after served written = record {
         lines = served.lines;
@@ -199,7 +202,7 @@ module _ {P : Type 0} (pulls : P → Result (Item ℕ) PullError → P → Type 
       }
 
       pub ServesFront-written : (bytes text : List ℕ) (after : Option (List ℕ))
-          → ServesFront pulls gives attaches old (Some []) bytes (Some text) → Writes before after text
+          → ServesFrontLines pulls gives attaches Appends old (Some []) bytes (Some text) → Writes before after text
           → ServesFrontLines pulls gives attaches Writes old before bytes after
       ServesFront-written bytes text after stopped written = record {
         front = stopped.front;
@@ -211,7 +214,7 @@ module _ {P : Type 0} (pulls : P → Result (Item ℕ) PullError → P → Type 
       }
 
       pub Serves-front : (bytes rest text : List ℕ) (new : Playing P ℕ) (after : Option (List ℕ))
-          → Serves pulls gives attaches old (Some []) bytes rest new (Some text) → Writes before after text
+          → ServesLines pulls gives attaches Appends old (Some []) bytes rest new (Some text) → Writes before after text
           → ServesFrontLines pulls gives attaches Writes old before bytes after
       Serves-front bytes rest text new after served written = record {
         front = bytes;

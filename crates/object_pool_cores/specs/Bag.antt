@@ -17,16 +17,11 @@ module _ {T : Type 0} where
     pub without : small ≡ front ++ back
     pub within : large ≡ front ++ v ∷ back
 
-  -- the value is an answer of init: given only where none is kept; further answers may enter the
-  -- bag
-  pub record IsFresh (answers : Option T → Type 0) (old : List T) (v : T) (new : List T) : Type 0 where
-    pub none : old ≡ []
-    pub answer : answers (Some v)
-    pub further : All (λ w. answers (Some w)) new
-
-  -- a pull takes some kept value, or where none is kept gives an answer of init or is refused
+  -- a pull takes some kept value. Where none is kept it gives an answer of init, while further
+  -- answers may enter the bag, or is refused
   abbrev pub PullsFromBag : (Option T → Type 0) → List T → Result T PullError → List T → Type 0
-  PullsFromBag answers old (Ok v) new = IsPutIn v new old ⊎ IsFresh answers old v new
+  PullsFromBag answers old (Ok v) new =
+      IsPutIn v new old ⊎ ((old ≡ []) × answers (Some v) × All (λ w. answers (Some w)) new)
   PullsFromBag answers old (Err cause) new = (old ≡ []) × (new ≡ [])
 
   -- a return adds what reset left, or drops the item

@@ -4,7 +4,6 @@ use Rattle.std.specs.Global.{Vec}
 use Rattle.linear_pools.specs.LinearPool.{pool_init, pool_limit, reusable_item, reusable_page}
 use Rattle.page_chain.specs.Walk.{number_of}
 use Rattle.linear_pools.specs.LinearPool.{IsOnPage}
-use Rattle.linear_pools.specs.declared.linear_reusable.LinearReusable.{LinearReusable}
 use Rattle.object_pool_cores.specs.declared.buffers.BufferPool.{BufferPool}
 use Rattle.object_pool_cores.specs.declared.buffers.buffer.Buffer.{Buffer}
 
@@ -17,14 +16,10 @@ module _ {I R K : Type 0} where
   abbrev pub limit_of_pages : BufferPool I R (Vec ℕ) K → Option ℕ
   limit_of_pages buffers = pool_limit buffers.pool
 
-  -- the item of the linear pool below that the buffer is
-  abbrev pub buffer_item : Buffer I R (Vec ℕ) K → LinearReusable (Vec ℕ) I R K
-  buffer_item buffer = buffer.item
-
   -- the buffer is of the pool's page of the number that it shows
   abbrev pub IsOnItsPage : BufferPool I R (Vec ℕ) K → Buffer I R (Vec ℕ) K → Type 0
   IsOnItsPage buffers buffer =
-      IsOnPage buffers.pool (reusable_page (buffer_item buffer)) (reusable_item (buffer_item buffer))
+      IsOnPage buffers.pool (reusable_page buffer.item) (reusable_item buffer.item)
 
   -- the bytes in the buffer
   abbrev pub bytes_of : Buffer I R (Vec ℕ) K → List ℕ

@@ -1,5 +1,5 @@
 -- How a command is written on a line.
-use Rattle.std.specs.Prelude.{◌≡◌, ◌≢◌, ℕ, ◌≤◌, ◌<◌, ◌^◌, List, ◌∷◌, ◌++◌, All, length, codes}
+use Rattle.std.specs.Prelude.{◌≡◌, ℕ, ◌≤◌, ◌<◌, ◌^◌, List, ◌∷◌, ◌++◌, All, length, codes}
 use Rattle.std.specs.Char.{IsAsciiDigit}
 use Rattle.std.specs.Str.Parse.{digits_value}
 use Rattle.object_pool_cores.specs.declared.sequential.command.Command.{Command}
@@ -12,10 +12,6 @@ pub record IsNumber (text : List ℕ) (n : ℕ) : Type 0 where
   pub digits : All IsAsciiDigit text
   pub value : digits_value 10 text ≡ n
   pub small : n < 2 ^ 32
-
--- no byte is a space
-abbrev pub HasNoSpace : List ℕ → Type 0
-HasNoSpace text = All (λ byte. byte ≢ 32) text
 
 -- the text writes two numbers, with one space between them
 abbrev pub AreNumbers : List ℕ → ℕ → ℕ → Type 0

@@ -1,7 +1,7 @@
 -- What an engine read and wrote: the replies of its commands on a new pool of numbers. Begin with
 -- `Ends`, at the end.
 use Rattle.std.specs.Prelude.{◌≡◌, ◌≤◌, ℕ, Option, Some, None, List, [], Result, Err, OnOk, replicate, ⊤}
-use Rattle.std.specs.Io.KnownBytes.{Consumes, IsAtEnd}
+use Rattle.std.specs.Io.KnownBytes.{Appends, Consumes, IsAtEnd}
 use Rattle.pool_parts.specs.declared.pull_error.PullError.{PullError}
 use Rattle.pool_parts.specs.declared.page.TheConstants.{PAGE_ITEMS}
 use Rattle.object_pool_cores.specs.declared.engine.engine_error.EngineError.{EngineError}
@@ -18,7 +18,7 @@ use Rattle.object_pool_cores.specs.Held.{Playing}
 use Rattle.object_pool_cores.specs.LastIn.{PullsLast, ReturnsLast, AttachesLast}
 use Rattle.object_pool_cores.specs.LeastChoice.{PullsItem, ReturnsItem}
 use Rattle.pool_world.specs.Pool.{Pool, IsSame, opening}
-use Rattle.object_pool_cores.specs.Served.{Serves, ServesAll, ServesFront, StopsWriting}
+use Rattle.object_pool_cores.specs.Served.{ServesLines, ServesAllLines, ServesFrontLines, StopsWriting}
 
 -- a limit is of 1 page or more
 abbrev pub IsPlayable : Kind → Type 0
@@ -41,11 +41,6 @@ leaves_of Keep old new = new ≡ old
 abbrev pub makes_zero : Option ℕ → Type 0
 makes_zero answer = answer ≡ Some 0
 
--- a pool of one page of zeros, of which nothing is held
-pub record IsFirst (first : Playing (Pool ℕ) ℕ) : Type 0 where
-  pub pool : IsSame first.pool (opening (replicate PAGE_ITEMS 0))
-  pub held : first.held ≡ []
-
 -- a statement about the three steps of a pool, and about the pool and the table with which a play
 -- begins
 abbrev pub Telling : Type 1
@@ -53,10 +48,12 @@ Telling = (P : Type 0) → (P → Result (Item ℕ) PullError → P → Type 0) 
     → (P → ℕ → Result (Item ℕ) (AttachError ℕ) → P → Type 0) → Playing P ℕ → Type 0
 
 module _ (leaves : ℕ → ℕ → Type 0) where
-  -- the statement holds of a linear pool within a limit: its pulls are by least choice
+  -- the statement holds of a linear pool within a limit, which begins with a page of zeros: its
+  -- pulls are by least choice
   abbrev pub OnLinear : Option ℕ → Telling → Type 0
-  OnLinear limit tells = (first : Playing (Pool ℕ) ℕ) × IsFirst first
-      × tells (Pool ℕ) (PullsItem limit makes_zero) (ReturnsItem leaves) RefusesAttach first
+  OnLinear limit tells = (pool : Pool ℕ) × IsSame pool (opening (replicate PAGE_ITEMS 0))
+      × tells (Pool ℕ) (PullsItem limit makes_zero) (ReturnsItem leaves) RefusesAttach
+      (record { pool = pool; held = [] })
 
   -- the statement holds of the pool of a kind: the stack begins with nothing kept, and without a
   -- pool each item is fresh
@@ -69,51 +66,34 @@ module _ (leaves : ℕ → ℕ → Type 0) where
       (λ old item new. ⊤) RefusesAttach (record { pool = tt; held = [] })
 
 module _ (before : Option (List ℕ)) (bytes : List ℕ) (after : Option (List ℕ)) where
-  -- the replies to all lines were written
+  -- the replies to all lines of the bytes were written, a last one without a line feed too
   abbrev pub tells_all : Telling
-  tells_all P pulls gives attaches first = ServesAll pulls gives attaches first before bytes after
+  tells_all P pulls gives attaches first = ServesAllLines pulls gives attaches Appends first before bytes after
 
   -- the replies to the lines whose line feed is in the bytes were written
   abbrev pub tells_lines : Telling
   tells_lines P pulls gives attaches first =
-      (rest : List ℕ) × (last : Playing P ℕ) × Serves pulls gives attaches first before bytes rest last after
+      (rest : List ℕ) × (last : Playing P ℕ)
+      × ServesLines pulls gives attaches Appends first before bytes rest last after
 
   -- the replies to the lines of a prefix of the bytes were written
   abbrev pub tells_front : Telling
-  tells_front P pulls gives attaches first = ServesFront pulls gives attaches first before bytes after
+  tells_front P pulls gives attaches first = ServesFrontLines pulls gives attaches Appends first before bytes after
 
-  -- the writing stopped within the replies
+  -- a prefix of the replies to the lines whose line feed is in a prefix of the bytes was written, or,
+  -- only where all was read, to all lines
   abbrev pub tells_part : Type 0 → Telling
   tells_part all_read P pulls gives attaches first =
       StopsWriting pulls gives attaches all_read first before bytes after
-
-module _ (kind : Kind) (leaves : ℕ → ℕ → Type 0) (before : Option (List ℕ)) (bytes : List ℕ)
-    (after : Option (List ℕ)) where
-  -- the replies to all lines of the bytes, a last one without a line feed too
-  abbrev pub WroteAll : Type 0
-  WroteAll = OnKind leaves kind (tells_all before bytes after)
-
-  -- the replies to the lines whose line feed is in the bytes
-  abbrev pub WroteLines : Type 0
-  WroteLines = OnKind leaves kind (tells_lines before bytes after)
-
-  -- the replies to the lines of a prefix of the bytes
-  abbrev pub WroteFront : Type 0
-  WroteFront = OnKind leaves kind (tells_front before bytes after)
-
-  -- a prefix of the replies to the lines whose line feed is in a prefix
-  -- of the bytes, or, only where all was read, to all lines
-  abbrev pub WrotePart : Type 0 → Type 0
-  WrotePart all_read = OnKind leaves kind (tells_part before bytes after all_read)
 
 -- what an engine read and wrote, by how it ended
 pub record Ends (kind : Kind) (leaves : ℕ → ℕ → Type 0) (result : Result (Unit {0}) EngineError)
     (unread rest before after : Option (List ℕ)) : Type 0 where
   pub ok : OnOk result ((bytes : List ℕ) × Consumes unread rest bytes × IsAtEnd rest
-      × WroteAll kind leaves before bytes after)
+      × OnKind leaves kind (tells_all before bytes after))
   pub read : result ≡ Err Read → (bytes : List ℕ) × Consumes unread rest bytes
-      × WroteLines kind leaves before bytes after
+      × OnKind leaves kind (tells_lines before bytes after)
   pub write : result ≡ Err Write → (bytes : List ℕ) × Consumes unread rest bytes
-      × WrotePart kind leaves before bytes after (IsAtEnd rest)
+      × OnKind leaves kind (tells_part before bytes after (IsAtEnd rest))
   pub memory : result ≡ Err Memory → (bytes : List ℕ) × Consumes unread rest bytes
-      × WroteFront kind leaves before bytes after
+      × OnKind leaves kind (tells_front before bytes after)

@@ -9,14 +9,12 @@ use Rattle.object_pool_cores.specs.declared.sequential.attach_error.AttachError.
 use Rattle.object_pool_cores.specs.Inside.SequentialItem.{item_value, item_number}
 
 module _ {T : Type 0} where
-  -- the first value is taken, or where nothing is kept an answer of init is given
-  abbrev pub TakesLast : (Option T → Type 0) → List T → T → List T → Type 0
-  TakesLast answers old v new = TakesFirst old v new ⊎ (StaysEmpty old new × answers (Some v))
-
-  -- a pull gives an item without a number, or, only where nothing is kept, is refused
+  -- a pull gives an item without a number: the first value, or where nothing is kept an answer of
+  -- init. Only where nothing is kept it is refused
   abbrev pub PullsLast : (Option T → Type 0) → List T → Result (Item T) PullError → List T → Type 0
   PullsLast answers old (Ok item) new =
-      (item_number item ≡ None) × TakesLast answers old (item_value item) new
+      (item_number item ≡ None)
+      × (TakesFirst old (item_value item) new ⊎ (StaysEmpty old new × answers (Some (item_value item))))
   PullsLast answers old (Err cause) new = StaysEmpty old new × RefusesMaking (answers None) cause
 
   -- a return puts what reset left in front

@@ -5,23 +5,18 @@ use Rattle.pool_parts.specs.declared.pull_error.PullError.{PullError}
 use Rattle.pool_parts.specs.declared.pull_error.PullError.TheVariants.{Memory, Init, Limit}
 use Rattle.object_pool_cores.specs.declared.sequential.item.Item.{Item}
 use Rattle.object_pool_cores.specs.Inside.SequentialItem.{item_value, item_number}
-use Rattle.pool_world.specs.Pool.{Pool, IsFree, IsOut, IsSame, AllowsPages}
-use Rattle.pool_world.specs.Move.{IsGrowth, after_pull, after_return, after_growth}
+use Rattle.pool_world.specs.Pool.{Pool, Free, Out, IsSame, AllowsPages, with_place, IsGrowth, after_growth}
 
 module _ {T : Type 0} where
   -- no number is free
   abbrev pub IsExhausted : Pool T → Type 0
-  IsExhausted pool = (n : ℕ) (v : T) → IsFree pool n v → ⊥
+  IsExhausted pool = (n : ℕ) (v : T) → pool.at n ≡ Free v → ⊥
 
-  -- the number is free with this value, and no lesser number is free
-  pub record IsLeastFree (pool : Pool T) (n : ℕ) (v : T) : Type 0 where
-    pub free : IsFree pool n v
-    pub least : (m : ℕ) (w : T) → IsFree pool m w → n ≤ m
-
-  -- the least free number is pulled
+  -- the number is free with this value, no lesser number is free, and it is pulled
   pub record TakesLeast (old : Pool T) (n : ℕ) (v : T) (new : Pool T) : Type 0 where
-    pub least : IsLeastFree old n v
-    pub taken : IsSame new (after_pull old n)
+    pub free : old.at n ≡ Free v
+    pub least : (m : ℕ) (w : T) → old.at m ≡ Free w → n ≤ m
+    pub taken : IsSame new (with_place old n Out)
 
 -- From here on, `answers` says what `init` may answer.
 module _ {T : Type 0} (limit : Option ℕ) (answers : Option T → Type 0) where
@@ -66,5 +61,5 @@ pub record ReturnsItem {T : Type 0} (leaves : T → T → Type 0) (old : Pool T)
   pub kept : T
   pub number : item_number item ≡ Some n
   pub left : leaves (item_value item) kept
-  pub was_out : IsOut old n
-  pub returned : IsSame new (after_return old n kept)
+  pub was_out : old.at n ≡ Out
+  pub returned : IsSame new (with_place old n (Free kept))

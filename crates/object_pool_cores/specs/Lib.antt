@@ -19,7 +19,6 @@ pub mod ReplyText
 pub mod Served
 pub mod Stack
 pub mod Transcript
-pub use Rattle.pool_world.specs.Move
 pub use Rattle.pool_world.specs.Pool
 pub use Rattle.pool_world.specs.Run
 pub use Rattle.pool_world.specs.World

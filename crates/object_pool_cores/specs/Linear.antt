@@ -5,7 +5,7 @@ use Rattle.pool_parts.specs.declared.pull_error.PullError.{PullError}
 use Rattle.object_pool_cores.specs.declared.sequential.item.Item.{Item}
 use Rattle.object_pool_cores.specs.declared.sequential.linear_core.LinearCore.{LinearCore}
 use Rattle.object_pool_cores.specs.Inside.SequentialItem.{item_number}
-use Rattle.pool_world.specs.Pool.{Pool, IsOut, IsPool, IsSame, opening}
+use Rattle.pool_world.specs.Pool.{Pool, Out, IsPool, IsSame, opening}
 use Rattle.object_pool_cores.specs.LeastChoice.{PullsItem, ReturnsItem}
 use Rattle.object_pool_cores.specs.OnePage.{ArePageAnswers}
 use Rattle.object_pool_cores.specs.PageProbes.{ProbesEach}
@@ -47,7 +47,7 @@ module _ {T I R K : Type 0} where
 
   -- the number of an item is out
   abbrev pub IsOutOf : LinearCore T I R K → Item T → Type 0
-  IsOutOf core item = (n : ℕ) × (item_number item ≡ Some n) × IsOut (core_pool core) n
+  IsOutOf core item = (n : ℕ) × (item_number item ≡ Some n) × ((core_pool core).at n ≡ Out)
 
   -- a pull is by least choice
   pub record LinearPulls (answers : Option T → Type 0) (old : LinearCore T I R K)

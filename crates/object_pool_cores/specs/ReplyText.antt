@@ -1,6 +1,7 @@
 -- The text of a reply, without its line feed.
-use Rattle.std.specs.Prelude.{◌≡◌, ℕ, Option, Some, None, List, ◌++◌, [], codes}
+use Rattle.std.specs.Prelude.{◌≡◌, ℕ, Option, Some, None, List, ◌++◌, [], codes, option_map}
 use Rattle.std.specs.Fmt.{decimal}
+use Rattle.object_pool_cores.specs.Inside.SequentialItem.{item_value}
 use Rattle.pool_parts.specs.declared.pull_error.PullError.{PullError}
 use Rattle.pool_parts.specs.declared.pull_error.PullError.TheVariants.{Memory, Init, Limit}
 use Rattle.object_pool_cores.specs.declared.sequential.attach_error.AttachError.{AttachError}
@@ -12,7 +13,7 @@ use Rattle.object_pool_cores.specs.declared.sequential.reply.Reply.TheVariants.{
 use Rattle.object_pool_cores.specs.declared.sequential.item.Item.{Item}
 use Rattle.object_pool_cores.specs.declared.sequential.command.Command.{Command}
 use Rattle.object_pool_cores.specs.declared.sequential.command.Command.TheVariants.{Pull, Write, Return, Forget, Attach}
-use Rattle.object_pool_cores.specs.Held.{held_at, value_of}
+use Rattle.object_pool_cores.specs.Held.{held_at}
 
 -- the number of an item, where it has one
 abbrev pub number_text : Option ℕ → List ℕ
@@ -46,7 +47,7 @@ command_index (Attach value) = 0
 -- the text of a reply to a command that names this index, with what is held afterwards
 abbrev pub IsReplyText : ℕ → List (Option (Item ℕ)) → Reply ℕ → List ℕ → Type 0
 IsReplyText index held (Pulled holder number) text =
-    (value : ℕ) × (value_of (held_at held holder) ≡ Some value) × (text ≡ pulled_text holder number value)
+    (value : ℕ) × (option_map item_value (held_at held holder) ≡ Some value) × (text ≡ pulled_text holder number value)
 IsReplyText index held (Refused cause) text = text ≡ refusal_text cause
 IsReplyText index held Written text = text ≡ codes "written " ++ decimal index
 IsReplyText index held Returned text = text ≡ codes "returned " ++ decimal index
@@ -54,7 +55,3 @@ IsReplyText index held Forgotten text = text ≡ codes "forgotten " ++ decimal i
 IsReplyText index held (Attached holder) text = text ≡ codes "attached " ++ decimal holder
 IsReplyText index held (AttachRefused error) text = text ≡ attach_refusal_text error
 IsReplyText index held NoSuchHolder text = text ≡ codes "no such holder"
-
--- what a bad line is answered
-abbrev pub bad_line_text : List ℕ
-bad_line_text = codes "bad line"

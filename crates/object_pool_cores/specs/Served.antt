@@ -18,7 +18,7 @@ pub record AppendsPart (before after : Option (List ℕ)) (bytes : List ℕ) : T
 
 module _ {P : Type 0} (pulls : P → Result (Item ℕ) PullError → P → Type 0) (gives : P → Item ℕ → P → Type 0)
     (attaches : P → ℕ → Result (Item ℕ) (AttachError ℕ) → P → Type 0) where
-  -- how the answers were written: whole, or a prefix of them
+  -- how the answers were written: whole by Appends, or a prefix of them by AppendsPart
   module _ (Writes : Option (List ℕ) → Option (List ℕ) → List ℕ → Type 0) where
     -- each line whose line feed is in the bytes was answered
     pub record ServesLines (old : Playing P ℕ) (before : Option (List ℕ)) (bytes rest : List ℕ) (new : Playing P ℕ)
@@ -58,32 +58,9 @@ module _ {P : Type 0} (pulls : P → Result (Item ℕ) PullError → P → Type 
       pub told : Transcript pulls gives attaches old (with_last_line [] rest) text last
       pub written : Writes before after text
 
-  -- the answers were written whole
-  abbrev pub Serves : Playing P ℕ → Option (List ℕ) → List ℕ → List ℕ → Playing P ℕ → Option (List ℕ) → Type 0
-  Serves = ServesLines Appends
-
-  abbrev pub ServesAll : Playing P ℕ → Option (List ℕ) → List ℕ → Option (List ℕ) → Type 0
-  ServesAll = ServesAllLines Appends
-
-  abbrev pub ServesFront : Playing P ℕ → Option (List ℕ) → List ℕ → Option (List ℕ) → Type 0
-  ServesFront = ServesFrontLines Appends
-
-  abbrev pub AnswersLast : Playing P ℕ → Option (List ℕ) → List ℕ → Option (List ℕ) → Type 0
-  AnswersLast = AnswersLastLine Appends
-
-  -- a prefix of the answers was written; of ServesPart each of the lines ends in that prefix of the
-  -- bytes
-  abbrev pub ServesPart : Playing P ℕ → Option (List ℕ) → List ℕ → Option (List ℕ) → Type 0
-  ServesPart = ServesFrontLines AppendsPart
-
-  abbrev pub ServesAllInPart : Playing P ℕ → Option (List ℕ) → List ℕ → Option (List ℕ) → Type 0
-  ServesAllInPart = ServesAllLines AppendsPart
-
-  abbrev pub AnswersLastInPart : Playing P ℕ → Option (List ℕ) → List ℕ → Option (List ℕ) → Type 0
-  AnswersLastInPart = AnswersLastLine AppendsPart
-
   -- the writing stopped: at the lines whose line feed was read,
   -- or, only where all was read, at the last line without one
   abbrev pub StopsWriting : Type 0 → Playing P ℕ → Option (List ℕ) → List ℕ → Option (List ℕ) → Type 0
   StopsWriting all_read old before bytes after =
-      ServesPart old before bytes after ⊎ (all_read × ServesAllInPart old before bytes after)
+      ServesFrontLines AppendsPart old before bytes after
+      ⊎ (all_read × ServesAllLines AppendsPart old before bytes after)

@@ -1,5 +1,5 @@
 -- What lines of commands are answered: a text for each line, in order.
-use Rattle.std.specs.Prelude.{◌≡◌, ℕ, List, [], ◌∷◌, ◌++◌, Result, ◌⊎◌}
+use Rattle.std.specs.Prelude.{◌≡◌, ℕ, List, [], ◌∷◌, ◌++◌, Result, ◌⊎◌, codes}
 use Rattle.pool_parts.specs.declared.pull_error.PullError.{PullError}
 use Rattle.object_pool_cores.specs.declared.sequential.item.Item.{Item}
 use Rattle.object_pool_cores.specs.declared.sequential.attach_error.AttachError.{AttachError}
@@ -9,7 +9,7 @@ use Rattle.object_pool_cores.specs.CommandText.{IsCommand, IsBadLine}
 use Rattle.object_pool_cores.specs.Held.{Playing}
 use Rattle.object_pool_cores.specs.Lines.{ended}
 use Rattle.object_pool_cores.specs.Replies.{Plays}
-use Rattle.object_pool_cores.specs.ReplyText.{IsReplyText, command_index, bad_line_text}
+use Rattle.object_pool_cores.specs.ReplyText.{IsReplyText, command_index}
 
 module _ {P : Type 0} (pulls : P → Result (Item ℕ) PullError → P → Type 0) (gives : P → Item ℕ → P → Type 0)
     (attaches : P → ℕ → Result (Item ℕ) (AttachError ℕ) → P → Type 0) where
@@ -21,21 +21,11 @@ module _ {P : Type 0} (pulls : P → Result (Item ℕ) PullError → P → Type 
     pub said : IsReplyText (command_index command) new.held reply words
     pub whole : text ≡ ended words
 
-  -- the line is a command, and the text answers it
-  pub record AnswersCommandLine (old : Playing P ℕ) (line text : List ℕ) (new : Playing P ℕ) : Type 0 where
-    pub command : Command ℕ
-    pub written : IsCommand line command
-    pub answered : AnswersCommand old command text new
-
-  -- a bad line changes nothing
-  pub record AnswersBadLine (old : Playing P ℕ) (line text : List ℕ) (new : Playing P ℕ) : Type 0 where
-    pub bad : IsBadLine line
-    pub same : new ≡ old
-    pub said : text ≡ ended bad_line_text
-
-  -- the text answers the line
+  -- the text answers the line, which is a command, or a bad line, which changes nothing
   abbrev pub AnswersLine : Playing P ℕ → List ℕ → List ℕ → Playing P ℕ → Type 0
-  AnswersLine old line text new = AnswersCommandLine old line text new ⊎ AnswersBadLine old line text new
+  AnswersLine old line text new =
+      ((command : Command ℕ) × IsCommand line command × AnswersCommand old command text new)
+      ⊎ (IsBadLine line × (new ≡ old) × (text ≡ ended (codes "bad line")))
 
   -- the text answers the lines, one after another
   abbrev pub Transcript : Playing P ℕ → List (List ℕ) → List ℕ → Playing P ℕ → Type 0

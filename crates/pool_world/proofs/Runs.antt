@@ -11,10 +11,10 @@ use Rattle.pool_parts.specs.Ledger.{user_of, id_of, operations_of, held_id, left
 use Rattle.pool_parts.specs.Ledger.{NoOperationOn}
 use Rattle.pool_parts.proofs.Ledger.{operations_of_own, value_at-here, value_at-elsewhere}
 use Rattle.pool_parts.proofs.LedgerHolders.{held}
-use Rattle.pool_world.specs.Pool.{Place, Pool, Absent, IsFree, IsOut, AllowsPages, place_of, free_with}
+use Rattle.pool_world.specs.Pool.{Place, Pool, Absent, Free, Out, IsPool, AllowsPages, place_of, free_with}
 use Rattle.pool_world.specs.Run.{Act, Opens, Writes, Operates, Grows, agent_of, acts_of, ledger_of}
 use Rattle.pool_world.specs.Run.{pages_of, made, opened, pool_of, Looks, last_value, Holds, Since, MayCome, Run}
-use Rattle.pool_world.specs.Run.{HasHolders, IsWhole, AtEachPlace}
+use Rattle.pool_world.specs.Run.{HasHolders, AtEachPlace}
 use Rattle.pool_world.proofs.Places.{place_of-free, place_of-out, place_of-there}
 use Rattle.pool_world.proofs.Places.{slice_get-append_back}
 use Rattle.pool_world.proofs.LegalLedgers.{untouched-value}
@@ -133,11 +133,11 @@ module _ {T : Type 0} (first : List T) where
   pool-past : (acts : List (Act T)) (n : ℕ) → 32 * pages_of acts ≤ n → (pool_of first acts).at n ≡ Absent
   pool-past acts n past = rw (le-ltb n (32 * pages_of acts) past) refl
 
-  free-lies : (acts : List (Act T)) (n : ℕ) (value : T) → IsFree (pool_of first acts) n value
+  free-lies : (acts : List (Act T)) (n : ℕ) (value : T) → (pool_of first acts).at n ≡ Free value
       → value_at (opened first acts) (ledger_of acts) n ≡ Some value
   free-lies acts n value free = (if-some _ _ _ (place_of-free _ value free)).1
 
-  out-lies : (acts : List (Act T)) (n : ℕ) → IsOut (pool_of first acts) n
+  out-lies : (acts : List (Act T)) (n : ℕ) → (pool_of first acts).at n ≡ Out
       → (n < 32 * pages_of acts) × (value_at (opened first acts) (ledger_of acts) n ≡ None)
   out-lies acts n out =
       let is = if-some (nat_lt n (32 * pages_of acts)) _ _ (place_of-out _ out) in
@@ -182,7 +182,8 @@ module _ {T : Type 0} (Leaves : T → T → Type 0) (limit : Option ℕ) (first 
   -- the ledger of a run is legal, from the values with which its pages came
   pub legal-run : (acts : List (Act T)) → Run Leaves limit first acts → IsLegal (opened first acts) (ledger_of acts)
   legal-run [] run = tt
-  legal-run (Operates operation ∷ acts) run = (run.0.0, legal-run acts run.1)
+  legal-run (Operates (Pull a n value) ∷ acts) run = (run.0.0, legal-run acts run.1)
+  legal-run (Operates (Return a n kept) ∷ acts) run = (run.0.0, legal-run acts run.1)
   legal-run (Grows a values ∷ acts) run =
       rw (map-append Some (made first acts) values)
       (legal-more (opened first acts) (map Some values) (ledger_of acts) (legal-run acts run.1))
@@ -196,7 +197,8 @@ module _ {T : Type 0} (Leaves : T → T → Type 0) (limit : Option ℕ) (first 
   allowed-run allowed (act ∷ acts) run = allowed-run allowed acts run.1
 
   -- the numbers are those of the pages
-  pub whole-run : AllowsPages limit 1 → (acts : List (Act T)) → Run Leaves limit first acts → IsWhole first limit acts
+  pub whole-run : AllowsPages limit 1 → (acts : List (Act T)) → Run Leaves limit first acts
+      → IsPool limit (pool_of first acts)
   whole-run allowed acts run = record {
     inside = pool-there first acts;
     past = pool-past first acts;
@@ -211,7 +213,7 @@ module _ {T : Type 0} (Leaves : T → T → Type 0) (limit : Option ℕ) (first 
 
   -- an agent that looks may pull what is free, and a holder may return what it holds
   pub may-pull : (acts : List (Act T)) → (a n : ℕ) (value : T) → Looks (acts_of a acts)
-      → IsFree (pool_of first acts) n value → MayCome Leaves limit first acts (Operates (Pull a n value))
+      → (pool_of first acts).at n ≡ Free value → MayCome Leaves limit first acts (Operates (Pull a n value))
   may-pull acts a n value looks free =
       let none = ap held_id (ledger-own acts a ∙ looks-none (acts_of a acts) looks) in
       (record { lies_there = free-lies first acts n value free; holds_none = none }, looks)

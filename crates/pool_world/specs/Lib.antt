@@ -1,5 +1,4 @@
 pub mod Laws
-pub mod Move
 pub mod Pool
 pub mod Run
 pub mod World

@@ -1,5 +1,6 @@
--- A pool of items that are known by their numbers.
-use Rattle.std.specs.Prelude.{◌≡◌, ◌≢◌, ℕ, ◌<◌, ◌+◌, ◌*◌, ◌≤◌, ◌==◌, if◌then◌else◌, Option, Some, None, List, slice_get}
+-- A pool of items that are known by their numbers, and how it grows.
+use Rattle.std.specs.Prelude.{◌≡◌, ◌≢◌, ℕ, ◌<◌, ◌+◌, ◌*◌, ◌≤◌, ◌==◌, if◌then◌else◌, Option, Some, None, List}
+use Rattle.std.specs.Prelude.{slice_get, ◌-◌, nat_lt, length}
 use Rattle.std.specs.Prelude.{⊤}
 use Rattle.pool_parts.specs.declared.page.TheConstants.{PAGE_ITEMS}
 
@@ -23,15 +24,11 @@ abbrev pub AllowsPages : Option ℕ → ℕ → Type 0
 AllowsPages None pages = ⊤
 AllowsPages (Some limit) pages = pages ≤ limit
 
+-- a growth brings 32 values, and keeps to the limit
+abbrev pub IsGrowth : {T : Type 0} → Option ℕ → ℕ → List T → Type 0
+IsGrowth limit pages values = (length values ≡ PAGE_ITEMS) × AllowsPages limit (pages + 1)
+
 module _ {T : Type 0} where
-  -- the number is free with this value
-  abbrev pub IsFree : Pool T → ℕ → T → Type 0
-  IsFree pool n v = pool.at n ≡ Free v
-
-  -- the number is out
-  abbrev pub IsOut : Pool T → ℕ → Type 0
-  IsOut pool n = pool.at n ≡ Out
-
   -- there is a place at exactly the numbers below 32 times the pages, and there may be so many
   -- pages
   pub record IsPool (limit : Option ℕ) (pool : Pool T) : Type 0 where
@@ -63,3 +60,11 @@ module _ {T : Type 0} where
   -- the pool with another place at one number
   abbrev pub with_place : Pool T → ℕ → Place T → Pool T
   with_place pool n place = record { pages = pool.pages; at = λ m. if m == n then place else pool.at m }
+
+  -- a growth brings a page, whose numbers are free with these values
+  abbrev pub after_growth : Pool T → List T → Pool T
+  after_growth pool values = record {
+    pages = pool.pages + 1;
+    at = λ n. if nat_lt n (PAGE_ITEMS * pool.pages) then pool.at n else free_with
+        (slice_get values (n - PAGE_ITEMS * pool.pages));
+  }

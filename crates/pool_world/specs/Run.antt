@@ -8,9 +8,8 @@ use Rattle.pool_parts.specs.declared.page.history.Operation.TheVariants.{Pull, R
 use Rattle.pool_parts.specs.declared.page.TheConstants.{PAGE_ITEMS}
 use Rattle.pool_parts.specs.declared.pull_error.PullError.{PullError}
 use Rattle.pool_parts.specs.declared.pull_error.PullError.TheVariants.{Memory, Init, Limit}
-use Rattle.pool_parts.specs.Ledger.{History, user_of, operations_of, held_id, value_at, MayFollow}
-use Rattle.pool_world.specs.Pool.{Pool, IsOut, IsPool, place_of}
-use Rattle.pool_world.specs.Move.{IsGrowth}
+use Rattle.pool_parts.specs.Ledger.{History, user_of, operations_of, held_id, value_at, MayPull, MayReturn}
+use Rattle.pool_world.specs.Pool.{Pool, Out, place_of, IsGrowth}
 
 -- an agent opens, writes the value that it holds, does an operation of the ledger, grows the pool
 -- by a page of values, or is refused
@@ -57,15 +56,14 @@ module _ {T : Type 0} where
   abbrev pub opened : List T → List (Act T) → List (Option T)
   opened first acts = map Some (made first acts)
 
-  -- what the ledger says of a number of these pages
-  abbrev pub lies_at : List T → List (Act T) → ℕ → Option (Option T)
-  lies_at first acts n =
-      if nat_lt n (PAGE_ITEMS * pages_of acts) then Some (value_at (opened first acts) (ledger_of acts) n) else None
-
-  -- the pool to which a run has led: a number is free with the value that lies there, and out where
-  -- nothing does
+  -- the pool to which a run has led: a number of its pages is free with the value that the ledger
+  -- says lies there, and out where nothing does
   abbrev pub pool_of : List T → List (Act T) → Pool T
-  pool_of first acts = record { pages = pages_of acts; at = λ n. place_of (lies_at first acts n) }
+  pool_of first acts = record {
+    pages = pages_of acts;
+    at = λ n. place_of
+        (if nat_lt n (PAGE_ITEMS * pages_of acts) then Some (value_at (opened first acts) (ledger_of acts) n) else None);
+  }
 
   -- an agent looks for a number while all that it did is to open and to grow the pool
   abbrev pub Looks : List (Act T) → Type 0
@@ -96,22 +94,13 @@ module _ {T : Type 0} where
 
   -- the agent saw the number taken: it was out at some place since the agent began
   abbrev pub SawTaken : List T → List (Act T) → ℕ → ℕ → Type 0
-  SawTaken first acts a n = Since first a (λ pool. IsOut pool n) acts
-
-  -- there were so many pages at some place since the agent began
-  abbrev pub HadPages : List T → List (Act T) → ℕ → ℕ → Type 0
-  HadPages first acts a count = Since first a (λ pool. pool.pages ≡ count) acts
+  SawTaken first acts a n = Since first a (λ pool. pool.at n ≡ Out) acts
 
   -- the agent saw each number of so many pages taken since it began
   abbrev pub SawPagesTaken : List T → List (Act T) → ℕ → ℕ → Type 0
   SawPagesTaken first acts a count = (n : ℕ) → n < PAGE_ITEMS * count → SawTaken first acts a n
 
 module _ {T : Type 0} (Leaves : T → T → Type 0) (limit : Option ℕ) (first : List T) where
-  -- an agent pulls while it looks, and returns a value that reset leaves of its own
-  abbrev pub MayOperate : List (Act T) → Operation T → Type 0
-  MayOperate acts (Pull a n value) = Looks (acts_of a acts)
-  MayOperate acts (Return a n kept) = (value : T) × (last_value (acts_of a acts) ≡ Some value) × Leaves value kept
-
   -- an agent is refused for the limit where there are as many pages, and it saw each of their
   -- numbers taken
   abbrev pub MayRefuse : List (Act T) → ℕ → PullError → Type 0
@@ -119,14 +108,17 @@ module _ {T : Type 0} (Leaves : T → T → Type 0) (limit : Option ℕ) (first 
   MayRefuse acts a Memory = ⊤
   MayRefuse acts a Init = ⊤
 
-  -- the act may come after these: an agent opens once and before all else, writes where it holds a
-  -- number, does an operation that the ledger allows, and grows the pool or is refused while it
-  -- looks
+  -- the act may come after these: an agent opens once and before all else, and writes where it holds
+  -- a number. It pulls while it looks, and returns what reset leaves of its value, both as the ledger
+  -- allows. It grows the pool or is refused while it looks
   abbrev pub MayCome : List (Act T) → Act T → Type 0
   MayCome acts (Opens a) = acts_of a acts ≡ []
   MayCome acts (Writes a value) = (n : ℕ) × IsHolder acts a n
-  MayCome acts (Operates operation) =
-      MayFollow (opened first acts) (ledger_of acts) operation × MayOperate acts operation
+  MayCome acts (Operates (Pull a n value)) =
+      MayPull (opened first acts) (ledger_of acts) a n value × Looks (acts_of a acts)
+  MayCome acts (Operates (Return a n kept)) =
+      MayReturn (opened first acts) (ledger_of acts) a n
+      × ((value : T) × (last_value (acts_of a acts) ≡ Some value) × Leaves value kept)
   MayCome acts (Grows a values) = Looks (acts_of a acts) × IsGrowth limit (pages_of acts) values
   MayCome acts (Refused a cause) = Looks (acts_of a acts) × MayRefuse acts a cause
 
@@ -136,11 +128,12 @@ module _ {T : Type 0} (Leaves : T → T → Type 0) (limit : Option ℕ) (first 
   Run (act ∷ acts) = MayCome acts act × Run acts
 
 module _ {T : Type 0} (first : List T) where
-  -- what an agent had seen taken before it grew the pool, or was refused
+  -- what an agent had seen taken before it grew the pool; and before it was refused, of as many pages
+  -- as there were at some place since it began
   abbrev pub SawTakenBefore : List (Act T) → Act T → Type 0
   SawTakenBefore acts (Grows a values) = SawPagesTaken first acts a (pages_of acts)
   SawTakenBefore acts (Refused a cause) =
-      (count : ℕ) × (1 ≤ count) × SawPagesTaken first acts a count × HadPages first acts a count
+      (count : ℕ) × (1 ≤ count) × SawPagesTaken first acts a count × Since first a (λ pool. pool.pages ≡ count) acts
   SawTakenBefore acts _ = ⊤
 
   -- so it was at each growth and each refusal
@@ -150,13 +143,9 @@ module _ {T : Type 0} (first : List T) where
 
   -- each number that is out has one holder, and each other number none
   pub record HasHolders (acts : List (Act T)) : Type 0 where
-    pub some : (n : ℕ) → IsOut (pool_of first acts) n → (a : ℕ) × (value : T) × Holds acts a n value
-    pub out : (n a : ℕ) → IsHolder acts a n → IsOut (pool_of first acts) n
+    pub some : (n : ℕ) → (pool_of first acts).at n ≡ Out → (a : ℕ) × (value : T) × Holds acts a n value
+    pub out : (n a : ℕ) → IsHolder acts a n → (pool_of first acts).at n ≡ Out
     pub one : (n a b : ℕ) → IsHolder acts a n → IsHolder acts b n → a ≡ b
-
-  -- the numbers are those of the pages, of which there are no more than there may be
-  abbrev pub IsWhole : Option ℕ → List (Act T) → Type 0
-  IsWhole limit acts = IsPool limit (pool_of first acts)
 
 -- P is true after each beginning of these acts
 abbrev pub AtEachPlace : {T : Type 0} → (List (Act T) → Type 0) → List (Act T) → Type 0

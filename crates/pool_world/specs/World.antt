@@ -8,5 +8,4 @@ pub mod Solo
 pub mod StepBounds
 pub mod Enabled
 pub mod Headline
-pub mod Reachable
 pub mod Inside

@@ -12,7 +12,7 @@ use Rattle.object_pool_cores.specs.declared.sequential.stack_core.StackCore.{Sta
 use Rattle.object_pool_cores.specs.declared.sequential.none_core.NoneCore.{NoneCore}
 use Rattle.object_pool_cores.specs.declared.engine.kind.Kind.TheVariants as kind
 use Rattle.object_pool_cores.specs.Attach.{RefusesAttach}
-use Rattle.object_pool_cores.specs.Engine.{Telling, OnLinear, OnKind, linear_kind, makes_zero, WroteFront, tells_front}
+use Rattle.object_pool_cores.specs.Engine.{Telling, OnLinear, OnKind, linear_kind, makes_zero, tells_front}
 use Rattle.object_pool_cores.specs.Fresh.{PullsFresh}
 use Rattle.object_pool_cores.specs.Held.{Playing}
 use Rattle.object_pool_cores.specs.LastIn.{PullsLast, ReturnsLast, AttachesLast}
@@ -45,11 +45,11 @@ module _ (leaves : ℕ → ℕ → Type 0) where
   by_limit (Some pages) tells told = told
 
   -- nothing was read, and nothing written
-  pub WroteFront-none : (limit : Option ℕ) (before : Option (List ℕ))
-      → WroteFront (linear_kind limit) leaves before [] before
-  WroteFront-none limit before = by_limit limit (tells_front before [] before) (
-    record { pool = opening (replicate 32 0); held = [] },
-    record { pool = record { pages = refl; places = λ n. refl }; held = refl },
+  pub front-none : (limit : Option ℕ) (before : Option (List ℕ))
+      → OnKind leaves (linear_kind limit) (tells_front before [] before)
+  front-none limit before = by_limit limit (tells_front before [] before) (
+    opening (replicate 32 0),
+    record { pages = refl; places = λ n. refl },
     record {
       front = [];
       back = [];
@@ -109,12 +109,9 @@ module _ {R K : Type 0} (leaves : R → ℕ → ℕ → Type 0) (limit : Option 
       let first = opens.opening in
       let values = zeros first.values 32 first.answered.count first.answered.each in
       by_limit (leaves reset) limit tells (
-        record { pool = core_pool old.pool; held = old.held },
-        record {
-          pool = rw values at first.pool;
-          held = none;
-        },
-        told,
+        core_pool old.pool,
+        rw values at first.pool,
+        rw none at told,
       )
 
 module _ {R K : Type 0} (leaves : R → ℕ → ℕ → Type 0) (reset : R) where

@@ -2,15 +2,15 @@
 use Rattle.std.proofs.Common.{◌≡◌, ◌≢◌, ℕ, ◌+◌, ◌-◌, ◌*◌, ◌<◌, ◌≤◌, suc, zero, Option, refl, sym, ap, ◌∙◌, arith, inl}
 use Rattle.std.proofs.Common.{inr}
 use Rattle.std.proofs.lemmas.Bool.{cases_lt}
-use Rattle.pool_world.specs.Pool.{Pool, Place, Absent, Free, Out, IsOut, IsPool}
-use Rattle.object_pool_cores.specs.LeastChoice.{IsExhausted, IsLeastFree}
+use Rattle.pool_world.specs.Pool.{Pool, Place, Absent, Free, Out, IsPool}
+use Rattle.object_pool_cores.specs.LeastChoice.{IsExhausted, TakesLeast}
 use Rattle.object_pool_cores.specs.PageProbes.{one_if_out, out_below, out_count, ProbesFew, ProbesEach}
 use Rattle.object_pool_cores.specs.Inside.Numbered.{Numbered, FindsNone, Grows, ProbesPages, TakesLeastOf, listed_pool}
-use Rattle.object_pool_cores.proofs.LeastChoiceSteps.{IsFree-grown}
+use Rattle.object_pool_cores.proofs.LeastChoiceSteps.{free-first}
 
 module _ {T : Type 0} where
   -- a first part of the numbers is out
-  out_below-first : (pool : Pool T) (m n : ℕ) → ((k : ℕ) → k < m → IsOut pool k) → m ≤ n → m ≤ out_below pool n
+  out_below-first : (pool : Pool T) (m n : ℕ) → ((k : ℕ) → k < m → pool.at k ≡ Out) → m ≤ n → m ≤ out_below pool n
   out_below-first pool m zero out within = omega arith
   out_below-first pool m (suc n) out within = elim (cases_lt n m) [
     | inl last ↦
@@ -25,13 +25,13 @@ module _ {T : Type 0} where
   is_out Out there taken = refl
 
   -- the numbers below the least free one are out
-  out_count-least : (limit : Option ℕ) (pool : Pool T) (n : ℕ) (v : T) → IsPool limit pool → IsLeastFree pool n v
-      → n ≤ out_count pool
-  out_count-least limit pool n v sound least = elim (cases_lt n (32 * pool.pages)) [
+  out_count-least : (limit : Option ℕ) (pool : Pool T) (n : ℕ) (v : T) (new : Pool T) → IsPool limit pool
+      → TakesLeast pool n v new → n ≤ out_count pool
+  out_count-least limit pool n v new sound takes = elim (cases_lt n (32 * pool.pages)) [
     | inl within ↦
         out_below-first pool n (32 * pool.pages) (λ k below. is_out (pool.at k) (sound.inside k (omega arith))
-        (λ w free. let first = least.least k w free in absurd (omega arith))) (omega arith)
-    | inr past ↦ let never : Absent ≡ Free v = sym (sound.past n past) ∙ least.free in absurd cc
+        (λ w free. let first = takes.least k w free in absurd (omega arith))) (omega arith)
+    | inr past ↦ let never : Absent ≡ Free v = sym (sound.past n past) ∙ takes.free in absurd cc
   ]
 
   -- where none is free, each number is out
@@ -45,7 +45,7 @@ module _ {T : Type 0} where
       → TakesLeastOf old n v new
       → ProbesPages old 1 new → ProbesFew (listed_pool old) old.looked new.looked
   ProbesFew-taken old new n v sound takes looks =
-      let few = out_count-least old.limit (listed_pool old) n v sound takes.takes.least in
+      let few = out_count-least old.limit (listed_pool old) n v (listed_pool new) sound takes.takes in
       let onward = looks.onward in
       let each = looks.each in
       let starts = takes.starts in
@@ -70,8 +70,8 @@ module _ {T : Type 0} where
       → TakesLeastOf grown n v new → ProbesPages grown 1 new → ProbesFew (listed_pool old) old.looked new.looked
   ProbesFew-grown answers old middle grown new n v sound none looks grows same_start same_looked takes more =
       let few = out_count-exhausted old.limit (listed_pool old) sound none.exhausted in
-      let first = IsFree-grown old.limit answers (listed_pool old) (listed_pool grown) grows in
-      let least = takes.takes.least.least (32 * (listed_pool old).pages) first.0 first.1 in
+      let first = free-first old.limit answers (listed_pool old) (listed_pool grown) grows in
+      let least = takes.takes.least (32 * (listed_pool old).pages) first.0 first.1 in
       let each = looks.each in
       let last = more.each in
       let starts = none.starts in

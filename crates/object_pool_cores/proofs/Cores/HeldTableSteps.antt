@@ -4,11 +4,11 @@ use Rattle.std.proofs.Common.{slice_set, refl, sym, ap, ◌∙◌, arith, inl, i
 use Rattle.std.specs.Prelude.{Bool, unwrap_or, OnSome, is_some, option_map}
 use Rattle.object_pool_cores.specs.declared.sequential.item.Item.{Item}
 use Rattle.object_pool_cores.specs.Inside.SequentialItem.{with_value}
-use Rattle.object_pool_cores.specs.Held.{held_at, IsReplaced}
+use Rattle.object_pool_cores.specs.Held.{held_at}
 use Rattle.std.specs.List.{slice_get}
 use Rattle.std.proofs.lemmas.Bool.{cases_lt, cases_eq}
 use Rattle.std.proofs.lemmas.Option.{slice_get_past}
-use Rattle.object_pool_cores.specs.Inside.HeldTable.{listed}
+use Rattle.object_pool_cores.specs.Inside.HeldTable.{IsReplaced, listed}
 use Rattle.pool_world.proofs.Places.{slice_get-append_front, slice_get-append_back}
 
 module _ {X : Type 0} where

@@ -5,7 +5,7 @@ use Rattle.std.specs.List.{slice_get}
 use Rattle.std.proofs.lemmas.Bool.{cases_lt}
 use Rattle.std.proofs.lemmas.List.Elements.{All-set}
 use Rattle.std.proofs.lemmas.Option.{slice_get_within, get_or_from_slice_get}
-use Rattle.pool_world.specs.Pool.{Free, IsOut, IsSame, with_place, place_of}
+use Rattle.pool_world.specs.Pool.{Free, Out, IsSame, with_place, place_of}
 use Rattle.object_pool_cores.specs.LeastChoice.{TakesLeast}
 use Rattle.object_pool_cores.specs.Inside.Numbered.{Numbered, IsWellNumbered, AreWhole, HasNoneBelow, FindsNone}
 use Rattle.object_pool_cores.specs.Inside.Numbered.{TakesLeastOf}
@@ -25,16 +25,16 @@ module _ {T : Type 0} where
   pages_of pages whole = let count = length-laid_out pages whole in omega arith
 
   -- a number is out where its id is
-  pub IsOut-at : (pages : List (List (Option T))) (limit : Option ℕ) (start looked k id n : ℕ) (page : List (Option T))
+  pub out-at : (pages : List (List (Option T))) (limit : Option ℕ) (start looked k id n : ℕ) (page : List (Option T))
       → AreWhole pages → slice_get pages k ≡ Some page → id < 32 → n ≡ 32 * k + id
-      → IsOutId page id ↔ IsOut (listed_pool (items_of pages limit start looked)) n
-  IsOut-at pages limit start looked k id n page whole here within e =
+      → IsOutId page id ↔ ((listed_pool (items_of pages limit start looked)).at n ≡ Out)
+  out-at pages limit start looked k id n page whole here within e =
       let place = get-laid_out pages k id n page whole here within e in
       (λ out. ap place_of (place ∙ out), λ out. sym place ∙ place_of-out (slice_get (laid_out pages) n) out)
 
-  pub IsOut-within : (pages : List (List (Option T))) (limit : Option ℕ) (start looked n : ℕ) → AreWhole pages
-      → IsOut (listed_pool (items_of pages limit start looked)) n → n < 32 * length pages
-  IsOut-within pages limit start looked n whole out =
+  pub out-within : (pages : List (List (Option T))) (limit : Option ℕ) (start looked n : ℕ) → AreWhole pages
+      → (listed_pool (items_of pages limit start looked)).at n ≡ Out → n < 32 * length pages
+  out-within pages limit start looked n whole out =
       let within = slice_get_within (laid_out pages) n None (place_of-out (slice_get (laid_out pages) n) out) in
       let count = length-laid_out pages whole in omega arith
 
@@ -82,24 +82,22 @@ module _ {T : Type 0} where
       ∙ ap (λ p. laid_out (slice_set pages k p)) takes.taken ∙ set in
       let items = items_of pages limit start looked in
       record {
-        least = record {
-          free = ap place_of there;
-          least = λ m w free.
-              let lies = place_of-free (slice_get (laid_out pages) m) w free in
-              elim (cases_lt m n) [
-                | inr behind ↦ behind
-                | inl below ↦ elim (cases_lt m (32 * k)) [
-                  | inl before ↦ absurd (passed m w before lies)
-                  | inr inside ↦
-                      let lower : m - 32 * k < id = omega arith in
-                      let page_bound = takes.in_page in
-                      let in_page : m - 32 * k < 32 = omega arith in
-                      absurd
-                      (takes.least (m - 32 * k) w lower
-                      (sym (get-laid_out pages k (m - 32 * k) m page whole here in_page (omega arith)) ∙ lies))
-                ]
-              ];
-        };
+        free = ap place_of there;
+        least = λ m w free.
+            let lies = place_of-free (slice_get (laid_out pages) m) w free in
+            elim (cases_lt m n) [
+              | inr behind ↦ behind
+              | inl below ↦ elim (cases_lt m (32 * k)) [
+                | inl before ↦ absurd (passed m w before lies)
+                | inr inside ↦
+                    let lower : m - 32 * k < id = omega arith in
+                    let page_bound = takes.in_page in
+                    let in_page : m - 32 * k < 32 = omega arith in
+                    absurd
+                    (takes.least (m - 32 * k) w lower
+                    (sym (get-laid_out pages k (m - 32 * k) m page whole here in_page (omega arith)) ∙ lies))
+              ]
+            ];
         taken = rw changed (listed_pool-set items n None (slice_get_within (laid_out pages) n (Some v) there));
       }
 

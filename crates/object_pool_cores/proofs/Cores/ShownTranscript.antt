@@ -9,8 +9,8 @@ use Rattle.object_pool_cores.specs.declared.sequential.reply.Reply.{Reply}
 use Rattle.object_pool_cores.specs.Held.{Playing, held_at}
 use Rattle.object_pool_cores.specs.Lines.{with_last_line}
 use Rattle.object_pool_cores.specs.Replies.{Plays, AfterWrite, AfterReturn, AfterForget}
-use Rattle.object_pool_cores.specs.Served.{AppendsPart, Serves, ServesAll, ServesFront, ServesLines, ServesAllLines}
-use Rattle.object_pool_cores.specs.Served.{ServesFrontLines, StopsWriting}
+use Rattle.object_pool_cores.specs.Served.{AppendsPart, ServesLines, ServesAllLines, ServesFrontLines}
+use Rattle.object_pool_cores.specs.Served.{StopsWriting}
 use Rattle.object_pool_cores.specs.Transcript.{AnswersLine, Transcript}
 use Rattle.std.specs.Prelude.{OnOk}
 use Rattle.std.proofs.Common.{Err}
@@ -85,23 +85,23 @@ module _ {C P : Type 0} (show : C → P) (IsSet : C → Type 0) (pulls : PullSte
       → AnswersLine pulls gives attaches old line text new
       → AnswersLine shown_pulls shown_gives shown_attaches (shown old) line text (shown new) × IsSet new.pool
   answers_shown old new line text set (inl answer) =
-      let answered = answer.answered in
-      let played = plays_shown old new answer.command answered.reply set answered.played in (
-        inl (record {
-          command = answer.command;
-          written = answer.written;
-          answered = record {
+      let answered = answer.2 in
+      let played = plays_shown old new answer.0 answered.reply set answered.played in (
+        inl (
+          answer.0,
+          answer.1,
+          record {
             reply = answered.reply;
             words = answered.words;
             played = played.0;
             said = answered.said;
             whole = answered.whole;
-          };
-        }),
+          },
+        ),
         played.1,
       )
   answers_shown old new line text set (inr bad) =
-      (inr (record { bad = bad.bad; same = ap shown bad.same; said = bad.said }), rw bad.same set)
+      (inr (bad.0, ap shown bad.1, bad.2), rw bad.1 set)
 
   transcript_shown : (old new : Playing C ℕ) (lines : List (List ℕ)) (text : List ℕ) → IsSet old.pool
       → Transcript pulls gives attaches old lines text new
@@ -160,15 +160,15 @@ module _ {C P : Type 0} (show : C → P) (IsSet : C → Type 0) (pulls : PullSte
       (result : Result (Unit {0}) EngineError) (unread left before after : Option (List ℕ)) where
     pub Ends-served : OnOk result
         ((bytes : List ℕ) × Consumes unread left bytes × IsAtEnd left
-        × ServesAll pulls gives attaches old before bytes after)
+        × ServesAllLines pulls gives attaches Appends old before bytes after)
         → (result ≡ Err Read → (bytes rest : List ℕ) × (last : Playing C ℕ) × Consumes unread left bytes
-        × Serves pulls gives attaches old before bytes rest last after)
+        × ServesLines pulls gives attaches Appends old before bytes rest last after)
         →
         (result ≡ Err engine.Write → (bytes : List ℕ) × Consumes unread left bytes
         × StopsWriting pulls gives attaches (IsAtEnd left) old before bytes after)
         →
         (result ≡ Err Memory → (bytes : List ℕ) × Consumes unread left bytes
-        × ServesFront pulls gives attaches old before bytes after)
+        × ServesFrontLines pulls gives attaches Appends old before bytes after)
         → Ends kind leaves result unread left before after
     Ends-served ok read write memory = record {
       ok = OnOk-map result (λ served. (

@@ -1,8 +1,7 @@
 -- The items of a sequential linear pool, listed by their numbers.
 use Rattle.std.specs.Prelude.{◌≡◌, ℕ, ◌+◌, ◌-◌, ◌*◌, ◌/◌, ◌%◌, ◌<◌, ◌≤◌, Option, Some, None, List, length, slice_get}
 use Rattle.std.specs.Prelude.{All, [], ◌∷◌, ◌++◌}
-use Rattle.pool_world.specs.Pool.{Pool, IsSame, AllowsPages, place_of}
-use Rattle.pool_world.specs.Move as move
+use Rattle.pool_world.specs.Pool.{Pool, IsSame, AllowsPages, IsGrowth, place_of, after_growth}
 use Rattle.object_pool_cores.specs.LeastChoice.{IsExhausted, TakesLeast}
 use Rattle.object_pool_cores.specs.PageProbes.{ProbesEach}
 use Rattle.pool_parts.specs.declared.page.TheConstants.{PAGE_ITEMS}
@@ -64,8 +63,8 @@ module _ {T : Type 0} where
   pub record Grows (limit : Option ℕ) (answers : Option T → Type 0) (old new : Pool T) : Type 0 where
     pub values : List T
     pub answered : All (λ v. answers (Some v)) values
-    pub legal : move.IsGrowth limit old.pages values
-    pub grown : IsSame new (move.after_growth old values)
+    pub legal : IsGrowth limit old.pages values
+    pub grown : IsSame new (after_growth old values)
 
   -- the values of the free items, in the order of their numbers
   abbrev pub free_values : List (Option T) → List T

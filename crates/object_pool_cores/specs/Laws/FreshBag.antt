@@ -12,5 +12,5 @@ module _ {T I : Type 0} where
       (answer : Result (Item T) PullError) → NonePulls answers old answer new
       → PullsFromBag answers [] (pulled_value answer) []
   NonePulls-from_bag answers old new (Ok item) pulls =
-      inr (record { none = refl; answer = pulls.1.1; further = All-nil (λ w. answers (Some w)) })
+      inr (refl, pulls.1.1, All-nil (λ w. answers (Some w)))
   NonePulls-from_bag answers old new (Err cause) pulls = (refl, refl)

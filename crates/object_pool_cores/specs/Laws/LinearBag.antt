@@ -1,5 +1,6 @@
 -- Each step of the linear core is a case of the common relation.
 use Rattle.std.proofs.Common.{◌≡◌, ℕ, ◌-◌, ◌*◌, ◌<◌, Option, Some, None, [], length, Result, Ok, Err, slice_set, sym}
+use Rattle.std.proofs.Common.{All}
 use Rattle.std.proofs.Common.{ap, ◌∙◌, inl, inr}
 use Rattle.std.specs.List.{slice_get}
 use Rattle.std.proofs.lemmas.Option.{get_or_from_slice_get, slice_get_within}
@@ -7,10 +8,9 @@ use Rattle.pool_parts.specs.declared.pull_error.PullError.{PullError}
 use Rattle.object_pool_cores.specs.declared.sequential.item.Item.{Item}
 use Rattle.object_pool_cores.specs.declared.sequential.linear_core.LinearCore.{LinearCore}
 use Rattle.object_pool_cores.specs.Inside.SequentialItem.{item_value}
-use Rattle.pool_world.specs.Pool.{Free, Out, IsFree, IsSame, with_place, place_of}
-use Rattle.pool_world.specs.Move.{after_growth}
+use Rattle.pool_world.specs.Pool.{Free, Out, IsSame, with_place, place_of, after_growth}
 use Rattle.object_pool_cores.specs.LeastChoice.{IsExhausted, TakesLeast, GrowsFirst, PullsLeast, PullsItem}
-use Rattle.object_pool_cores.specs.Bag.{IsPutIn, IsFresh, PullsFromBag, ReturnsToBag, pulled_value}
+use Rattle.object_pool_cores.specs.Bag.{IsPutIn, PullsFromBag, ReturnsToBag, pulled_value}
 use Rattle.object_pool_cores.specs.Inside.Numbered.{Numbered, listed_pool, free_values}
 use Rattle.object_pool_cores.specs.Linear.{LinearPulls, LinearGives}
 use Rattle.object_pool_cores.specs.Laws.PoolSteps.{at-with_place, free-grown}
@@ -41,26 +41,26 @@ module _ {T : Type 0} where
   IsPutIn-taken : (old new : Numbered T) (n : ℕ) (v : T) → TakesLeast (listed_pool old) n v (listed_pool new)
       → IsPutIn v (free_values new.places) (free_values old.places)
   IsPutIn-taken old new n v takes =
-      let here = place_of-free (slice_get old.places n) v takes.least.free in
+      let here = place_of-free (slice_get old.places n) v takes.free in
       let list = list_of-with_place old new n None (within_places old n (Some v) here) takes.taken in
       rw list (free_values-taken old.places n v here)
 
   -- a page more was pulled from
-  IsFresh-grown : (limit : Option ℕ) (answers : Option T → Type 0) (old new : Numbered T) (n : ℕ) (v : T)
+  fresh-grown : (limit : Option ℕ) (answers : Option T → Type 0) (old new : Numbered T) (n : ℕ) (v : T)
       → GrowsFirst limit answers (listed_pool old) n v (listed_pool new)
-      → IsFresh answers (free_values old.places) v (free_values new.places)
-  IsFresh-grown limit answers old new n v grows = record {
-    none = free_values-exhausted old grows.exhausted;
-    answer = answered n v grows.takes.least.free;
-    further = free_values-All (λ w. answers (Some w)) new.places (λ m w e.
+      → (free_values old.places ≡ []) × answers (Some v) × All (λ w. answers (Some w)) (free_values new.places)
+  fresh-grown limit answers old new n v grows = (
+    free_values-exhausted old grows.exhausted,
+    answered n v grows.takes.free,
+    free_values-All (λ w. answers (Some w)) new.places (λ m w e.
         elim (at-with_place (after_growth (listed_pool old) grows.values) n m Out (Free w)
         (sym (grows.takes.taken.places m) ∙ ap place_of e)) [
           | inl here ↦ let out : Out ≡ Free w = here.1 in absurd cc
           | inr other ↦ answered m w other.1
-        ]);
-  }
+        ]),
+  )
     where
-      answered : (m : ℕ) (w : T) → IsFree (after_growth (listed_pool old) grows.values) m w → answers (Some w)
+      answered : (m : ℕ) (w : T) → (after_growth (listed_pool old) grows.values).at m ≡ Free w → answers (Some w)
       answered m w free =
           let there = free-grown (listed_pool old) grows.values m w grows.exhausted free in
           let k = m - 32 * (listed_pool old).pages in
@@ -75,7 +75,7 @@ module _ {T : Type 0} where
       by_choice : PullsLeast limit answers (listed_pool old) (Ok (pulled.0, item_value item)) (listed_pool new)
           → PullsFromBag answers (free_values old.places) (Ok (item_value item)) (free_values new.places)
       by_choice (inl takes) = inl (IsPutIn-taken old new pulled.0 (item_value item) takes)
-      by_choice (inr grows) = inr (IsFresh-grown limit answers old new pulled.0 (item_value item) grows)
+      by_choice (inr grows) = inr (fresh-grown limit answers old new pulled.0 (item_value item) grows)
   pulls_from_bag limit answers old new (Err cause) refused = (
     free_values-exhausted old refused.exhausted,
     free_values-exhausted new

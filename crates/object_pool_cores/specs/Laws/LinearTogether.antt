@@ -8,8 +8,7 @@ use Rattle.object_pool_cores.specs.declared.sequential.item.Item.{Item}
 use Rattle.object_pool_cores.specs.declared.sequential.linear_core.LinearCore.{LinearCore}
 use Rattle.object_pool_cores.specs.Attach.{RefusesAttach}
 use Rattle.object_pool_cores.specs.Inside.SequentialItem.{item_value, item_number, with_value}
-use Rattle.pool_world.specs.Pool.{Pool, Absent, Free, Out, IsFree, IsOut, IsPool, IsSame, with_place}
-use Rattle.pool_world.specs.Move.{after_growth}
+use Rattle.pool_world.specs.Pool.{Pool, Absent, Free, Out, IsPool, IsSame, with_place, after_growth}
 use Rattle.object_pool_cores.specs.LeastChoice.{PullsLeast}
 use Rattle.object_pool_cores.specs.Linear.{core_pool, limit_of, LinearPulls, LinearGives, HeldTogether, IsOutOf}
 use Rattle.object_pool_cores.specs.Laws.PoolSteps.{with_place-same, with_place-other, grown-old}
@@ -18,11 +17,11 @@ use Rattle.object_pool_cores.specs.Laws.HeldItems.{slice_get-from_set, slice_get
 module _ {T : Type 0} where
   -- a pull leaves what was out, and its own number comes to it
   pub record LeavesOut (old : Pool T) (n : ℕ) (new : Pool T) : Type 0 where
-    pub was_in : IsOut old n → ⊥
-    pub is_out : IsOut new n
-    pub others : (m : ℕ) → IsOut old m → IsOut new m
+    pub was_in : old.at n ≡ Out → ⊥
+    pub is_out : new.at n ≡ Out
+    pub others : (m : ℕ) → old.at m ≡ Out → new.at m ≡ Out
 
-  LeavesOut-taken : (old : Pool T) (n : ℕ) (v : T) (new : Pool T) → IsFree old n v
+  LeavesOut-taken : (old : Pool T) (n : ℕ) (v : T) (new : Pool T) → old.at n ≡ Free v
       → IsSame new (with_place old n Out) → LeavesOut old n new
   LeavesOut-taken old n v new free taken = record {
     was_in = λ out. let both : Out ≡ Free v = sym out ∙ free in absurd cc;
@@ -35,11 +34,11 @@ module _ {T : Type 0} where
   LeavesOut-pulled : (limit : Option ℕ) (answers : Option T → Type 0) (old : Pool T) (n : ℕ) (v : T)
       (new : Pool T) → IsPool limit old → PullsLeast limit answers old (Ok (n, v)) new → LeavesOut old n new
   LeavesOut-pulled limit answers old n v new pool (inl takes) =
-      LeavesOut-taken old n v new takes.least.free takes.taken
+      LeavesOut-taken old n v new takes.free takes.taken
   LeavesOut-pulled limit answers old n v new pool (inr grows) =
-      let taken = LeavesOut-taken (after_growth old grows.values) n v new grows.takes.least.free grows.takes.taken in
-      let still : (m : ℕ) → IsOut old m
-      → IsOut (after_growth old grows.values) m = λ m out. elim (cases_lt m (32 * old.pages)) [
+      let taken = LeavesOut-taken (after_growth old grows.values) n v new grows.takes.free grows.takes.taken in
+      let still : (m : ℕ) → old.at m ≡ Out
+      → (after_growth old grows.values).at m ≡ Out = λ m out. elim (cases_lt m (32 * old.pages)) [
         | inl inside ↦ grown-old old grows.values m inside ∙ out
         | inr past ↦ let both : Out ≡ Absent = sym out ∙ pool.past m past in absurd cc
       ] in
@@ -56,7 +55,7 @@ module _ {T I R K : Type 0} where
 
   -- an item that is out of one core is out of another that leaves its number out
   IsOutOf-kept : (old new : LinearCore T I R K) (item : Item T)
-      → ((n : ℕ) → item_number item ≡ Some n → IsOut (core_pool old) n → IsOut (core_pool new) n)
+      → ((n : ℕ) → item_number item ≡ Some n → (core_pool old).at n ≡ Out → (core_pool new).at n ≡ Out)
       → IsOutOf old item → IsOutOf new item
   IsOutOf-kept old new item keeps out = (out.0, out.1, keeps out.0 out.1 out.2)
 

@@ -7,9 +7,8 @@ use Rattle.std.specs.List.{slice_get}
 use Rattle.std.proofs.lemmas.Bool.{cases_lt, cases_eq}
 use Rattle.std.proofs.lemmas.List.{length-map}
 use Rattle.std.proofs.lemmas.Option.{get_or_from_slice_get, slice_get_within, slice_get_cases, slice_get_past}
-use Rattle.pool_world.specs.Pool.{IsPool, IsSame, AllowsPages, free_with, place_of}
+use Rattle.pool_world.specs.Pool.{IsPool, IsSame, AllowsPages, free_with, place_of, after_growth}
 use Rattle.pool_world.specs.Pool.{with_place}
-use Rattle.pool_world.specs.Move.{after_growth}
 use Rattle.pool_world.proofs.Places.{place_of-there, slice_get-set_same, slice_get-set_other, slice_get-append_front}
 use Rattle.pool_world.proofs.Places.{slice_get-append_back}
 use Rattle.object_pool_cores.specs.Laws.PoolSteps.{with_place-same, with_place-other, grown-old, grown-new}

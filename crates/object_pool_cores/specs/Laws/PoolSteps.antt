@@ -3,8 +3,7 @@ use Rattle.std.proofs.Common.{◌≡◌, ◌≢◌, ℕ, ◌-◌, ◌*◌, ◌<�
 use Rattle.std.proofs.Common.{inr, ◌⊎◌}
 use Rattle.std.specs.List.{slice_get}
 use Rattle.std.proofs.lemmas.Bool.{cases_lt, cases_eq, eq-eqb, ne_eqb, lt-ltb, le-ltb}
-use Rattle.pool_world.specs.Pool.{Pool, Place, Free, IsFree, IsSame, free_with, with_place}
-use Rattle.pool_world.specs.Move.{after_growth}
+use Rattle.pool_world.specs.Pool.{Pool, Place, Free, IsSame, free_with, with_place, after_growth}
 use Rattle.object_pool_cores.specs.LeastChoice.{IsExhausted}
 
 module _ {T : Type 0} where
@@ -51,7 +50,7 @@ module _ {T : Type 0} where
 
   -- what is free in a page more is one of its values, where nothing was free before
   pub free-grown : (pool : Pool T) (values : List T) (n : ℕ) (v : T) → IsExhausted pool
-      → IsFree (after_growth pool values) n v
+      → (after_growth pool values).at n ≡ Free v
       → (32 * pool.pages ≤ n) × (slice_get values (n - 32 * pool.pages) ≡ Some v)
   free-grown pool values n v exhausted free = elim (cases_lt n (32 * pool.pages)) [
     | inl old ↦ absurd (exhausted n v (sym (grown-old pool values n old) ∙ free))

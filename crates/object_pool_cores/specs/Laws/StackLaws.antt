@@ -1,6 +1,6 @@
 -- Each step of the stack core is a case of the common relation,
 -- and items that are held together each bring a room.
-use Rattle.std.proofs.Common.{◌≡◌, ℕ, Option, Some, None, List, [], ◌∷◌, ◌++◌, Result, Ok, Err, slice_set, refl}
+use Rattle.std.proofs.Common.{◌≡◌, ℕ, Option, Some, None, List, [], ◌∷◌, ◌++◌, Result, Ok, Err, slice_set, refl, ◌⊎◌}
 use Rattle.std.proofs.Common.{subst, inl, inr}
 use Rattle.std.specs.Prelude.{IsTrue}
 use Rattle.std.specs.List.{slice_get}
@@ -10,20 +10,21 @@ use Rattle.object_pool_cores.specs.declared.sequential.item.Item.{Item}
 use Rattle.object_pool_cores.specs.declared.sequential.stack_core.StackCore.{StackCore}
 use Rattle.object_pool_cores.specs.Inside.SequentialItem.{item_value, has_room, with_value}
 use Rattle.object_pool_cores.specs.Bag.{PullsFromBag, ReturnsToBag, pulled_value}
-use Rattle.object_pool_cores.specs.LastIn.{TakesLast, PullsLast}
+use Rattle.pool_parts.specs.LastIn.{TakesFirst, StaysEmpty}
+use Rattle.object_pool_cores.specs.LastIn.{PullsLast}
 use Rattle.object_pool_cores.specs.Stack.{StackPulls, StackGives, HoldRooms, kept_of}
 use Rattle.object_pool_cores.specs.Laws.HeldItems.{slice_get-from_set, slice_get-from_push}
 
 module _ {T : Type 0} where
   taken_from_bag : (answers : Option T → Type 0) (old : List T) (v : T) (new : List T)
-      → TakesLast answers old v new → PullsFromBag answers old (Ok v) new
+      → TakesFirst old v new ⊎ (StaysEmpty old new × answers (Some v)) → PullsFromBag answers old (Ok v) new
   taken_from_bag answers old v new (inl first) =
       inl (record { front = []; back = new; without = refl; within = first })
-  taken_from_bag answers old v new (inr fresh) = inr (record {
-    none = fresh.0.0;
-    answer = fresh.1;
-    further = rw fresh.0.1 (All-nil (λ w. answers (Some w)));
-  })
+  taken_from_bag answers old v new (inr fresh) = inr (
+    fresh.0.0,
+    fresh.1,
+    rw fresh.0.1 (All-nil (λ w. answers (Some w))),
+  )
 
   pulled_from_bag : (answers : Option T → Type 0) (old : List T) (answer : Result (Item T) PullError)
       (new : List T) → PullsLast answers old answer new → PullsFromBag answers old (pulled_value answer) new

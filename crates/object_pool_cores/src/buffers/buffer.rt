@@ -28,11 +28,11 @@ pub struct Buffer<'p, I: Init<T, K>, R: Reset<T, K>, T: Drop = Vec<u8>, K: Clean
 impl<'p, I: Init<Vec<u8>, Empty>, R: Reset<Vec<u8>, Empty>> Buffer<'p, I, R> {
     ghost use Rattle.pool_parts.specs.declared.page.TheConstants.{PAGE_ITEMS};
     ghost use Rattle.pool_parts.specs.declared.pull_error.PullError.TheVariants.{Memory};
-    ghost use Rattle.object_pool_cores.specs.Buffers.{buffer_item, bytes_of, capacity_of, page_of, buffer_id};
+    ghost use Rattle.object_pool_cores.specs.Buffers.{bytes_of, capacity_of, page_of, buffer_id};
 
     /// Makes a buffer of a pulled item.
     pub(super) fn new(item: LinearReusable<'p, Vec<u8>, I, R, Empty>) -> Buffer<'p, I, R>
-        ensures { buffer_item result ≡ item.entry }
+        ensures { result.item ≡ item.entry }
     {
         Buffer { item }
     }

@@ -1,9 +1,9 @@
 //! The command that a line writes.
-ghost use Rattle.std.specs.Prelude.{◌≡◌, ◌≤◌, ◌<◌, ◌++◌, ◌∷◌, ℕ, List, All, MatchOption, length};
+ghost use Rattle.std.specs.Prelude.{◌≡◌, ◌≢◌, ◌≤◌, ◌<◌, ◌++◌, ◌∷◌, ℕ, List, All, MatchOption, length};
 ghost use Rattle.std.specs.Char.{IsAsciiDigit};
 ghost use Rattle.std.specs.Str.Parse.{digits_value};
 ghost use Rattle.object_pool_cores.specs.declared.engine.command_text.TheConstants.{MOST_DIGITS};
-ghost use Rattle.object_pool_cores.specs.CommandText.{IsNumber, HasNoSpace, AreNumbers, IsCommand, IsBadLine};
+ghost use Rattle.object_pool_cores.specs.CommandText.{IsNumber, AreNumbers, IsCommand, IsBadLine};
 
 use crate::sequential::Command;
 
@@ -52,8 +52,8 @@ fn numbers_of(text: &[u8]) -> Option<(u32, u32)>
 
 /// Splits a text into what comes before its first space and what comes after it.
 fn around_space(text: &[u8]) -> Option<(&[u8], &[u8])>
-    ensures { MatchOption result (HasNoSpace text.now)
-        (λ both. HasNoSpace both.0.now × (text.now ≡ both.0.now ++ 32 ∷ both.1.now)) }
+    ensures { MatchOption result (All (λ byte. byte ≢ 32) text.now)
+        (λ both. All (λ byte. byte ≢ 32) both.0.now × (text.now ≡ both.0.now ++ 32 ∷ both.1.now)) }
 {
     for (index, byte) in text.iter().enumerate() {
         if *byte == b' ' {

@@ -4,8 +4,8 @@ ghost use Rattle.std.specs.Io.KnownBytes.{Appends, Consumes, IsAtEnd, Keeps};
 ghost use Rattle.object_pool_cores.specs.declared.engine.session.TheConstants.{CHUNK};
 ghost use Rattle.object_pool_cores.specs.Inside.Buffered.{IsBuffered, IsOpenLine};
 ghost use Rattle.object_pool_cores.specs.Transcript.{AnswersLine};
-ghost use Rattle.object_pool_cores.specs.Served.{AnswersLast, AnswersLastInPart, AppendsPart, Serves, ServesAll};
-ghost use Rattle.object_pool_cores.specs.Served.{ServesFront, ServesPart, StopsWriting};
+ghost use Rattle.object_pool_cores.specs.Served.{AnswersLastLine, AppendsPart, ServesLines, ServesAllLines};
+ghost use Rattle.object_pool_cores.specs.Served.{ServesFrontLines, StopsWriting};
 
 use crate::engine::EngineError;
 use crate::engine::answer::answer_of;
@@ -42,20 +42,20 @@ pub(super) fn serve<H: Wait, P: SequentialPool<u32>, R: Read, W: Write>(
     ensures ok { OnOk result ((bytes : List ℕ)
         × Consumes (R.remaining input.old) (R.remaining input.new) bytes
         × IsAtEnd (R.remaining input.new)
-        × ServesAll P.pulls P.gives P.attaches player.old (W.contents output.old) bytes
+        × ServesAllLines P.pulls P.gives P.attaches Appends player.old (W.contents output.old) bytes
         (W.contents output.new)) }
     ensures read { result ≡ Err EngineError.Read → (bytes rest : List ℕ) × (last : _)
         × Consumes (R.remaining input.old) (R.remaining input.new) bytes
-        × Serves P.pulls P.gives P.attaches player.old (W.contents output.old) bytes rest last
-        (W.contents output.new) }
+        × ServesLines P.pulls P.gives P.attaches Appends player.old (W.contents output.old) bytes
+        rest last (W.contents output.new) }
     ensures write { result ≡ Err EngineError.Write
         → (bytes : List ℕ) × Consumes (R.remaining input.old) (R.remaining input.new) bytes
         × StopsWriting P.pulls P.gives P.attaches (IsAtEnd (R.remaining input.new)) player.old
         (W.contents output.old) bytes (W.contents output.new) }
     ensures memory { result ≡ Err EngineError.Memory
         → (bytes : List ℕ) × Consumes (R.remaining input.old) (R.remaining input.new) bytes
-        × ServesFront P.pulls P.gives P.attaches player.old (W.contents output.old) bytes
-        (W.contents output.new) }
+        × ServesFrontLines P.pulls P.gives P.attaches Appends player.old (W.contents output.old)
+        bytes (W.contents output.new) }
 {
     let mut line = LineBuffer::new();
     let mut chunk = [0u8; CHUNK];
@@ -89,16 +89,14 @@ fn serve_chunk<P: SequentialPool<u32>, W: Write>(
     requires { length bytes.now ≤ CHUNK }
     ensures ok { OnOk result ((rest : List ℕ) → IsOpenLine rest line.old
         → (more : List ℕ) × IsOpenLine more line.new
-        × Serves P.pulls P.gives P.attaches player.old (W.contents output.old)
+        × ServesLines P.pulls P.gives P.attaches Appends player.old (W.contents output.old)
         (rest ++ bytes.now) more player.new (W.contents output.new)) }
     ensures write { result ≡ Err EngineError.Write → (rest : List ℕ) → IsOpenLine rest line.old
-        → ServesPart P.pulls P.gives P.attaches player.old (W.contents output.old)
-        (rest ++ bytes.now)
-        (W.contents output.new) }
+        → ServesFrontLines P.pulls P.gives P.attaches AppendsPart player.old (W.contents output.old)
+        (rest ++ bytes.now) (W.contents output.new) }
     ensures memory { result ≡ Err EngineError.Memory → (rest : List ℕ) → IsOpenLine rest line.old
-        → ServesFront P.pulls P.gives P.attaches player.old (W.contents output.old)
-        (rest ++ bytes.now)
-        (W.contents output.new) }
+        → ServesFrontLines P.pulls P.gives P.attaches Appends player.old (W.contents output.old)
+        (rest ++ bytes.now) (W.contents output.new) }
     ensures read { result ≢ Err EngineError.Read }
 {
     replies.clear();
@@ -127,10 +125,11 @@ fn feed<P: SequentialPool<u32>>(
     requires replies { replies.old.items ≡ [] }
     ensures ok { OnOk result ((rest : List ℕ) → IsOpenLine rest line.old
         → (more : List ℕ) × IsOpenLine more line.new
-        × Serves P.pulls P.gives P.attaches player.old (Some [])
+        × ServesLines P.pulls P.gives P.attaches Appends player.old (Some [])
         (rest ++ bytes.now) more player.new (Some replies.new.items)) }
     ensures err { OnErr result ((rest : List ℕ) → IsOpenLine rest line.old
-        → ServesFront P.pulls P.gives P.attaches player.old (Some []) (rest ++ bytes.now)
+        → ServesFrontLines P.pulls P.gives P.attaches Appends player.old (Some [])
+        (rest ++ bytes.now)
         (Some replies.new.items)) }
 {
     for byte in bytes {
@@ -158,11 +157,11 @@ fn serve_last<P: SequentialPool<u32>, W: Write>(
     output: &mut W,
 ) -> Result<(), EngineError>
     ensures ok { OnOk result ((rest : List ℕ) → IsBuffered rest line.now
-        → AnswersLast P.pulls P.gives P.attaches player.old (W.contents output.old) rest
+        → AnswersLastLine P.pulls P.gives P.attaches Appends player.old (W.contents output.old) rest
         (W.contents output.new)) }
     ensures write { result ≡ Err EngineError.Write → (rest : List ℕ) → IsBuffered rest line.now
-        → AnswersLastInPart P.pulls P.gives P.attaches player.old (W.contents output.old) rest
-        (W.contents output.new) }
+        → AnswersLastLine P.pulls P.gives P.attaches AppendsPart player.old (W.contents output.old)
+        rest (W.contents output.new) }
     ensures memory { result ≡ Err EngineError.Memory
         → Keeps (W.contents output.old) (W.contents output.new) }
     ensures read { result ≢ Err EngineError.Read }

@@ -3,8 +3,9 @@ ghost use Rattle.std.specs.Prelude.{◌≡◌, ◌≢◌, ◌<◌, ℕ, is_some,
 ghost use Rattle.std.specs.Prelude.{Some, None, IfNone, OnOk, OnSome};
 ghost use Rattle.std.specs.Option.{option_copied};
 ghost use Rattle.std.specs.HashMap.{get};
-ghost use Rattle.object_pool_cores.specs.Inside.SequentialItem.{with_value};
-ghost use Rattle.object_pool_cores.specs.Held.{held_at, value_of, IsReplaced};
+ghost use Rattle.object_pool_cores.specs.Inside.SequentialItem.{item_value, with_value};
+ghost use Rattle.object_pool_cores.specs.Held.{held_at};
+ghost use Rattle.object_pool_cores.specs.Inside.HeldTable.{IsReplaced};
 
 use crate::sequential::{Item, RunError};
 use std::alloc::Global;
@@ -44,7 +45,7 @@ impl<T: Drop> HeldItems<T> {
 
     /// Returns the value that is held at an index, if one is.
     pub(crate) fn get(&self, index: usize) -> Option<&T>
-        ensures { option_copied result ≡ value_of (held_at self.now.items index) }
+        ensures { option_copied result ≡ option_map item_value (held_at self.now.items index) }
     {
         match self.items.get(&index) {
             Some(item) => Some(item),

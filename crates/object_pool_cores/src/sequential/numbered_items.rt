@@ -7,8 +7,7 @@ ghost use Rattle.object_pool_cores.specs.PageProbes.{ProbesEach};
 ghost use Rattle.object_pool_cores.specs.OnePage.{IsMadePage, HasNoFreeId};
 ghost use Rattle.object_pool_cores.specs.Inside.Numbered.{AreWhole, HasNoneBelow, laid_out};
 ghost use Rattle.pool_parts.specs.Refusal.{RefusesMaking};
-ghost use Rattle.pool_world.specs.Pool.{IsOut, IsPool, IsSame};
-ghost use Rattle.pool_world.specs.Move.{after_return};
+ghost use Rattle.pool_world.specs.Pool.{Free, Out, IsPool, IsSame, with_place};
 
 use crate::sequential::{CorePage, Item};
 use pool_parts::PullError;
@@ -112,7 +111,7 @@ impl<T: Drop, K: Clean<T>> NumberedItems<T, K> {
 
     /// Returns whether the item at a number is in use.
     pub(crate) fn is_out(&self, number: u128) -> bool
-        ensures { IsTrue result ↔ IsOut (listed_pool self.now) number }
+        ensures { IsTrue result ↔ ((listed_pool self.now).at number ≡ Out) }
     {
         match page_and_id(number, self.pages.len()) {
             Some((page, id)) => self.pages[page].is_out(id),
@@ -122,10 +121,10 @@ impl<T: Drop, K: Clean<T>> NumberedItems<T, K> {
 
     /// Puts a value at a number that is in use, which is free from then on.
     pub(crate) fn put(&mut self, number: u128, value: T)
-        requires out { IsOut (listed_pool self.old) number }
+        requires out { (listed_pool self.old).at number ≡ Out }
         requires meets { K.meets value }
         ensures returned { IsSame (listed_pool self.new)
-            (after_return (listed_pool self.old) number value) }
+            (with_place (listed_pool self.old) number (Free value)) }
         ensures limit { self.new.limit ≡ self.old.limit }
         ensures start { self.new.start ≡ min self.old.start (number / PAGE_ITEMS) }
         ensures looked { self.new.looked ≡ self.old.looked }

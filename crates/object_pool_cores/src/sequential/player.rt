@@ -1,7 +1,8 @@
 //! A player of commands on a sequential pool.
-ghost use Rattle.std.specs.Prelude.{◌≡◌, ◌<◌, ◌≤◌, ◌+◌, All, Option, Some, None, [], IfOk, OnErr, IsOk, IsErr, length, vec_capacity};
+ghost use Rattle.std.specs.Prelude.{◌≡◌, ◌<◌, ◌≤◌, ◌+◌, All, Option, option_map, Some, None, [], IfOk, OnErr, IsOk, IsErr, length, vec_capacity};
 ghost use Rattle.std.specs.Option.{option_copied};
-ghost use Rattle.object_pool_cores.specs.Held.{held_at, value_of};
+ghost use Rattle.object_pool_cores.specs.Held.{held_at};
+ghost use Rattle.object_pool_cores.specs.Inside.SequentialItem.{item_value};
 ghost use Rattle.object_pool_cores.specs.Replies.{Plays, Ran, MayTakeMemory};
 
 use crate::sequential::held_items::HeldItems;
@@ -64,7 +65,7 @@ impl<T: Drop, P: SequentialPool<T>> Player<T, P> {
 
     /// Returns the value that is held at an index, if there is one.
     pub fn held(&self, index: usize) -> Option<&T>
-        ensures { option_copied result ≡ value_of (held_at self.now.held index) }
+        ensures { option_copied result ≡ option_map item_value (held_at self.now.held index) }
     {
         self.held.get(index)
     }

@@ -1,20 +1,31 @@
 -- What a world reads as, as its pages change.
-use Rattle.std.proofs.Common.{◌≡◌, ◌≢◌, ◌⊎◌, inl, inr, ℕ, suc, zero, ◌+◌, ◌-◌, ◌*◌, ◌/◌, ◌%◌, ◌<◌, Bool, false, Option}
-use Rattle.std.proofs.Common.{Some, option_map, option_and_then, List, [], ◌∷◌, ◌++◌, length, slice_get, slice_set}
+use Rattle.std.proofs.Common.{◌≡◌, ◌≢◌, ◌⊎◌, inl, inr, ℕ, suc, zero, ◌+◌, ◌-◌, ◌*◌, ◌/◌, ◌%◌, ◌<◌, Bool, false}
+use Rattle.std.proofs.Common.{Option, if◌then◌else◌}
+use Rattle.std.proofs.Common.{Some, map, option_map, option_and_then, List, [], ◌∷◌, ◌++◌, length, slice_get, slice_set}
 use Rattle.std.proofs.Common.{refl, ap, sym, ◌∙◌, subst, arith, length-append}
 use Rattle.std.proofs.lemmas.Bool.{cases_eq, cases_lt}
 use Rattle.std.proofs.lemmas.List.{length-set}
 use Rattle.std.proofs.lemmas.Option.{slice_get_past, slice_get_within}
+use Rattle.std.specs.Option.{option_flatten, option_map_or}
 use Rattle.pool_world.specs.Pool.{Place, Pool, Free, Out, IsSame, free_with, number}
 use Rattle.pool_world.specs.World.State.{WorldPageState, WorldState}
-use Rattle.pool_world.specs.World.Machine.{has_bit, with_bit, without_bit, value_in, page_value, with_page}
+use Rattle.pool_world.specs.World.Machine.{has_bit, with_bit, without_bit, word_of, page_value, with_page}
 use Rattle.pool_world.specs.World.Machine.{with_word, with_page_value, linked_page}
-use Rattle.pool_world.specs.World.AbstractPool.{place_by_bit, place_on, abstract_pool}
+use Rattle.pool_world.specs.World.AbstractPool.{place_on, abstract_pool}
 use Rattle.pool_world.proofs.World.Bits.{has_bit-all, has_bit-set_same, has_bit-set_other, has_bit-clear_same}
 use Rattle.pool_world.proofs.World.Bits.{has_bit-clear_other}
 use Rattle.pool_world.proofs.Runs.{IsPlaced, IsGrown}
 use Rattle.pool_world.proofs.Places.{slice_get-set_same, slice_get-set_other}
 use Rattle.pool_world.proofs.Places.{slice_get-append_front, slice_get-append_last}
+
+-- ---- a page's word, and the value at a place of a page, if there is such a page
+module _ {T : Type 0} where
+  pub word-at : (pages : List (WorldPageState T)) (k : ℕ) (page : WorldPageState T) → slice_get pages k ≡ Some page
+      → word_of pages k ≡ page.word
+  word-at pages k page at = ap (λ lookup. option_map_or (λ p. p.word) lookup 0) at
+
+  abbrev pub value-at : ℕ → Option (WorldPageState T) → Option T
+  value-at id lookup = option_flatten (option_and_then (λ page. slice_get page.places id) lookup)
 
 -- ---- one page changes
 module _ {T : Type 0} (f : WorldPageState T → WorldPageState T) where
@@ -58,9 +69,10 @@ module _ {T : Type 0} where
 
   pub reads-number : (world : WorldState T) (k id : ℕ) (page : WorldPageState T) → id < 32
       → slice_get world.pages k ≡ Some page
-      → (abstract_pool world).at (number k id) ≡ place_by_bit (has_bit page.word id) (page_value world.pages k id)
+      → (abstract_pool world).at (number k id)
+      ≡ (if has_bit page.word id then free_with (page_value world.pages k id) else Out)
   reads-number world k id page within at = reads-place world k id page within at
-      ∙ ap (λ lookup. place_by_bit (has_bit page.word id) (value_in lookup id)) (sym at)
+      ∙ ap (λ lookup. if has_bit page.word id then free_with (value-at id lookup) else Out) (sym at)
 
 -- ---- what holds of each page
 module _ {T : Type 0} (P : WorldPageState T → Type 0) where
@@ -119,22 +131,22 @@ module _ {T : Type 0} where
       → slice_get pages k ≡ Some page → (j i : ℕ)
       → page_value (with_word pages k word) j i ≡ page_value pages j i
   value-word pages k word page at j i =
-      reads-changed (λ lookup. value_in lookup i) (worded word) pages k j page at (λ same. refl)
+      reads-changed (value-at i) (worded word) pages k j page at (λ same. refl)
 
   pub value-put_same : (pages : List (WorldPageState T)) (k id : ℕ) (value : Option T) (page : WorldPageState T)
       → slice_get pages k ≡ Some page → id < length page.places
       → page_value (with_page_value pages k id value) k id ≡ value
   value-put_same pages k id value page at within =
-      ap (λ lookup. value_in lookup id) (get-changed_same (valued id value) pages k page at)
-      ∙ ap (option_and_then (λ place. place)) (slice_get-set_same page.places id value within)
+      ap (value-at id) (get-changed_same (valued id value) pages k page at)
+      ∙ ap option_flatten (slice_get-set_same page.places id value within)
 
   pub value-put_other : (pages : List (WorldPageState T)) (k id : ℕ) (value : Option T) (page : WorldPageState T)
       → slice_get pages k ≡ Some page → (j i : ℕ) → ((j ≢ k) ⊎ (i ≢ id))
       → page_value (with_page_value pages k id value) j i ≡ page_value pages j i
   value-put_other pages k id value page at j i apart =
-      reads-changed (λ lookup. value_in lookup i) (valued id value) pages k j page at (λ same. elim apart [
+      reads-changed (value-at i) (valued id value) pages k j page at (λ same. elim apart [
         | inl other ↦ absurd (other same)
-        | inr other ↦ ap (option_and_then (λ place. place)) (slice_get-set_other page.places id i value other)
+        | inr other ↦ ap option_flatten (slice_get-set_other page.places id i value other)
       ])
 
 -- ---- the pool after a change
@@ -168,7 +180,8 @@ module _ {T : Type 0} where
       → new.pages ≡ with_word world.pages k (without_bit page.word id)
       → IsSame after (abstract_pool new)
   same-cleared pool after world new k id page within at placed same is =
-      let read : (i : ℕ) → Bool → Place T = λ i bit. place_by_bit bit (value_in (Some page) i) in
+      let read : (i : ℕ) → Bool → Place T = λ i bit.
+      if bit then free_with (option_flatten (slice_get page.places i)) else Out in
       same-changed (worded (without_bit page.word id)) pool after world new k id page Out within at placed same is
       (ap (read id) (has_bit-clear_same page.word id within))
       (λ i inside other. ap (read i) (has_bit-clear_other page.word id i within inside other))
@@ -181,10 +194,11 @@ module _ {T : Type 0} where
       → new.pages ≡ with_word world.pages k (with_bit page.word id)
       → IsSame after (abstract_pool new)
   same-set pool after world new k id page value within at lies placed same is =
-      let read : (i : ℕ) → Bool → Place T = λ i bit. place_by_bit bit (value_in (Some page) i) in
+      let read : (i : ℕ) → Bool → Place T = λ i bit.
+      if bit then free_with (option_flatten (slice_get page.places i)) else Out in
       same-changed (worded (with_bit page.word id)) pool after world new k id page (Free value) within at placed same is
       (ap (read id) (has_bit-set_same page.word id within)
-      ∙ ap free_with (ap (λ lookup. value_in lookup id) (sym at) ∙ lies))
+      ∙ ap free_with (ap (value-at id) (sym at) ∙ lies))
       (λ i inside other. ap (read i) (has_bit-set_other page.word id i within other))
 
   -- a value comes or goes where the bit is clear
@@ -193,18 +207,18 @@ module _ {T : Type 0} where
       → slice_get world.pages k ≡ Some page → has_bit page.word id ≡ false → IsSame pool (abstract_pool world)
       → new.pages ≡ with_page_value world.pages k id value → IsSame pool (abstract_pool new)
   same-moved pool world new k id value page within at clear same is =
-      let out : (lies : Option T) → place_by_bit (has_bit page.word id) lies ≡ Out = λ lies.
-      ap (λ bit. place_by_bit bit lies) clear in
+      let out : (lies : Option T) → (if has_bit page.word id then free_with lies else Out) ≡ Out = λ lies.
+      ap (λ bit. if bit then free_with lies else Out) clear in
       let here = same.places (number k id) ∙ reads-place world k id page within at
-      ∙ out (value_in (Some page) id) in
+      ∙ out (option_flatten (slice_get page.places id)) in
       same-changed (valued id value) pool pool world new k id page Out within at
       (record { pages = refl; here = here; there = λ m other. refl }) same is
-      (out (value_in (Some (valued id value page)) id))
-      (λ i inside other. ap (λ lookup. place_by_bit (has_bit page.word i) (option_and_then (λ place. place) lookup))
+      (out (option_flatten (slice_get (slice_set page.places id value) id)))
+      (λ i inside other. ap (λ lookup. if has_bit page.word i then free_with (option_flatten lookup) else Out)
       (slice_get-set_other page.places id i value other))
 
   -- a page is linked, with a value at each of its places
-  linked-value : (values : List T) (id : ℕ) → value_in (Some (linked_page values)) id ≡ slice_get values id
+  linked-value : (values : List T) (id : ℕ) → option_flatten (slice_get (map Some values) id) ≡ slice_get values id
   linked-value [] id = refl
   linked-value (value ∷ values) zero = refl
   linked-value (value ∷ values) (suc id) = linked-value values id
@@ -235,7 +249,7 @@ module _ {T : Type 0} where
                     ∙ slice_get-append_last world.pages (linked_page values) in
                     sym (ap (abstract_pool new).at own
                     ∙ reads-place new (length world.pages) id (linked_page values) (omega arith) now
-                    ∙ ap (λ bit. place_by_bit bit (value_in (Some (linked_page values)) id))
+                    ∙ ap (λ bit. if bit then free_with (option_flatten (slice_get (map Some values) id)) else Out)
                     (has_bit-all id (omega arith))
                     ∙ ap free_with (linked-value values id))
                 | inr beyond ↦

@@ -1,13 +1,13 @@
 -- The bits of a page's word as it changes.
 use Rattle.std.proofs.Common.{◌≡◌, ◌≢◌, ℕ, ◌-◌, ◌^◌, ◌<◌, ◌==◌, true, false, bit_and, bit_or, refl, ap, sym, ◌∙◌, arith}
-use Rattle.std.specs.Int.{w32, bit_at, bit_not}
+use Rattle.std.specs.Int.{w32, bit_at, bit_not, trailing_zeros}
 use Rattle.std.proofs.lemmas.Bool.{eq-eqb}
 use Rattle.std.proofs.lemmas.Nat.{one_shl, or_lt, and_le_l}
 use Rattle.std.proofs.Math.Pow.{pow-lt}
 use Rattle.std.proofs.lemmas.Nat.Bits.{bit_at-zero, bit_at_ones, bit_at-trailing_zeros, bit_at_set_same}
 use Rattle.std.proofs.lemmas.Nat.Bits.{bit_at_set_other, bit_at_clear_same, bit_at_clear_other}
 use Rattle.pool_parts.proofs.WordBits.{clears_least}
-use Rattle.pool_world.specs.World.Machine.{has_bit, with_bit, without_bit, lowest, without_lowest}
+use Rattle.pool_world.specs.World.Machine.{has_bit, with_bit, without_bit}
 
 -- a bit is set or clear
 clear-bit : (word id : ℕ) → bit_at word id ≡ 0 → has_bit word id ≡ false
@@ -51,17 +51,18 @@ pub without_bit-lt : (word id : ℕ) → word < 2 ^ 32 → without_bit word id <
 without_bit-lt word id fits = let less = and_le_l word (bit_not w32 (2 ^ id)) in omega arith
 
 -- the lowest set bit of a mask
-pub lowest-lt : (mask : ℕ) → 0 < mask → mask < 2 ^ 32 → lowest mask < 32
+pub lowest-lt : (mask : ℕ) → 0 < mask → mask < 2 ^ 32 → trailing_zeros w32 mask < 32
 lowest-lt mask some fits = (bit_at-trailing_zeros w32 mask some fits).0
 
-pub has_bit-lowest : (mask : ℕ) → 0 < mask → mask < 2 ^ 32 → has_bit mask (lowest mask) ≡ true
-has_bit-lowest mask some fits = eq-eqb (bit_at mask (lowest mask)) 1 (bit_at-trailing_zeros w32 mask some fits).1
+pub has_bit-lowest : (mask : ℕ) → 0 < mask → mask < 2 ^ 32 → has_bit mask (trailing_zeros w32 mask) ≡ true
+has_bit-lowest mask some fits =
+    eq-eqb (bit_at mask (trailing_zeros w32 mask)) 1 (bit_at-trailing_zeros w32 mask some fits).1
 
-pub has_bit-without_lowest : (mask i : ℕ) → 0 < mask → mask < 2 ^ 32 → i ≢ lowest mask
-    → has_bit (without_lowest mask) i ≡ has_bit mask i
+pub has_bit-without_lowest : (mask i : ℕ) → 0 < mask → mask < 2 ^ 32 → i ≢ trailing_zeros w32 mask
+    → has_bit (bit_and mask (mask - 1)) i ≡ has_bit mask i
 has_bit-without_lowest mask i some fits other =
     let lowest_bit = bit_at-trailing_zeros w32 mask some fits in
-    ap (λ bit. bit == 1) ((clears_least mask (lowest mask) lowest_bit.1 lowest_bit.2).others i other)
+    ap (λ bit. bit == 1) ((clears_least mask (trailing_zeros w32 mask) lowest_bit.1 lowest_bit.2).others i other)
 
-pub without_lowest-lt : (mask : ℕ) → mask < 2 ^ 32 → without_lowest mask < 2 ^ 32
+pub without_lowest-lt : (mask : ℕ) → mask < 2 ^ 32 → bit_and mask (mask - 1) < 2 ^ 32
 without_lowest-lt mask fits = let less = and_le_l mask (mask - 1) in omega arith

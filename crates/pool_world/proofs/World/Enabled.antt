@@ -13,7 +13,7 @@ use Rattle.pool_world.specs.World.State.{WorldState}
 use Rattle.pool_world.specs.World.Machine.{Steps, MayGrow, MovesHome, point_of}
 use Rattle.pool_world.specs.World.OwnSteps.{is_idle}
 use Rattle.pool_world.specs.World.Enabled.{IsEnabled, IsExact}
-use Rattle.pool_world.specs.World.Reachable.{IsReachable}
+use Rattle.pool_world.specs.World.Headline.{IsReachable}
 use Rattle.pool_world.specs.World.Inside.Invariant.{AgentKnows}
 use Rattle.pool_world.proofs.World.Invariant.{Agreement}
 use Rattle.pool_world.proofs.World.Moves.{Happens, NotEnabled, NoMemory, Begins, Goes, move-enabled, move-named}

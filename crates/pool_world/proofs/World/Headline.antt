@@ -1,5 +1,5 @@
 -- The steps of a world, one after another, are a run of one pool.
-use Rattle.std.proofs.Common.{◌≡◌, ℕ, ◌^◌, ◌<◌, Option, Some, None, List, [], ◌∷◌, length, slice_get, Ok}
+use Rattle.std.proofs.Common.{◌≡◌, ℕ, ◌^◌, ◌<◌, Option, Some, List, [], ◌∷◌, length, slice_get, Ok}
 use Rattle.std.proofs.Common.{Err, true, refl, ap, ◌∙◌, arith, lit<}
 use Rattle.std.proofs.lemmas.List.{length-map}
 use Rattle.pool_world.specs.declared.interleave.event.Event.{Event}
@@ -9,13 +9,13 @@ use Rattle.pool_world.specs.declared.interleave.event.Seen.TheVariants as seen
 use Rattle.pool_world.specs.declared.interleave.point.Point.{Point}
 use Rattle.pool_world.specs.declared.interleave.point.Point.TheVariants.{Clearing, ClearingHinted, Taken}
 use Rattle.pool_world.specs.declared.interleave.point.Point.TheVariants.{Holding, Home}
-use Rattle.pool_world.specs.Pool.{Pool, Absent, IsSame, AllowsPages, number}
-use Rattle.pool_world.specs.Run.{Act, pool_of, Holds, HasHolders, IsWhole}
+use Rattle.pool_world.specs.Pool.{Pool, Absent, IsPool, IsSame, AllowsPages, number}
+use Rattle.pool_world.specs.Run.{Act, pool_of, Holds, HasHolders}
 use Rattle.pool_world.specs.World.State.{WorldPageState, WorldState}
-use Rattle.pool_world.specs.World.Machine.{agent_item, number_out, linked_page, opening_world, point_of}
+use Rattle.pool_world.specs.World.Machine.{number_out, linked_page, opening_world, point_of}
 use Rattle.pool_world.specs.World.AbstractPool.{abstract_pool}
 use Rattle.pool_world.specs.World.OwnSteps.{is_idle}
-use Rattle.pool_world.specs.World.Trace.{Log, IsHidden, made_by}
+use Rattle.pool_world.specs.World.Trace.{Log, IsHidden, last_made}
 use Rattle.pool_world.specs.World.Headline.{IsRun, Executes, IsNew}
 use Rattle.pool_world.specs.World.Inside.Invariant.{Agrees}
 use Rattle.pool_world.proofs.Runs.{legal-run, pool-opening, holders-run, whole-run, each-place}
@@ -40,17 +40,18 @@ idle-hidden _ idle = absurd (cc)
 
 module _ {T : Type 0} where
   -- nothing is made where nothing happens
-  nothing-made : (e : Event T) (answer : Seen) → is_idle answer ≡ true → (b : ℕ) → made_by e answer b ≡ None
-  nothing-made (event.MakePage a (Ok values)) (seen.Made c) idle b = absurd (cc)
-  nothing-made (event.MakePage a (Ok values)) _ idle b = refl
-  nothing-made (event.MakePage a (Err cause)) answer idle b = refl
-  nothing-made _ answer idle b = refl
+  nothing-made : (e : Event T) (answer : Seen) → is_idle answer ≡ true → (log : Log T) (b : ℕ)
+      → last_made ((e, answer) ∷ log) b ≡ last_made log b
+  nothing-made (event.MakePage a (Ok values)) (seen.Made c) idle log b = absurd (cc)
+  nothing-made (event.MakePage a (Ok values)) _ idle log b = refl
+  nothing-made (event.MakePage a (Err cause)) answer idle log b = refl
+  nothing-made _ answer idle log b = refl
 
 module _ {T : Type 0} (Leaves : T → T → Type 0) (first : List T) (full : length first ≡ 32) where
   idles : {log : Log T} {acts : List (Act T)} {old : WorldState T} → Agrees Leaves first log acts old
       → (e : Event T) (answer : Seen) (new : WorldState T) → is_idle answer ≡ true → new ≡ old
       → GoesOn Leaves first log e answer new
-  idles agrees e answer new is same = rw same (idle agrees e answer (idle-hidden answer is) (nothing-made e answer is))
+  idles agrees e answer new is same = rw same (idle agrees e answer (idle-hidden answer is) (nothing-made e answer is _))
 
   -- where an agent moves the invariant is kept
   move-goes : {log : Log T} {acts : List (Act T)} {old : WorldState T} → Agrees Leaves first log acts old
@@ -120,14 +121,9 @@ module _ {T : Type 0} (Leaves : T → T → Type 0) (first : List T) (full : len
 
   -- an agent that has an item in the world holds it in the run
   held-is : (log : Log T) (acts : List (Act T)) (world : WorldState T) → Agrees Leaves first log acts world
-      → (a n : ℕ) (value : T) (lookup : Option (Point T)) → slice_get world.agents a ≡ lookup
-      → agent_item lookup ≡ Some (n, value)
-      → Holds acts a n value
-  held-is log acts world agrees a n value (Some (Holding k id has)) at held =
-      let holds = known agrees a (Holding k id has) at in
-      let both : ◌≡◌ {A = ℕ × T} (number k id, has) (n, value) = cc in
-      rw (ap (λ item. item.0) both, ap (λ item. item.1) both) at holds.holds
-  held-is log acts world agrees a n value _ at held = absurd (cc)
+      → (a k id : ℕ) (value : T) → slice_get world.agents a ≡ Some (Holding k id value)
+      → Holds acts a (number k id) value
+  held-is log acts world agrees a k id value at = (known agrees a (Holding k id value) at).holds
 
   -- an agent that has a number out in the world holds it in the run
   out-is : (log : Log T) (acts : List (Act T)) (world : WorldState T) → Agrees Leaves first log acts world
@@ -160,11 +156,11 @@ module _ {T : Type 0} (Leaves : T → T → Type 0) (first : List T) (full : len
         legal = legal-run Leaves world.limit first acts agrees.run;
         ends = agrees.same;
         allowed = agrees.allowed;
-        whole = each-place Leaves world.limit first (IsWhole first world.limit)
+        whole = each-place Leaves world.limit first (λ place. IsPool world.limit (pool_of first place))
             (whole-run Leaves world.limit first allowed) acts agrees.run;
         holders = each-place Leaves world.limit first (HasHolders first)
             (holders-run Leaves world.limit first full) acts agrees.run;
-        held = λ a n value has. held-is log acts world agrees a n value (slice_get world.agents a) refl has;
+        held = held-is log acts world agrees;
         out = λ a n has. out-is log acts world agrees a n (slice_get world.agents a) refl has;
         saw_taken = agrees.saw_taken;
       }

@@ -1,9 +1,11 @@
 -- Of an agent that runs solo, and whose events come as its points allow them, each event is a step.
 use Rattle.std.proofs.Common.{◌≡◌, ◌≢◌, ◌⊎◌, inl, inr, ℕ, zero, suc, ◌+◌, ◌-◌, ◌<◌, Some, None, List, [], ◌∷◌, ◌++◌}
+use Rattle.std.proofs.Common.{IsSome}
 use Rattle.std.proofs.Common.{length, slice_get, Ok, refl, ap, sym, ◌∙◌, arith}
 use Rattle.pool_parts.specs.declared.pull_error.PullError.TheVariants.{Limit}
 use Rattle.std.specs.Option.{option_and_then}
 use Rattle.std.proofs.lemmas.Bool.{cases_Bool}
+use Rattle.std.specs.Int.{w32, trailing_zeros}
 use Rattle.pool_world.specs.declared.interleave.event.Event.{Event}
 use Rattle.pool_world.specs.declared.interleave.event.Event.TheVariants as event
 use Rattle.pool_world.specs.declared.interleave.event.Seen.{Seen}
@@ -12,13 +14,12 @@ use Rattle.pool_world.specs.declared.interleave.point.Point.{Point}
 use Rattle.pool_world.specs.declared.interleave.point.Point.TheVariants.{Reading, Clearing, AtLink, Making}
 use Rattle.pool_world.specs.declared.interleave.point.Point.TheVariants.{Linking, Taken}
 use Rattle.pool_world.specs.World.State.{WorldPageState, WorldState}
-use Rattle.pool_world.specs.World.Machine.{Steps, point_of, word_of, lowest, linked_page}
+use Rattle.pool_world.specs.World.Machine.{held_by, Steps, point_of, word_of, linked_page}
 use Rattle.pool_world.specs.World.Trace.{Log}
-use Rattle.pool_world.specs.World.Headline.{Executes}
-use Rattle.pool_world.specs.World.Reachable.{IsReachable}
+use Rattle.pool_world.specs.World.Headline.{Executes, IsReachable}
 use Rattle.pool_world.specs.World.Enabled.{IsEnabled, IsExact}
 use Rattle.pool_world.specs.World.OwnSteps.{is_idle}
-use Rattle.pool_world.specs.World.Solo.{IsAnswered, IsFirstFree, AllFull, HasMovedOut, IsOwnEvent}
+use Rattle.pool_world.specs.World.Solo.{IsAnswered, IsFirstFree, AllFull, IsOwnEvent}
 use Rattle.pool_world.specs.World.Solo.{StepsInOrder, passing, taking, linking, events_of}
 use Rattle.pool_world.specs.World.Inside.SoloWalk.{IsUnhinted}
 use Rattle.pool_world.proofs.World.Enabled.{any-step}
@@ -111,7 +112,7 @@ module _ {T : Type 0} (Leaves : T → T → Type 0) (old : WorldState T) (reache
       (exact2 : IsExact second f given third) → Steps Leaves third e answer new → IsExact third e answer new
       → IsOwnEvent a d word → IsOwnEvent a f given → IsOwnEvent a e answer
       → d ≡ event.ReadMask a → f ≡ event.ClearBit a → e ≡ event.MoveOut a
-      → HasMovedOut (slice_get new.agents a)
+      → IsSome (held_by (slice_get new.agents a))
   takes-item pages k free log d f e word given answer first second third new here same ran step1 exact1 step2 exact2
       step3 exact3 own1 own2 own3 reads clears moves =
       let bits = word_of pages k in
@@ -123,9 +124,10 @@ module _ {T : Type 0} (Leaves : T → T → Type 0) (old : WorldState T) (reache
       let solo2 = is-step (event.ClearBit a) (Clearing k bits None) ((d, word) ∷ log) f given second third ran1 step2
       exact2 own2 clears there tt in
       let taken = clears-lowest solo2 k bits None there (ap (λ all. word_of all k) (read.pages ∙ same)) in
-      let solo3 = is-step (event.MoveOut a) (Taken k (lowest bits)) ((f, given) ∷ ((d, word) ∷ log)) e answer third new
+      let solo3 = is-step (event.MoveOut a) (Taken k (trailing_zeros w32 bits)) ((f, given) ∷ ((d, word) ∷ log))
+      e answer third new
       (second, ran1, step2, exact2) step3 exact3 own3 moves taken tt in
-      (moves-out solo3 k (lowest bits) taken).1
+      (moves-out solo3 k (trailing_zeros w32 bits) taken).1
 
   -- it finds all pages full, and is at the link of the last one
   at-last : AllFull old.pages → (log : Log T) (f : Event T) (given : Seen) (middle between : WorldState T) (m : ℕ)
@@ -165,7 +167,7 @@ module _ {T : Type 0} (Leaves : T → T → Type 0) (old : WorldState T) (reache
       ]
 
   takes-first : (k : ℕ) → IsFirstFree old.pages k → (log : Log T) (new : WorldState T) → Executes Leaves old log new
-      → IsUnhinted a log → events_of log ≡ taking a (passing a k) → HasMovedOut (slice_get new.agents a)
+      → IsUnhinted a log → events_of log ≡ taking a (passing a k) → IsSome (held_by (slice_get new.agents a))
   takes-first k free [] new ran alone events = absurd (cc)
   takes-first k free (entry ∷ []) new ran alone events = absurd (cc)
   takes-first k free (entry ∷ (other ∷ [])) new ran alone events = absurd (cc)
@@ -178,7 +180,7 @@ module _ {T : Type 0} (Leaves : T → T → Type 0) (old : WorldState T) (reache
 
   links-first : AllFull old.pages → old.limit ≢ Some (length old.pages) → (values : List T) (m : ℕ)
       → length old.pages ≡ suc m → (log : Log T) (new : WorldState T) → Executes Leaves old log new → IsUnhinted a log
-      → events_of log ≡ taking a (linking a values (passing a (suc m))) → HasMovedOut (slice_get new.agents a)
+      → events_of log ≡ taking a (linking a values (passing a (suc m))) → IsSome (held_by (slice_get new.agents a))
   links-first all free values m last [] new ran alone events = absurd (cc)
   links-first all free values m last (e1 ∷ []) new ran alone events = absurd (cc)
   links-first all free values m last (e1 ∷ (e2 ∷ [])) new ran alone events = absurd (cc)

@@ -1,6 +1,6 @@
 -- What is known of an agent stays known while others step.
-use Rattle.std.proofs.Common.{◌≡◌, ◌≢◌, inl, inr, ℕ, ◌+◌, ◌^◌, ◌<◌, ◌≤◌, Option, Some}
-use Rattle.std.proofs.Common.{None, List, [], ◌∷◌, length, slice_get, slice_set, refl, ap, sym, ◌∙◌, arith}
+use Rattle.std.proofs.Common.{◌≡◌, ◌≢◌, inl, inr, ℕ, ◌+◌, ◌^◌, ◌<◌, ◌≤◌, Option, Some, IfSome}
+use Rattle.std.proofs.Common.{None, List, [], ◌∷◌, length, slice_get, slice_set, refl, sym, ◌∙◌, arith}
 use Rattle.std.proofs.lemmas.Bool.{cases_eq}
 use Rattle.std.proofs.lemmas.Option.{slice_get_within}
 use Rattle.pool_world.specs.declared.interleave.event.Event.{Event}
@@ -9,14 +9,14 @@ use Rattle.pool_world.specs.declared.interleave.point.Point.{Point}
 use Rattle.pool_world.specs.declared.interleave.point.Point.TheVariants.{Reading, Clearing, AtLink}
 use Rattle.pool_world.specs.declared.interleave.point.Point.TheVariants.{ClearingHinted, Making, Linking, Taken}
 use Rattle.pool_world.specs.declared.interleave.point.Point.TheVariants.{Holding, Home, Ended}
-use Rattle.pool_world.specs.Pool.{IsSame, IsOut, AllowsPages, number}
+use Rattle.pool_world.specs.Pool.{IsSame, Out, AllowsPages, number}
 use Rattle.pool_world.specs.Run.{Act, Grows, agent_of, acts_of, pages_of, pool_of, Holds, SawTaken}
-use Rattle.pool_world.specs.Run.{HadPages, MayCome, SawTakenBefore}
+use Rattle.pool_world.specs.Run.{Since, MayCome, SawTakenBefore}
 use Rattle.pool_world.specs.World.State.{WorldPageState, WorldState}
 use Rattle.pool_world.specs.World.Machine.{page_value}
 use Rattle.pool_world.specs.World.AbstractPool.{abstract_pool}
-use Rattle.pool_world.specs.World.Trace.{Log, IsHidden, made_by, or_else, last_made, Shows}
-use Rattle.pool_world.specs.World.Inside.Invariant.{SawAskedFull, IsOn, IsAtLastPage, TriesBits}
+use Rattle.pool_world.specs.World.Trace.{Log, IsHidden, last_made, Shows}
+use Rattle.pool_world.specs.World.Inside.Invariant.{SawFull, IsOn, IsAtLastPage, TriesBits}
 use Rattle.pool_world.specs.World.Inside.Invariant.{HoldsAt, AgentKnows, AgentKnowsIf, Agrees}
 use Rattle.pool_world.proofs.Places.{slice_get-set_same, slice_get-set_other}
 use Rattle.pool_world.proofs.Runs.{since-later, other-opens, acts_of-other, holds-same}
@@ -33,7 +33,8 @@ module _ {T : Type 0} (first : List T) where
   pub record Carries (log later : Log T) (acts more : List (Act T)) (old new : WorldState T) (b : ℕ) : Type 0 where
     pub own : acts_of b more ≡ acts_of b acts
     pub out : (n : ℕ) → SawTaken first acts b n → SawTaken first more b n
-    pub had : (count : ℕ) → HadPages first acts b count → HadPages first more b count
+    pub had : (count : ℕ) → Since first b (λ pool. pool.pages ≡ count) acts
+        → Since first b (λ pool. pool.pages ≡ count) more
     pub pages : length old.pages ≤ length new.pages
     pub limit : new.limit ≡ old.limit
     pub made : last_made later b ≡ last_made log b
@@ -42,8 +43,8 @@ module _ {T : Type 0} (first : List T) where
 
 module _ {T : Type 0} {first : List T} {log later : Log T} {acts more : List (Act T)} {old new : WorldState T} {b : ℕ}
     (carries : Carries first log later acts more old new b) where
-  asked-carried : (asked : Option ℕ) → SawAskedFull first acts (length old.pages) b asked
-      → SawAskedFull first more (length new.pages) b asked
+  asked-carried : (asked : Option ℕ) → IfSome asked (λ hint. SawFull first acts (length old.pages) b hint)
+      → IfSome asked (λ hint. SawFull first more (length new.pages) b hint)
   asked-carried None full = tt
   asked-carried (Some hint) full = record {
     linked = let below = full.linked in let more_pages = carries.pages in omega arith;
@@ -175,7 +176,7 @@ module _ {T : Type 0} {Leaves : T → T → Type 0} {first : List T} {log : Log 
   -- a step whose answer shows nothing
   pub hidden-step : (point : Point T) {e : Event T} {answer : Seen} {a : ℕ} {from : Point T}
       {pages : List (WorldPageState T)} → slice_get world.agents a ≡ Some from → IsHidden answer
-      → ((b : ℕ) → a ≢ b → made_by e answer b ≡ None)
+      → ((b : ℕ) → a ≢ b → last_made ((e, answer) ∷ log) b ≡ last_made log b)
       → StepsPages Leaves first acts acts world pages a
       → AgentKnows Leaves first ((e, answer) ∷ log) acts (moved world pages a point) a point
       → GoesOn Leaves first log e answer (moved world pages a point)
@@ -198,7 +199,7 @@ module _ {T : Type 0} {Leaves : T → T → Type 0} {first : List T} {log : Log 
                 had = λ count had. had;
                 pages = left.count;
                 limit = refl;
-                made = ap (λ lookup. or_else lookup (last_made log b)) (made b other);
+                made = made b other;
                 values = λ k id value linked within holds. left.values b k id value other linked within holds;
               })
               agrees.agents;
@@ -209,7 +210,7 @@ module _ {T : Type 0} {Leaves : T → T → Type 0} {first : List T} {log : Log 
   pub visible-step : (act : Act T) (point : Point T) {e : Event T} {answer : Seen} {a : ℕ} {from : Point T}
       {pages : List (WorldPageState T)} → slice_get world.agents a ≡ Some from → Shows log e answer act
       → MayCome Leaves world.limit first acts act → SawTakenBefore first acts act → agent_of act ≡ a
-      → ((b : ℕ) → a ≢ b → made_by e answer b ≡ None)
+      → ((b : ℕ) → a ≢ b → last_made ((e, answer) ∷ log) b ≡ last_made log b)
       → StepsPages Leaves first acts (act ∷ acts) world pages a
       → AgentKnows Leaves first ((e, answer) ∷ log) (act ∷ acts) (moved world pages a point) a point
       → GoesOn Leaves first log e answer (moved world pages a point)
@@ -230,12 +231,12 @@ module _ {T : Type 0} {Leaves : T → T → Type 0} {first : List T} {log : Log 
               let apart : agent_of act ≢ b = λ is. other (sym agent ∙ is) in
               record {
                 own = acts_of-other act acts b apart;
-                out = λ n out. since-later first act acts b (λ pool. IsOut pool n) (other-opens act b apart) out;
+                out = λ n out. since-later first act acts b (λ pool. pool.at n ≡ Out) (other-opens act b apart) out;
                 had = λ count had. since-later first act acts b (λ pool. pool.pages ≡ count)
                     (other-opens act b apart) had;
                 pages = left.count;
                 limit = refl;
-                made = ap (λ lookup. or_else lookup (last_made log b)) (made b other);
+                made = made b other;
                 values = λ k id value linked within holds. left.values b k id value other linked within holds;
               })
               agrees.agents;
@@ -244,13 +245,15 @@ module _ {T : Type 0} {Leaves : T → T → Type 0} {first : List T} {log : Log 
 
   -- a step whose answer shows nothing, and which leaves the pages
   pub stays : (point : Point T) {e : Event T} {answer : Seen} {a : ℕ} {from : Point T}
-      → slice_get world.agents a ≡ Some from → IsHidden answer → ((b : ℕ) → a ≢ b → made_by e answer b ≡ None)
+      → slice_get world.agents a ≡ Some from → IsHidden answer
+      → ((b : ℕ) → a ≢ b → last_made ((e, answer) ∷ log) b ≡ last_made log b)
       → AgentKnows Leaves first ((e, answer) ∷ log) acts (moved world world.pages a point) a point
       → GoesOn Leaves first log e answer (moved world world.pages a point)
   stays point at hidden made own = hidden-step point at hidden made (pages-stay refl) own
 
   -- nothing happens
-  pub idle : (e : Event T) (answer : Seen) → IsHidden answer → ((b : ℕ) → made_by e answer b ≡ None)
+  pub idle : (e : Event T) (answer : Seen) → IsHidden answer
+      → ((b : ℕ) → last_made ((e, answer) ∷ log) b ≡ last_made log b)
       → GoesOn Leaves first log e answer world
   idle e answer hidden made = record {
     acts = acts;
@@ -268,7 +271,7 @@ module _ {T : Type 0} {Leaves : T → T → Type 0} {first : List T} {log : Log 
         had = λ count had. had;
         pages = omega arith;
         limit = refl;
-        made = ap (λ lookup. or_else lookup (last_made log b)) (made b);
+        made = made b;
         values = λ k id value linked within holds. refl;
       }) Leaves (slice_get world.agents b) (agrees.agents b);
     };

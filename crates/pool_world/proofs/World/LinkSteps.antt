@@ -1,9 +1,10 @@
 -- The steps at a page's link keep the invariant: the read, the page that is made, and the exchange.
-use Rattle.std.proofs.Common.{◌≡◌, ◌≢◌, inl, inr, ℕ, ◌+◌, ◌-◌, ◌*◌, ◌^◌, ◌<◌, ◌≤◌, true, false}
+use Rattle.std.proofs.Common.{◌≡◌, ◌≢◌, inl, inr, ℕ, ◌+◌, ◌-◌, ◌*◌, ◌^◌, ◌<◌, ◌≤◌, true, false, nat_eq}
 use Rattle.std.proofs.Common.{Option, Some, None, List, [], ◌∷◌, ◌++◌, length, slice_get, Ok}
 use Rattle.std.proofs.Common.{Err, refl, ap, sym, ◌∙◌, arith, length-append, lit<}
 use Rattle.std.proofs.lemmas.Bool.{eq-eqb, ne_eqb, eqb-true, eqb-false, cases_lt, cases_Bool}
 use Rattle.std.proofs.lemmas.List.{length-map}
+use Rattle.std.specs.Option.{option_eq}
 use Rattle.pool_parts.specs.declared.pull_error.PullError.{PullError}
 use Rattle.pool_parts.specs.declared.pull_error.PullError.TheVariants.{Memory, Init, Limit}
 use Rattle.pool_world.specs.declared.interleave.event.Event.{Event}
@@ -12,36 +13,36 @@ use Rattle.pool_world.specs.declared.interleave.event.Seen.{Seen}
 use Rattle.pool_world.specs.declared.interleave.event.Seen.TheVariants as seen
 use Rattle.pool_world.specs.declared.interleave.point.Point.{Point}
 use Rattle.pool_world.specs.declared.interleave.point.Point.TheVariants.{Reading, AtLink, Making, Linking, Ended}
-use Rattle.pool_world.specs.Pool.{IsOut, AllowsPages, number}
+use Rattle.pool_world.specs.Pool.{Out, AllowsPages, number}
 use Rattle.pool_world.specs.Run.{Act, Opens, Grows, Refused, acts_of, pages_of, pool_of, Looks}
-use Rattle.pool_world.specs.Run.{SawPagesTaken, HadPages, MayCome}
+use Rattle.pool_world.specs.Run.{SawPagesTaken, Since, MayCome}
 use Rattle.pool_world.specs.World.State.{WorldPageState, WorldState}
-use Rattle.pool_world.specs.World.Machine.{is_limit, was_asked, comes_to}
-use Rattle.pool_world.specs.World.Machine.{linked_page, value_in}
-use Rattle.pool_world.specs.World.Trace.{Log, IsHidden, made_by, or_else, last_made}
+use Rattle.pool_world.specs.World.Machine.{comes_to}
+use Rattle.pool_world.specs.World.Machine.{linked_page}
+use Rattle.pool_world.specs.World.Trace.{Log, IsHidden, last_made}
 use Rattle.pool_world.specs.World.Inside.Invariant.{SawFull, IsPast, Agrees}
 use Rattle.pool_world.proofs.Places.{slice_get-append_front}
 use Rattle.pool_world.proofs.Runs.{since-now, since-later, acts_of-own, pool-grown}
-use Rattle.pool_world.proofs.World.AbstractPool.{pushed-all, same-grown}
+use Rattle.pool_world.proofs.World.AbstractPool.{value-at, pushed-all, same-grown}
 use Rattle.pool_world.proofs.World.Invariant.{GoesOn, pages-stay, visible-step, stays, allows-fewer}
 use Rattle.pool_world.proofs.World.Moves.{moved, known}
 
 -- there is this limit
-pub is-limit : (limit : Option ℕ) (count : ℕ) → limit ≡ Some count → is_limit limit count ≡ true
+pub is-limit : (limit : Option ℕ) (count : ℕ) → limit ≡ Some count → option_eq nat_eq limit (Some count) ≡ true
 is-limit None count is = cc
 is-limit (Some limit) count is = let same : limit ≡ count = cc in eq-eqb limit count same
 
-pub limit-is : (limit : Option ℕ) (count : ℕ) → is_limit limit count ≡ true → limit ≡ Some count
+pub limit-is : (limit : Option ℕ) (count : ℕ) → option_eq nat_eq limit (Some count) ≡ true → limit ≡ Some count
 limit-is None count is = cc
 limit-is (Some limit) count is = ap Some (eqb-true limit count is)
 
 -- a hint led to this page in vain
-pub asked-is : (asked : Option ℕ) (k : ℕ) → was_asked asked k ≡ true → asked ≡ Some k
+pub asked-is : (asked : Option ℕ) (k : ℕ) → option_eq nat_eq asked (Some k) ≡ true → asked ≡ Some k
 asked-is None k is = cc
 asked-is (Some hint) k is = ap Some (eqb-true hint k is)
 
 -- below the limit one page more is allowed
-allows-next : (limit : Option ℕ) (count : ℕ) → is_limit limit count ≡ false → AllowsPages limit count
+allows-next : (limit : Option ℕ) (count : ℕ) → option_eq nat_eq limit (Some count) ≡ false → AllowsPages limit count
     → AllowsPages limit (count + 1)
 allows-next None count not allowed = tt
 allows-next (Some limit) count not allowed = let other = eqb-false limit count not in omega arith
@@ -49,22 +50,23 @@ allows-next (Some limit) count not allowed = let other = eqb-false limit count n
 module _ {T : Type 0} {Leaves : T → T → Type 0} {first : List T} {log : Log T} {acts : List (Act T)}
     {old : WorldState T} (agrees : Agrees Leaves first log acts old) where
   -- there are so many pages now
-  had-now : (a count : ℕ) → Looks (acts_of a acts) → length old.pages ≡ count → HadPages first acts a count
+  had-now : (a count : ℕ) → Looks (acts_of a acts) → length old.pages ≡ count
+      → Since first a (λ pool. pool.pages ≡ count) acts
   had-now a count looking pages = since-now first acts a (λ pool. pool.pages ≡ count) looking
       (agrees.same.pages ∙ pages)
 
   -- the agent is refused
   refused : (e : Event T) (a k count : ℕ) (from : Point T) (cause : PullError) → slice_get old.agents a ≡ Some from
-      → ((b : ℕ) → made_by e (seen.Refused a cause) b ≡ None)
+      → ((b : ℕ) → last_made ((e, seen.Refused a cause) ∷ log) b ≡ last_made log b)
       → MayCome Leaves old.limit first acts (Refused a cause)
-      → SawPagesTaken first acts a (k + 1) → HadPages first acts a (k + 1)
+      → SawPagesTaken first acts a (k + 1) → Since first a (λ pool. pool.pages ≡ (k + 1)) acts
       → GoesOn Leaves first log e (seen.Refused a cause) (moved old old.pages a Ended)
   refused e a k count from cause at made may saw_taken had =
       visible-step agrees (Refused a cause) _ at refl may (k + 1, omega arith, saw_taken, had) refl (λ b other. made b)
       (pages-stay agrees refl) tt
 
   pub at-limit : (a k : ℕ) (asked : Option ℕ) → slice_get old.agents a ≡ Some (AtLink k asked)
-      → is_limit old.limit (k + 1) ≡ true
+      → option_eq nat_eq old.limit (Some (k + 1)) ≡ true
       → GoesOn Leaves first log (event.ReadNext a) (seen.Refused a Limit) (moved old old.pages a Ended)
   at-limit a k asked at is =
       let past = known agrees a (AtLink k asked) at in
@@ -78,7 +80,7 @@ module _ {T : Type 0} {Leaves : T → T → Type 0} {first : List T} {log : Log 
       (had-now a (k + 1) past.looking count)
 
   pub at-end : (a k : ℕ) (asked : Option ℕ) → slice_get old.agents a ≡ Some (AtLink k asked)
-      → is_limit old.limit (k + 1) ≡ false → length old.pages ≡ k + 1
+      → option_eq nat_eq old.limit (Some (k + 1)) ≡ false → length old.pages ≡ k + 1
       → GoesOn Leaves first log (event.ReadNext a) (seen.Next a false) (moved old old.pages a (Making k))
   at-end a k asked at not count =
       let past = known agrees a (AtLink k asked) at in
@@ -97,7 +99,8 @@ module _ {T : Type 0} {Leaves : T → T → Type 0} {first : List T} {log : Log 
   -- the agent goes to the next page, which is linked
   goes-next : (e : Event T) (answer : Seen) (a k : ℕ) (asked : Option ℕ) (from : Point T)
       → slice_get old.agents a ≡ Some from
-      → IsHidden answer × ((b : ℕ) → made_by e answer b ≡ None) → IsPast first acts (length old.pages) a k asked
+      → IsHidden answer × ((b : ℕ) → last_made ((e, answer) ∷ log) b ≡ last_made log b)
+      → IsPast first acts (length old.pages) a k asked
       → (length old.pages ≡ k + 1 → ⊥)
       → GoesOn Leaves first log e answer (moved old old.pages a (Reading (k + 1) asked))
   goes-next e answer a k asked from at hidden past more =
@@ -139,7 +142,7 @@ module _ {T : Type 0} {Leaves : T → T → Type 0} {first : List T} {log : Log 
   comes-next a k asked at more =
       let past = known agrees a (AtLink k asked) at in
       let e : Event T = event.ReadNext a in
-      elim (cases_Bool (was_asked asked (k + 1))) [
+      elim (cases_Bool (option_eq nat_eq asked (Some (k + 1)))) [
         | inl is ↦ rw is (goes-past a k asked at past (asked-is asked (k + 1) is))
         | inr not ↦ rw not (goes-next e (seen.Next a true) a k asked (AtLink k asked) at (tt, λ b. refl) past more)
       ]
@@ -151,9 +154,8 @@ module _ {T : Type 0} {Leaves : T → T → Type 0} {first : List T} {log : Log 
   made a k values at =
       let end = known agrees a (Making k) at in
       let e : Event T = event.MakePage a (Ok values) in
-      let own : made_by e (seen.Made a) a ≡ Some values = rw (eq-eqb a a refl) refl in
       stays agrees _ at tt (λ b other. rw (ne_eqb a b other) refl)
-      (end, ap (λ lookup. or_else lookup (last_made log a)) own)
+      (end, rw (eq-eqb a a refl) refl)
 
   -- the agent is refused the page's memory, or its values
   pub lacks-memory : (a k : ℕ) → slice_get old.agents a ≡ Some (Making k)
@@ -198,13 +200,13 @@ module _ {T : Type 0} {Leaves : T → T → Type 0} {first : List T} {log : Log 
         places = pushed-all (λ p. length p.places ≡ 32) old.pages (linked_page values)
             (length-map values Some ∙ full) agrees.places;
         allowed = allows-fewer old.limit (length pages) (k + 1 + 1) (omega arith) end.allowed;
-        values = λ b j i value other below within holds. ap (λ lookup. value_in lookup i)
+        values = λ b j i value other below within holds. ap (value-at i)
             (slice_get-append_front old.pages (linked_page values ∷ []) j below);
       })
       (record {
         looking = rw (acts_of-own act acts a refl) looking;
         linked = omega arith;
-        saw_taken = λ n below. since-later first act acts a (λ pool. IsOut pool n) not_opens
+        saw_taken = λ n below. since-later first act acts a (λ pool. pool.at n ≡ Out) not_opens
             (end.past.saw_taken n below);
         asked_full = tt;
       })

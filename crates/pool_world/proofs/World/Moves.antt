@@ -1,9 +1,12 @@
 -- What happens in a step: which agent moves, by which event, and what it answers and leaves.
-use Rattle.std.proofs.Common.{◌≡◌, ◌≢◌, inl, inr, ℕ, ◌+◌, ◌<◌, ◌==◌, nat_lt, Bool, true, false, if◌then◌else◌}
+use Rattle.std.proofs.Common.{◌≡◌, ◌≢◌, inl, inr, ℕ, ◌+◌, ◌<◌, ◌==◌, nat_lt, Bool, true, false, if◌then◌else◌, nat_eq}
+use Rattle.std.proofs.Common.{bit_and, ◌-◌}
 use Rattle.std.proofs.Common.{Option, Some, None}
 use Rattle.std.proofs.Common.{List, [], ◌∷◌, ◌++◌, length, slice_get, slice_set, Result, Ok, Err, refl, ap, sym, ◌∙◌}
 use Rattle.std.proofs.Common.{subst, arith}
 use Rattle.std.proofs.lemmas.Bool.{eq-eqb, lt-ltb, eqb-true, eqb-false, ltb-true, ltb-false, false≢true}
+use Rattle.std.specs.Option.{option_eq}
+use Rattle.std.specs.Int.{w32, trailing_zeros}
 use Rattle.pool_parts.specs.declared.page.TheConstants.{PAGE_ITEMS}
 use Rattle.pool_parts.specs.declared.pull_error.PullError.{PullError}
 use Rattle.pool_parts.specs.declared.pull_error.PullError.TheVariants.{Memory, Init, Limit}
@@ -18,12 +21,12 @@ use Rattle.pool_world.specs.declared.interleave.point.Point.TheVariants.{Holding
 use Rattle.pool_world.specs.Pool.{number}
 use Rattle.pool_world.specs.Run.{Act}
 use Rattle.pool_world.specs.World.State.{WorldPageState, WorldState}
-use Rattle.pool_world.specs.World.Machine.{Outcome, IsOutcome, not_enabled, has_bit, with_bit, without_bit}
-use Rattle.pool_world.specs.World.Machine.{lowest, without_lowest, word_of, with_word, page_value}
-use Rattle.pool_world.specs.World.Machine.{with_page_value, linked_page, is_limit, tries, tries_hinted, comes_to}
+use Rattle.pool_world.specs.World.Machine.{IsOutcome, not_enabled, has_bit, with_bit, without_bit}
+use Rattle.pool_world.specs.World.Machine.{word_of, with_word, page_value}
+use Rattle.pool_world.specs.World.Machine.{with_page_value, linked_page, tries, tries_hinted, comes_to}
 use Rattle.pool_world.specs.World.Machine.{may_name, takes, read_mask, read_hinted, clear_bit, read_next}
 use Rattle.pool_world.specs.World.Machine.{make_page, exchange_next, move_out, write, or_mask, begin, MovesHome}
-use Rattle.pool_world.specs.World.Machine.{LinksWhole, prepared_by, event_agent, point_of, MayGrow}
+use Rattle.pool_world.specs.World.Machine.{LinksWhole, event_agent, point_of, MayGrow}
 use Rattle.pool_world.specs.World.Machine.{Steps}
 use Rattle.pool_world.specs.World.Trace.{Log}
 use Rattle.pool_world.specs.World.Enabled.{IsEnabled}
@@ -58,21 +61,24 @@ module _ {T : Type 0} (Leaves : T → T → Type 0) (old : WorldState T) (a : �
     ReadsByHint : (hint : ℕ) → 0 < hint → hint < length old.pages
         → Moves (AtLink 0 None) (event.ReadHinted a hint) (seen.Word a (word_of old.pages hint)) old.pages
         (tries_hinted hint (word_of old.pages hint))
-    Clears : (k mask : ℕ) (asked : Option ℕ) → has_bit (word_of old.pages k) (lowest mask) ≡ true
-        → Moves (Clearing k mask asked) (event.ClearBit a) (seen.Pulled a (number k (lowest mask)))
-        (with_word old.pages k (without_bit (word_of old.pages k) (lowest mask))) (Taken k (lowest mask))
-    LosesBit : (k mask : ℕ) (asked : Option ℕ) → has_bit (word_of old.pages k) (lowest mask) ≡ false
+    Clears : (k mask : ℕ) (asked : Option ℕ) → has_bit (word_of old.pages k) (trailing_zeros w32 mask) ≡ true
+        → Moves (Clearing k mask asked) (event.ClearBit a) (seen.Pulled a (number k (trailing_zeros w32 mask)))
+        (with_word old.pages k (without_bit (word_of old.pages k) (trailing_zeros w32 mask)))
+        (Taken k (trailing_zeros w32 mask))
+    LosesBit : (k mask : ℕ) (asked : Option ℕ) → has_bit (word_of old.pages k) (trailing_zeros w32 mask) ≡ false
         → Moves (Clearing k mask asked) (event.ClearBit a) (seen.Found a (word_of old.pages k)) old.pages
-        (tries k (without_lowest mask) asked)
-    ClearsByHint : (hint mask : ℕ) → has_bit (word_of old.pages hint) (lowest mask) ≡ true
-        → Moves (ClearingHinted hint mask) (event.ClearBit a) (seen.Pulled a (number hint (lowest mask)))
-        (with_word old.pages hint (without_bit (word_of old.pages hint) (lowest mask))) (Taken hint (lowest mask))
-    LosesBitByHint : (hint mask : ℕ) → has_bit (word_of old.pages hint) (lowest mask) ≡ false
+        (tries k (bit_and mask (mask - 1)) asked)
+    ClearsByHint : (hint mask : ℕ) → has_bit (word_of old.pages hint) (trailing_zeros w32 mask) ≡ true
+        → Moves (ClearingHinted hint mask) (event.ClearBit a) (seen.Pulled a (number hint (trailing_zeros w32 mask)))
+        (with_word old.pages hint (without_bit (word_of old.pages hint) (trailing_zeros w32 mask)))
+        (Taken hint (trailing_zeros w32 mask))
+    LosesBitByHint : (hint mask : ℕ) → has_bit (word_of old.pages hint) (trailing_zeros w32 mask) ≡ false
         → Moves (ClearingHinted hint mask) (event.ClearBit a) (seen.Found a (word_of old.pages hint)) old.pages
-        (tries_hinted hint (without_lowest mask))
-    MeetsLimit : (k : ℕ) (asked : Option ℕ) → is_limit old.limit (k + 1) ≡ true
+        (tries_hinted hint (bit_and mask (mask - 1)))
+    MeetsLimit : (k : ℕ) (asked : Option ℕ) → option_eq nat_eq old.limit (Some (k + 1)) ≡ true
         → Moves (AtLink k asked) (event.ReadNext a) (seen.Refused a Limit) old.pages Ended
-    FindsNoNext : (k : ℕ) (asked : Option ℕ) → is_limit old.limit (k + 1) ≡ false → length old.pages ≡ k + 1
+    FindsNoNext : (k : ℕ) (asked : Option ℕ) → option_eq nat_eq old.limit (Some (k + 1)) ≡ false
+        → length old.pages ≡ k + 1
         → Moves (AtLink k asked) (event.ReadNext a) (seen.Next a false) old.pages (Making k)
     GoesNext : (k : ℕ) (asked : Option ℕ) → length old.pages ≢ k + 1
         → Moves (AtLink k asked) (event.ReadNext a) (seen.Next a true) old.pages (comes_to (k + 1) asked)
@@ -114,7 +120,7 @@ module _ {T : Type 0} {Leaves : T → T → Type 0} {old : WorldState T} where
   -- where an agent moves the event is enabled and names it, and it is answered
   pub move-enabled : {a : ℕ} {from to : Point T} {e : Event T} {answer : Seen} {pages : List (WorldPageState T)}
       → Moves Leaves old a from e answer pages to → IsEnabled old e (Some from)
-  move-enabled (ReadsByHint hint further linked) = record { first_link = refl; further = further; linked = linked }
+  move-enabled (ReadsByHint hint further linked) = (refl, further, linked)
   move-enabled _ = tt
 
   pub move-named : {a : ℕ} {from to : Point T} {e : Event T} {answer : Seen} {pages : List (WorldPageState T)}
@@ -150,7 +156,8 @@ module _ {T : Type 0} {Leaves : T → T → Type 0} {first : List T} {log : Log 
     unable none row = NotEnabled none row.0 row.1
 
     -- by the outcome of a test
-    by-test : {P : Type 0} (test : Bool) (one other : Outcome T) → IsOutcome (if test then one else other) answer new
+    by-test : {P : Type 0} (test : Bool) (one other : Seen × WorldState T)
+        → IsOutcome (if test then one else other) answer new
         → (test ≡ true → IsOutcome one answer new → P) → (test ≡ false → IsOutcome other answer new → P) → P
     by-test true one other row then_is else_is = then_is refl row
     by-test false one other row then_is else_is = else_is refl row
@@ -166,11 +173,11 @@ module _ {T : Type 0} {Leaves : T → T → Type 0} {first : List T} {log : Log 
         (λ may gave.
         let (is, further, linked) = may_name-is old k hint may in
         goes (at ∙ ap (λ j. Some (AtLink j None)) is) (ReadsByHint hint further linked) gave)
-        (λ not gave. unable (λ names. absurd (false≢true (sym not
+        (λ not gave. unable (λ (first_link, further, linked). absurd (false≢true (sym not
         ∙ rw (
-          eq-eqb k 0 names.first_link,
-          lt-ltb 0 hint names.further,
-          lt-ltb hint (length old.pages) names.linked,
+          eq-eqb k 0 first_link,
+          lt-ltb 0 hint further,
+          lt-ltb hint (length old.pages) linked,
         ) refl))) gave)
     read_hinted-does a hint _ at row = unable (λ has. has) row
 
@@ -180,14 +187,14 @@ module _ {T : Type 0} {Leaves : T → T → Type 0} {first : List T} {log : Log 
         let bits = (known a (Clearing k mask asked) at).1 in
         let some = bits.some in
         by-test (mask == 0) _ _ row (λ none gave. let zero = eqb-true mask 0 none in absurd (omega arith))
-        (λ more gave. by-test (has_bit (word_of old.pages k) (lowest mask)) _ _ gave
+        (λ more gave. by-test (has_bit (word_of old.pages k) (trailing_zeros w32 mask)) _ _ gave
         (λ set given. goes at (Clears k mask asked set) given)
         (λ clear given. goes at (LosesBit k mask asked clear) given))
     clear_bit-does a (Some (ClearingHinted hint mask)) at row =
         let bits = (known a (ClearingHinted hint mask) at).bits in
         let some = bits.some in
         by-test (mask == 0) _ _ row (λ none gave. let zero = eqb-true mask 0 none in absurd (omega arith))
-        (λ more gave. by-test (has_bit (word_of old.pages hint) (lowest mask)) _ _ gave
+        (λ more gave. by-test (has_bit (word_of old.pages hint) (trailing_zeros w32 mask)) _ _ gave
         (λ set given. goes at (ClearsByHint hint mask set) given)
         (λ clear given. goes at (LosesBitByHint hint mask clear) given))
     clear_bit-does a _ at row = unable (λ has. has) row
@@ -197,7 +204,7 @@ module _ {T : Type 0} {Leaves : T → T → Type 0} {first : List T} {log : Log 
     read_next-does a (Some (AtLink k asked)) at row =
         let linked = (known a (AtLink k asked) at).linked in
         by-test (nat_lt k (length old.pages)) _ _ row
-        (λ there gave. by-test (is_limit old.limit (k + 1)) _ _ gave
+        (λ there gave. by-test (option_eq nat_eq old.limit (Some (k + 1))) _ _ gave
         (λ limit given. goes at (MeetsLimit k asked limit) given)
         (λ below given. by-test (length old.pages == k + 1) _ _ given
         (λ last this. goes at (FindsNoNext k asked below (eqb-true (length old.pages) (k + 1) last)) this)
@@ -220,7 +227,7 @@ module _ {T : Type 0} {Leaves : T → T → Type 0} {first : List T} {log : Log 
     make_page-does a (Err Init) _ at row = unable (λ has. has) row
 
     exchange_next-does : (a : ℕ) (point : Option (Point T)) → slice_get old.agents a ≡ point
-        → IsOutcome (exchange_next old a point) answer new → LinksWhole answer (prepared_by point)
+        → IsOutcome (exchange_next old a point) answer new → LinksWhole answer point
         → Does (event.ExchangeNext a) point
     exchange_next-does a (Some (Linking k values)) at row whole =
         let linked = (known a (Linking k values) at).0.past.linked in

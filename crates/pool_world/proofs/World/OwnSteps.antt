@@ -1,10 +1,13 @@
 -- An agent that looks goes on with each of its own steps.
 use Rattle.std.proofs.Common.{◌≡◌, inl, inr, ℕ, ◌+◌, ◌*◌, ◌≤◌, ◌==◌, Bool, true, false, if◌then◌else◌, Option, Some}
+use Rattle.std.proofs.Common.{nat_eq, bit_and, ◌-◌, IfSome}
 use Rattle.std.proofs.Common.{None}
 use Rattle.std.proofs.Common.{List, [], ◌∷◌, ◌++◌, length, slice_get, slice_set, refl, ap, sym, ◌∙◌, subst, arith}
 use Rattle.std.proofs.Common.{length-append}
 use Rattle.std.proofs.lemmas.Bool.{eq-eqb, ne_eqb, cases_eq, cases_lt}
 use Rattle.std.proofs.lemmas.Option.{slice_get_past, slice_get_within}
+use Rattle.std.specs.Option.{option_eq}
+use Rattle.std.specs.Int.{w32, trailing_zeros}
 use Rattle.pool_world.specs.declared.interleave.event.Event.{Event}
 use Rattle.pool_world.specs.declared.interleave.event.Event.TheVariants as event
 use Rattle.pool_world.specs.declared.interleave.event.Seen.{Seen}
@@ -13,11 +16,11 @@ use Rattle.pool_world.specs.declared.interleave.point.Point.TheVariants.{Reading
 use Rattle.pool_world.specs.declared.interleave.point.Point.TheVariants.{ClearingHinted}
 use Rattle.pool_world.specs.Run.{Act}
 use Rattle.pool_world.specs.World.State.{WorldPageState, WorldState}
-use Rattle.pool_world.specs.World.Machine.{IsOutcome, lowest, without_lowest, word_of, begin, event_agent}
+use Rattle.pool_world.specs.World.Machine.{IsOutcome, word_of, begin, event_agent}
 use Rattle.pool_world.specs.World.Machine.{point_of}
 use Rattle.pool_world.specs.World.Trace.{Log}
-use Rattle.pool_world.specs.World.OwnSteps.{is_idle, names, is_step_of}
-use Rattle.pool_world.specs.World.Inside.Invariant.{SawAskedFull, Agrees}
+use Rattle.pool_world.specs.World.OwnSteps.{is_idle, is_step_of}
+use Rattle.pool_world.specs.World.Inside.Invariant.{SawFull, Agrees}
 use Rattle.pool_world.proofs.Places.{slice_get-set_same, slice_get-set_other}
 use Rattle.pool_world.proofs.Places.{slice_get-append_front, slice_get-append_last}
 use Rattle.pool_world.proofs.World.Bits.{lowest-lt, without_lowest-lt}
@@ -41,13 +44,14 @@ module _ {T : Type 0} where
   -- nothing happens
   stays : (e : Event T) (old new : WorldState T) (answer : Seen) → is_idle answer ≡ true → new ≡ old → (a : ℕ)
       → Effect (slice_get old.agents a) (slice_get new.agents a) (is_step_of e answer a)
-  stays e old new answer idle same a = Stays (ap (λ idle. if idle then false else names (event_agent e) a) idle)
+  stays e old new answer idle same a =
+      Stays (ap (λ idle. if idle then false else option_eq nat_eq (event_agent e) (Some a)) idle)
       (ap (λ world. slice_get world.agents a) same)
 
 module _ {T : Type 0} {Leaves : T → T → Type 0} {first : List T} {log : Log T} {acts : List (Act T)}
     {old : WorldState T} (agrees : Agrees Leaves first log acts old) where
   -- a page that a hint named lies before the end of the chain
-  early-end : (b k : ℕ) (asked : Option ℕ) → SawAskedFull first acts (length old.pages) b asked
+  early-end : (b k : ℕ) (asked : Option ℕ) → IfSome asked (λ hint. SawFull first acts (length old.pages) b hint)
       → length old.pages ≡ k + 1 → taken_early asked k ≡ 0
   early-end b k None full last = refl
   early-end b k (Some hint) full last = let linked = full.linked in early-past hint k (omega arith)
@@ -66,8 +70,8 @@ module _ {T : Type 0} {Leaves : T → T → Type 0} {first : List T} {log : Log 
       let some = bits.some in
       let fits = bits.in_word in
       let within = lowest-lt mask some fits in
-      advances-tries (Clearing k mask asked) k (without_lowest mask) asked (36 * k + 1 + lowest mask)
-      (69 * k + 1 + lowest mask) refl refl (omega arith) (omega arith)
+      advances-tries (Clearing k mask asked) k (bit_and mask (mask - 1)) asked (36 * k + 1 + trailing_zeros w32 mask)
+      (69 * k + 1 + trailing_zeros w32 mask) refl refl (omega arith) (omega arith)
       (λ left. let up = lowest-grows mask some fits (without_lowest-lt mask fits) left in
       (omega arith, omega arith))
   leads-on b from to e answer pages at (LosesBitByHint hint mask clear) =
@@ -75,7 +79,7 @@ module _ {T : Type 0} {Leaves : T → T → Type 0} {first : List T} {log : Log 
       let some = tried.bits.some in
       let fits = tried.bits.in_word in
       let within = lowest-lt mask some fits in
-      advances-hinted (ClearingHinted hint mask) hint (without_lowest mask) (34 + lowest mask) refl refl
+      advances-hinted (ClearingHinted hint mask) hint (bit_and mask (mask - 1)) (34 + trailing_zeros w32 mask) refl refl
       tried.further (omega arith)
       (λ left. let up = lowest-grows mask some fits (without_lowest-lt mask fits) left in omega arith)
   leads-on b from to e answer pages at (FindsNoNext k asked below last) =
@@ -92,8 +96,8 @@ module _ {T : Type 0} {Leaves : T → T → Type 0} {first : List T} {log : Log 
   begins e answer new is row a =
       let agents : new.agents ≡ old.agents ++ Reading 0 None ∷ [] = ap (λ world. world.agents) row.1 in
       let own : is_step_of e answer a ≡ false =
-      ap (λ idle. if idle then false else names (event_agent e) a) (ap is_idle row.0)
-      ∙ ap (λ x. names (event_agent x) a) is in
+      ap (λ idle. if idle then false else option_eq nat_eq (event_agent e) (Some a)) (ap is_idle row.0)
+      ∙ ap (λ x. option_eq nat_eq (event_agent x) (Some a)) is in
       elim (cases_lt a (length old.agents)) [
         | inl below ↦
             Stays own
@@ -118,8 +122,8 @@ module _ {T : Type 0} {Leaves : T → T → Type 0} {first : List T} {log : Log 
   moves-on e answer new b from to pages at moves is a =
       let agents : new.agents ≡ slice_set old.agents b to = ap (λ world. world.agents) is in
       let own : is_step_of e answer a ≡ (b == a) =
-      ap (λ idle. if idle then false else names (event_agent e) a) (move-busy moves)
-      ∙ ap (λ agent. names agent a) (move-named moves) in
+      ap (λ idle. if idle then false else option_eq nat_eq (event_agent e) (Some a)) (move-busy moves)
+      ∙ ap (λ agent. option_eq nat_eq agent (Some a)) (move-named moves) in
       elim (cases_eq b a) [
         | inl same ↦
             let was : slice_get old.agents a ≡ Some from = ap (λ c. slice_get old.agents c) (sym same) ∙ at in

@@ -1,35 +1,37 @@
 -- How far an agent is that looks: each of its steps counts, and its page.
-use Rattle.std.proofs.Common.{◌≡◌, inl, inr, ℕ, ◌+◌, ◌*◌, ◌^◌, ◌<◌, ◌≤◌, nat_lt, false, Option, Some}
+use Rattle.std.proofs.Common.{◌≡◌, inl, inr, ℕ, ◌+◌, ◌*◌, ◌^◌, ◌<◌, ◌≤◌, nat_lt, false, Option, Some, nat_eq, bit_and}
+use Rattle.std.proofs.Common.{◌-◌}
 use Rattle.std.proofs.Common.{None, List, refl, ap, sym, ◌∙◌, arith}
-use Rattle.std.specs.Int.{w32, bit_at}
+use Rattle.std.specs.Int.{w32, bit_at, trailing_zeros}
 use Rattle.std.proofs.lemmas.Bool.{eq-eqb, ne_eqb, eqb-false, lt-ltb, ltb-true, cases_eq, cases_lt, cases_Bool}
 use Rattle.std.proofs.lemmas.Nat.Bits.{bit_at-trailing_zeros}
+use Rattle.std.specs.Option.{option_eq}
 use Rattle.pool_parts.proofs.WordBits.{clears_least}
 use Rattle.pool_world.specs.declared.interleave.point.Point.{Point}
 use Rattle.pool_world.specs.declared.interleave.point.Point.TheVariants.{Reading, AtLink}
 use Rattle.pool_world.specs.declared.interleave.point.Point.TheVariants.{Making, Linking}
 use Rattle.pool_world.specs.World.Inside.Progress.{taken_early, link_position, progress, position, Rises}
 use Rattle.pool_world.specs.World.Inside.Progress.{MovesOn}
-use Rattle.pool_world.specs.World.Machine.{lowest, without_lowest, tries, tries_hinted, comes_to, was_asked}
+use Rattle.pool_world.specs.World.Machine.{tries, tries_hinted, comes_to}
 
 -- ---- the bits that are tried go up
-pub lowest-grows : (mask : ℕ) → 0 < mask → mask < 2 ^ 32 → without_lowest mask < 2 ^ 32 → 0 < without_lowest mask
-    → lowest mask < lowest (without_lowest mask)
+pub lowest-grows : (mask : ℕ) → 0 < mask → mask < 2 ^ 32 → bit_and mask (mask - 1) < 2 ^ 32 → 0 < bit_and mask (mask - 1)
+    → trailing_zeros w32 mask < trailing_zeros w32 (bit_and mask (mask - 1))
 lowest-grows mask some fits rest_fits more =
     let lowest_bit = bit_at-trailing_zeros w32 mask some fits in
-    let rest = bit_at-trailing_zeros w32 (without_lowest mask) more rest_fits in
-    let cleared = clears_least mask (lowest mask) lowest_bit.1 lowest_bit.2 in
-    elim (cases_lt (lowest mask) (lowest (without_lowest mask))) [
+    let rest = bit_at-trailing_zeros w32 (bit_and mask (mask - 1)) more rest_fits in
+    let cleared = clears_least mask (trailing_zeros w32 mask) lowest_bit.1 lowest_bit.2 in
+    elim (cases_lt (trailing_zeros w32 mask) (trailing_zeros w32 (bit_and mask (mask - 1)))) [
       | inl below ↦ below
-      | inr above ↦ elim (cases_eq (lowest (without_lowest mask)) (lowest mask)) [
+      | inr above ↦ elim (cases_eq (trailing_zeros w32 (bit_and mask (mask - 1))) (trailing_zeros w32 mask)) [
         | inl same ↦
             let gone = cleared.clear in
-            let set : bit_at (without_lowest mask) (lowest mask) ≡ 1 =
-            ap (bit_at (without_lowest mask)) (sym same) ∙ rest.1 in
+            let set : bit_at (bit_and mask (mask - 1)) (trailing_zeros w32 mask) ≡ 1 =
+            ap (bit_at (bit_and mask (mask - 1))) (sym same) ∙ rest.1 in
             absurd (omega arith)
         | inr other ↦
-            let was = cleared.others (lowest (without_lowest mask)) other in
-            let zero = lowest_bit.2 (lowest (without_lowest mask)) (omega arith) in
+            let was = cleared.others (trailing_zeros w32 (bit_and mask (mask - 1))) other in
+            let zero = lowest_bit.2 (trailing_zeros w32 (bit_and mask (mask - 1))) (omega arith) in
             let set = rest.1 in
             absurd (omega arith)
       ]
@@ -51,7 +53,7 @@ early-past hint k past = elim (cases_Bool (nat_lt k hint)) [
 ]
 
 -- on to the next page, which the hint didn't name, they stay
-pub early-next : (asked : Option ℕ) (k : ℕ) → was_asked asked (k + 1) ≡ false
+pub early-next : (asked : Option ℕ) (k : ℕ) → option_eq nat_eq asked (Some (k + 1)) ≡ false
     → taken_early asked (k + 1) ≡ taken_early asked k
 early-next None k not = refl
 early-next (Some hint) k not =
@@ -96,7 +98,8 @@ module _ {T : Type 0} where
   pub advances-tries : (from : Point T) (k mask : ℕ) (asked : Option ℕ) (sooner on_page : ℕ)
       → progress from ≡ Some (sooner + taken_early asked k)
       → position from ≡ Some on_page → sooner + 1 ≤ 36 * k + 33 → on_page + 1 ≤ 69 * k + 33
-      → (0 < mask → (sooner + 1 ≤ 36 * k + 1 + lowest mask) × (on_page + 1 ≤ 69 * k + 1 + lowest mask))
+      → (0 < mask → (sooner + 1 ≤ 36 * k + 1 + trailing_zeros w32 mask)
+      × (on_page + 1 ≤ 69 * k + 1 + trailing_zeros w32 mask))
       → MovesOn from (tries k mask asked)
   advances-tries from k mask asked sooner on_page is here link page bits =
       let (least, most) = link-between k asked in
@@ -110,7 +113,7 @@ module _ {T : Type 0} where
   -- on a page that a hint named
   pub advances-hinted : (from : Point T) (hint mask sooner : ℕ) → progress from ≡ Some sooner
       → position from ≡ Some sooner → 0 < hint
-      → sooner + 1 ≤ 66 → (0 < mask → sooner + 1 ≤ 34 + lowest mask) → MovesOn from (tries_hinted hint mask)
+      → sooner + 1 ≤ 66 → (0 < mask → sooner + 1 ≤ 34 + trailing_zeros w32 mask) → MovesOn from (tries_hinted hint mask)
   advances-hinted from hint mask sooner is here further link bits =
       let early = early-before hint 0 further in
       elim (cases_eq mask 0) [
@@ -124,7 +127,7 @@ module _ {T : Type 0} where
   pub advances-next : (k : ℕ) (asked : Option ℕ) → MovesOn {T = T} (AtLink k asked) (comes_to (k + 1) asked)
   advances-next k asked =
       let (least, most) = link-between k asked in
-      elim (cases_Bool (was_asked asked (k + 1))) [
+      elim (cases_Bool (option_eq nat_eq asked (Some (k + 1)))) [
         | inl is ↦
             let (from_there, to_there) = link-between (k + 1) asked in
             let little = early-most asked k in

@@ -3,8 +3,7 @@ use Rattle.std.proofs.Common.{ℕ, Option, [], ◌∷◌, slice_get}
 use Rattle.pool_world.specs.declared.interleave.point.Point.{Point}
 use Rattle.pool_world.specs.World.State.{WorldState}
 use Rattle.pool_world.specs.World.Trace.{Log}
-use Rattle.pool_world.specs.World.Headline.{Executes}
-use Rattle.pool_world.specs.World.Reachable.{IsReachable}
+use Rattle.pool_world.specs.World.Headline.{Executes, IsReachable}
 use Rattle.pool_world.specs.World.OwnSteps.{own_steps, is_step_of}
 use Rattle.pool_world.proofs.World.Enabled.{reached-step, reached-agrees, reached-happens}
 use Rattle.pool_world.specs.World.Inside.Progress.{MovesOn, Rises}

@@ -1,7 +1,9 @@
 -- Where an agent that runs solo comes with each of its steps.
 use Rattle.std.proofs.Common.{◌≡◌, ◌≢◌, inl, inr, ℕ, ◌+◌, ◌*◌, ◌<◌, ◌≤◌, true, false, Option, Some, None, List, []}
+use Rattle.std.proofs.Common.{nat_eq, IsSome}
 use Rattle.std.proofs.Common.{◌∷◌, ◌++◌, length, slice_get, refl, ap, sym, ◌∙◌, arith}
 use Rattle.std.proofs.lemmas.Bool.{cases_eq, cases_lt, cases_Bool}
+use Rattle.std.specs.Option.{option_eq}
 use Rattle.pool_parts.specs.declared.pull_error.PullError.TheVariants.{Limit}
 use Rattle.pool_world.specs.declared.interleave.event.Event.{Event}
 use Rattle.pool_world.specs.declared.interleave.event.Seen.{Seen}
@@ -9,22 +11,22 @@ use Rattle.pool_world.specs.declared.interleave.event.Seen.TheVariants as seen
 use Rattle.pool_world.specs.declared.interleave.point.Point.{Point}
 use Rattle.pool_world.specs.declared.interleave.point.Point.TheVariants.{Reading, AtLink, ClearingHinted}
 use Rattle.pool_world.specs.World.State.{WorldPageState, WorldState}
-use Rattle.pool_world.specs.World.Machine.{linked_page, comes_to, was_asked, word_of, word_in}
+use Rattle.pool_world.specs.World.Machine.{held_by, linked_page, comes_to, word_of}
 use Rattle.pool_world.specs.World.Trace.{Log}
-use Rattle.pool_world.specs.World.Headline.{Executes}
-use Rattle.pool_world.specs.World.Reachable.{IsReachable}
+use Rattle.pool_world.specs.World.Headline.{Executes, IsReachable}
 use Rattle.pool_world.specs.World.OwnSteps.{own_steps}
 use Rattle.pool_world.specs.World.Inside.SoloWalk.{ComesBy, AskedInVain, IsWay, IsOnward, AtMaking, AtLinking}
 use Rattle.pool_world.specs.World.Inside.SoloWalk.{AtWord, AtBits, AtHinted, HasTaken, SoloWalk, AtFull, AtChain}
 use Rattle.pool_world.specs.World.Inside.SoloWalk.{Onward, HasMoved, IsRefused, IsUnhinted}
-use Rattle.pool_world.specs.World.Solo.{IsSolo, AsksNoHint, AsksNoHints, BringsPage, BringsPages, IsAnswered}
-use Rattle.pool_world.specs.World.Solo.{IsFirstFree, AllFull, HasMovedOut, RunsSolo, RunsSoloByHint}
+use Rattle.pool_world.specs.World.Solo.{IsOwnEvent, EachEvent, AsksNoHint, BringsPage, IsAnswered}
+use Rattle.pool_world.specs.World.Solo.{IsFirstFree, AllFull, RunsSolo, RunsSoloByHint}
 use Rattle.pool_world.proofs.Places.{slice_get-append_last}
 use Rattle.pool_world.proofs.World.LinkSteps.{asked-is}
 use Rattle.pool_world.proofs.World.SoloSteps.{IsSoloStep, LeftLink, AsksByHint, tries-none, tries-some}
 use Rattle.pool_world.proofs.World.SoloSteps.{tries_hinted-none, tries_hinted-some, reads-word, leaves-link}
 use Rattle.pool_world.proofs.World.SoloSteps.{goes-on, leaves-last, makes-page, links-page, clears-lowest}
 use Rattle.pool_world.proofs.World.SoloSteps.{clears-hinted, moves-out, ran-alone}
+use Rattle.pool_world.proofs.World.AbstractPool.{word-at}
 
 -- by one step more
 later : {extra count n next : ℕ} → ComesBy extra count n → count + 1 ≡ next → ComesBy extra next (n + 1)
@@ -43,12 +45,15 @@ module _ {T : Type 0} where
       → 0 < word_of (pages ++ linked_page values ∷ []) (length pages)
   linked-free pages values =
       let word : word_of (pages ++ linked_page values ∷ [])
-      (length pages) ≡ 4294967295 = ap word_in (slice_get-append_last pages (linked_page values)) in omega arith
+      (length pages) ≡ 4294967295 =
+      word-at _ (length pages) _ (slice_get-append_last pages (linked_page values)) in omega arith
 
-  comes-past : (k : ℕ) (asked : Option ℕ) → was_asked asked k ≡ true → comes_to {T = T} k asked ≡ AtLink k asked
+  comes-past : (k : ℕ) (asked : Option ℕ) → option_eq nat_eq asked (Some k) ≡ true
+      → comes_to {T = T} k asked ≡ AtLink k asked
   comes-past k asked is = rw is refl
 
-  comes-first : (k : ℕ) (asked : Option ℕ) → was_asked asked k ≡ false → comes_to {T = T} k asked ≡ Reading k asked
+  comes-first : (k : ℕ) (asked : Option ℕ) → option_eq nat_eq asked (Some k) ≡ false
+      → comes_to {T = T} k asked ≡ Reading k asked
   comes-first k asked not = rw not refl
 
   -- an entry more, with which nothing changes
@@ -73,7 +78,7 @@ module _ {T : Type 0} {old : WorldState T} {a : ℕ} {e : Event T} {answer : See
 
   -- a page of the chain that was asked in vain isn't page k
   not-goal : (asked : Option ℕ) → AskedInVain extra pages asked → (j : ℕ) → j < length pages → j ≤ k
-      → was_asked asked j ≡ true → j < k
+      → option_eq nat_eq asked (Some j) ≡ true → j < k
   not-goal asked vain j linked most is = elim way.goal [
     | inl (there, none, free) ↦
         let full = vain.full j (asked-is asked j is) in
@@ -94,7 +99,7 @@ module _ {T : Type 0} {old : WorldState T} {a : ℕ} {e : Event T} {answer : See
       elim (cases_lt (j + 1) (length pages)) [
         | inl more ↦
             let gone = goes-on solo j asked at (omega arith) left in
-            elim (cases_Bool (was_asked asked (j + 1))) [
+            elim (cases_Bool (option_eq nat_eq asked (Some (j + 1)))) [
               | inl is ↦
                   AtChain (j + 1) asked (not-goal asked vain (j + 1) more (omega arith) is)
                   (by-hint
@@ -230,7 +235,7 @@ module _ {T : Type 0} {extra : ℕ} {pages : List (WorldPageState T)} {k c n : �
   module _ {limit : Option ℕ} {a : ℕ} {log : Log T} {world : WorldState T} {lookup : Option (Point T)} where
     walk-moved : IsWay pages k c → (length pages ≡ k → limit ≢ Some (length pages))
         → SoloWalk extra pages limit k c n a log world lookup → c + 2 * k + 3 + extra ≤ n
-        → IsAnswered log (seen.MovedOut a) × (extra ≡ 0 → n ≡ c + 2 * k + 3 → HasMovedOut lookup)
+        → IsAnswered log (seen.MovedOut a) × (extra ≡ 0 → n ≡ c + 2 * k + 3 → IsSome (held_by lookup))
     walk-moved way allowed (AtFull j asked below comes early vain at same bound) now =
         let most = comes.most in absurd (omega arith)
     walk-moved way allowed (AtChain j asked below comes early vain at same bound) now =
@@ -251,7 +256,7 @@ module _ {T : Type 0} {extra : ℕ} {pages : List (WorldPageState T)} {k c n : �
     walk-refused last limited (IsRefused end same told) now = told
 
 module _ {T : Type 0} where
-  pub unhinted-is : (a : ℕ) (log : Log T) → IsSolo a log → AsksNoHints log → IsUnhinted a log
+  pub unhinted-is : (a : ℕ) (log : Log T) → EachEvent (IsOwnEvent a) log → EachEvent AsksNoHint log → IsUnhinted a log
   unhinted-is a [] alone none = tt
   unhinted-is a ((e, answer) ∷ log) (own, alone) (unhinted, none) = ((own, unhinted), unhinted-is a log alone none)
 
@@ -268,13 +273,13 @@ module _ {T : Type 0} where
 
 module _ {T : Type 0} (Leaves : T → T → Type 0) (old : WorldState T) (reached : IsReachable old) (a : ℕ)
     (at : slice_get old.agents a ≡ Some (Reading 0 None))
-    (log : Log T) (new : WorldState T) (ran : Executes Leaves old log new) (alone : IsSolo a log) where
-  ran-walk : (extra k c : ℕ) → IsWay old.pages k c → (extra ≡ 0 → AsksNoHints log)
-      → (length old.pages ≡ k → old.limit ≢ Some (length old.pages) → BringsPages log)
+    (log : Log T) (new : WorldState T) (ran : Executes Leaves old log new) (alone : EachEvent (IsOwnEvent a) log) where
+  ran-walk : (extra k c : ℕ) → IsWay old.pages k c → (extra ≡ 0 → EachEvent AsksNoHint log)
+      → (length old.pages ≡ k → old.limit ≢ Some (length old.pages) → EachEvent BringsPage log)
       → SoloWalk extra old.pages old.limit k c (own_steps log a) a log new (slice_get new.agents a)
   ran-walk extra k c way =
-      let P : ℕ → Log T → WorldState T → Type 0 = λ n log world. (extra ≡ 0 → AsksNoHints log)
-      → (length old.pages ≡ k → old.limit ≢ Some (length old.pages) → BringsPages log)
+      let P : ℕ → Log T → WorldState T → Type 0 = λ n log world. (extra ≡ 0 → EachEvent AsksNoHint log)
+      → (length old.pages ≡ k → old.limit ≢ Some (length old.pages) → EachEvent BringsPage log)
       → SoloWalk extra old.pages old.limit k c n a log world (slice_get world.agents a) in
       let vain : AskedInVain extra old.pages None = record { full = λ hint is. absurd (cc); unasked = λ none. refl } in
       let begins : P 0 [] old = λ unhinted brings. elim (cases_eq k 0) [
@@ -299,10 +304,10 @@ module _ {T : Type 0} (Leaves : T → T → Type 0) (old : WorldState T) (reache
 
   -- to a page with a free number; behind the last page, where a page may be linked, and where none
   -- may
-  ran-takes : (extra k : ℕ) → (extra ≡ 0 → AsksNoHints log) → IsFirstFree old.pages k
+  ran-takes : (extra k : ℕ) → (extra ≡ 0 → EachEvent AsksNoHint log) → IsFirstFree old.pages k
       → 2 * k + 3 + extra ≤ own_steps log a
       → IsAnswered log (seen.MovedOut a)
-      × (extra ≡ 0 → own_steps log a ≡ 2 * k + 3 → HasMovedOut (slice_get new.agents a))
+      × (extra ≡ 0 → own_steps log a ≡ 2 * k + 3 → IsSome (held_by (slice_get new.agents a)))
   ran-takes extra k unhinted free many =
       let linked = free.linked in
       let way = way-free old.pages k free in
@@ -310,17 +315,18 @@ module _ {T : Type 0} (Leaves : T → T → Type 0) (old : WorldState T) (reache
       (ran-walk extra k 0 way unhinted (λ last. absurd (omega arith))) (omega arith) in
       (moved.0, λ none now. moved.1 none (omega arith))
 
-  ran-links : (extra : ℕ) → (extra ≡ 0 → AsksNoHints log) → AllFull old.pages
-      → old.limit ≢ Some (length old.pages) → BringsPages log → 2 * length old.pages + 5 + extra ≤ own_steps log a
+  ran-links : (extra : ℕ) → (extra ≡ 0 → EachEvent AsksNoHint log) → AllFull old.pages
+      → old.limit ≢ Some (length old.pages) → EachEvent BringsPage log
+      → 2 * length old.pages + 5 + extra ≤ own_steps log a
       → IsAnswered log (seen.MovedOut a)
-      × (extra ≡ 0 → own_steps log a ≡ 2 * length old.pages + 5 → HasMovedOut (slice_get new.agents a))
+      × (extra ≡ 0 → own_steps log a ≡ 2 * length old.pages + 5 → IsSome (held_by (slice_get new.agents a)))
   ran-links extra unhinted all unlimited brings many =
       let way = way-out old.pages all in
       let moved = walk-moved way (λ last. unlimited)
       (ran-walk extra (length old.pages) 2 way unhinted (λ last other. brings)) (omega arith) in
       (moved.0, λ none now. moved.1 none (omega arith))
 
-  ran-refused : (extra : ℕ) → (extra ≡ 0 → AsksNoHints log) → AllFull old.pages
+  ran-refused : (extra : ℕ) → (extra ≡ 0 → EachEvent AsksNoHint log) → AllFull old.pages
       → old.limit ≡ Some (length old.pages) → 2 * length old.pages + extra ≤ own_steps log a
       → IsAnswered log (seen.Refused a Limit)
   ran-refused extra unhinted all limited many =
@@ -328,7 +334,7 @@ module _ {T : Type 0} (Leaves : T → T → Type 0) (old : WorldState T) (reache
       walk-refused refl limited
       (ran-walk extra (length old.pages) 2 way unhinted (λ last other. absurd (other limited))) many
 
-  pub ran-solo : AsksNoHints log → RunsSolo old log new a
+  pub ran-solo : EachEvent AsksNoHint log → RunsSolo old log new a
   ran-solo none = record {
     takes = λ k free. record {
       answered = λ many. (ran-takes 0 k (λ zero. none) free (omega arith)).0;
@@ -343,7 +349,7 @@ module _ {T : Type 0} (Leaves : T → T → Type 0) (old : WorldState T) (reache
 
   pub ran-solo_by_hint : RunsSoloByHint old log a
   ran-solo_by_hint =
-      let never : ◌≡◌ {A = ℕ} 1 0 → AsksNoHints log = λ is. absurd (omega arith) in
+      let never : ◌≡◌ {A = ℕ} 1 0 → EachEvent AsksNoHint log = λ is. absurd (omega arith) in
       record {
         takes = λ k free many. (ran-takes 1 k never free (omega arith)).0;
         links = λ all unlimited brings many. (ran-links 1 never all unlimited brings (omega arith)).0;

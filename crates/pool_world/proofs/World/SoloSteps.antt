@@ -1,9 +1,12 @@
 -- What each step does by which something happens to an agent that runs solo.
 use Rattle.std.specs.Bool.{⊤}
-use Rattle.std.proofs.Common.{◌≡◌, ◌≢◌, ◌⊎◌, inl, inr, ℕ, ◌+◌, ◌^◌, ◌<◌, true, false, if◌then◌else◌, Option, Some, None}
+use Rattle.std.proofs.Common.{◌≡◌, ◌≢◌, ◌⊎◌, inl, inr, ℕ, ◌+◌, ◌^◌, ◌<◌, true, false, if◌then◌else◌, Option, Some}
+use Rattle.std.proofs.Common.{None, nat_eq, IsSome}
 use Rattle.std.proofs.Common.{List, [], ◌∷◌, ◌++◌, length, slice_get, refl, ap, sym, ◌∙◌, arith}
 use Rattle.std.proofs.lemmas.Bool.{eq-eqb, ne_eqb, false≢true, cases_Bool}
 use Rattle.std.proofs.lemmas.Option.{slice_get_within}
+use Rattle.std.specs.Option.{option_eq}
+use Rattle.std.specs.Int.{w32, trailing_zeros}
 use Rattle.pool_parts.specs.declared.pull_error.PullError.TheVariants.{Limit}
 use Rattle.pool_world.specs.declared.interleave.event.Event.{Event}
 use Rattle.pool_world.specs.declared.interleave.event.Seen.{Seen}
@@ -12,15 +15,14 @@ use Rattle.pool_world.specs.declared.interleave.point.Point.{Point}
 use Rattle.pool_world.specs.declared.interleave.point.Point.TheVariants.{Reading, Clearing, AtLink}
 use Rattle.pool_world.specs.declared.interleave.point.Point.TheVariants.{ClearingHinted, Making, Linking, Taken}
 use Rattle.pool_world.specs.World.State.{WorldPageState, WorldState}
-use Rattle.pool_world.specs.World.Machine.{tries, tries_hinted, comes_to, linked_page, Steps, event_agent}
+use Rattle.pool_world.specs.World.Machine.{held_by, tries, tries_hinted, comes_to, linked_page, Steps, event_agent}
 use Rattle.pool_world.specs.World.Machine.{point_of}
-use Rattle.pool_world.specs.World.Machine.{word_of, lowest, has_bit}
+use Rattle.pool_world.specs.World.Machine.{word_of, has_bit}
 use Rattle.pool_world.specs.Pool.{AllowsPages}
 use Rattle.pool_world.specs.World.Trace.{Log}
-use Rattle.pool_world.specs.World.Headline.{Executes}
-use Rattle.pool_world.specs.World.Reachable.{IsReachable}
-use Rattle.pool_world.specs.World.OwnSteps.{is_idle, names, own_steps}
-use Rattle.pool_world.specs.World.Solo.{AsksNoHint, BringsPage, IsSolo, HasMovedOut}
+use Rattle.pool_world.specs.World.Headline.{Executes, IsReachable}
+use Rattle.pool_world.specs.World.OwnSteps.{is_idle, own_steps}
+use Rattle.pool_world.specs.World.Solo.{IsOwnEvent, AsksNoHint, BringsPage, EachEvent}
 use Rattle.pool_world.proofs.Places.{slice_get-set_same}
 use Rattle.pool_world.proofs.World.Bits.{has_bit-lowest}
 use Rattle.pool_world.proofs.World.Enabled.{any-step, reached-agrees, known-reached, reached-happens}
@@ -114,21 +116,22 @@ module _ {T : Type 0} (old : WorldState T) (a : ℕ) where
   linking-moves last (LosesLink j own more) = absurd (more last)
 
   clearing-moves : {k mask : ℕ} {asked : Option ℕ} {e : Event T} {answer : Seen}
-      {pages : List (WorldPageState T)} {to : Point T} → has_bit (word_of old.pages k) (lowest mask) ≡ true
-      → OwnMoves (Clearing k mask asked) e answer pages to → to ≡ Taken k (lowest mask)
+      {pages : List (WorldPageState T)} {to : Point T} → has_bit (word_of old.pages k) (trailing_zeros w32 mask) ≡ true
+      → OwnMoves (Clearing k mask asked) e answer pages to → to ≡ Taken k (trailing_zeros w32 mask)
   clearing-moves set (Clears j bits other is) = refl
   clearing-moves set (LosesBit j bits other clear) = absurd (false≢true (sym clear ∙ set))
 
   hinted-moves : {hint mask : ℕ} {e : Event T} {answer : Seen}
-      {pages : List (WorldPageState T)} {to : Point T} → has_bit (word_of old.pages hint) (lowest mask) ≡ true
-      → OwnMoves (ClearingHinted hint mask) e answer pages to → to ≡ Taken hint (lowest mask)
+      {pages : List (WorldPageState T)} {to : Point T}
+      → has_bit (word_of old.pages hint) (trailing_zeros w32 mask) ≡ true
+      → OwnMoves (ClearingHinted hint mask) e answer pages to → to ≡ Taken hint (trailing_zeros w32 mask)
   hinted-moves set (ClearsByHint j bits is) = refl
   hinted-moves set (LosesBitByHint j bits clear) = absurd (false≢true (sym clear ∙ set))
 
   taken-moves : {k id : ℕ} {e : Event T} {answer : Seen}
       {pages : List (WorldPageState T)} {to : Point T} → OwnMoves (Taken k id) e answer pages to
-      → (answer ≡ seen.MovedOut a) × HasMovedOut (Some to)
-  taken-moves (TakesValue j i value lies) = (refl, tt)
+      → (answer ≡ seen.MovedOut a) × IsSome (held_by (Some to))
+  taken-moves (TakesValue j i value lies) = (refl, refl)
 
 -- where an agent goes next that read a word
 module _ {T : Type 0} where
@@ -281,12 +284,12 @@ module _ {T : Type 0} {old : WorldState T} {a : ℕ} {e : Event T} {answer : See
 
   -- an agent clears a bit of a word that is still as it read it
   still-set : (k word : ℕ) → word_of old.pages k ≡ word → 0 < word → word < 2 ^ 32
-      → has_bit (word_of old.pages k) (lowest word) ≡ true
-  still-set k word now some fits = ap (λ w. has_bit w (lowest word)) now ∙ has_bit-lowest word some fits
+      → has_bit (word_of old.pages k) (trailing_zeros w32 word) ≡ true
+  still-set k word now some fits = ap (λ w. has_bit w (trailing_zeros w32 word)) now ∙ has_bit-lowest word some fits
 
   pub clears-lowest : (k word : ℕ) (asked : Option ℕ) → slice_get old.agents a ≡ Some (Clearing k word asked)
       → word_of old.pages k ≡ word
-      → slice_get new.agents a ≡ Some (Taken k (lowest word))
+      → slice_get new.agents a ≡ Some (Taken k (trailing_zeros w32 word))
   clears-lowest k word asked at now =
       let bits = (known-reached old solo.reached a (Clearing k word asked) at).1 in
       let own = own-move at in
@@ -295,7 +298,7 @@ module _ {T : Type 0} {old : WorldState T} {a : ℕ} {e : Event T} {answer : See
   -- so it does on a page that a hint named
   pub clears-hinted : (hint word : ℕ) → slice_get old.agents a ≡ Some (ClearingHinted hint word)
       → word_of old.pages hint ≡ word
-      → slice_get new.agents a ≡ Some (Taken hint (lowest word))
+      → slice_get new.agents a ≡ Some (Taken hint (trailing_zeros w32 word))
   clears-hinted hint word at now =
       let bits = (known-reached old solo.reached a (ClearingHinted hint word) at).bits in
       let own = own-move at in
@@ -303,7 +306,7 @@ module _ {T : Type 0} {old : WorldState T} {a : ℕ} {e : Event T} {answer : See
 
   -- an agent moves the value out of the place whose bit it cleared
   pub moves-out : (k id : ℕ) → slice_get old.agents a ≡ Some (Taken k id) → (answer ≡ seen.MovedOut a)
-      × HasMovedOut (slice_get new.agents a)
+      × IsSome (held_by (slice_get new.agents a))
   moves-out k id at =
       let own = own-move at in
       let (told, has) = taken-moves old a own.moves in
@@ -315,14 +318,16 @@ module _ {T : Type 0} where
       → is_idle answer ≡ false
       → own_steps ((e, answer) ∷ log) a ≡ own_steps log a + 1
   own_steps-busy log a e answer own busy =
-      ap (λ i. if (if i then false else names (event_agent e) a) then own_steps log a + 1 else own_steps log a) busy
-      ∙ ap (λ b. if names b a then own_steps log a + 1 else own_steps log a) own
+      ap (λ i. if (if i then false else option_eq nat_eq (event_agent e) (Some a))
+      then own_steps log a + 1 else own_steps log a) busy
+      ∙ ap (λ b. if option_eq nat_eq b (Some a) then own_steps log a + 1 else own_steps log a) own
       ∙ ap (λ b. if b then own_steps log a + 1 else own_steps log a) (eq-eqb a a refl)
 
   own_steps-idle : (log : Log T) (a : ℕ) (e : Event T) (answer : Seen) → is_idle answer ≡ true
       → own_steps ((e, answer) ∷ log) a ≡ own_steps log a
   own_steps-idle log a e answer idle =
-      ap (λ i. if (if i then false else names (event_agent e) a) then own_steps log a + 1 else own_steps log a) idle
+      ap (λ i. if (if i then false else option_eq nat_eq (event_agent e) (Some a))
+      then own_steps log a + 1 else own_steps log a) idle
 
 module _ {T : Type 0} (Leaves : T → T → Type 0) (old : WorldState T) (reached : IsReachable old) (a : ℕ)
     (P : ℕ → Log T → WorldState T → Type 0) where
@@ -335,7 +340,8 @@ module _ {T : Type 0} (Leaves : T → T → Type 0) (old : WorldState T) (reache
       ((e : Event T) (answer : Seen) (n : ℕ) (log : Log T) (between new : WorldState T)
       → IsSoloStep between a e answer new
       → P n log between → P (n + 1) ((e, answer) ∷ log) new)
-      → (log : Log T) (new : WorldState T) → Executes Leaves old log new → IsSolo a log → P (own_steps log a) log new
+      → (log : Log T) (new : WorldState T) → Executes Leaves old log new → EachEvent (IsOwnEvent a) log
+      → P (own_steps log a) log new
   ran-alone first idle busy [] new same alone = rw same first
   ran-alone first idle busy ((e, answer) ∷ log) new (between, ran, step, exact) (own, alone) =
       let before = ran-alone first idle busy log between ran alone in

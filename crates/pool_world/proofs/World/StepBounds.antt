@@ -1,12 +1,12 @@
 -- How many steps of its own an agent needs.
-use Rattle.std.proofs.Common.{◌≡◌, ℕ, ◌+◌, ◌-◌, ◌*◌, ◌<◌, ◌≤◌, Option, Some, None, slice_get, length, List}
+use Rattle.std.proofs.Common.{◌≡◌, ℕ, ◌+◌, ◌-◌, ◌*◌, ◌<◌, ◌≤◌, Option, Some, None, slice_get, length, List, IfSome}
 use Rattle.std.proofs.Common.{inl, inr, arith, refl, ap, sym, ◌∙◌}
 use Rattle.pool_world.specs.World.State.{WorldState}
 use Rattle.pool_world.specs.World.Trace.{Log}
 use Rattle.pool_world.specs.World.StepBounds.{BoundsOwnSteps}
-use Rattle.pool_world.specs.World.Reachable.{IsReachable}
+use Rattle.pool_world.specs.World.Headline.{IsReachable}
 use Rattle.pool_world.specs.World.OwnSteps.{own_steps, IsAtPage, IsAtHintedPage, IsLooking}
-use Rattle.pool_world.specs.World.Inside.Invariant.{SawAskedFull}
+use Rattle.pool_world.specs.World.Inside.Invariant.{SawFull}
 use Rattle.pool_world.specs.declared.interleave.point.Point.{Point}
 use Rattle.pool_world.specs.declared.interleave.point.Point.TheVariants.{Reading, Clearing, AtLink}
 use Rattle.pool_world.specs.declared.interleave.point.Point.TheVariants.{ClearingHinted, Making, Linking}
@@ -79,7 +79,7 @@ module _ {T : Type 0} where
 
   -- those that were taken early, on a page that is linked, are within the limit
   early-within : (asked : Option ℕ) (first : List T) (acts : List (Act T)) (pages a k : ℕ)
-      → SawAskedFull first acts pages a asked
+      → IfSome asked (λ hint. SawFull first acts pages a hint)
       → k < pages → 36 * k + taken_early asked k + 36 ≤ 36 * pages
   early-within None first acts pages a k full linked = omega arith
   early-within (Some hint) first acts pages a k full linked =

@@ -1,5 +1,6 @@
 -- The moves of values keep the invariant: out of a place, written, and home again; and a new agent.
-use Rattle.std.proofs.Common.{◌≡◌, ◌≢◌, ◌⊎◌, inl, inr, ℕ, ◌^◌, ◌<◌, ◌≤◌, false, Option, Some, None, List, [], ◌∷◌, ◌++◌}
+use Rattle.std.proofs.Common.{◌≡◌, ◌≢◌, ◌⊎◌, inl, inr, ℕ, ◌^◌, ◌<◌, ◌≤◌, false, Option, Some, None, List, [], ◌∷◌}
+use Rattle.std.proofs.Common.{◌++◌, if◌then◌else◌}
 use Rattle.std.proofs.Common.{length, slice_get, slice_set, refl, ap, sym, ◌∙◌, arith, length-append}
 use Rattle.std.proofs.lemmas.Bool.{cases_eq, cases_lt, cases_Bool}
 use Rattle.std.proofs.lemmas.List.{length-set}
@@ -7,12 +8,11 @@ use Rattle.std.proofs.lemmas.Option.{slice_get_past}
 use Rattle.pool_world.specs.declared.interleave.event.Event.TheVariants as event
 use Rattle.pool_world.specs.declared.interleave.event.Seen.TheVariants as seen
 use Rattle.pool_world.specs.declared.interleave.point.Point.TheVariants.{Reading, Taken, Holding, Home}
-use Rattle.pool_world.specs.Pool.{Out, IsOut, free_with, number}
+use Rattle.pool_world.specs.Pool.{Out, free_with, number}
 use Rattle.pool_world.specs.Run.{Act, Opens, Writes, acts_of, pool_of}
 use Rattle.pool_world.specs.World.State.{WorldPageState, WorldState}
 use Rattle.pool_world.specs.World.Machine.{has_bit, page_value, with_page_value}
 use Rattle.pool_world.specs.World.Machine.{begin}
-use Rattle.pool_world.specs.World.AbstractPool.{place_by_bit}
 use Rattle.pool_world.specs.World.Trace.{Log}
 use Rattle.pool_world.specs.World.Inside.Invariant.{HoldsAt, Agrees}
 use Rattle.pool_world.proofs.Places.{slice_get-some, slice_get-append_front, slice_get-append_last}
@@ -42,7 +42,7 @@ module _ {T : Type 0} {Leaves : T → T → Type 0} {first : List T} {log : Log 
       elim (cases_Bool (has_bit page.word id)) [
         | inl set ↦ absurd (free_with-in (page_value old.pages k id)
             (sym (lies-at agrees k id page holds.in_page here
-            ∙ ap (λ bit. place_by_bit bit (page_value old.pages k id)) set) ∙ out))
+            ∙ ap (λ bit. if bit then free_with (page_value old.pages k id) else Out) set) ∙ out))
         | inr clear ↦ clear
       ]
 
@@ -147,7 +147,7 @@ module _ {T : Type 0} {Leaves : T → T → Type 0} {first : List T} {log : Log 
       let pages = agrees.same.pages in
       let carries : (b : ℕ) → a ≢ b → Carries first log later acts (act ∷ acts) old world b = λ b other. record {
         own = acts_of-other act acts b other;
-        out = λ n out. since-later first act acts b (λ pool. IsOut pool n) (other-opens act b other) out;
+        out = λ n out. since-later first act acts b (λ pool. pool.at n ≡ Out) (other-opens act b other) out;
         had = λ count had. since-later first act acts b (λ pool. pool.pages ≡ count) (other-opens act b other) had;
         pages = omega arith;
         limit = refl;

@@ -1,7 +1,8 @@
 -- The steps on a page's word keep the invariant: a read, a clearing, and the bit that is set again.
-use Rattle.std.proofs.Common.{◌≡◌, inl, inr, ℕ, ◌-◌, ◌*◌, ◌^◌, ◌<◌, true, false}
+use Rattle.std.proofs.Common.{◌≡◌, inl, inr, ℕ, ◌-◌, ◌*◌, ◌^◌, ◌<◌, true, false, if◌then◌else◌, bit_and}
 use Rattle.std.proofs.Common.{Option, Some, None, List, ◌∷◌, length, slice_get, refl, ap, sym, ◌∙◌, arith}
 use Rattle.std.proofs.lemmas.Bool.{eq-eqb, ne_eqb, cases_eq, cases_lt}
+use Rattle.std.specs.Int.{w32, trailing_zeros}
 use Rattle.pool_parts.specs.declared.page.history.Operation.TheVariants.{Pull, Return}
 use Rattle.pool_world.specs.declared.interleave.event.Event.{Event}
 use Rattle.pool_world.specs.declared.interleave.event.Event.TheVariants as event
@@ -9,13 +10,13 @@ use Rattle.pool_world.specs.declared.interleave.event.Seen.TheVariants as seen
 use Rattle.pool_world.specs.declared.interleave.point.Point.{Point}
 use Rattle.pool_world.specs.declared.interleave.point.Point.TheVariants.{Reading, Clearing, AtLink}
 use Rattle.pool_world.specs.declared.interleave.point.Point.TheVariants.{ClearingHinted, Taken, Home, Ended}
-use Rattle.pool_world.specs.Pool.{IsSame, IsFree, IsOut, number}
+use Rattle.pool_world.specs.Pool.{IsSame, Free, Out, number, free_with}
 use Rattle.pool_world.specs.Run.{Act, Operates, acts_of, pages_of, pool_of, Looks, SawTaken}
 use Rattle.pool_world.specs.World.State.{WorldPageState, WorldState}
 use Rattle.pool_world.specs.World.Machine.{has_bit, with_bit, without_bit}
-use Rattle.pool_world.specs.World.Machine.{lowest, without_lowest, word_in, word_of, page_value, with_word}
+use Rattle.pool_world.specs.World.Machine.{word_of, page_value, with_word}
 use Rattle.pool_world.specs.World.Machine.{tries, tries_hinted}
-use Rattle.pool_world.specs.World.AbstractPool.{place_by_bit, abstract_pool}
+use Rattle.pool_world.specs.World.AbstractPool.{abstract_pool}
 use Rattle.pool_world.specs.World.Trace.{Log}
 use Rattle.pool_world.specs.World.Inside.Invariant.{LooksOn, IsPast, TriesBits, AgentKnows}
 use Rattle.pool_world.specs.World.Inside.Invariant.{Agrees}
@@ -23,7 +24,7 @@ use Rattle.pool_world.proofs.Places.{slice_get-some}
 use Rattle.pool_world.proofs.Runs.{since-now, holds-pulled, may-pull, may-return, pool-there, pool-operated}
 use Rattle.pool_world.proofs.World.Bits.{has_bit-none, has_bit-without_lowest, lowest-lt, with_bit-lt}
 use Rattle.pool_world.proofs.World.Bits.{without_bit-lt, without_lowest-lt}
-use Rattle.pool_world.proofs.World.AbstractPool.{length-changed, changed-all, reads-number, value-word}
+use Rattle.pool_world.proofs.World.AbstractPool.{word-at, length-changed, changed-all, reads-number, value-word}
 use Rattle.pool_world.proofs.World.AbstractPool.{same-cleared, same-set}
 use Rattle.pool_world.proofs.World.Invariant.{GoesOn, StepsPages, visible-step, stays, allows-fewer}
 use Rattle.pool_world.proofs.World.Moves.{moved, known}
@@ -82,29 +83,31 @@ module _ {T : Type 0} {Leaves : T → T → Type 0} {first : List T} {log : Log 
 
   -- what lies at a number, by its bit and its place
   pub lies-at : (k id : ℕ) (page : WorldPageState T) → id < 32 → slice_get old.pages k ≡ Some page
-      → (pool_of first acts).at (number k id) ≡ place_by_bit (has_bit page.word id) (page_value old.pages k id)
+      → (pool_of first acts).at (number k id)
+      ≡ (if has_bit page.word id then free_with (page_value old.pages k id) else Out)
   lies-at k id page within at = agrees.same.places (number k id) ∙ reads-number old k id page within at
 
   -- a number whose bit is clear is out
   out-at : (k id : ℕ) (page : WorldPageState T) → id < 32 → slice_get old.pages k ≡ Some page
       → has_bit page.word id ≡ false
-      → IsOut (pool_of first acts) (number k id)
+      → (pool_of first acts).at (number k id) ≡ Out
   out-at k id page within at clear = lies-at k id page within at
-      ∙ ap (λ bit. place_by_bit bit (page_value old.pages k id)) clear
+      ∙ ap (λ bit. if bit then free_with (page_value old.pages k id) else Out) clear
 
   -- a number whose bit is set is free with the value at its place
   free-at : (k id : ℕ) (page : WorldPageState T) → id < 32 → slice_get old.pages k ≡ Some page
       → k < length old.pages → has_bit page.word id ≡ true
-      → (value : T) × (page_value old.pages k id ≡ Some value) × IsFree (pool_of first acts) (number k id) value
+      → (value : T) × (page_value old.pages k id ≡ Some value) × ((pool_of first acts).at (number k id) ≡ Free value)
   free-at k id page within at linked set =
       let pages = agrees.same.pages in
-      let here = lies-at k id page within at ∙ ap (λ bit. place_by_bit bit (page_value old.pages k id)) set in
+      let here = lies-at k id page within at
+      ∙ ap (λ bit. if bit then free_with (page_value old.pages k id) else Out) set in
       let inside = pool-there first acts (number k id) (omega arith) in
       let by : (lookup : Option T) → page_value old.pages k id ≡ lookup
       → (value : T) × (page_value old.pages k id ≡ Some value)
-      × IsFree (pool_of first acts) (number k id) value = elim [
-        | None ↦ λ is. absurd (inside (here ∙ ap (place_by_bit true) is))
-        | Some value ↦ λ is. (value, is, here ∙ ap (place_by_bit true) is)
+      × ((pool_of first acts).at (number k id) ≡ Free value) = elim [
+        | None ↦ λ is. absurd (inside (here ∙ ap free_with is))
+        | Some value ↦ λ is. (value, is, here ∙ ap free_with is)
       ] in
       by (page_value old.pages k id) refl
 
@@ -115,13 +118,13 @@ module _ {T : Type 0} {Leaves : T → T → Type 0} {first : List T} {log : Log 
   reads a k asked at =
       let looks = knows a (Reading k asked) at in
       let (page, here) = slice_get-some old.pages k looks.linked in
-      let word_is : word_of old.pages k ≡ page.word = ap word_in here in
+      let word_is : word_of old.pages k ≡ page.word = word-at old.pages k page here in
       let fits = agrees.words k page here in
       stays agrees _ at tt (λ b other. refl)
       (tries-known Leaves first ((event.ReadMask a, seen.Word a (word_of old.pages k)) ∷ log) acts
       (moved old old.pages a (tries k (word_of old.pages k) asked)) a k (word_of old.pages k) asked looks
       (omega arith)
-      (λ id within clear. since-now first acts a (λ pool. IsOut pool (number k id)) looks.looking
+      (λ id within clear. since-now first acts a (λ pool. pool.at (number k id) ≡ Out) looks.looking
       (out-at k id page within here (ap (λ w. has_bit w id) (sym word_is) ∙ clear))))
 
   -- an agent at the first link reads the word of a page that a hint names
@@ -131,13 +134,13 @@ module _ {T : Type 0} {Leaves : T → T → Type 0} {first : List T} {log : Log 
   reads-by-hint a hint at further linked =
       let past = knows a (AtLink 0 None) at in
       let (page, here) = slice_get-some old.pages hint linked in
-      let word_is : word_of old.pages hint ≡ page.word = ap word_in here in
+      let word_is : word_of old.pages hint ≡ page.word = word-at old.pages hint page here in
       let fits = agrees.words hint page here in
       stays agrees _ at tt (λ b other. refl)
       (tries_hinted-known Leaves first ((event.ReadHinted a hint, seen.Word a (word_of old.pages hint)) ∷ log) acts
       (moved old old.pages a (tries_hinted hint (word_of old.pages hint))) a hint (word_of old.pages hint)
       past further linked (omega arith)
-      (λ id within clear. since-now first acts a (λ pool. IsOut pool (number hint id)) past.looking
+      (λ id within clear. since-now first acts a (λ pool. pool.at (number hint id) ≡ Out) past.looking
       (out-at hint id page within here (ap (λ w. has_bit w id) (sym word_is) ∙ clear))))
 
   -- the pages after another word was put on one of them
@@ -162,15 +165,16 @@ module _ {T : Type 0} {Leaves : T → T → Type 0} {first : List T} {log : Log 
   -- the bit is set in the word: the agent pulls its number
   pub won : (a k mask : ℕ) (from : Point T) → slice_get old.agents a ≡ Some from
       → Looks (acts_of a acts)
-      → k < length old.pages → TriesBits first acts a k mask → has_bit (word_of old.pages k) (lowest mask) ≡ true
-      → GoesOn Leaves first log (event.ClearBit a) (seen.Pulled a (number k (lowest mask)))
-      (moved old (with_word old.pages k (without_bit (word_of old.pages k) (lowest mask))) a
-      (Taken k (lowest mask)))
+      → k < length old.pages → TriesBits first acts a k mask
+      → has_bit (word_of old.pages k) (trailing_zeros w32 mask) ≡ true
+      → GoesOn Leaves first log (event.ClearBit a) (seen.Pulled a (number k (trailing_zeros w32 mask)))
+      (moved old (with_word old.pages k (without_bit (word_of old.pages k) (trailing_zeros w32 mask))) a
+      (Taken k (trailing_zeros w32 mask)))
   won a k mask from at looking linked bits set =
-      let id = lowest mask in
+      let id = trailing_zeros w32 mask in
       let within : id < 32 = lowest-lt mask bits.some bits.in_word in
       let (page, here) = slice_get-some old.pages k linked in
-      let word_is : word_of old.pages k ≡ page.word = ap word_in here in
+      let word_is : word_of old.pages k ≡ page.word = word-at old.pages k page here in
       let fits = agrees.words k page here in
       let word = without_bit (word_of old.pages k) id in
       let pages = with_word old.pages k word in
@@ -197,49 +201,50 @@ module _ {T : Type 0} {Leaves : T → T → Type 0} {first : List T} {log : Log 
 
   -- the numbers that it has seen taken then
   lost-others : (a k mask : ℕ) → Looks (acts_of a acts) → k < length old.pages → TriesBits first acts a k mask
-      → has_bit (word_of old.pages k) (lowest mask) ≡ false → (id : ℕ) → id < 32
-      → has_bit (without_lowest mask) id ≡ false
+      → has_bit (word_of old.pages k) (trailing_zeros w32 mask) ≡ false → (id : ℕ) → id < 32
+      → has_bit (bit_and mask (mask - 1)) id ≡ false
       → SawTaken first acts a (number k id)
   lost-others a k mask looking linked bits clear id within gone =
       let (page, here) = slice_get-some old.pages k linked in
-      let word_is : word_of old.pages k ≡ page.word = ap word_in here in
-      elim (cases_eq id (lowest mask)) [
+      let word_is : word_of old.pages k ≡ page.word = word-at old.pages k page here in
+      elim (cases_eq id (trailing_zeros w32 mask)) [
         | inl tried ↦
-            since-now first acts a (λ pool. IsOut pool (number k id)) looking
-            (out-at k id page within here (ap (λ i. has_bit page.word i) tried ∙ ap (λ w. has_bit w (lowest mask))
+            since-now first acts a (λ pool. pool.at (number k id) ≡ Out) looking
+            (out-at k id page within here (ap (λ i. has_bit page.word i) tried
+            ∙ ap (λ w. has_bit w (trailing_zeros w32 mask))
             (sym word_is) ∙ clear))
         | inr other ↦ bits.others id within (sym (has_bit-without_lowest mask id bits.some bits.in_word other) ∙ gone)
       ]
 
   -- the bit is clear in the word: the agent goes on with the other bits that it saw
   pub lost : (a k mask : ℕ) (asked : Option ℕ) → slice_get old.agents a ≡ Some (Clearing k mask asked)
-      → has_bit (word_of old.pages k) (lowest mask) ≡ false
+      → has_bit (word_of old.pages k) (trailing_zeros w32 mask) ≡ false
       → GoesOn Leaves first log (event.ClearBit a) (seen.Found a (word_of old.pages k))
-      (moved old old.pages a (tries k (without_lowest mask) asked))
+      (moved old old.pages a (tries k (bit_and mask (mask - 1)) asked))
   lost a k mask asked at clear =
       let (looks, bits) = knows a (Clearing k mask asked) at in
-      let next : Point T = tries k (without_lowest mask) asked in
+      let next : Point T = tries k (bit_and mask (mask - 1)) asked in
       let e : Event T = event.ClearBit a in
       let answer = seen.Found a (word_of old.pages k) in
       stays agrees _ at tt (λ b other. refl)
-      (tries-known Leaves first ((e, answer) ∷ log) acts (moved old old.pages a next) a k (without_lowest mask) asked
+      (tries-known Leaves first ((e, answer) ∷ log) acts (moved old old.pages a next) a k (bit_and mask (mask - 1)) asked
       looks (without_lowest-lt mask bits.in_word) (lost-others a k mask looks.looking looks.linked bits clear))
 
   -- so it is on a page that a hint named
   pub lost-by-hint : (a hint mask : ℕ) → slice_get old.agents a ≡ Some (ClearingHinted hint mask)
-      → has_bit (word_of old.pages hint) (lowest mask) ≡ false
+      → has_bit (word_of old.pages hint) (trailing_zeros w32 mask) ≡ false
       → GoesOn Leaves first log (event.ClearBit a) (seen.Found a (word_of old.pages hint))
-      (moved old old.pages a (tries_hinted hint (without_lowest mask)))
+      (moved old old.pages a (tries_hinted hint (bit_and mask (mask - 1))))
   lost-by-hint a hint mask at clear =
       let tried = knows a (ClearingHinted hint mask) at in
       let past = tried.past in
       let bits = tried.bits in
-      let next : Point T = tries_hinted hint (without_lowest mask) in
+      let next : Point T = tries_hinted hint (bit_and mask (mask - 1)) in
       let e : Event T = event.ClearBit a in
       let answer = seen.Found a (word_of old.pages hint) in
       stays agrees _ at tt (λ b other. refl)
       (tries_hinted-known Leaves first ((e, answer) ∷ log) acts (moved old old.pages a next) a hint
-      (without_lowest mask) past tried.further tried.linked (without_lowest-lt mask bits.in_word)
+      (bit_and mask (mask - 1)) past tried.further tried.linked (without_lowest-lt mask bits.in_word)
       (lost-others a hint mask past.looking tried.linked bits clear))
 
   -- the bit is set again: the agent returns its number
@@ -249,7 +254,7 @@ module _ {T : Type 0} {Leaves : T → T → Type 0} {first : List T} {log : Log 
   returned a k id at =
       let (value, kept, holds, leaves, lies) = knows a (Home k id) at in
       let (page, here) = slice_get-some old.pages k holds.linked in
-      let word_is : word_of old.pages k ≡ page.word = ap word_in here in
+      let word_is : word_of old.pages k ≡ page.word = word-at old.pages k page here in
       let fits = agrees.words k page here in
       let word = with_bit (word_of old.pages k) id in
       let pages = with_word old.pages k word in

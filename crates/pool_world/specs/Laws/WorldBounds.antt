@@ -2,8 +2,7 @@
 use Rattle.std.proofs.Common.{◌≡◌, ℕ, ◌-◌, ◌*◌, ◌<◌, Some, [], ◌∷◌, ◌++◌, slice_get, refl, ap}
 use Rattle.pool_world.specs.World.State.{WorldState}
 use Rattle.pool_world.specs.World.Trace.{Log}
-use Rattle.pool_world.specs.World.Headline.{IsNew, Executes, Past}
-use Rattle.pool_world.specs.World.Reachable.{IsReachable}
+use Rattle.pool_world.specs.World.Headline.{IsNew, Executes, Past, IsReachable}
 use Rattle.pool_world.specs.World.OwnSteps.{own_steps, IsLooking}
 use Rattle.pool_world.specs.World.StepBounds.{IsBounded, BoundsOwnSteps}
 

@@ -1,5 +1,5 @@
 -- Which events are enabled, and that exactly the others are answered so.
-use Rattle.std.specs.Prelude.{◌≡◌, ◌↔◌, ℕ, ◌<◌, Option, Some, None, length, Ok, Err, ⊤}
+use Rattle.std.specs.Prelude.{◌≡◌, ◌↔◌, ◌<◌, Option, Some, None, length, Ok, Err, ⊤}
 use Rattle.pool_parts.specs.declared.pull_error.PullError.TheVariants.{Memory, Init}
 use Rattle.pool_world.specs.declared.interleave.event.Event.{Event}
 use Rattle.pool_world.specs.declared.interleave.event.Event.TheVariants as event
@@ -13,17 +13,13 @@ use Rattle.pool_world.specs.World.State.{WorldState}
 use Rattle.pool_world.specs.World.Machine.{point_of}
 
 module _ {T : Type 0} where
-  -- a hint may lead from the first link, to any linked page but the first
-  pub record MayName (world : WorldState T) (k hint : ℕ) : Type 0 where
-    pub first_link : k ≡ 0
-    pub further : 0 < hint
-    pub linked : hint < length world.pages
-
-  -- the event is enabled in this world, of an agent at this point
+  -- the event is enabled in this world, of an agent at this point; a hint may lead from the first
+  -- link, to any linked page but the first
   abbrev pub IsEnabled : WorldState T → Event T → Option (Point T) → Type 0
   IsEnabled world event.Begin point = ⊤
   IsEnabled world (event.ReadMask a) (Some (Reading k asked)) = ⊤
-  IsEnabled world (event.ReadHinted a hint) (Some (AtLink k None)) = MayName world k hint
+  IsEnabled world (event.ReadHinted a hint) (Some (AtLink k None)) =
+      (k ≡ 0) × (0 < hint) × (hint < length world.pages)
   IsEnabled world (event.ClearBit a) (Some (Clearing k mask asked)) = ⊤
   IsEnabled world (event.ClearBit a) (Some (ClearingHinted hint mask)) = ⊤
   IsEnabled world (event.ReadNext a) (Some (AtLink k asked)) = ⊤

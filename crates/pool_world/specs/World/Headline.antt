@@ -1,16 +1,17 @@
 -- The main theorem: under every interleaving of their steps, what agents do in a world is a run of
 -- one pool. Begin here, with `IsRun`; `Past` and `RunsEvents` say of which events it holds. How
 -- many steps of its own an agent needs is a second theorem, in `World.StepBounds`.
-use Rattle.std.specs.Prelude.{◌≡◌, ℕ, Some, List, [], ◌∷◌, ◌++◌, map, reverse, length}
+use Rattle.std.specs.Prelude.{◌≡◌, ℕ, Some, List, [], ◌∷◌, ◌++◌, map, reverse, length, ⊤}
 use Rattle.std.specs.Prelude.{slice_get, Result, OnOk}
 use Rattle.pool_world.specs.declared.interleave.event.Event.{Event}
 use Rattle.pool_world.specs.declared.interleave.event.Seen.{Seen}
+use Rattle.pool_world.specs.declared.interleave.point.Point.TheVariants.{Holding}
 use Rattle.pool_world.specs.declared.run_error.RunError.{RunError}
-use Rattle.pool_world.specs.Pool.{IsSame, AllowsPages}
+use Rattle.pool_world.specs.Pool.{IsPool, IsSame, AllowsPages, number}
 use Rattle.pool_world.specs.Run.{Act, ledger_of, opened, pool_of, Holds, Run, SawTakenBeforeEach, HasHolders}
-use Rattle.pool_world.specs.Run.{IsWhole, AtEachPlace}
+use Rattle.pool_world.specs.Run.{AtEachPlace}
 use Rattle.pool_world.specs.World.State.{WorldState}
-use Rattle.pool_world.specs.World.Machine.{Steps, agent_item, number_out, opening_world}
+use Rattle.pool_world.specs.World.Machine.{Steps, number_out, opening_world}
 use Rattle.pool_world.specs.World.Enabled.{IsExact}
 use Rattle.pool_world.specs.World.AbstractPool.{abstract_pool}
 use Rattle.pool_world.specs.World.Trace.{Log, IsTraceOf}
@@ -32,12 +33,13 @@ pub record IsRun {T : Type 0} (Leaves : T → T → Type 0) (first : List T) (lo
   -- no more pages are linked than are allowed
   pub allowed : AllowsPages world.limit (length world.pages)
   -- at each place of the run the pool has the numbers of its pages, no more than are allowed
-  pub whole : AtEachPlace (IsWhole first world.limit) acts
+  pub whole : AtEachPlace (λ place. IsPool world.limit (pool_of first place)) acts
   -- at each place of the run each number that is out has one holder, and each other number none
   pub holders : AtEachPlace (HasHolders first) acts
   -- an agent with an item in the world holds its number with its value there
   pub held :
-      (a n : ℕ) (value : T) → agent_item (slice_get world.agents a) ≡ Some (n, value) → Holds acts a n value
+      (a k id : ℕ) (value : T) → slice_get world.agents a ≡ Some (Holding k id value)
+      → Holds acts a (number k id) value
   -- so it is of its number from its pull to its return
   pub out : (a n : ℕ) → number_out (slice_get world.agents a) ≡ Some n → (value : T) × Holds acts a n value
   -- at each growth its agent had seen each number taken since it began, and at each
@@ -93,3 +95,8 @@ module _ {T : Type 0} (Leaves : T → T → Type 0) where
     pub answers : before.seen ++ map (λ entry. entry.1) (reverse log) ≡ after.seen
     -- each is a step of the machine, and exactly an event that isn't enabled is answered so
     pub steps : Executes before.world log after.world
+
+-- a world can be reached: some steps lead to it from a world in which no agent has begun, with a
+-- reset that may leave any value
+abbrev pub IsReachable : {T : Type 0} → WorldState T → Type 0
+IsReachable world = Past (λ old kept. ⊤) world

@@ -1,5 +1,6 @@
 -- An agent's own steps in a list of events.
-use Rattle.std.specs.Prelude.{◌≡◌, ℕ, ◌+◌, ◌==◌, Bool, true, false, if◌then◌else◌, Option, Some, None, [], ◌∷◌, ⊤}
+use Rattle.std.specs.Prelude.{◌≡◌, ℕ, ◌+◌, Bool, true, false, if◌then◌else◌, Option, Some, [], ◌∷◌, ⊤, nat_eq}
+use Rattle.std.specs.Option.{option_eq}
 use Rattle.pool_world.specs.declared.interleave.event.Event.{Event}
 use Rattle.pool_world.specs.declared.interleave.event.Seen.{Seen}
 use Rattle.pool_world.specs.declared.interleave.event.Seen.TheVariants as seen
@@ -15,15 +16,10 @@ is_idle seen.NotEnabled = true
 is_idle seen.NoMemory = true
 is_idle _ = false
 
--- this agent is named
-abbrev pub names : Option ℕ → ℕ → Bool
-names None a = false
-names (Some b) a = b == a
-
 module _ {T : Type 0} where
   -- the event is a step of the agent: it names it, and something happened
   abbrev pub is_step_of : Event T → Seen → ℕ → Bool
-  is_step_of e answer a = if is_idle answer then false else names (event_agent e) a
+  is_step_of e answer a = if is_idle answer then false else option_eq nat_eq (event_agent e) (Some a)
 
   -- how many steps of the agent there are
   abbrev pub own_steps : Log T → ℕ → ℕ

@@ -1,48 +1,36 @@
 -- An agent that runs solo: no other agent steps meanwhile.
-use Rattle.std.specs.Prelude.{◌≡◌, ◌≢◌, ◌⊎◌, ℕ, zero, suc, ◌+◌, ◌*◌, ◌<◌, ◌≤◌, Option, Some, List, [], ◌∷◌, map, length}
+use Rattle.std.specs.Prelude.{◌≡◌, ◌≢◌, ◌⊎◌, ℕ, zero, suc, ◌+◌, ◌*◌, ◌<◌, ◌≤◌, Some, List, [], ◌∷◌, map, length, IsSome}
 use Rattle.std.specs.Prelude.{slice_get, Ok, Err, ⊤}
 use Rattle.pool_parts.specs.declared.pull_error.PullError.TheVariants.{Limit}
 use Rattle.pool_world.specs.declared.interleave.event.Event.{Event}
 use Rattle.pool_world.specs.declared.interleave.event.Event.TheVariants as event
 use Rattle.pool_world.specs.declared.interleave.event.Seen.{Seen}
 use Rattle.pool_world.specs.declared.interleave.event.Seen.TheVariants as seen
-use Rattle.pool_world.specs.declared.interleave.point.Point.{Point}
-use Rattle.pool_world.specs.declared.interleave.point.Point.TheVariants.{Holding}
 use Rattle.pool_world.specs.World.State.{WorldPageState, WorldState}
-use Rattle.pool_world.specs.World.Machine.{word_of, event_agent}
+use Rattle.pool_world.specs.World.Machine.{held_by, word_of, event_agent}
 use Rattle.pool_world.specs.World.Trace.{Log}
 use Rattle.pool_world.specs.World.OwnSteps.{own_steps}
 
 module _ {T : Type 0} where
-  -- the event is this agent's, and no memory was missing
+  -- the event is this agent's, also one that wasn't enabled, and no memory was missing
   pub record IsOwnEvent (a : ℕ) (e : Event T) (answer : Seen) : Type 0 where
     pub own : event_agent e ≡ Some a
     pub memory : answer ≢ seen.NoMemory
-
-  -- each of the events is this agent's, those too that weren't enabled
-  abbrev pub IsSolo : ℕ → Log T → Type 0
-  IsSolo a [] = ⊤
-  IsSolo a ((e, answer) ∷ log) = IsOwnEvent a e answer × IsSolo a log
 
   -- the event asks no page by a hint
   abbrev pub AsksNoHint : Event T → Seen → Type 0
   AsksNoHint (event.ReadHinted a hint) answer = answer ≡ seen.NotEnabled
   AsksNoHint _ answer = ⊤
 
-  -- no page was asked by a hint
-  abbrev pub AsksNoHints : Log T → Type 0
-  AsksNoHints [] = ⊤
-  AsksNoHints ((e, answer) ∷ log) = AsksNoHint e answer × AsksNoHints log
-
-  -- a page that the event doesn't bring wasn't asked for
+  -- a page that the event asks for was made
   abbrev pub BringsPage : Event T → Seen → Type 0
   BringsPage (event.MakePage a (Err cause)) answer = answer ≡ seen.NotEnabled
   BringsPage _ answer = ⊤
 
-  -- each page that was asked for was made
-  abbrev pub BringsPages : Log T → Type 0
-  BringsPages [] = ⊤
-  BringsPages ((e, answer) ∷ log) = BringsPage e answer × BringsPages log
+  -- P is true of each event with its answer
+  abbrev pub EachEvent : (Event T → Seen → Type 0) → Log T → Type 0
+  EachEvent P [] = ⊤
+  EachEvent P ((e, answer) ∷ log) = P e answer × EachEvent P log
 
   -- one of the events was answered so
   abbrev pub IsAnswered : Log T → Seen → Type 0
@@ -60,16 +48,11 @@ module _ {T : Type 0} where
     pub some : 0 < length pages
     pub full : (j : ℕ) → j < length pages → word_of pages j ≡ 0
 
-  -- the agent has moved the value of a number out
-  abbrev pub HasMovedOut : Option (Point T) → Type 0
-  HasMovedOut (Some (Holding k id value)) = ⊤
-  HasMovedOut _ = ⊥
-
   -- the agent moves its value out by its own step of this count at the latest, and has it after
   -- just so many
   pub record MovesOutBy (count : ℕ) (log : Log T) (new : WorldState T) (a : ℕ) : Type 0 where
     pub answered : count ≤ own_steps log a → IsAnswered log (seen.MovedOut a)
-    pub held : own_steps log a ≡ count → HasMovedOut (slice_get new.agents a)
+    pub held : own_steps log a ≡ count → IsSome (held_by (slice_get new.agents a))
 
   -- the events with which an agent passes so many full pages, of which the last stands first
   abbrev pub passing : ℕ → ℕ → List (Event T)
@@ -94,7 +77,7 @@ module _ {T : Type 0} where
 pub record RunsSolo {T : Type 0} (old : WorldState T) (log : Log T) (new : WorldState T) (a : ℕ) : Type 0 where
   pub takes : (k : ℕ) → IsFirstFree old.pages k → MovesOutBy (2 * k + 3) log new a
   pub links :
-      AllFull old.pages → old.limit ≢ Some (length old.pages) → BringsPages log
+      AllFull old.pages → old.limit ≢ Some (length old.pages) → EachEvent BringsPage log
       → MovesOutBy (2 * length old.pages + 5) log new a
   pub refused :
       AllFull old.pages → old.limit ≡ Some (length old.pages)
@@ -105,7 +88,7 @@ pub record RunsSoloByHint {T : Type 0} (old : WorldState T) (log : Log T) (a : �
   pub takes :
       (k : ℕ) → IsFirstFree old.pages k → 2 * k + 4 ≤ own_steps log a → IsAnswered log (seen.MovedOut a)
   pub links :
-      AllFull old.pages → old.limit ≢ Some (length old.pages) → BringsPages log
+      AllFull old.pages → old.limit ≢ Some (length old.pages) → EachEvent BringsPage log
       → 2 * length old.pages + 6 ≤ own_steps log a → IsAnswered log (seen.MovedOut a)
   pub refused :
       AllFull old.pages → old.limit ≡ Some (length old.pages)
@@ -115,11 +98,11 @@ pub record RunsSoloByHint {T : Type 0} (old : WorldState T) (log : Log T) (a : �
 pub record StepsInOrder {T : Type 0} (old : WorldState T) (log : Log T) (new : WorldState T) (a : ℕ) : Type 0 where
   pub takes :
       (k : ℕ) → IsFirstFree old.pages k
-      → events_of log ≡ taking a (passing a k) → HasMovedOut (slice_get new.agents a)
+      → events_of log ≡ taking a (passing a k) → IsSome (held_by (slice_get new.agents a))
   pub links :
       AllFull old.pages → old.limit ≢ Some (length old.pages) → (values : List T)
       → events_of log ≡ taking a (linking a values (passing a (length old.pages)))
-      → HasMovedOut (slice_get new.agents a)
+      → IsSome (held_by (slice_get new.agents a))
   pub refused :
       AllFull old.pages → old.limit ≡ Some (length old.pages)
       → events_of log ≡ passing a (length old.pages) → IsAnswered log (seen.Refused a Limit)

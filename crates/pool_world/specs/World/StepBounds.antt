@@ -4,10 +4,9 @@ use Rattle.std.specs.Prelude.{◌≡◌, ℕ, ◌-◌, ◌*◌, ◌<◌, Option,
 use Rattle.pool_world.specs.declared.interleave.point.Point.TheVariants.{Reading, AtLink}
 use Rattle.pool_world.specs.World.State.{WorldState}
 use Rattle.pool_world.specs.World.Trace.{Log}
-use Rattle.pool_world.specs.World.Headline.{Executes}
-use Rattle.pool_world.specs.World.Reachable.{IsReachable}
+use Rattle.pool_world.specs.World.Headline.{Executes, IsReachable}
 use Rattle.pool_world.specs.World.OwnSteps.{own_steps, IsAtPage, IsAtHintedPage, IsLooking}
-use Rattle.pool_world.specs.World.Solo.{IsSolo, AsksNoHints, RunsSolo, RunsSoloByHint, StepsInOrder}
+use Rattle.pool_world.specs.World.Solo.{IsOwnEvent, AsksNoHint, EachEvent, RunsSolo, RunsSoloByHint, StepsInOrder}
 
 -- events with their answers, between two worlds
 pub record Segment (T : Type 0) : Type 0 where
@@ -36,16 +35,16 @@ pub record IsBounded {T : Type 0} (segment : Segment T) : Type 0 where
   -- an agent that has begun, and runs solo without a hint, has an item or is refused after so many
   -- steps
   pub alone :
-      (a : ℕ) → slice_get segment.from.agents a ≡ Some (Reading 0 None) → IsSolo a segment.log
-      → AsksNoHints segment.log → RunsSolo segment.from segment.log segment.to a
+      (a : ℕ) → slice_get segment.from.agents a ≡ Some (Reading 0 None) → EachEvent (IsOwnEvent a) segment.log
+      → EachEvent AsksNoHint segment.log → RunsSolo segment.from segment.log segment.to a
   -- so it is where its events come one after another as its points allow them
   pub in_order :
-      (a : ℕ) → slice_get segment.from.agents a ≡ Some (Reading 0 None) → IsSolo a segment.log
-      → AsksNoHints segment.log → StepsInOrder segment.from segment.log segment.to a
+      (a : ℕ) → slice_get segment.from.agents a ≡ Some (Reading 0 None) → EachEvent (IsOwnEvent a) segment.log
+      → EachEvent AsksNoHint segment.log → StepsInOrder segment.from segment.log segment.to a
   -- an agent that runs solo, and may ask a page by a hint, has an item or is refused by one step
   -- more
   pub alone_by_hint :
-      (a : ℕ) → slice_get segment.from.agents a ≡ Some (Reading 0 None) → IsSolo a segment.log
+      (a : ℕ) → slice_get segment.from.agents a ≡ Some (Reading 0 None) → EachEvent (IsOwnEvent a) segment.log
       → RunsSoloByHint segment.from segment.log a
 
 module _ {T : Type 0} (Leaves : T → T → Type 0) where

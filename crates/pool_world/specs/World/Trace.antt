@@ -22,20 +22,11 @@ IsHidden (seen.Refused a cause) = ⊥
 IsHidden _ = ⊤
 
 module _ {T : Type 0} where
-  -- the values of the page that this event made for the agent, if it did
-  abbrev pub made_by : Event T → Seen → ℕ → Option (List T)
-  made_by (event.MakePage b (Ok values)) (seen.Made c) a = if b == a then Some values else None
-  made_by _ _ a = None
-
-  -- the newer values, or the older where there are none
-  abbrev pub or_else : Option (List T) → Option (List T) → Option (List T)
-  or_else None older = older
-  or_else (Some values) older = Some values
-
   -- the values of the last page that the agent made
   abbrev pub last_made : Log T → ℕ → Option (List T)
   last_made [] a = None
-  last_made ((e, answer) ∷ log) a = or_else (made_by e answer a) (last_made log a)
+  last_made ((event.MakePage b (Ok values), seen.Made c) ∷ log) a = if b == a then Some values else last_made log a
+  last_made (_ ∷ log) a = last_made log a
 
   -- the answer shows this act, with the value of the event, or the values that the agent made
   -- before

@@ -1,8 +1,8 @@
 //! A world's pages and agents, and what each event does to them.
 ghost use Rattle.std.specs.Prelude.{slice_set, vec_len, vec_capacity, ◌++◌, ◌∷◌, [], ◌≡◌, ◌≢◌, ◌+◌, ◌<◌, ◌≤◌, ◌==◌};
 ghost use Rattle.std.specs.Prelude.{◌⊎◌, Option, Some, None, option_map, option_copied, slice_get, length, IfOk, OnOk};
-ghost use Rattle.pool_world.specs.World.Inside.LinkCapacity.{LinksNoPage};
-ghost use Rattle.pool_world.specs.World.Machine.{prepared_by, at_point, linked_page};
+ghost use Rattle.pool_world.specs.World.Inside.LinkCapacity.{LinksNoPage, prepared_by};
+ghost use Rattle.pool_world.specs.World.Machine.{at_point, linked_page};
 ghost use Rattle.pool_world.specs.World.Machine.{has_bit, word_of, page_value, with_word};
 ghost use Rattle.pool_world.specs.World.Machine.{with_page_value, opening_world, tries, tries_hinted, comes_to};
 ghost use Rattle.pool_world.specs.World.Machine.{may_name, read_mask, read_hinted, clears, clear_hinted};
@@ -402,7 +402,7 @@ impl<T: Drop> Machine<T> {
     fn exchange_next(&mut self, agent: usize) -> Seen
         ensures step { IsOutcome (exchange_next self.old.state agent
             (slice_get self.old.state.agents agent)) result self.new.state }
-        ensures whole { LinksWhole result (prepared_by (slice_get self.old.state.agents agent)) }
+        ensures whole { LinksWhole result (slice_get self.old.state.agents agent) }
         ensures room_stays { KeepsCapacity self.old.capacity self.new.capacity }
     {
         let page = match self.agents.get(agent) {

@@ -1,7 +1,9 @@
 //! The bits that an agent tries, and where it goes next.
-ghost use Rattle.std.specs.Prelude.{◌≡◌, ◌<◌, ◌==◌, ◌+◌, Option};
+ghost use Rattle.std.specs.Prelude.{◌≡◌, ◌<◌, ◌==◌, ◌+◌, ◌-◌, Option, Some, nat_eq, bit_and};
+ghost use Rattle.std.specs.Int.{w32, trailing_zeros};
+ghost use Rattle.std.specs.Option.{option_eq};
 ghost use Rattle.pool_parts.specs.declared.page.TheConstants.{PAGE_ITEMS};
-ghost use Rattle.pool_world.specs.World.Machine.{is_limit, lowest, without_lowest, tries, tries_hinted};
+ghost use Rattle.pool_world.specs.World.Machine.{tries, tries_hinted};
 ghost use Rattle.pool_world.specs.World.Machine.{comes_to};
 ghost use Rattle.pool_world.specs.World.Inside.LinkCapacity.{LinksNoPage};
 
@@ -10,7 +12,7 @@ use pool_parts::page::{PAGE_ITEMS, PageId, take_least};
 
 /// Returns whether there is a limit, and it is the count after `page`.
 pub fn is_last_allowed(limit: Option<usize>, page: usize) -> bool
-    ensures { result ≡ is_limit limit (page + 1) }
+    ensures { result ≡ option_eq nat_eq limit (Some (page + 1)) }
 {
     match limit {
         Some(limit) => is_last(limit, page),
@@ -65,8 +67,8 @@ pub fn comes_to<T>(page: usize, asked: Option<usize>) -> Point<T>
 /// Returns a mask without its lowest set bit, and that bit's place.
 pub fn split_lowest(mask: u32) -> (u32, PageId)
     requires { 0 < mask }
-    ensures rest { result.0 ≡ without_lowest mask }
-    ensures lowest { result.1 ≡ lowest mask }
+    ensures rest { result.0 ≡ bit_and mask (mask - 1) }
+    ensures lowest { result.1 ≡ trailing_zeros w32 mask }
     ensures in_page { result.1 < PAGE_ITEMS }
 {
     match take_least(mask) {

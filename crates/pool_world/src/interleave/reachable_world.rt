@@ -1,10 +1,9 @@
 //! A machine that events led to from its opening, and the steps of which are exact.
 ghost use Rattle.std.specs.Prelude.{◌≡◌, ◌≢◌, ◌≤◌, ◌+◌, Option, option_map, option_copied, slice_get, length, IfOk, IsOk, vec_len, vec_capacity};
 ghost use Rattle.pool_world.specs.Pool.{AllowsPages};
-ghost use Rattle.pool_world.specs.World.Headline.{IsNew, RunsEvents};
+ghost use Rattle.pool_world.specs.World.Headline.{IsNew, IsReachable, RunsEvents};
 ghost use Rattle.pool_world.specs.World.Machine.{held_by, opening_world, page_value, Steps};
 ghost use Rattle.pool_world.specs.World.StepBounds.{BoundsOwnSteps};
-ghost use Rattle.pool_world.specs.World.Reachable.{IsReachable};
 ghost use Rattle.pool_world.specs.World.Enabled.{IsExact};
 ghost use Rattle.pool_world.specs.World.Capacity.{HasCapacityFor, HasCapacityForMade, KeepsCapacity};
 ghost use Rattle.pool_world.specs.declared.interleave.event.Seen.TheVariants.{NoMemory};
@@ -25,7 +24,7 @@ pub struct ReachableWorld<T> {
 
 impl<T> Model for ReachableWorld<T> {
     ghost use Rattle.pool_world.specs.World.Inside.Tables.{Tables};
-    ghost use Rattle.pool_world.specs.World.Reachable.{IsReachable};
+    ghost use Rattle.pool_world.specs.World.Headline.{IsReachable};
 
     ghost Value = { Tables T };
 

@@ -2,9 +2,8 @@
 ghost use Rattle.std.specs.Prelude.{◌≡◌, ◌≢◌, ◌≤◌, ◌+◌, Some, None, option_map, option_copied, slice_get, IfOk, IfErr};
 ghost use Rattle.std.specs.Prelude.{IsOk, vec_len, vec_capacity};
 ghost use Rattle.pool_parts.specs.declared.pull_error.PullError.TheVariants.{Memory};
-ghost use Rattle.pool_world.specs.World.Headline.{IsNew, RunsEvents};
+ghost use Rattle.pool_world.specs.World.Headline.{IsNew, IsReachable, RunsEvents};
 ghost use Rattle.pool_world.specs.World.Machine.{held_by, opening_world, page_value, Steps};
-ghost use Rattle.pool_world.specs.World.Reachable.{IsReachable};
 ghost use Rattle.pool_world.specs.World.StepBounds.{BoundsOwnSteps};
 ghost use Rattle.pool_world.specs.World.Enabled.{IsExact};
 ghost use Rattle.pool_world.specs.World.AbstractPool.{abstract_pool};

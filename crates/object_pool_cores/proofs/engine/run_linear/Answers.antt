@@ -2,7 +2,7 @@ use Rattle.std.proofs.Common.{[]}
 use Rattle.std.proofs.KnownBytes.{Consumes-nil}
 use Rattle.object_pool_cores.specs.Linear.{core_pool}
 use Rattle.object_pool_cores.proofs.Cores.EngineKinds.{IsSetLinear, linear_pull, linear_give, linear_attach, linear_set}
-use Rattle.object_pool_cores.proofs.Cores.EngineKinds.{on_linear, WroteFront-none}
+use Rattle.object_pool_cores.proofs.Cores.EngineKinds.{on_linear, front-none}
 use Rattle.object_pool_cores.proofs.Cores.ShownTranscript.{Ends-served}
 use Rattle.object_pool_cores.proofs.engine.run_linear.Goals as goal
 
@@ -11,7 +11,7 @@ returns-in_default g c = record {
   ok = tt;
   read = λ e. absurd cc;
   write = λ e. absurd cc;
-  memory = λ e. ([], Consumes-nil _, WroteFront-none (g.S.Reset.leaves c.args.reset) c.args.limit _);
+  memory = λ e. ([], Consumes-nil _, front-none (g.S.Reset.leaves c.args.reset) c.args.limit _);
 }
 
 pub returns : goal.returns

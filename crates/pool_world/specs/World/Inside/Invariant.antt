@@ -1,12 +1,12 @@
 -- The invariant: how the acts that were seen, the words,
 -- the places and the points of the agents belong together.
-use Rattle.std.specs.Prelude.{◌≡◌, ℕ, ◌+◌, ◌^◌, ◌<◌, false, Option, Some, None, List, [], length, slice_get, ⊤}
+use Rattle.std.specs.Prelude.{◌≡◌, ℕ, ◌+◌, ◌^◌, ◌<◌, false, Option, Some, None, List, [], length, slice_get, ⊤, IfSome}
 use Rattle.pool_world.specs.declared.interleave.point.Point.{Point}
 use Rattle.pool_world.specs.declared.interleave.point.Point.TheVariants.{Reading, Clearing, AtLink}
 use Rattle.pool_world.specs.declared.interleave.point.Point.TheVariants.{ClearingHinted, Making, Linking, Taken}
 use Rattle.pool_world.specs.declared.interleave.point.Point.TheVariants.{Holding, Home, Ended}
 use Rattle.pool_world.specs.Pool.{IsSame, AllowsPages, number}
-use Rattle.pool_world.specs.Run.{Act, acts_of, pool_of, Looks, Holds, SawTaken, SawPagesTaken, HadPages, Run}
+use Rattle.pool_world.specs.Run.{Act, acts_of, pool_of, Looks, Holds, SawTaken, SawPagesTaken, Since, Run}
 use Rattle.pool_world.specs.Run.{SawTakenBeforeEach}
 use Rattle.pool_world.specs.World.State.{WorldPageState, WorldState}
 use Rattle.pool_world.specs.World.Machine.{has_bit, page_value}
@@ -20,17 +20,13 @@ module _ {T : Type 0} (first : List T) where
     pub linked : k < pages
     pub saw_taken : (id : ℕ) → id < PAGE_ITEMS → SawTaken first acts a (number k id)
 
-  -- so it is of the page to which a hint led in vain, if one did
-  abbrev pub SawAskedFull : List (Act T) → ℕ → ℕ → Option ℕ → Type 0
-  SawAskedFull acts pages a None = ⊤
-  SawAskedFull acts pages a (Some hint) = SawFull acts pages a hint
-
-  -- an agent is on page k, and saw each number of so many pages taken
+  -- an agent is on page k, and saw each number of so many pages taken, and of the page to which a
+  -- hint led in vain, if one did
   pub record IsOn (acts : List (Act T)) (pages a k full : ℕ) (asked : Option ℕ) : Type 0 where
     pub looking : Looks (acts_of a acts)
     pub linked : k < pages
     pub saw_taken : SawPagesTaken first acts a full
-    pub asked_full : SawAskedFull acts pages a asked
+    pub asked_full : IfSome asked (λ hint. SawFull acts pages a hint)
 
   -- it looks on page k, past the pages before it; or it is past page k too
   abbrev pub LooksOn : List (Act T) → ℕ → ℕ → ℕ → Option ℕ → Type 0
@@ -42,7 +38,7 @@ module _ {T : Type 0} (first : List T) where
   -- and page k was the last page at some place, after which one more is allowed
   pub record IsAtLastPage (acts : List (Act T)) (limit : Option ℕ) (pages a k : ℕ) : Type 0 where
     pub past : IsPast acts pages a k None
-    pub last : HadPages first acts a (k + 1)
+    pub last : Since first a (λ pool. pool.pages ≡ k + 1) acts
     pub allowed : AllowsPages limit (k + 1 + 1)
 
   -- an agent has bits of page k to try, and saw the numbers of the others taken

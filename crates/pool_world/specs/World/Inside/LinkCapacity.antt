@@ -1,5 +1,5 @@
--- The room that a world keeps for links.
-use Rattle.std.specs.Prelude.{ℕ, ◌+◌, ◌<◌, ⊤}
+-- An agent that is about to link a page: the room that a world keeps for it, and its values.
+use Rattle.std.specs.Prelude.{ℕ, ◌+◌, ◌<◌, Option, Some, None, List, ⊤}
 use Rattle.pool_world.specs.declared.interleave.point.Point.{Point}
 use Rattle.pool_world.specs.declared.interleave.point.Point.TheVariants.{Linking}
 
@@ -12,3 +12,8 @@ HasLinkCapacity capacity _ = ⊤
 abbrev pub LinksNoPage : {T : Type 0} → Point T → Type 0
 LinksNoPage (Linking k values) = ⊥
 LinksNoPage _ = ⊤
+
+-- the values that an agent has for a page of its own
+abbrev pub prepared_by : {T : Type 0} → Option (Point T) → Option (List T)
+prepared_by (Some (Linking k values)) = Some values
+prepared_by _ = None

@@ -1,9 +1,9 @@
 -- How far an agent is that looks: each of its steps counts, and its page.
 use Rattle.std.specs.Prelude.{◌≡◌, ℕ, ◌+◌, ◌*◌, ◌≤◌, nat_lt, if◌then◌else◌, Option, Some, None}
+use Rattle.std.specs.Int.{w32, trailing_zeros}
 use Rattle.pool_world.specs.declared.interleave.point.Point.{Point}
 use Rattle.pool_world.specs.declared.interleave.point.Point.TheVariants.{Reading, Clearing, AtLink}
 use Rattle.pool_world.specs.declared.interleave.point.Point.TheVariants.{ClearingHinted, Making, Linking}
-use Rattle.pool_world.specs.World.Machine.{lowest}
 
 -- the steps on a page further on to which a hint led, as far as they came beforehand
 abbrev pub taken_early : Option ℕ → ℕ → ℕ
@@ -20,9 +20,9 @@ module _ {T : Type 0} where
   -- what it did on this one and on the one further on that a hint named
   abbrev pub progress : Point T → Option ℕ
   progress (Reading k asked) = Some (36 * k + taken_early asked k)
-  progress (Clearing k mask asked) = Some (36 * k + 1 + lowest mask + taken_early asked k)
+  progress (Clearing k mask asked) = Some (36 * k + 1 + trailing_zeros w32 mask + taken_early asked k)
   progress (AtLink k asked) = Some (36 * k + 33 + taken_early asked k)
-  progress (ClearingHinted hint mask) = Some (34 + lowest mask)
+  progress (ClearingHinted hint mask) = Some (34 + trailing_zeros w32 mask)
   progress (Making k) = Some (36 * k + 34)
   progress (Linking k values) = Some (36 * k + 35)
   progress _ = None
@@ -30,9 +30,9 @@ module _ {T : Type 0} where
   -- how far it is by its page: room for a page that a hint names is left at each
   abbrev pub position : Point T → Option ℕ
   position (Reading k asked) = Some (69 * k)
-  position (Clearing k mask asked) = Some (69 * k + 1 + lowest mask)
+  position (Clearing k mask asked) = Some (69 * k + 1 + trailing_zeros w32 mask)
   position (AtLink k asked) = Some (link_position k asked)
-  position (ClearingHinted hint mask) = Some (34 + lowest mask)
+  position (ClearingHinted hint mask) = Some (34 + trailing_zeros w32 mask)
   position (Making k) = Some (69 * k + 67)
   position (Linking k values) = Some (69 * k + 68)
   position _ = None

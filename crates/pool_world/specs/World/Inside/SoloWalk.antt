@@ -1,14 +1,14 @@
 -- Where an agent is that runs solo, after each of its steps.
-use Rattle.std.specs.Prelude.{◌≡◌, ◌≢◌, ◌⊎◌, ℕ, ◌+◌, ◌*◌, ◌<◌, ◌≤◌, Option, Some, None, List, [], ◌∷◌, length, ⊤}
+use Rattle.std.specs.Prelude.{◌≡◌, ◌≢◌, ◌⊎◌, ℕ, ◌+◌, ◌*◌, ◌<◌, ◌≤◌, Option, Some, None, List, length, IsSome}
 use Rattle.pool_parts.specs.declared.pull_error.PullError.TheVariants.{Limit}
 use Rattle.pool_world.specs.declared.interleave.event.Seen.TheVariants as seen
 use Rattle.pool_world.specs.declared.interleave.point.Point.{Point}
 use Rattle.pool_world.specs.declared.interleave.point.Point.TheVariants.{Reading, Clearing, AtLink}
 use Rattle.pool_world.specs.declared.interleave.point.Point.TheVariants.{ClearingHinted, Making, Linking, Taken}
 use Rattle.pool_world.specs.World.State.{WorldPageState, WorldState}
-use Rattle.pool_world.specs.World.Machine.{word_of}
+use Rattle.pool_world.specs.World.Machine.{held_by, word_of}
 use Rattle.pool_world.specs.World.Trace.{Log}
-use Rattle.pool_world.specs.World.Solo.{IsOwnEvent, AsksNoHint, IsAnswered, HasMovedOut}
+use Rattle.pool_world.specs.World.Solo.{IsOwnEvent, AsksNoHint, EachEvent, IsAnswered}
 
 -- an agent came here by its step of this count, or later by the steps that a hint may cost; where
 -- it asks by none, it came by just that step
@@ -61,12 +61,11 @@ module _ {T : Type 0} where
     Onward : (length pages ≡ k → limit ≢ Some (length pages)) → IsOnward extra pages k c n world lookup
         → SoloWalk extra pages limit k c n a log world lookup
     HasMoved : (length pages ≡ k → limit ≢ Some (length pages)) → (extra ≡ 0 → c + 2 * k + 3 ≤ n)
-        → IsAnswered log (seen.MovedOut a) → (extra ≡ 0 → n ≡ c + 2 * k + 3 → HasMovedOut lookup)
+        → IsAnswered log (seen.MovedOut a) → (extra ≡ 0 → n ≡ c + 2 * k + 3 → IsSome (held_by lookup))
         → SoloWalk extra pages limit k c n a log world lookup
     IsRefused : (length pages ≡ k) → (limit ≡ Some (length pages)) → IsAnswered log (seen.Refused a Limit)
         → SoloWalk extra pages limit k c n a log world lookup
 
   -- each of the events is this agent's, and asks no page by a hint
   abbrev pub IsUnhinted : ℕ → Log T → Type 0
-  IsUnhinted a [] = ⊤
-  IsUnhinted a ((e, answer) ∷ log) = (IsOwnEvent a e answer × AsksNoHint e answer) × IsUnhinted a log
+  IsUnhinted a log = EachEvent (λ e answer. IsOwnEvent a e answer × AsksNoHint e answer) log

@@ -1,5 +1,5 @@
 use Rattle.std.proofs.Common.{take}
-use Rattle.object_pool_cores.specs.CommandText.{HasNoSpace}
+use Rattle.object_pool_cores.proofs.CommandWords.{HasNoSpace}
 use Rattle.object_pool_cores.proofs.engine.command_text.around_space.Given as goal
 
 abbrev pub invariant-loop-index : goal.invariant-loop-index

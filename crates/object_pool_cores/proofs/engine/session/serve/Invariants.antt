@@ -1,7 +1,7 @@
 use Rattle.std.proofs.Common.{List, ℕ}
-use Rattle.std.specs.Io.KnownBytes.{Consumes}
+use Rattle.std.specs.Io.KnownBytes.{Appends, Consumes}
 use Rattle.object_pool_cores.specs.Inside.Buffered.{IsOpenLine}
-use Rattle.object_pool_cores.specs.Served.{Serves}
+use Rattle.object_pool_cores.specs.Served.{ServesLines}
 use Rattle.object_pool_cores.proofs.engine.session.serve.Given as goal
 
 -- what was read so far was served, and the buffer stands for what is behind its last line feed
@@ -11,5 +11,5 @@ invariant-reads g l =
     let remaining = g.R.Read.remaining in
     let contents = g.W.Write.contents in
     (bytes rest : List ℕ) × Consumes (remaining l.fn.input) (remaining l.input) bytes × IsOpenLine rest l.line
-    × Serves pool.pulls pool.gives pool.attaches l.fn.player (contents l.fn.output) bytes rest l.player
+    × ServesLines pool.pulls pool.gives pool.attaches Appends l.fn.player (contents l.fn.output) bytes rest l.player
     (contents l.output)

@@ -9,3 +9,12 @@ returns-in-Err-clause-write g c =
       rw
           (← c.as_str.ensures.value, ← c.as_bytes.ensures.value) c.in-Err.ensures.err,
     )
+
+pub returns-in-Ok-write_whole-clause-ok : goal.returns-in-Ok-write_whole-clause-ok
+returns-in-Ok-write_whole-clause-ok g c =
+    λ bytes buffered. (
+      c.in-Ok.text.bytes,
+      c.in-Ok.ensures.ok bytes buffered,
+      rw
+          (← c.as_str.ensures.value, ← c.as_bytes.ensures.value) c.in-Ok-write_whole.ensures.ok,
+    )

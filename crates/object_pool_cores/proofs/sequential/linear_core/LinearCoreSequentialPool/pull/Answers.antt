@@ -1,5 +1,5 @@
 use Rattle.std.proofs.Common.{refl, arith, ◌∙◌}
-use Rattle.object_pool_cores.proofs.LeastChoiceSteps.{IsFree-grown, PullsLeast-grown}
+use Rattle.object_pool_cores.proofs.LeastChoiceSteps.{free-first, PullsLeast-grown}
 use Rattle.object_pool_cores.proofs.Cores.FewProbes.{ProbesFew-taken, ProbesFew-none, ProbesFew-grown, ProbesEach-grown}
 use Rattle.object_pool_cores.proofs.ReplyRuns.{OnErr-always}
 use Rattle.object_pool_cores.proofs.sequential.linear_core.LinearCoreSequentialPool.pull.Goals as goal
@@ -63,5 +63,5 @@ returns-clause-probes_up_to g c =
 
 pub unreachable-requires : goal.unreachable-requires
 unreachable-requires g c =
-    let added = IsFree-grown _ _ _ _ c.in_ok-grow.ensures.ok in
+    let added = free-first _ _ _ _ c.in_ok-grow.ensures.ok in
     c.in-None.ensures.none.exhausted _ added.0 added.1

@@ -2,7 +2,7 @@ use Rattle.std.proofs.Common.{◌≡◌, ◌<◌, arith, length, refl, rules}
 use Rattle.std.specs.Vec.{vec_len}
 use Rattle.std.proofs.lemmas.Option.{slice_get_read}
 use Rattle.object_pool_cores.specs.Laws.NumberedPlaces.{IsPool-sound}
-use Rattle.object_pool_cores.proofs.Cores.NumberedSteps.{IsOut-at, IsOut-within, Puts-at}
+use Rattle.object_pool_cores.proofs.Cores.NumberedSteps.{out-at, out-within, Puts-at}
 use Rattle.object_pool_cores.proofs.sequential.numbered_items.NumberedItems.put.Goals as goal
 
 pub unreachable-requires : goal.unreachable-requires
@@ -10,7 +10,7 @@ unreachable-requires g c =
     let pages = c.self.inside.pages in
     let count : vec_len pages ≡ length pages.items = search rules in
     let out = rw (← c.self.view_is) at c.requires.out in
-    let below = IsOut-within pages.items c.self.inside.limit c.self.inside.start c.self.inside.looked c.args.number
+    let below = out-within pages.items c.self.inside.limit c.self.inside.start c.self.inside.looked c.args.number
     c.self.invariant.0 out in
     omega (arith, below, c.in_default.ensures, c.len.ensures, count)
 
@@ -21,7 +21,7 @@ free-requires-clause-out g c =
     let count : vec_len inside.pages ≡ length pages = search rules in
     let within : c.in-Some.page < length pages = omega (arith, c.in-Some.ensures.2, c.len.ensures, count) in
     let here = slice_get_read pages (length pages) c.in-Some.page _ refl within c.index_mut.ensures.value in
-    let same = IsOut-at pages inside.limit inside.start inside.looked c.in-Some.page c.in-Some.id c.args.number _
+    let same = out-at pages inside.limit inside.start inside.looked c.in-Some.page c.in-Some.id c.args.number _
     c.self.invariant.0 here c.in-Some.ensures.1 c.in-Some.ensures.0 in
     same.1 (rw (← c.self.view_is) at c.requires.out)
 

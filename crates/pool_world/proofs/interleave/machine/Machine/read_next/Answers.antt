@@ -1,8 +1,8 @@
-use Rattle.std.proofs.Common.{◌≡◌, Some, slice_get, arith, nat_lt, ◌==◌, ◌+◌, length, true, false, refl}
+use Rattle.std.proofs.Common.{◌≡◌, Some, slice_get, arith, nat_lt, ◌==◌, ◌+◌, length, true, false, refl, nat_eq}
 use Rattle.std.proofs.lemmas.Bool.Decides.{nat_tests}
 use Rattle.std.proofs.lemmas.Grind.{common_steps}
 use Rattle.std.proofs.lemmas.Option.{gets}
-use Rattle.pool_world.specs.World.Machine.{is_limit}
+use Rattle.std.specs.Option.{option_eq}
 use Rattle.pool_world.specs.declared.interleave.point.Point.TheVariants.{AtLink}
 use Rattle.pool_world.proofs.interleave.machine.Machine.read_next.Goals as goal
 
@@ -12,7 +12,7 @@ returns-clause-step g c =
     ≡ Some (AtLink c.in-Some-AtLink.page c.in-Some-AtLink.asked) =
     grind (arith, common_steps, gets, c.in-Some-AtLink.ensures.lookup) in
     let linked : nat_lt c.in-Some-AtLink.page (length c.self.inside.pages.items) ≡ true = grind (arith, nat_tests) in
-    let below : is_limit c.self.inside.limit (c.in-Some-AtLink.page + 1) ≡ false =
+    let below : option_eq nat_eq c.self.inside.limit (Some (c.in-Some-AtLink.page + 1)) ≡ false =
     grind (arith, nat_tests, c.is_last_allowed.ensures) in
     let more : (length c.self.inside.pages.items == c.in-Some-AtLink.page + 1) ≡ false =
     grind (arith, nat_tests, c.is_last.ensures) in
