@@ -8,6 +8,7 @@ pub mod LinkCapacity
 pub mod LinkSteps
 pub mod LowestBit
 pub mod Moves
+pub mod NotEnabled
 pub mod OwnSteps
 pub mod Prepared
 pub mod Progress

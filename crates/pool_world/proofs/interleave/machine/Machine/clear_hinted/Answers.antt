@@ -3,7 +3,13 @@ use Rattle.std.proofs.lemmas.Bool.Decides.{nat_tests}
 use Rattle.std.proofs.lemmas.Grind.{common_steps}
 use Rattle.std.proofs.lemmas.Option.{gets}
 use Rattle.pool_world.specs.declared.interleave.point.Point.TheVariants.{ClearingHinted}
+use Rattle.pool_world.proofs.World.NotEnabled.{clears_only_at_clearing}
 use Rattle.pool_world.proofs.interleave.machine.Machine.clear_hinted.Goals as goal
+
+pub returns-in_default-clause-step : goal.returns-in_default-clause-step
+returns-in_default-clause-step g c =
+    clears_only_at_clearing _ _ (slice_get c.args.self.now.state.agents c.args.agent)
+    (λ hint mask here. grind (arith, common_steps, gets, here))
 
 pub returns-clause-step : goal.returns-clause-step
 returns-clause-step g c =

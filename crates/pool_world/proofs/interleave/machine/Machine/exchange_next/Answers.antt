@@ -3,7 +3,12 @@ use Rattle.std.proofs.lemmas.Bool.Decides.{nat_tests}
 use Rattle.std.proofs.lemmas.Grind.{common_steps}
 use Rattle.std.proofs.lemmas.Option.{gets}
 use Rattle.pool_world.specs.declared.interleave.point.Point.TheVariants.{Linking}
+use Rattle.pool_world.proofs.World.NotEnabled.{links_only_at_linking}
 use Rattle.pool_world.proofs.interleave.machine.Machine.exchange_next.Goals as goal
+
+pub returns-in_default-clause-step : goal.returns-in_default-clause-step
+returns-in_default-clause-step g c =
+    links_only_at_linking _ _ _ (λ k values here. grind (arith, common_steps, gets, here))
 
 pub returns-in-Some-clause-step : goal.returns-in-Some-clause-step
 returns-in-Some-clause-step g c =

@@ -4,7 +4,12 @@ use Rattle.std.proofs.lemmas.Grind.{common_steps}
 use Rattle.std.proofs.lemmas.Option.{gets}
 use Rattle.std.specs.Option.{option_eq}
 use Rattle.pool_world.specs.declared.interleave.point.Point.TheVariants.{AtLink}
+use Rattle.pool_world.proofs.World.NotEnabled.{goes_on_only_at_link}
 use Rattle.pool_world.proofs.interleave.machine.Machine.read_next.Goals as goal
+
+pub returns-in_default-clause-step : goal.returns-in_default-clause-step
+returns-in_default-clause-step g c =
+    goes_on_only_at_link _ _ _ (λ k asked here. grind (arith, common_steps, gets, here))
 
 pub returns-clause-step : goal.returns-clause-step
 returns-clause-step g c =
