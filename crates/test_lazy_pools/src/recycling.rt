@@ -7,6 +7,7 @@ use lazy_pools::recycling::{LazyPool, Recyclable};
 use lazy_pools::{LazyObjectPool, PullError};
 use std::alloc::{AllocError, Global};
 use std::collections::{BTreeMap, HashMap, VecDeque};
+use std::process::Abort;
 
 /// A value with a part of each kind.
 type Parts = (
@@ -14,38 +15,51 @@ type Parts = (
     (BTreeMap<u8, u8>, (Option<u8>, Box<String>)),
 );
 
-/// How much each part has.
-fn lengths(parts: &Parts) -> [usize; 5] {
-    let ((deque, map), (tree, (option, text))) = parts;
-    [
-        deque.len(),
-        map.len(),
-        tree.len(),
-        option.iter().count(),
-        text.len(),
-    ]
+/// A value whose parts are measured and used.
+trait HasParts: Recyclable + Drop {
+    /// How much each part has.
+    fn lengths(&self) -> [usize; 5];
+
+    /// Puts something into each part.
+    fn use_parts(&mut self) -> Result<(), AllocError>;
 }
 
-/// Puts something into each part.
-fn use_parts(parts: &mut Parts) -> Result<(), AllocError> {
-    let ((deque, map), (tree, (option, text))) = parts;
-    deque.push_back(7)?;
-    map.insert(7, 8)?;
-    tree.insert(7, 8)?;
-    *option = Some(7);
-    text.push_str("seven")
+impl HasParts for Parts {
+    fn lengths(&self) -> [usize; 5] {
+        let ((deque, map), (tree, (option, text))) = self;
+        [
+            deque.len(),
+            map.len(),
+            tree.len(),
+            option.iter().count(),
+            text.len(),
+        ]
+    }
+
+    fn use_parts(&mut self) -> Result<(), AllocError> {
+        let ((deque, map), (tree, (option, text))) = self;
+        deque.push_back(7)?;
+        map.insert(7, 8)?;
+        tree.insert(7, 8)?;
+        *option = Some(7);
+        text.push_str("seven")
+    }
+}
+
+fn comes_back_clean<T: HasParts>(rt: &impl Abort, alloc: Global) {
+    let pool = LazyPool::<T>::with_recycler(alloc, 1).expect(rt, "a pool is made");
+    for _ in 0..3 {
+        let mut item = pool.pull().expect(rt, "an item is free");
+        assert_equal(rt, item.lengths(), [0; 5]);
+        item.use_parts().expect(rt, "memory is left");
+        assert_equal(rt, item.lengths(), [1, 1, 1, 1, 5]);
+    }
+    assert_equal(rt, pool.made(), 1);
 }
 
 #[test]
 fn each_part_of_a_recyclable_value_comes_back_clean(rt: HostRuntime) {
-    let pool = LazyPool::<Parts>::with_recycler(rt.alloc(), 1).expect(&rt, "a pool is made");
-    for _ in 0..3 {
-        let mut item = pool.pull().expect(&rt, "an item is free");
-        assert_equal(&rt, lengths(&item), [0; 5]);
-        use_parts(&mut item).expect(&rt, "memory is left");
-        assert_equal(&rt, lengths(&item), [1, 1, 1, 1, 5]);
-    }
-    assert_equal(&rt, pool.made(), 1);
+    comes_back_clean::<Parts>(&rt, rt.alloc());
 }
 
 /// A value that can't be made.
