@@ -5,6 +5,7 @@ use crate::pool::Reset;
 use crate::sys::{kdr_pool_new, Handle, DONE, PAGE};
 use crate::threads;
 use std::alloc::{handle_alloc_error, Layout};
+use std::hint::black_box;
 use std::mem::swap;
 use std::ops::Deref;
 use std::sync::{Arc, OnceLock};
@@ -129,10 +130,21 @@ impl<T> LinearObjectPool<T> {
     /// Makes the first handle of a part, if it isn't there. Whether it is made.
     ///
     /// A part's first thread makes it: the library's small blocks come from that thread's memory,
-    /// and share no cache line with those of a part that another thread made.
+    /// and share no cache line with those of a part that another thread made. Small blocks that the
+    /// thread freed before may lie among others', so it takes some of these first.
     fn open(&self, part: usize) -> bool {
         let part = self.at(part).0;
-        kdr_pool_new(part.cells.0.len(), &mut part.idle().first) == DONE
+        let mut here = part.idle();
+        if here.first.is_some() {
+            return false;
+        }
+        let mut freed: [Vec<usize>; 16] = Default::default();
+        for block in &mut freed {
+            let _refused = block.try_reserve_exact(2);
+        }
+        let answer = kdr_pool_new(part.cells.0.len(), &mut here.first);
+        drop(black_box(freed));
+        answer == DONE
     }
 
     /// Brings a lane to this part. It leaves its handles where it was.
