@@ -47,7 +47,7 @@ pub fn answer_of<A: Pulled>(given: &Result<A, PullError>) -> Answer {
 }
 
 /// Why a session stopped.
-#[derive(Clone, Copy, Debug, PartialEq, Eq, Error)]
+#[derive(Clone, Copy, Debug, Error)]
 pub enum Stopped {
     #[error("out of memory")]
     Memory,

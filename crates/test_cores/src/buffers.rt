@@ -1,6 +1,6 @@
 //! A buffer pool beside the linear core of its buffers.
 use crate::answer::Stopped;
-use crate::comparison::{Ask, Comparison, Gives, compare_ends, compare_openings};
+use crate::comparison::{Ask, Gives, compare_ends, compare_openings, play};
 use crate::figures::Figures;
 use crate::held::{Pulled, number_of};
 use crate::linear::refuse_opening;
@@ -44,10 +44,11 @@ impl Reset<Vec<u8>, Empty> for Empties {
 
 /// A number that tells the bytes of a buffer.
 fn told(bytes: &[u8]) -> u64 {
-    bytes.iter().fold(
-        7,
-        |told: u64, &byte| told.wrapping_mul(31).wrapping_add(u64::from(byte)),
-    )
+    let mut told = 7u64;
+    for &byte in bytes {
+        told = told.wrapping_mul(31).wrapping_add(u64::from(byte));
+    }
+    told
 }
 
 impl Value for Vec<u8> {
@@ -113,7 +114,7 @@ pub fn compare_buffers(alloc: Global, session: Session) -> Result<Figures, Stopp
         return Ok(Figures::default());
     };
     let giver = Buffers { pool: &pool };
-    let ended = Comparison::new(alloc, core, session, tallies, false).play(&giver)?;
+    let ended = play(alloc, &giver, core, session, tallies, 0)?;
     drop(pool);
     compare_ends(ended)
 }

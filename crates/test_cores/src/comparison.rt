@@ -1,7 +1,7 @@
 //! Random calls on a running pool and on the core of its kind, whose answers are compared one by
 //! one.
 use crate::answer::{Answer, Call, Stopped, answer_of, compare};
-use crate::dice::Dice;
+use crate::draws::Draws;
 use crate::figures::Figures;
 use crate::held::Pulled;
 use crate::session::Session;
@@ -52,16 +52,12 @@ struct Pair<T, A> {
 
 /// A core, and what is held of it and of the running pool beside it.
 #[derive(Drop)]
-pub struct Comparison<T, A, C> {
+struct Comparison<T, A, C> {
     core: C,
-    session: Session,
+    draws: Draws,
     tallies: Tallies,
-    attaches: bool,
-    dice: Dice,
     held: Vec<Pair<T, A>>,
-    is_rising: bool,
     forgot_owner: bool,
-    figures: Figures,
 }
 
 /// What is left when all items went.
@@ -71,53 +67,53 @@ pub struct Ended<C> {
     pub tallies: Tallies,
     /// Whether an item was forgotten that owned the pool, which never ends then.
     pub forgot_owner: bool,
-    pub figures: Figures,
+}
+
+/// Pulls so many items of a running pool and of the core beside it. Then does the session's calls
+/// on both, and drops what is held behind the last.
+///
+/// # Errors
+///
+/// `Stopped` if the two sides differ, or memory is refused.
+pub fn play<T: Value, A: Pulled, C: SequentialPool<T> + Drop, P: Gives<T, A>>(
+    alloc: Global,
+    pool: &P,
+    core: C,
+    session: Session,
+    tallies: Tallies,
+    first: usize,
+) -> Result<Ended<C>, Stopped> {
+    let mut comparison = Comparison::new(alloc, core, session, tallies);
+    comparison.pull_first(first, pool)?;
+    comparison.play(pool)
 }
 
 impl<T: Value, A: Pulled, C: SequentialPool<T> + Drop> Comparison<T, A, C> {
-    /// Creates a comparison with a core beside which nothing is held yet. `attaches` says whether
-    /// both pools attach values.
-    pub fn new(
-        alloc: Global,
-        core: C,
-        session: Session,
-        tallies: Tallies,
-        attaches: bool,
-    ) -> Comparison<T, A, C> {
+    /// Creates a comparison with a core beside which nothing is held yet.
+    fn new(alloc: Global, core: C, session: Session, tallies: Tallies) -> Comparison<T, A, C> {
         Comparison {
             core,
-            session,
+            draws: Draws::new(session),
             tallies,
-            attaches,
-            dice: Dice::new(session.seed.wrapping_add(1), session.number),
             held: Vec::new(alloc),
-            is_rising: true,
             forgot_owner: false,
-            figures: Figures::default(),
         }
     }
 
     /// Pulls so many items on both sides, and compares the tallies behind the last.
-    ///
-    /// # Errors
-    ///
-    /// `Stopped` if the two sides differ, or memory is refused.
-    pub fn pull_first<P: Gives<T, A>>(&mut self, items: usize, pool: &P) -> Result<(), Stopped> {
+    fn pull_first<P: Gives<T, A>>(&mut self, items: usize, pool: &P) -> Result<(), Stopped> {
         for _ in 0..items {
             let answer = self.pull(Call::Pull, Ask::Pull, pool)?;
-            self.figures.count(Call::Pull, answer);
+            self.tallies.figures.count(Call::Pull, answer);
         }
         self.tallies.compare(Call::Pull)
     }
 
     /// Does the session's calls, and drops what is held then.
-    ///
-    /// # Errors
-    ///
-    /// `Stopped` if the two sides differ, or memory is refused.
-    pub fn play<P: Gives<T, A>>(mut self, pool: &P) -> Result<Ended<C>, Stopped> {
-        for _ in 0..self.session.calls {
-            let call = self.drawn_call();
+    fn play<P: Gives<T, A>>(mut self, pool: &P) -> Result<Ended<C>, Stopped> {
+        for _ in 0..self.draws.session.calls {
+            let held = self.held.len();
+            let call = self.draws.call(held, &self.tallies);
             self.call(call, pool)?;
         }
         for _ in 0..self.held.len() {
@@ -127,54 +123,7 @@ impl<T: Value, A: Pulled, C: SequentialPool<T> + Drop> Comparison<T, A, C> {
             core: self.core,
             tallies: self.tallies,
             forgot_owner: self.forgot_owner,
-            figures: self.figures,
         })
-    }
-
-    /// The next call: mostly one that gives an item until as many are held as may be, then mostly
-    /// one that takes it back.
-    fn drawn_call(&mut self) -> Call {
-        if self.held.is_empty() {
-            self.is_rising = true;
-        } else if self.held.len() >= self.session.most_held {
-            self.is_rising = false;
-        }
-        if self.session.grows {
-            return if self.is_rising {
-                Call::Pull
-            } else {
-                Call::Forget
-            };
-        }
-        if self.session.refuses && self.dice.one_in(40) {
-            self.tallies.refuse_after(self.dice.below(64));
-        }
-        let most_calls_give = if self.is_rising { 7 } else { 1 };
-        if self.dice.below(8) < most_calls_give {
-            self.drawn_gift()
-        } else {
-            self.drawn_use()
-        }
-    }
-
-    /// A call that gives an item.
-    fn drawn_gift(&mut self) -> Call {
-        match self.dice.below(6) {
-            0 if self.attaches => Call::Attach,
-            1 if self.attaches => Call::AttachOwned,
-            0..=3 => Call::Pull,
-            _ => Call::PullOwned,
-        }
-    }
-
-    /// A call on an item that is held.
-    fn drawn_use(&mut self) -> Call {
-        match self.dice.below(16) {
-            0 => Call::Look,
-            1..=3 => Call::Write,
-            4 if self.dice.one_in(8) => Call::Forget,
-            _ => Call::Drop,
-        }
     }
 
     /// Does a call on both sides.
@@ -183,19 +132,18 @@ impl<T: Value, A: Pulled, C: SequentialPool<T> + Drop> Comparison<T, A, C> {
             Call::Pull => self.pull(call, Ask::Pull, pool)?,
             Call::PullOwned => self.pull(call, Ask::PullOwned, pool)?,
             Call::Attach => {
-                let value = attached(&self.tallies.running, &self.figures)?;
+                let value = attached(&self.tallies.running, self.tallies.figures.calls)?;
                 self.attach(call, pool.gives(Ask::Attach(value), 0))?
             }
             Call::AttachOwned => {
-                let value = attached(&self.tallies.running, &self.figures)?;
+                let value = attached(&self.tallies.running, self.tallies.figures.calls)?;
                 self.attach(call, pool.gives(Ask::AttachOwned(value), 0))?
             }
             Call::Look | Call::Write => self.write(call)?,
             Call::Drop | Call::Forget => self.let_go(call)?,
             Call::Open | Call::End => Answer::Opened,
         };
-        self.figures.count(call, answer);
-        self.tallies.compare(call)
+        self.tallies.count(call, answer)
     }
 
     /// What the core gives to a pull, beside what the running pool gives then.
@@ -212,8 +160,11 @@ impl<T: Value, A: Pulled, C: SequentialPool<T> + Drop> Comparison<T, A, C> {
 
     /// What the running pool gave to an attach, beside what the core gives.
     fn attach(&mut self, call: Call, running: Result<A, PullError>) -> Result<Answer, Stopped> {
-        let value = attached(&self.tallies.core, &self.figures)?;
-        let core = self.core.attach(value).map_err(|_| PullError::Memory);
+        let value = attached(&self.tallies.core, self.tallies.figures.calls)?;
+        let core = match self.core.attach(value) {
+            Ok(item) => Ok(item),
+            Err(_) => Err(PullError::Memory),
+        };
         self.hold(call, running, core)
     }
 
@@ -239,8 +190,8 @@ impl<T: Value, A: Pulled, C: SequentialPool<T> + Drop> Comparison<T, A, C> {
 
     /// Looks at one of the held items, and writes to it, or not.
     fn write(&mut self, call: Call) -> Result<Answer, Stopped> {
-        let index = self.dice.below(self.held.len());
-        let content = self.dice.content();
+        let index = self.draws.dice.below(self.held.len());
+        let content = self.draws.dice.content();
         let Some(pair) = self.held.get_mut(index) else {
             return Ok(Answer::Opened);
         };
@@ -258,7 +209,7 @@ impl<T: Value, A: Pulled, C: SequentialPool<T> + Drop> Comparison<T, A, C> {
         if self.held.is_empty() {
             return Ok(Answer::Opened);
         }
-        let index = self.dice.below(self.held.len());
+        let index = self.draws.dice.below(self.held.len());
         let Pair {
             running,
             core,
@@ -266,7 +217,7 @@ impl<T: Value, A: Pulled, C: SequentialPool<T> + Drop> Comparison<T, A, C> {
         } = self.held.swap_remove(index);
         let answer = Answer::Shown(running.shown());
         compare(call, answer, Answer::Shown(core.shown()))?;
-        if call == Call::Forget && (self.session.forgets_owners || !is_owned) {
+        if call == Call::Forget && (self.draws.session.forgets_owners || !is_owned) {
             self.forgot_owner |= is_owned;
             mem::forget(running);
             mem::forget(core);
@@ -289,8 +240,8 @@ impl<T: Value, A: Pulled, C: SequentialPool<T> + Drop> Comparison<T, A, C> {
 }
 
 /// A value that is attached. It is the same on both sides.
-fn attached<T: Value>(tally: &Arc<SideTally>, figures: &Figures) -> Result<T, Stopped> {
-    match T::new(tally, figures.calls) {
+fn attached<T: Value>(tally: &Arc<SideTally>, number: u64) -> Result<T, Stopped> {
+    match T::new(tally, number) {
         Some(value) => Ok(value),
         None => Err(Stopped::Memory),
     }
@@ -307,7 +258,6 @@ pub fn compare_ends<C: Drop>(ended: Ended<C>) -> Result<Figures, Stopped> {
         core,
         tallies,
         forgot_owner,
-        figures,
     } = ended;
     if forgot_owner {
         mem::forget(core);
@@ -315,7 +265,7 @@ pub fn compare_ends<C: Drop>(ended: Ended<C>) -> Result<Figures, Stopped> {
         drop(core);
     }
     tallies.compare(Call::End)?;
-    Ok(figures)
+    Ok(tallies.figures)
 }
 
 /// Returns both pools if both opened, or `None` if both were refused for the same cause.

@@ -4,7 +4,7 @@ use lockfree_object_pool::PullError;
 use std::fmt::{self, Display, Formatter, Write};
 
 /// How often each kind of call was done and each kind of answer came.
-#[derive(Clone, Copy, Debug, Default)]
+#[derive(Clone, Copy, Default)]
 pub struct Figures {
     pub calls: u64,
     pub sessions: u64,

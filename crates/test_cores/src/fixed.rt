@@ -1,6 +1,6 @@
 //! A fixed pool beside the linear core of as many pages.
 use crate::answer::Stopped;
-use crate::comparison::{Ask, Comparison, Ended, Gives, compare_ends};
+use crate::comparison::{Ask, Ended, Gives, compare_ends, play};
 use crate::figures::Figures;
 use crate::held::Held;
 use crate::maker::{Maker, Traces};
@@ -58,10 +58,7 @@ fn played<T: Value>(
     session: Session,
     tallies: Tallies,
 ) -> Result<Ended<Core<T>>, Stopped> {
-    let giver = Fixed { pool };
-    let mut comparison = Comparison::new(alloc, core, session, tallies, false);
-    comparison.pull_first(pool.items(), &giver)?;
-    comparison.play(&giver)
+    play(alloc, &Fixed { pool }, core, session, tallies, pool.items())
 }
 
 /// A fixed pool. It attaches nothing.

@@ -27,7 +27,6 @@ struct Fresh<T: Value> {
     tallies: Tallies,
     held: Vec<Pair<T>>,
     dice: Dice,
-    figures: Figures,
 }
 
 /// Does the session's calls. Each item is new.
@@ -45,7 +44,6 @@ pub fn compare_fresh<T: Value>(alloc: Global, session: Session) -> Result<Figure
         tallies,
         held: Vec::new(alloc),
         dice: Dice::new(session.seed.wrapping_add(1), session.number),
-        figures: Figures::default(),
     };
     for _ in 0..session.calls {
         match fresh.drawn_call(session) {
@@ -84,8 +82,7 @@ impl<T: Value> Fresh<T> {
         if let (Ok(running), Ok(core)) = (running, core) {
             self.held.push(Pair { running, core })?;
         }
-        self.figures.count(call, answer);
-        self.tallies.compare(call)
+        self.tallies.count(call, answer)
     }
 
     /// Drops one of the held items, or writes to it before it is dropped.
@@ -107,7 +104,7 @@ impl<T: Value> Fresh<T> {
         compare(call, answer, Answer::Shown(core.shown()))?;
         drop(running);
         self.core.give(core);
-        self.figures.count(Call::Drop, answer);
+        self.tallies.figures.count(Call::Drop, answer);
         self.tallies.compare(call)
     }
 
@@ -120,7 +117,6 @@ impl<T: Value> Fresh<T> {
             core: self.core,
             tallies: self.tallies,
             forgot_owner: false,
-            figures: self.figures,
         })
     }
 }

@@ -1,6 +1,6 @@
 //! A linear pool beside the linear core.
 use crate::answer::Stopped;
-use crate::comparison::{Ask, Comparison, Ended, Gives, compare_ends, compare_openings};
+use crate::comparison::{Ask, Ended, Gives, compare_ends, compare_openings, play};
 use crate::dice::Dice;
 use crate::figures::Figures;
 use crate::held::Held;
@@ -50,7 +50,7 @@ fn played<T: Value>(
     session: Session,
     tallies: Tallies,
 ) -> Result<Ended<Core<T>>, Stopped> {
-    Comparison::new(alloc, core, session, tallies, false).play(&Linear { pool })
+    play(alloc, &Linear { pool }, core, session, tallies, 0)
 }
 
 /// Refuses, now and then, one of the calls of `init` for the first page.

@@ -1,15 +1,18 @@
 //! Random calls of one thread, each done on a running pool and on the proved core of its kind,
-//! whose answers are compared.
+//! whose answers are compared. Then random schedules on the world of agents, compared and judged.
 //!
-//! The two arguments are a seed and how many calls are done at least, both below 2^64. It prints a
-//! line of figures. Where an answer differs it prints the seed, the session, the call and both
-//! answers, and ends with status 1.
+//! The arguments are a seed and how many calls are done at least, and then a seed and how many
+//! schedules are played, all below 2^64. It prints a line of figures of the calls and one of the
+//! schedules. Where an answer differs it prints the seed, the session or the schedule, the call or
+//! the step and both answers, and ends with status 1.
 #![tactic(auto)]
 
 mod answer;
+mod asked;
 mod buffers;
 mod comparison;
 mod dice;
+mod draws;
 mod figures;
 mod fixed;
 mod fresh;
@@ -18,6 +21,7 @@ mod linear;
 mod maker;
 mod pages;
 mod recycled;
+mod schedules;
 mod session;
 mod stacks;
 mod tallies;
@@ -25,6 +29,7 @@ mod tally;
 mod value;
 
 use answer::Stopped;
+use asked::{Asked, arguments};
 use buffers::compare_buffers;
 use figures::Figures;
 use fixed::compare_fixed;
@@ -32,41 +37,35 @@ use fresh::compare_fresh;
 use linear::compare_linear;
 use pages::compare_pages;
 use recycled::compare_recycled;
+use schedules::play_all;
 use session::{Element, Kind, Session, drawn, many_held, many_pages};
 use stacks::{compare_mutex, compare_spin_lock};
 use std::alloc::Global;
+use std::io;
 use std::process::ExitCode;
-use std::rt::Env;
 use std::sync::Wait;
-use std::{env, io};
 use value::{Block, Counted, Nothing, Number, Value};
 
 fn main(rt: HostRuntime) -> io::Result<ExitCode> {
-    match arguments(&rt) {
-        Some((seed, calls)) => compare_all(&rt, rt.alloc(), seed, calls),
-        None => {
-            eprintln!(rt; "usage: test_cores SEED CALLS")?;
-            Ok(ExitCode::from(2))
-        }
+    let Some((calls, schedules)) = arguments(&rt) else {
+        eprintln!(rt; "usage: test_cores SEED CALLS SEED SCHEDULES")?;
+        return Ok(ExitCode::from(2));
+    };
+    if compare_all(&rt, rt.alloc(), calls)? && play_all(&rt, rt.alloc(), schedules)? {
+        Ok(ExitCode::SUCCESS)
+    } else {
+        Ok(ExitCode::from(1))
     }
 }
 
-/// The seed and the number of calls.
-fn arguments<R: Env + AllocGlobal>(rt: &R) -> Option<(u64, u64)> {
-    let mut arguments = env::args(rt).ok()?;
-    let _name = arguments.next();
-    let seed = arguments.next()?.parse().ok()?;
-    let calls = arguments.next()?.parse().ok()?;
-    Some((seed, calls))
-}
-
-/// The sessions, until as many calls are done as are wanted.
+/// Does the sessions, until as many calls are done as are asked for, and prints their figures.
+/// Whether each answer was the same on both sides.
 fn compare_all<R: Print + Eprint + Wait + Copy>(
     rt: &R,
     alloc: Global,
-    seed: u64,
-    calls: u64,
-) -> io::Result<ExitCode> {
+    asked: Asked,
+) -> io::Result<bool> {
+    let Asked { seed, count: calls } = asked;
     let mut figures = Figures::default();
     for number in 0..u64::MAX {
         if figures.calls >= calls && number > 2 {
@@ -81,12 +80,12 @@ fn compare_all<R: Print + Eprint + Wait + Copy>(
             Ok(seen) => figures.add_session(seen),
             Err(stopped) => {
                 eprintln!(rt; "session {number} of seed {seed}, {session:?}: {stopped}")?;
-                return Ok(ExitCode::from(1));
+                return Ok(false);
             }
         }
     }
     println!(rt; "{figures}")?;
-    Ok(ExitCode::SUCCESS)
+    Ok(true)
 }
 
 /// A session with its items.

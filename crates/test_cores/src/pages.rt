@@ -1,7 +1,7 @@
 //! The pages of a chain, each asked by itself, beside proved pages of one owner in a list.
 use crate::answer::{Answer, Call, Stopped, compare};
 use crate::comparison::{Ended, compare_ends, compare_openings};
-use crate::dice::Dice;
+use crate::draws::Draws;
 use crate::figures::Figures;
 use crate::held::number_of;
 use crate::linear::refuse_opening;
@@ -75,7 +75,7 @@ struct Pair<'c, T> {
 }
 
 /// Where a walk begins, and how many pages it may go over.
-#[derive(Clone, Copy, Debug)]
+#[derive(Clone, Copy)]
 struct Walk {
     page: usize,
     limit: Option<usize>,
@@ -92,9 +92,8 @@ struct CorePages<T> {
 impl<T: Value> CorePages<T> {
     /// The least free item from a page on, within the limit; a page is added where there is none.
     fn pull(&mut self, walk: Walk) -> Result<CoreItem<T>, PullError> {
-        let last = walk.limit.map(|pages| walk.page.saturating_add(pages));
         for page in walk.page..self.pages.len().saturating_add(1) {
-            if Some(page) == last {
+            if walk.limit == Some(page.saturating_sub(walk.page)) {
                 return Err(PullError::Limit);
             }
             if page == self.pages.len() {
@@ -137,12 +136,9 @@ where
     init: Maker,
     chain: Vec<LinearPage<'c, T, AnyValue>>,
     core: CorePages<T>,
-    session: Session,
+    draws: Draws,
     tallies: Tallies,
-    dice: Dice,
     held: Vec<Pair<'c, T>>,
-    is_rising: bool,
-    figures: Figures,
 }
 
 /// Does the session's calls.
@@ -191,12 +187,9 @@ fn played<T: Value>(
         init,
         chain: vec![in alloc; chain.first()]?,
         core,
-        session,
+        draws: Draws::new(session),
         tallies,
-        dice: Dice::new(session.seed.wrapping_add(1), session.number),
         held: Vec::new(alloc),
-        is_rising: true,
-        figures: Figures::default(),
     };
     pages.play()
 }
@@ -204,7 +197,7 @@ fn played<T: Value>(
 impl<'c, T: Value> Pages<'c, T> {
     /// Does the session's calls, and frees what is held then.
     fn play(mut self) -> Result<Ended<CorePages<T>>, Stopped> {
-        for _ in 0..self.session.calls {
+        for _ in 0..self.draws.session.calls {
             let call = self.drawn_call();
             self.call(call)?;
         }
@@ -215,35 +208,13 @@ impl<'c, T: Value> Pages<'c, T> {
             core: self.core,
             tallies: self.tallies,
             forgot_owner: false,
-            figures: self.figures,
         })
     }
 
-    /// The next call: mostly one that gives an item until as many are held as may be, then mostly
-    /// one that takes it back.
+    /// The next call.
     fn drawn_call(&mut self) -> Call {
-        if self.held.is_empty() {
-            self.is_rising = true;
-        } else if self.held.len() >= self.session.most_held {
-            self.is_rising = false;
-        }
-        if self.session.refuses && self.dice.one_in(40) {
-            self.tallies.refuse_after(self.dice.below(64));
-        }
-        let most_calls_give = if self.is_rising { 7 } else { 1 };
-        if self.dice.below(8) < most_calls_give {
-            return if self.dice.one_in(2) {
-                Call::Pull
-            } else {
-                Call::PullOwned
-            };
-        }
-        match self.dice.below(16) {
-            0 => Call::Look,
-            1..=3 => Call::Write,
-            4 if self.dice.one_in(8) => Call::Forget,
-            _ => Call::Drop,
-        }
+        let held = self.held.len();
+        self.draws.call(held, &self.tallies)
     }
 
     /// Does a call on both sides.
@@ -253,18 +224,18 @@ impl<'c, T: Value> Pages<'c, T> {
             Call::Look | Call::Write => self.write(call)?,
             _ => self.let_go(call)?,
         };
-        self.figures.count(call, answer);
-        self.tallies.compare(call)
+        self.tallies.count(call, answer)
     }
 
     /// Where the next walk begins: mostly at the first page.
     fn drawn_walk(&mut self) -> Walk {
-        let page = if self.dice.one_in(2) {
-            self.dice.below(self.chain.len())
+        let dice = &mut self.draws.dice;
+        let page = if dice.one_in(2) {
+            dice.below(self.chain.len())
         } else {
             0
         };
-        let limit = match self.dice.below(8) {
+        let limit = match dice.below(8) {
             0 => Some(1),
             1 => Some(2),
             2 => Some(self.chain.len()),
@@ -307,8 +278,8 @@ impl<'c, T: Value> Pages<'c, T> {
 
     /// Looks at one of the held items, and writes to it, or not.
     fn write(&mut self, call: Call) -> Result<Answer, Stopped> {
-        let index = self.dice.below(self.held.len());
-        let content = self.dice.content();
+        let index = self.draws.dice.below(self.held.len());
+        let content = self.draws.dice.content();
         let Some(pair) = self.held.get_mut(index) else {
             return Ok(Answer::Opened);
         };
@@ -326,7 +297,7 @@ impl<'c, T: Value> Pages<'c, T> {
         if self.held.is_empty() {
             return Ok(Answer::Opened);
         }
-        let index = self.dice.below(self.held.len());
+        let index = self.draws.dice.below(self.held.len());
         let Pair { running, core } = self.held.swap_remove(index);
         let answer = Answer::Shown(running.content());
         compare(call, answer, Answer::Shown(core.value.content()))?;

@@ -2,7 +2,7 @@
 ghost use Rattle.std.specs.Prelude.{⊤};
 
 use crate::answer::Stopped;
-use crate::comparison::{Ask, Comparison, Gives, compare_ends, compare_openings};
+use crate::comparison::{Ask, Gives, compare_ends, compare_openings, play};
 use crate::figures::Figures;
 use crate::held::Held;
 use crate::maker::traced;
@@ -64,7 +64,7 @@ pub fn compare_recycled(alloc: Global, session: Session) -> Result<Figures, Stop
     };
     let pool = Arc::new(alloc, pool)?;
     let giver = Recycling { pool: &pool };
-    let ended = Comparison::new(alloc, core, session, tallies, false).play(&giver)?;
+    let ended = play(alloc, &giver, core, session, tallies, 0)?;
     drop(pool);
     compare_ends(ended)
 }

@@ -2,7 +2,7 @@
 use crate::dice::Dice;
 
 /// The running pool, and with it the core that it is compared with.
-#[derive(Clone, Copy, Debug, PartialEq, Eq)]
+#[derive(Clone, Copy, Debug)]
 pub enum Kind {
     Linear,
     Mutex,
@@ -16,7 +16,7 @@ pub enum Kind {
 }
 
 /// The items.
-#[derive(Clone, Copy, Debug, PartialEq, Eq)]
+#[derive(Clone, Copy, Debug)]
 pub enum Element {
     Nothing,
     Number,

@@ -1,6 +1,6 @@
 //! The mutex pool and the spin lock pool beside the stack core.
 use crate::answer::Stopped;
-use crate::comparison::{Ask, Comparison, Ended, Gives, compare_ends, compare_openings};
+use crate::comparison::{Ask, Ended, Gives, compare_ends, compare_openings, play};
 use crate::figures::Figures;
 use crate::held::Held;
 use crate::maker::{Maker, Traces};
@@ -94,7 +94,7 @@ fn played<'p, T: Value, F: FreeList<T, Kept>, W: Wait + Copy>(
     session: Session,
     tallies: Tallies,
 ) -> Result<Ended<Core<T>>, Stopped> {
-    Comparison::new(alloc, core, session, tallies, true).play(giver)
+    play(alloc, giver, core, session, tallies, 0)
 }
 
 /// A mutex pool or a spin lock pool.

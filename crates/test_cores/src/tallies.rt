@@ -1,14 +1,16 @@
 //! The tallies of both sides.
-use crate::answer::{Call, Stopped};
+use crate::answer::{Answer, Call, Stopped};
+use crate::figures::Figures;
 use crate::tally::SideTally;
 use std::alloc::{AllocError, Global};
 use std::sync::Arc;
 
-/// The tally of the running pool's items, and that of the core's.
+/// The tally of the running pool's items and that of the core's, and what was seen of both.
 #[derive(Drop)]
 pub struct Tallies {
     pub running: Arc<SideTally>,
     pub core: Arc<SideTally>,
+    pub figures: Figures,
 }
 
 impl Tallies {
@@ -21,6 +23,7 @@ impl Tallies {
         Ok(Tallies {
             running: SideTally::new(alloc)?,
             core: SideTally::new(alloc)?,
+            figures: Figures::default(),
         })
     }
 
@@ -30,7 +33,17 @@ impl Tallies {
         self.core.refuse_after(calls);
     }
 
-    /// Stops where the figures of both sides differ.
+    /// Counts a call with what was answered on both sides, and stops where their tallies differ.
+    ///
+    /// # Errors
+    ///
+    /// `Stopped` if the two tallies differ.
+    pub fn count(&mut self, call: Call, answer: Answer) -> Result<(), Stopped> {
+        self.figures.count(call, answer);
+        self.compare(call)
+    }
+
+    /// Stops where the tallies of both sides differ.
     ///
     /// # Errors
     ///

@@ -68,11 +68,12 @@ impl Value for Block {
     /// What each of its words is. Where they differ, it is no number that is ever written.
     fn content(&self) -> u64 {
         let first = self.words[0];
-        if self.words.iter().all(|&word| word == first) {
-            first
-        } else {
-            u64::MAX
+        for &word in self.words.iter() {
+            if word != first {
+                return u64::MAX;
+            }
         }
+        first
     }
 
     fn write(&mut self, content: u64) {

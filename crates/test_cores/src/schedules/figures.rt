@@ -1,5 +1,5 @@
 //! What was seen of the schedules, in figures.
-use crate::step::Step;
+use super::step::Step;
 use object_pool_cores::interleave::Seen;
 use std::fmt;
 use std::fmt::{Display, Formatter, Write};

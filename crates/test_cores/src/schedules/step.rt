@@ -1,6 +1,6 @@
 //! One step of an agent, without the values of a page.
+use lockfree_object_pool::PullError;
 use object_pool_cores::interleave::{Event, Prepared};
-use pool_parts::PullError;
 use std::alloc::Global;
 use std::cell::Cell;
 

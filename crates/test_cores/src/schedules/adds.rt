@@ -1,6 +1,6 @@
 //! A reset that tells how often it ran.
-use pool_parts::clean::AnyValue;
-use pool_parts::closures::Reset;
+use lockfree_object_pool::clean::AnyValue;
+use lockfree_object_pool::closures::Reset;
 
 /// Adds a number, and begins again at 0 past the greatest one.
 #[derive(Clone, Copy, Drop)]

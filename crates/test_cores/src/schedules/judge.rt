@@ -6,11 +6,11 @@
 //! of the pages taken since it opened, and before a refusal those of the pages that there were at
 //! some moment since then. It asks each page once at most, so it reads no more words than there are
 //! pages.
-use crate::adds::Adds;
-use crate::step::Step;
+use super::adds::Adds;
+use super::step::Step;
+use lockfree_object_pool::PullError;
+use lockfree_object_pool::page::PageId;
 use object_pool_cores::interleave::{Seen, World};
-use pool_parts::PullError;
-use pool_parts::page::PageId;
 use std::alloc::{AllocError, Global};
 use thiserror::Error;
 
@@ -128,12 +128,30 @@ impl Judge {
         self.numbers.len() / ITEMS
     }
 
-    /// Takes the answer to a step into account.
+    /// Takes the answer to an agent's step into account, and what it holds behind it.
     ///
     /// # Errors
     ///
     /// If memory is refused.
-    pub fn hear(&mut self, step: Step, seen: Seen) -> Result<Result<(), Unlawful>, AllocError> {
+    pub fn judge(
+        &mut self,
+        agent: usize,
+        step: Step,
+        seen: Seen,
+        held: Option<u32>,
+    ) -> Result<Result<(), Unlawful>, AllocError> {
+        let mut judged = self.hear(step, seen)?;
+        if judged.is_ok() && seen != Seen::NotEnabled && step != Step::Begin {
+            judged = self.count(agent);
+        }
+        if judged.is_ok() {
+            judged = self.agrees(agent, held);
+        }
+        Ok(judged)
+    }
+
+    /// What the answer to a step changes.
+    fn hear(&mut self, step: Step, seen: Seen) -> Result<Result<(), Unlawful>, AllocError> {
         let judged = match (seen, step) {
             (Seen::NotEnabled, _) => return Ok(Ok(())),
             (Seen::Began(agent), _) => return self.open(agent),
@@ -150,11 +168,7 @@ impl Judge {
     }
 
     /// Counts a step that an agent took.
-    ///
-    /// # Errors
-    ///
-    /// The rule that is broken.
-    pub fn count(&mut self, agent: usize) -> Result<(), Unlawful> {
+    fn count(&mut self, agent: usize) -> Result<(), Unlawful> {
         let limit = self.limit;
         let Some(agent) = self.agents.get_mut(agent) else {
             return Ok(());
@@ -241,7 +255,9 @@ impl Judge {
 
     fn pull(&mut self, agent: usize, number: u128) -> Result<(), Unlawful> {
         self.looking(agent)?;
-        let number = usize::try_from(number).map_err(|_| Unlawful::NotFree)?;
+        let Ok(number) = usize::try_from(number) else {
+            return Err(Unlawful::NotFree);
+        };
         let Some(here) = self.numbers.get_mut(number) else {
             return Err(Unlawful::NotFree);
         };
@@ -313,7 +329,7 @@ impl Judge {
         for number in first {
             let found = match number.place {
                 Place::Out => true,
-                Place::Free(_) => number.returned.is_some_and(|act| agent.opened < act),
+                Place::Free(_) => matches!(number.returned, Some(act) if agent.opened < act),
             };
             if !found {
                 return false;
@@ -322,12 +338,8 @@ impl Judge {
         true
     }
 
-    /// Returns whether an agent that has its item has the value of the run.
-    ///
-    /// # Errors
-    ///
-    /// The rule that is broken.
-    pub fn agrees(&self, agent: usize, held: Option<u32>) -> Result<(), Unlawful> {
+    /// Whether an agent that has its item has the value of the run.
+    fn agrees(&self, agent: usize, held: Option<u32>) -> Result<(), Unlawful> {
         match held {
             Some(shown) if self.holding(agent)?.1 != shown => Err(Unlawful::OtherValue),
             _ => Ok(()),
@@ -349,22 +361,34 @@ impl Judge {
                 return Err(Unlawful::OtherPool);
             }
         }
-        let out = self
-            .numbers
-            .iter()
-            .filter(|number| number.place == Place::Out)
-            .count();
-        let holders = self.agents.iter().filter(|agent| is_holder(agent)).count();
-        if out == holders {
+        if self.out() == self.holders() {
             Ok(())
         } else {
             Err(Unlawful::OtherPool)
         }
     }
-}
 
-fn is_holder(agent: &Agent) -> bool {
-    matches!(agent.stage, Stage::Holds(_, _))
+    /// How many numbers are out.
+    fn out(&self) -> usize {
+        let mut out = 0usize;
+        for number in self.numbers.iter() {
+            if number.place == Place::Out {
+                out = out.saturating_add(1);
+            }
+        }
+        out
+    }
+
+    /// How many agents hold a number.
+    fn holders(&self) -> usize {
+        let mut holders = 0usize;
+        for agent in self.agents.iter() {
+            if matches!(agent.stage, Stage::Holds(_, _)) {
+                holders = holders.saturating_add(1);
+            }
+        }
+        holders
+    }
 }
 
 /// What lies at a number of the world.

@@ -1,12 +1,12 @@
 //! A random schedule: any number of agents, some of which stop for good, on a world that is
 //! compared with the table and judged as a run after each event.
-use crate::adds::Adds;
-use crate::figures::Figures;
-use crate::judge::{Judge, Unlawful};
-use crate::step::{Step, event_of, values_from};
-use crate::table::{Point, Table};
+use super::adds::Adds;
+use super::figures::Figures;
+use super::judge::{Judge, Unlawful};
+use super::step::{Step, event_of, values_from};
+use super::table::{Point, Table};
+use lockfree_object_pool::PullError;
 use object_pool_cores::interleave::{Seen, World};
-use pool_parts::PullError;
 use rand_core::Rng;
 use rand_pcg::Pcg32;
 use std::alloc::{AllocError, AllocFailed, Global};
@@ -96,22 +96,21 @@ impl Schedule {
         if !self.is_as_the_table(agent) {
             return Err(Stopped::OtherState(agent, step));
         }
-        let unlawful = |cause: Unlawful| Stopped::Unlawful(agent, step, cause);
-        self.judge.hear(step, seen)?.map_err(unlawful)?;
-        if seen != Seen::NotEnabled && step != Step::Begin {
-            self.judge.count(agent).map_err(unlawful)?;
-        }
         let held = self.world.held(agent).copied();
-        self.judge.agrees(agent, held).map_err(unlawful)
+        match self.judge.judge(agent, step, seen, held)? {
+            Ok(()) => Ok(()),
+            Err(unlawful) => Err(Stopped::Unlawful(agent, step, unlawful)),
+        }
     }
 
     /// Whether the world's words and the agent's value are those of the table.
     fn is_as_the_table(&self, agent: usize) -> bool {
-        let pages = self.table.pages();
-        let words_agree = (0..pages).all(|page| self.world.word(page)
-            == Some(self.table.word(page)));
-        self.world.pages() == pages
-            && words_agree
+        for page in 0..self.table.pages() {
+            if self.world.word(page) != Some(self.table.word(page)) {
+                return false;
+            }
+        }
+        self.world.pages() == self.table.pages()
             && self.world.held(agent).copied() == self.table.held(agent)
     }
 

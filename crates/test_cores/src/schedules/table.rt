@@ -1,9 +1,9 @@
 //! A plain reading of the table: what each step of an agent answers at its point, and what it
 //! changes.
-use crate::adds::Adds;
-use crate::step::Step;
+use super::adds::Adds;
+use super::step::Step;
+use lockfree_object_pool::PullError;
 use object_pool_cores::interleave::Seen;
-use pool_parts::PullError;
 use std::alloc::{AllocError, Global};
 
 /// The word of a page all of whose items are free.
