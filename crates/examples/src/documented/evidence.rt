@@ -1,4 +1,5 @@
 //! What pulls show, and what is known of a history while no item is held.
+use super::parts::{chain_of_zeros, page_of_zeros};
 use crate::assert_equal::assert_equal;
 use lockfree_object_pool::clean::AnyValue;
 use lockfree_object_pool::closures::{Copied, Keep};
@@ -20,7 +21,7 @@ fn tell_of_a_return(page: &Page<u32, AnyValue>) -> Result<u32, PullError> {
 
 #[test]
 fn a_note_is_told_a_witness(rt: HostRuntime) {
-    let page: Page<u32, AnyValue> = Page::new(rt.alloc(), &|| Some(0)).expect(&rt, "a page");
+    let page = page_of_zeros(rt.alloc()).expect(&rt, "a page is made");
     assert_equal(&rt, tell_of_a_return(&page), Ok(4294967295));
 }
 
@@ -116,6 +117,6 @@ fn number_of_the_second(chain: &Chain<u32, AnyValue>) -> Option<usize> {
 
 #[test]
 fn a_chain_begins_with_one_page(rt: HostRuntime) {
-    let chain: Chain<u32, AnyValue> = Chain::new(rt.alloc(), &|| Some(0)).expect(&rt, "a chain");
+    let chain = chain_of_zeros(rt.alloc()).expect(&rt, "a chain is made");
     assert_equal(&rt, number_of_the_second(&chain), None);
 }

@@ -10,7 +10,7 @@ use std::alloc::Global;
 use std::test::Fail;
 
 /// Makes a page of zeros.
-fn page_of_zeros(alloc: Global) -> Result<Page<u32, AnyValue>, PullError> {
+pub(super) fn page_of_zeros(alloc: Global) -> Result<Page<u32, AnyValue>, PullError> {
     let page: Page<u32, AnyValue> = Page::new(alloc, &|| Some(0))?;
     Ok(page)
 }
@@ -40,10 +40,15 @@ fn a_pass_tells_a_full_page(rt: HostRuntime) -> Result<(), PullError> {
     Ok(())
 }
 
+/// Makes a chain of one page of zeros.
+pub(super) fn chain_of_zeros(alloc: Global) -> Result<Chain<u32, AnyValue>, PullError> {
+    let chain: Chain<u32, AnyValue> = Chain::new(alloc, &|| Some(0))?;
+    Ok(chain)
+}
+
 #[test]
 fn a_chain_hands_out_items(rt: HostRuntime) -> Result<(), PullError> {
-    let alloc = rt.alloc();
-    let chain: Chain<u32, AnyValue> = Chain::new(alloc, &|| Some(0))?;
+    let chain = chain_of_zeros(rt.alloc()).expect(&rt, "a chain is made");
     let (slot, page_number) = chain.first().alloc(&|| Some(0))?;
     assert_eq!(rt; (slot.id(), page_number), (0, 0));
     free_elsewhere(&chain)?;

@@ -1,9 +1,15 @@
 //! The pools of a recyclable type.
 use crate::assert_equal::assert_equal;
 use lockfree_object_pool::PullError;
-use lockfree_object_pool::recycling::{FixedPool, LazyPool, MutexPool, Pool, SpinLockPool};
+use lockfree_object_pool::free_list::FreeList;
+use lockfree_object_pool::made_or_reset::MadeOrReset;
+use lockfree_object_pool::recycling::{
+    FixedPool, LazyPool, MutexPool, Pool, Recycler, SpinLockPool,
+};
+use lockfree_object_pool::stack_object_pool::StackObjectPool;
 use std::alloc::Global;
-use std::sync::Arc;
+use std::process::Abort;
+use std::sync::{Arc, Wait};
 
 #[test]
 fn a_linear_pool_recycles_vectors(rt: HostRuntime) -> Result<(), PullError> {
@@ -45,9 +51,20 @@ fn pools_of_eight_recycle_vectors(rt: HostRuntime) -> Result<(), PullError> {
 fn stack_pools_recycle_vectors(rt: HostRuntime) -> Result<(), PullError> {
     let alloc = rt.alloc();
     let pool = MutexPool::<Vec<u8>>::with_recycler(alloc);
-    assert_eq!(rt; pool.pull(&rt)?.len(), 0);
+    pull_empty(rt, &pool)?;
     drop(pool);
     let pool = SpinLockPool::<Vec<u8>>::with_recycler(alloc)?;
+    pull_empty(rt, &pool)
+}
+
+/// Pulls a vector of a stack pool, which comes empty.
+fn pull_empty<
+    W: Abort + Wait + Copy,
+    F: FreeList<Vec<u8>, MadeOrReset<Recycler, Recycler, Recycler>>,
+>(
+    rt: W,
+    pool: &StackObjectPool<Vec<u8>, Recycler, Recycler, Recycler, F>,
+) -> Result<(), PullError> {
     assert_eq!(rt; pool.pull(&rt)?.len(), 0);
     Ok(())
 }

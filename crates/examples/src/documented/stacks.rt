@@ -2,11 +2,15 @@
 use crate::assert_equal::assert_equal;
 use lockfree_object_pool::clean::AnyValue;
 use lockfree_object_pool::closures::{Copied, Keep};
+use lockfree_object_pool::free_list::FreeList;
+use lockfree_object_pool::made_or_reset::MadeOrReset;
+use lockfree_object_pool::stack_object_pool::StackObjectPool;
 use lockfree_object_pool::{
     MutexObjectPool, MutexOwnedReusable, MutexReusable, PullError, SpinLockObjectPool,
     SpinLockReusable,
 };
 use std::alloc::Global;
+use std::process::Abort;
 use std::sync::{Arc, Wait};
 use std::test::Fail;
 
@@ -14,22 +18,31 @@ use std::test::Fail;
 fn the_mutex_pool_keeps_a_value(rt: HostRuntime) -> Result<(), PullError> {
     let alloc = rt.alloc();
     let pool: MutexObjectPool<u32, _, _> = MutexObjectPool::new(alloc, Copied::new(0), Keep);
-    *pool.pull(&rt)? = 5; // its drop keeps it
-    assert_eq!(rt; *pool.pull(&rt)?, 5);
-    Ok(())
+    keep_five(rt, &pool)
 }
 
 #[test]
 fn the_spin_lock_pool_keeps_a_value(rt: HostRuntime) -> Result<(), PullError> {
     let alloc = rt.alloc();
     let pool: SpinLockObjectPool<u32, _, _> = SpinLockObjectPool::new(alloc, Copied::new(0), Keep)?;
+    keep_five(rt, &pool)
+}
+
+/// Makes zeros.
+type Zeros = Copied<u32, AnyValue>;
+
+/// Writes 5 to an item of a pool, and pulls it again.
+fn keep_five<W: Abort + Wait + Copy, F: FreeList<u32, MadeOrReset<Zeros, Keep, AnyValue>>>(
+    rt: W,
+    pool: &StackObjectPool<u32, Zeros, Keep, AnyValue, F>,
+) -> Result<(), PullError> {
     *pool.pull(&rt)? = 5; // its drop keeps it
     assert_eq!(rt; *pool.pull(&rt)?, 5);
     Ok(())
 }
 
 /// A mutex pool of zeros that keeps what was written last.
-type MutexZeros = MutexObjectPool<u32, Copied<u32, AnyValue>, Keep>;
+type MutexZeros = MutexObjectPool<u32, Zeros, Keep>;
 
 /// Attaches 6 to a pool by an owner of it.
 fn attach_by_owner<W: Wait + Copy>(rt: W, pool: &Arc<MutexZeros>) -> Result<(), Fail> {
@@ -55,7 +68,7 @@ fn a_value_is_attached(rt: HostRuntime) -> Result<(), Fail> {
 }
 
 /// A spin lock pool of zeros that keeps what was written last.
-type SpinLockZeros = SpinLockObjectPool<u32, Copied<u32, AnyValue>, Keep>;
+type SpinLockZeros = SpinLockObjectPool<u32, Zeros, Keep>;
 
 /// Returns what an owned item of a pool shows.
 fn owned_value<W: Wait + Copy>(

@@ -1,19 +1,17 @@
 //! Texts that threads look at, and what they answer.
+ghost use Rattle.std.specs.Prelude.{◌≤◌};
+
 use super::*;
 use crate::assert_equal::assert_equal;
 use crate::home::take_all;
 use std::mem;
 use std::process::Abort;
 
-/// Creates a pool whose scratches have room for eight bytes.
-fn scratches(rt: &impl Abort, alloc: Global) -> ScratchPool {
-    let pool = LinearObjectPool::new(alloc, WithCapacity::new(alloc, 8), Clear);
-    pool.expect(rt, "a pool is made")
-}
-
-/// Creates such a pool of one page.
-fn one_page(rt: &impl Abort, alloc: Global) -> ScratchPool {
-    let pool = LinearObjectPool::with_limit(alloc, WithCapacity::new(alloc, 8), Clear, 1);
+/// Creates a pool of so many pages, whose scratches have room for eight bytes.
+fn pool_of(rt: &impl Abort, alloc: Global, pages: usize) -> ScratchPool
+    requires { 1 ≤ pages }
+{
+    let pool = LinearObjectPool::with_limit(alloc, WithCapacity::new(alloc, 8), Clear, pages);
     pool.expect(rt, "a pool is made")
 }
 
@@ -38,7 +36,7 @@ fn answers_alone(alloc: Global, texts: &[Vec<u8>]) -> Result<Vec<Option<bool>>, 
 
 #[test]
 fn threads_answer_as_one_thread_does(rt: HostRuntime) {
-    let pool = scratches(&rt, rt.alloc());
+    let pool = pool_of(&rt, rt.alloc(), 2);
     let words: [&[u8]; 5] = [b"level", b"pool", b"", b"noon", b"lever"];
     let texts = texts_of(rt.alloc(), &words).expect(&rt, "memory is left");
     let alone = answers_alone(rt.alloc(), &texts).expect(&rt, "nothing is refused");
@@ -53,7 +51,7 @@ fn threads_answer_as_one_thread_does(rt: HostRuntime) {
 
 #[test]
 fn each_of_forty_long_texts_has_an_answer(rt: HostRuntime) {
-    let pool = scratches(&rt, rt.alloc());
+    let pool = pool_of(&rt, rt.alloc(), 2);
     let words = [[7; 1000].as_slice(); 40];
     let texts = texts_of(rt.alloc(), &words).expect(&rt, "memory is left");
     let answers = palindromes(&rt, rt.alloc(), &pool, &texts).expect(&rt, "nothing is refused");
@@ -62,7 +60,7 @@ fn each_of_forty_long_texts_has_an_answer(rt: HostRuntime) {
 
 #[test]
 fn each_text_of_one_byte_is_a_palindrome(rt: HostRuntime) {
-    let pool = scratches(&rt, rt.alloc());
+    let pool = pool_of(&rt, rt.alloc(), 2);
     let texts = texts_of(rt.alloc(), &[b"a", b"\0"]).expect(&rt, "memory is left");
     let answers = palindromes(&rt, rt.alloc(), &pool, &texts).expect(&rt, "nothing is refused");
     assert_equal(&rt, answers.as_slice(), [Some(true), Some(true)].as_slice());
@@ -83,7 +81,7 @@ fn even_and_odd(alloc: Global) -> Result<Vec<Vec<u8>>, AllocError> {
 
 #[test]
 fn long_texts_have_answers_and_their_scratches_come_home(rt: HostRuntime) {
-    let pool = one_page(&rt, rt.alloc());
+    let pool = pool_of(&rt, rt.alloc(), 1);
     let texts = even_and_odd(rt.alloc()).expect(&rt, "nothing is refused");
     let (yes, no) = (Some(true), Some(false));
     let expected = [yes, no, yes, no, yes, no, yes, no];
@@ -130,7 +128,7 @@ fn grown(rt: &impl Abort, pool: &ScratchPool) -> usize {
 
 /// Has two threads look at a long text each. Returns how many scratches have room for one then.
 fn grown_at_once<R: Abort + Threads + Sync>(rt: &R, alloc: Global) -> usize {
-    let pool = one_page(rt, alloc);
+    let pool = pool_of(rt, alloc, 1);
     let texts = texts_of(alloc, &[&[7; 70_000], &[7; 70_000]]).expect(rt, "memory is left");
     drop(palindromes(rt, alloc, &pool, &texts));
     grown(rt, &pool)

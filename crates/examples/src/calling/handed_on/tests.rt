@@ -1,10 +1,17 @@
 use super::*;
 use crate::assert_equal::assert_equal;
+use std::alloc::Global;
+use std::process::Abort;
+
+/// Creates a pool of letters, with one owner.
+fn pool_of_letters(rt: &impl Abort, alloc: Global) -> Arc<Pool<Vec<u8>>> {
+    let letters = Pool::with_recycler(alloc).expect(rt, "a pool is made");
+    Arc::new(alloc, letters).expect(rt, "memory is left")
+}
 
 #[test]
 fn a_greeting_has_five_letters(rt: HostRuntime) {
-    let letters = Pool::with_recycler(rt.alloc()).expect(&rt, "a pool is made");
-    let letters = Arc::new(rt.alloc(), letters).expect(&rt, "memory is left");
+    let letters = pool_of_letters(&rt, rt.alloc());
     for _ in 0..2 {
         assert_equal(&rt, greeted(&letters), Ok(5));
     }
@@ -12,11 +19,8 @@ fn a_greeting_has_five_letters(rt: HostRuntime) {
 
 #[test]
 fn a_letter_with_a_greeting_comes_back(rt: HostRuntime) {
-    let letters = Pool::with_recycler(rt.alloc()).expect(&rt, "a pool is made");
-    let letters = Arc::new(rt.alloc(), letters).expect(&rt, "memory is left");
+    let letters = pool_of_letters(&rt, rt.alloc());
     assert_equal(&rt, greeted(&letters), Ok(5));
-    let home = letters
-        .pull()
-        .map(|item| (item.page_number(), item.page_id()));
-    assert_equal(&rt, home, Ok((0, 0)));
+    let home = letters.pull().expect(&rt, "a letter is home");
+    assert_equal(&rt, (home.page_number(), home.page_id()), (0, 0));
 }

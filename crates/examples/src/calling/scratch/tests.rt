@@ -1,11 +1,17 @@
 //! A worker that uses its scratch again.
 use super::*;
 use crate::assert_equal::assert_equal;
+use std::process::Abort;
+
+/// Creates a worker with a pool of its own.
+fn new_worker(rt: &impl Abort, alloc: Global) -> Worker {
+    let pool = Pool::with_recycler(alloc).expect(rt, "a pool is made");
+    Worker { pool }
+}
 
 #[test]
 fn each_use_finds_the_scratch_clean(rt: HostRuntime) {
-    let pool = Pool::with_recycler(rt.alloc()).expect(&rt, "a pool is made");
-    let worker = Worker { pool };
+    let worker = new_worker(&rt, rt.alloc());
     for _ in 0..2 {
         assert_equal(&rt, worker.use_once(), Some((0, 0)));
     }
@@ -13,12 +19,8 @@ fn each_use_finds_the_scratch_clean(rt: HostRuntime) {
 
 #[test]
 fn a_used_scratch_comes_back(rt: HostRuntime) {
-    let pool = Pool::with_recycler(rt.alloc()).expect(&rt, "a pool is made");
-    let worker = Worker { pool };
+    let worker = new_worker(&rt, rt.alloc());
     assert_equal(&rt, worker.use_once(), Some((0, 0)));
-    let home = worker
-        .pool
-        .pull()
-        .map(|item| (item.page_number(), item.page_id()));
-    assert_equal(&rt, home, Ok((0, 0)));
+    let home = worker.pool.pull().expect(&rt, "a scratch is home");
+    assert_equal(&rt, (home.page_number(), home.page_id()), (0, 0));
 }

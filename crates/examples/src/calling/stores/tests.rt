@@ -2,6 +2,8 @@ use super::*;
 use crate::assert_equal::assert_equal;
 use crate::home::take_all;
 use lockfree_object_pool::closures::{Copied, Keep};
+use std::alloc::Global;
+use std::process::Abort;
 
 /// Puts one byte into what a store lends, and returns whether it is the only one.
 fn put_one(bytes: &mut Vec<u8>) -> bool {
@@ -31,10 +33,15 @@ fn sheets_come_empty(rt: HostRuntime) {
     assert_equal(&rt, sheets.letters(), Ok(0));
 }
 
+/// Creates an arena of sevens.
+fn new_arena(rt: &impl Abort, alloc: Global) -> Arena<u32, Copied<u32, AnyValue>, Keep> {
+    let pool = LinearObjectPool::new(alloc, Copied::new(7), Keep).expect(rt, "a pool is made");
+    Arena { pool }
+}
+
 #[test]
 fn an_arena_has_a_value(rt: HostRuntime) {
-    let pool = LinearObjectPool::new(rt.alloc(), Copied::new(7u32), Keep).expect(&rt, "made");
-    let arena = Arena { pool };
+    let arena = new_arena(&rt, rt.alloc());
     assert!(rt; arena.has_one());
 }
 
@@ -67,15 +74,8 @@ fn a_sheet_whose_letters_are_counted_comes_back(rt: HostRuntime) {
 
 #[test]
 fn the_value_that_an_arena_looks_for_comes_back(rt: HostRuntime) {
-    let pool = LinearObjectPool::new(rt.alloc(), Copied::new(7u32), Keep).expect(
-        &rt,
-        "a pool is made",
-    );
-    let arena = Arena { pool };
+    let arena = new_arena(&rt, rt.alloc());
     assert!(rt; arena.has_one());
-    let home = arena
-        .pool
-        .pull()
-        .map(|item| (item.page_number(), item.page_id()));
-    assert_equal(&rt, home, Ok((0, 0)));
+    let home = arena.pool.pull().expect(&rt, "a value is home");
+    assert_equal(&rt, (home.page_number(), home.page_id()), (0, 0));
 }
