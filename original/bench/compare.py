@@ -18,7 +18,7 @@ from typing import NamedTuple, Optional
 
 HERE = Path(__file__).resolve().parent
 ROOT = HERE.parent.parent
-OURS = ROOT / "crates" / "test_original_times"
+OURS = ROOT / "crates" / "test_original"
 LINE = re.compile(r"(.*): (\d+) in (\d+) ns, (\d+) kB\n")
 
 # The original has no fixed and no lazy pool: its linear pool does the same work beside both. Beside the lazy pool's pulls that wait
@@ -84,14 +84,14 @@ class Best(NamedTuple):
 
 def build(original: Path) -> list[Path]:
     """Builds both programs: these pools' first, then the original's."""
-    subprocess.run(["rt", "run"], cwd=OURS, stdout=subprocess.DEVNULL, check=True)
+    subprocess.run(["rt", "run"], cwd=OURS, stdin=subprocess.DEVNULL, stdout=subprocess.DEVNULL, check=True)
     link = HERE / "original"
     link.unlink(missing_ok=True)
     link.symlink_to(original.resolve(), target_is_directory=True)
     command = ["cargo", "build", "--release", "--offline", "--quiet"]
     settings = {"CARGO_TARGET_DIR": str(HERE / "target"), "RUSTFLAGS": "-A warnings"}
     subprocess.run(command, cwd=HERE, env={**os.environ, **settings}, check=True)
-    return [OURS / "out" / "test_original_times", HERE / "target" / "release" / "bench"]
+    return [OURS / "out" / "test_original", HERE / "target" / "release" / "bench"]
 
 
 def pin(threads: int) -> None:

@@ -1,4 +1,4 @@
-//! The original pools at the work of the program `test_original_times` of the workspace, with its arguments and its line of output.
+//! The original pools at the work of the program `test_original` of the workspace, with its arguments and its line of output.
 mod waiting;
 
 use lockfree_object_pool::{LinearObjectPool, MutexObjectPool, SpinLockObjectPool};

@@ -1,4 +1,4 @@
-//! Does the same random calls on the pools of this repository, by its program `test_original_answers`, and on the original's,
+//! Does the same random calls on the pools of this repository, by its program `test_original`, and on the original's,
 //! and compares the answers.
 mod call;
 mod original;

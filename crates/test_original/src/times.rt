@@ -1,17 +1,15 @@
-//! Pools at work: without arguments, a little of each work on each pool, and what it gave; with a
-//! task as arguments, that task alone, and how long it took too.
-#![tactic(auto)]
+//! Pools at work: a little of each work on each pool, and what it gave; or one task alone, and how
+//! long it took too.
 
 mod measure;
 mod pulls;
-mod task;
+pub mod task;
 mod turns;
 
 use anyhow::{Context, Result};
 use measure::measure;
 use std::alloc::Global;
-use std::env;
-use std::rt::{Clock, Env, Files};
+use std::rt::{Clock, Files};
 use std::sync::Wait;
 use std::thread::Threads;
 use task::{Kind, Task, Work, task_of};
@@ -72,21 +70,13 @@ const OTHER_WORDS: [&str; 9] = [
     "lazy wait 4 1 7",
 ];
 
-fn main(rt: HostRuntime) -> Result<()> {
-    let mut arguments = env::args(&rt)?;
-    let _name = arguments.next();
-    let arguments: Vec<String> = arguments.collect(rt.alloc())?;
-    let words: Vec<&str> = arguments.iter().map(String::as_str).collect(rt.alloc())?;
-    if words.is_empty() {
-        return show_each(&rt);
-    }
-    let task = task_of(&words).context("usage: test_original_times [POOL WORK TURNS]")?;
-    show_time(&rt, task)
-}
-
 /// Does a little of each work on each pool, then of what is asked of one kind alone, and prints
 /// what each gave. Then prints what other words ask for.
-fn show_each<R: Clock + Threads + Wait + AllocGlobal + Print + Copy + Send + Sync>(
+///
+/// # Errors
+///
+/// If a work is refused what it needs, or a task's own words ask for none.
+pub fn show_each<R: Clock + Threads + Wait + AllocGlobal + Print + Copy + Send + Sync>(
     rt: &R,
 ) -> Result<()> {
     for kind in KINDS {
@@ -134,7 +124,11 @@ fn show_sum<R: Clock + Threads + Wait + AllocGlobal + Print + Copy + Send + Sync
 
 /// Does a task, and prints what it gave, how many nanoseconds its turns took, and how much memory
 /// the process had at most.
-fn show_time<R: Clock + Files + Threads + Wait + AllocGlobal + Print + Copy + Send + Sync>(
+///
+/// # Errors
+///
+/// If the task is refused what it needs.
+pub fn show_time<R: Clock + Files + Threads + Wait + AllocGlobal + Print + Copy + Send + Sync>(
     rt: &R,
     task: Task,
 ) -> Result<()> {

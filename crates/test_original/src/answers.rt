@@ -1,36 +1,35 @@
 //! Calls of one thread, read from standard input and done on a pool, so that the answers of another
 //! library to the same calls can be compared.
-#![tactic(auto)]
 
-mod arguments;
+pub mod arguments;
 mod call;
 mod held;
 mod item;
 mod pools;
 mod replay;
 
-use anyhow::{Context, Result};
-use arguments::{Arguments, Kind, arguments_of};
+use anyhow::Result;
+use arguments::{Arguments, Kind};
 use item::{Item, Numbered, Restore, Totals};
 use lockfree_object_pool::closures::Init;
 use lockfree_object_pool::free_list::FreeList;
 use lockfree_object_pool::{LinearObjectPool, MutexObjectPool, NoneObjectPool, SpinLockObjectPool};
 use pools::{Linear, Stacked, StackedItems};
 use replay::replay;
-use std::env;
 use std::sync::{Arc, Wait};
 use test_values::tally::{Tally, new_tally};
 
-fn main(rt: HostRuntime) -> Result<()> {
-    let mut arguments = env::args(&rt)?;
-    let _name = arguments.next();
-    let arguments: Vec<String> = arguments.collect(rt.alloc())?;
-    let words: Vec<&str> = arguments.iter().map(String::as_str).collect(rt.alloc())?;
-    let arguments = arguments_of(&words).context(
-        "usage: test_original_answers linear|mutex|spin_lock|none keep|clear",
-    )?;
+/// Answers the calls of standard input, and prints the counts behind the pool's end.
+///
+/// # Errors
+///
+/// If a line is no call, or memory is refused.
+pub fn answer_calls<R: Input + Print + AllocGlobal + Wait + Copy>(
+    rt: &R,
+    arguments: Arguments,
+) -> Result<()> {
     let tally = new_tally(rt.alloc())?;
-    replay_on(&rt, &tally, arguments)?;
+    replay_on(rt, &tally, arguments)?;
     println!(rt; "end: {}", Totals { tally: &tally })?;
     Ok(())
 }

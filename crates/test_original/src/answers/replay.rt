@@ -1,8 +1,8 @@
 //! Calls are read and done one after another, and each is answered.
-use crate::call::{Call, Origin, call_of};
-use crate::held::{Given, Held, Place, Source};
-use crate::item::{Item, Shown, Totals};
-use crate::pools::Gives;
+use super::call::{Call, Origin, call_of};
+use super::held::{Given, Held, Place, Source};
+use super::item::{Item, Shown, Totals};
+use super::pools::Gives;
 use anyhow::{Context, Result, ensure};
 use std::io::{BufRead, BufReader, BufWriter, Write};
 use std::ops::DerefMut;

@@ -1,7 +1,7 @@
 //! The turns of each work, on any pool.
 ghost use Rattle.std.specs.Prelude.{◌≡◌, IfOk, vec_len};
 
-use crate::pulls::Pulls;
+use super::pulls::Pulls;
 use lockfree_object_pool::PullError;
 use std::alloc::Global;
 

@@ -1,9 +1,9 @@
 //! A task is done on a new pool, and its turns are timed.
 ghost use Rattle.std.specs.Prelude.{◌≤◌};
 
-use crate::pulls::{Fixed, Lazy, Linear, Near, Pulls, Stack, Stacked, Waiting, WaitingOwner, Zero};
-use crate::task::{Kind, Task, Work};
-use crate::turns::{be_refused, hold, pull_and_drop, total};
+use super::pulls::{Fixed, Lazy, Linear, Near, Pulls, Stack, Stacked, Waiting, WaitingOwner, Zero};
+use super::task::{Kind, Task, Work};
+use super::turns::{be_refused, hold, pull_and_drop, total};
 use anyhow::Result;
 use lockfree_object_pool::free_list::FreeList;
 use lockfree_object_pool::{

@@ -3,8 +3,8 @@ ghost use Rattle.std.specs.Prelude.{⊤};
 ghost use Rattle.std.specs.Arc.{arc_value};
 ghost use Rattle.lockfree_object_pool.specs.NonePool.{none_init};
 
-use crate::held::{Given, Place, Source};
-use crate::item::{Item, Numbered, Restore};
+use super::held::{Given, Place, Source};
+use super::item::{Item, Numbered, Restore};
 use lockfree_object_pool::clean::AnyValue;
 use lockfree_object_pool::closures::{Init, Reset};
 use lockfree_object_pool::free_list::FreeList;

@@ -1,5 +1,5 @@
 //! Items that are held, and how a pool is asked for one.
-use crate::item::Item;
+use super::item::Item;
 use std::mem;
 use std::ops::DerefMut;
 
