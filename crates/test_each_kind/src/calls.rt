@@ -1,14 +1,20 @@
 //! Each call that `docs/PROMISES.md` says takes no memory, made once. `ci/no_memory_calls` finds
 //! one of that list that no test makes. `ci/refuse_memory` runs these as it runs `no_memory`.
 use crate::assert_equal::assert_equal;
+use crate::calls_of_parts::new_seven;
 use crate::no_memory::is_ready;
 use lockfree_object_pool::clean::AnyValue;
 use lockfree_object_pool::closures::{Copied, Keep};
+use lockfree_object_pool::free_list::FreeList;
+use lockfree_object_pool::made_or_reset::MadeOrReset;
 use lockfree_object_pool::page::{PageId, PullPass};
+use lockfree_object_pool::stack_object_pool::StackObjectPool;
 use lockfree_object_pool::{
     FixedObjectPool, LazyObjectPool, LinearObjectPool, MutexObjectPool, NoneObjectPool,
     SpinLockObjectPool,
 };
+use std::alloc::Global;
+use std::process::Abort;
 use std::sync::{Arc, Wait};
 use std::time::{Clock, Duration};
 
@@ -72,13 +78,18 @@ fn calls_of_a_fixed_pool_ask_for_no_memory(rt: HostRuntime) {
 
 type Lazy = LazyObjectPool<u64, Zeros, Keep>;
 
-/// Pulls of a lazy pool, of which some may wait.
-fn pull_lazy<R: Wait + Clock>(rt: &R, pool: &Arc<Lazy>) -> Option<u64> {
+/// Pulls of a lazy pool.
+fn pull_lazy(pool: &Lazy) -> Option<()> {
     let pass = PullPass::new();
     pool.fill(2).ok()?;
     drop(pool.pull().ok()?);
     drop(pool.near().pull().ok()?);
     drop(pool.try_pull(&pass).ok()?);
+    Some(())
+}
+
+/// Pulls of a lazy pool by an owner, of which some may wait, and values that leave it.
+fn pull_lazy_waiting<R: Wait + Clock>(rt: &R, pool: &Arc<Lazy>) -> Option<u64> {
     drop(pool.pull_owned().ok()?);
     drop(pool.pull_wait(rt).ok()?);
     drop(pool.pull_timeout(rt, Duration::from_millis(1)).ok()?);
@@ -107,8 +118,12 @@ fn calls_of_a_lazy_pool_ask_for_no_memory(rt: HostRuntime) {
     is_ready(&rt);
     assert_equal(
         &rt,
-        (pull_lazy(&rt, &pool), pull_lazy_with(&pool)),
-        (Some(0), Some((0, 0, 0))),
+        (
+            pull_lazy(&pool),
+            pull_lazy_waiting(&rt, &pool),
+            pull_lazy_with(&pool),
+        ),
+        (Some(()), Some(0), Some((0, 0, 0))),
     );
     assert_equal(&rt, (pool.items(), pool.made(), pool.in_use()), (40, 2, 0));
 }
@@ -155,46 +170,56 @@ fn calls_of_a_linear_pool_ask_for_no_memory(rt: HostRuntime) {
     );
 }
 
-#[test]
-fn calls_of_a_mutex_pool_ask_for_no_memory(rt: HostRuntime) {
-    let pool: MutexObjectPool<u64, Zeros, Keep> = MutexObjectPool::new(rt.alloc(), zeros(), Keep);
-    let Ok(pool) = Arc::new(rt.alloc(), pool) else {
+type Stack<F> = StackObjectPool<u64, Zeros, Keep, AnyValue, F>;
+
+type Stacked = MadeOrReset<Zeros, Keep, AnyValue>;
+
+/// Calls of a mutex pool or a spin lock pool, which keeps three values first. A value that was
+/// taken out of it for good, and how many it keeps before all are dropped and then.
+fn use_stack<F: FreeList<u64, Stacked>, W: Abort + Wait + Copy>(
+    rt: &W,
+    pool: &Arc<Stack<F>>,
+) -> (u64, usize, usize) {
+    let detached = pool.pull(rt).expect(rt, "a value is kept").detach();
+    drop(pool.pull_owned(rt).expect(rt, "a value is kept"));
+    let kept = pool.kept(rt);
+    pool.clear(rt);
+    (detached, kept, pool.kept(rt))
+}
+
+/// Where a stack pool can be opened and filled, no call of it asks for memory.
+fn stack_asks_for_no_memory<F: FreeList<u64, Stacked>, W: Abort + Print + Wait + Copy>(
+    rt: &W,
+    alloc: Global,
+    pool: Stack<F>,
+) {
+    let Ok(pool) = Arc::new(alloc, pool) else {
         return;
     };
-    if pool.fill(&rt, 3).is_err() {
+    if pool.fill(rt, 3).is_err() {
         return;
     }
-    is_ready(&rt);
-    let detached = pool.pull(&rt).expect(&rt, "a value is kept").detach();
-    drop(pool.pull_owned(&rt).expect(&rt, "a value is kept"));
-    let kept = pool.kept(&rt);
-    pool.clear(&rt);
-    assert_equal(&rt, (detached, kept, pool.kept(&rt)), (0, 2, 0));
+    is_ready(rt);
+    assert_equal(rt, use_stack(rt, &pool), (0, 2, 0));
+}
+
+#[test]
+fn calls_of_a_mutex_pool_ask_for_no_memory(rt: HostRuntime) {
+    let pool = MutexObjectPool::new(rt.alloc(), zeros(), Keep);
+    stack_asks_for_no_memory(&rt, rt.alloc(), pool);
 }
 
 #[test]
 fn calls_of_a_spin_lock_pool_ask_for_no_memory(rt: HostRuntime) {
-    let Ok(pool) = SpinLockObjectPool::<u64, Zeros, Keep>::new(rt.alloc(), zeros(), Keep) else {
-        return;
-    };
-    let Ok(pool) = Arc::new(rt.alloc(), pool) else {
-        return;
-    };
-    if pool.fill(&rt, 3).is_err() {
-        return;
+    if let Ok(pool) = SpinLockObjectPool::new(rt.alloc(), zeros(), Keep) {
+        stack_asks_for_no_memory(&rt, rt.alloc(), pool);
     }
-    is_ready(&rt);
-    let detached = pool.pull(&rt).expect(&rt, "a value is kept").detach();
-    drop(pool.pull_owned(&rt).expect(&rt, "a value is kept"));
-    let kept = pool.kept(&rt);
-    pool.clear(&rt);
-    assert_equal(&rt, (detached, kept, pool.kept(&rt)), (0, 2, 0));
 }
 
 #[test]
 fn calls_of_a_none_pool_ask_for_no_memory(rt: HostRuntime) {
     is_ready(&rt);
-    let pool = NoneObjectPool::new(|| Some(7u64));
-    let shown = pool.pull().map(|item| *item);
-    assert_equal(&rt, shown, Ok(7));
+    let pool = NoneObjectPool::new(new_seven);
+    let item = pool.pull().expect(&rt, "an item is made");
+    assert_equal(&rt, *item, 7);
 }

@@ -25,15 +25,15 @@ fn zeros() -> Zeros {
     Copied::new(0)
 }
 
-/// Makes the values of pages and chains.
-fn new_zero() -> Option<u64> {
-    Some(0)
+/// Makes the values of pages, of chains and of the pool that keeps nothing.
+pub(crate) fn new_seven() -> Option<u64> {
+    Some(7)
 }
 
-type Zero = Page<u64, AnyValue>;
+type Sevens = Page<u64, AnyValue>;
 
 /// Slots of a page, by notes.
-fn use_slots(page: &Zero) -> Option<u64> {
+fn use_slots(page: &Sevens) -> Option<u64> {
     let pass = PullPass::new();
     let mut slot = page.alloc().ok()??;
     let mut note = page.note();
@@ -47,7 +47,7 @@ fn use_slots(page: &Zero) -> Option<u64> {
 }
 
 /// An owned slot of a page.
-fn use_owned(page: &Arc<Zero>) -> Option<u32> {
+fn use_owned(page: &Arc<Sevens>) -> Option<u32> {
     let pass = PullPass::new();
     let owner = Arc::try_clone(page).ok()?;
     match page.try_alloc(&pass).ok()? {
@@ -59,7 +59,7 @@ fn use_owned(page: &Arc<Zero>) -> Option<u32> {
 
 #[test]
 fn calls_of_a_page_ask_for_no_memory(rt: HostRuntime) {
-    let Ok(page) = Zero::new(rt.alloc(), &new_zero) else {
+    let Ok(page) = Sevens::new(rt.alloc(), &new_seven) else {
         return;
     };
     let Ok(page) = Arc::new(rt.alloc(), page) else {
@@ -75,7 +75,7 @@ fn calls_of_a_page_ask_for_no_memory(rt: HostRuntime) {
 
 #[test]
 fn calls_of_a_chain_ask_for_no_memory(rt: HostRuntime) {
-    let Ok(chain) = Chain::<u64, AnyValue>::new(rt.alloc(), &new_zero) else {
+    let Ok(chain) = Chain::<u64, AnyValue>::new(rt.alloc(), &new_seven) else {
         return;
     };
     is_ready(&rt);
@@ -115,8 +115,8 @@ fn calls_of_a_stack_ask_for_no_memory(rt: HostRuntime) {
     let mut stack: Stack<u64, AnyValue> = Stack::new();
     stack.put(room, 5);
     let kept = stack.kept();
-    let taken = stack.take().map(|(value, _room)| value);
-    assert_equal(&rt, (kept, taken), (1, Some(5)));
+    let (taken, _room) = stack.take().expect(&rt, "a value is kept");
+    assert_equal(&rt, (kept, taken), (1, 5));
 }
 
 #[test]
@@ -126,13 +126,13 @@ fn calls_of_a_spin_lock_ask_for_no_memory(rt: HostRuntime) {
     };
     is_ready(&rt);
     let first = *lock.lock(&rt);
-    let second = lock.try_lock().map(|guard| *guard);
-    assert_equal(&rt, (first, second), (5, Some(5)));
+    let second = *lock.try_lock().expect(&rt, "the lock is free");
+    assert_equal(&rt, (first, second), (5, 5));
 }
 
 #[test]
 fn calls_of_a_core_page_ask_for_no_memory(rt: HostRuntime) {
-    let Ok(mut page) = CorePage::<u64, AnyValue>::new(rt.alloc(), &new_zero) else {
+    let Ok(mut page) = CorePage::<u64, AnyValue>::new(rt.alloc(), &new_seven) else {
         return;
     };
     is_ready(&rt);
@@ -233,7 +233,7 @@ fn use_world(world: &mut World<u64, Zeros>) -> [bool; 3] {
 
 /// A world with one agent, which has begun.
 fn world_of_one(alloc: Global) -> Option<World<u64, Zeros>> {
-    let first = Prepared::make(alloc, &new_zero).ok()?;
+    let first = Prepared::make(alloc, &new_seven).ok()?;
     let mut world = World::new(alloc, first, zeros()).ok()?;
     match world.step(Event::Begin) {
         Seen::Began(_) => Some(world),

@@ -3,7 +3,7 @@
 use crate::assert_equal::assert_equal;
 use lockfree_object_pool::clean::AnyValue;
 use lockfree_object_pool::closures::{Init, Keep};
-use lockfree_object_pool::recycling::Pool;
+use lockfree_object_pool::recycling::{Pool, Recyclable};
 use lockfree_object_pool::{LazyObjectPool, NoneObjectPool, PullError};
 use std::alloc::Global;
 use std::rt::Clock;
@@ -24,24 +24,34 @@ fn an_item_of_a_pool_that_keeps_nothing_is_dropped(rt: HostRuntime) {
     assert_equal(&rt, tally.now(), (1, 1));
 }
 
-/// A value with two parts.
-type Parts = (Option<Tallied>, Vec<Tallied>);
+/// A recyclable value that can hold tallied ones.
+trait Holds: Recyclable {
+    /// Puts a tallied value into each part.
+    fn put(&mut self, tally: &Arc<Tally>) -> Option<()>;
+}
 
-/// Puts a value into each part.
-fn put(parts: &mut Parts, tally: &Arc<Tally>) -> Option<()> {
-    parts.0 = Some(Tallied::new(tally)?);
-    parts.1.push(Tallied::new(tally)?).ok()
+impl Holds for (Option<Tallied>, Vec<Tallied>) {
+    fn put(&mut self, tally: &Arc<Tally>) -> Option<()> {
+        self.0 = Some(Tallied::new(tally)?);
+        self.1.push(Tallied::new(tally)?).ok()
+    }
+}
+
+/// How many tallied values live while they are held by an item, and when it has come back.
+fn living_in_an_item<T: Holds>(alloc: Global, tally: &Arc<Tally>) -> Option<(usize, usize)> {
+    let pool = Pool::<T>::with_recycler(alloc).ok()?;
+    let mut item = pool.pull().ok()?;
+    item.put(tally)?;
+    let living = tally.living();
+    drop(item);
+    Some((living, tally.living()))
 }
 
 #[test]
 fn what_a_recyclable_value_holds_is_dropped_at_its_return(rt: HostRuntime) {
     let tally = new_tally(rt.alloc()).expect(&rt, "memory is left");
-    let pool = Pool::<Parts>::with_recycler(rt.alloc()).expect(&rt, "a pool is made");
-    let mut item = pool.pull().expect(&rt, "an item is free");
-    put(&mut item, &tally).expect(&rt, "memory is left");
-    assert_equal(&rt, tally.living(), 2);
-    drop(item);
-    assert_equal(&rt, tally.living(), 0);
+    let living = living_in_an_item::<(Option<Tallied>, Vec<Tallied>)>(rt.alloc(), &tally);
+    assert_equal(&rt, living, Some((2, 0)));
 }
 
 /// How far a first making and the one that lets it end have come.
@@ -114,7 +124,7 @@ fn fill_beside_one_that_waits<R: Threads + Wait + Clock + Sync>(
         }
     };
     let answers = thread::map_indices(rt, alloc, 3, &one_thread).ok()?;
-    Some(answers.iter().all(|answer| *answer))
+    Some(!answers.contains(&false))
 }
 
 /// A lazy pool of one item, and the steps of its making.
@@ -173,7 +183,7 @@ fn made_behind_two<R: Threads + Sync>(
     let pool: Counted = LazyObjectPool::new(alloc, TalliedValues::new(tally)?, Keep, 2)?;
     let here = AtomicUsize::new(0);
     let answers = thread::map_indices(rt, alloc, 2, &|_| make_and_discard(&pool, &here))?;
-    if !answers.iter().all(|answer| *answer) {
+    if answers.contains(&false) {
         return Err(PullError::Limit);
     }
     let before = tally.calls();

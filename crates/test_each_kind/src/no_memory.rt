@@ -5,8 +5,9 @@
 //! the test.
 use crate::assert_equal::assert_equal;
 use crate::parts::{OwningInit, OwningReset, Parts};
-use crate::pools::{Fixed, Lazy, Linear, Pulls, held};
+use crate::pools::{Fixed, Lazy, Linear, Pulls, Stack, Stacked, held};
 use lockfree_object_pool::clean::AnyValue;
+use lockfree_object_pool::free_list::FreeList;
 use lockfree_object_pool::linear_page::Chain;
 use lockfree_object_pool::page::{Page, PullPass};
 use lockfree_object_pool::{
@@ -16,7 +17,7 @@ use lockfree_object_pool::{
 use object_pool_cores::sequential::{NoneCore, Player, StackCore};
 use std::alloc::Global;
 use std::process::Abort;
-use std::sync::Arc;
+use std::sync::{Arc, Wait};
 use test_values::counted::NEVER;
 use test_values::tallied::Tallied;
 use test_values::tally::new_tally;
@@ -104,69 +105,80 @@ fn turns_of_a_lazy_pool_ask_for_no_memory(rt: HostRuntime) {
     }
 }
 
-#[test]
-fn turns_of_a_mutex_pool_ask_for_no_memory(rt: HostRuntime) {
-    let Ok(parts) = parts(rt.alloc()) else {
+/// Where a stack pool can be opened and filled, its turns ask for no memory. Then it keeps what was
+/// held, until all is dropped.
+fn turns_of_a_stack_ask_for_none<F: FreeList<Tallied, Stacked>, W: Abort + Print + Wait + Copy>(
+    rt: &W,
+    alloc: Global,
+    pool: Stack<F>,
+) {
+    let Ok(pool) = Arc::new(alloc, pool) else {
         return;
     };
-    let pool: MutexObjectPool<Tallied, OwningInit, OwningReset> = MutexObjectPool::new(
-        rt.alloc(),
-        parts.init,
-        parts.reset,
-    );
-    if let Ok(pool) = Arc::new(rt.alloc(), pool) {
-        if take_turns(&rt, rt.alloc(), &pool, &&*pool).is_ok() {
-            assert_equal(&rt, pool.kept(&rt), 2 * ITEMS);
-            pool.clear(&rt);
-            assert_equal(&rt, pool.kept(&rt), 0);
-        }
+    if take_turns(rt, alloc, &pool, &&*pool).is_ok() {
+        let kept = pool.kept(rt);
+        pool.clear(rt);
+        assert_equal(rt, (kept, pool.kept(rt)), (2 * ITEMS, 0));
+    }
+}
+
+#[test]
+fn turns_of_a_mutex_pool_ask_for_no_memory(rt: HostRuntime) {
+    if let Ok(parts) = parts(rt.alloc()) {
+        let pool = MutexObjectPool::new(rt.alloc(), parts.init, parts.reset);
+        turns_of_a_stack_ask_for_none(&rt, rt.alloc(), pool);
     }
 }
 
 #[test]
 fn turns_of_a_spin_lock_pool_ask_for_no_memory(rt: HostRuntime) {
-    let Ok(parts) = parts(rt.alloc()) else {
-        return;
-    };
-    let Ok(pool) = SpinLockObjectPool::new(rt.alloc(), parts.init, parts.reset) else {
-        return;
-    };
-    if let Ok(pool) = Arc::new(rt.alloc(), pool) {
-        if take_turns(&rt, rt.alloc(), &pool, &&*pool).is_ok() {
-            assert_equal(&rt, pool.kept(&rt), 2 * ITEMS);
-            pool.clear(&rt);
-            assert_equal(&rt, pool.kept(&rt), 0);
+    if let Ok(parts) = parts(rt.alloc()) {
+        if let Ok(pool) = SpinLockObjectPool::new(rt.alloc(), parts.init, parts.reset) {
+            turns_of_a_stack_ask_for_none(&rt, rt.alloc(), pool);
         }
     }
 }
 
-/// Slots of a page, borrowed and owned, and the first page of a chain.
-fn use_pages(rt: &(impl Abort + Print), alloc: Global) -> Result<(), PullError> {
+type TalliedPage = Page<Tallied, AnyValue>;
+
+type TalliedChain = Chain<Tallied, AnyValue>;
+
+/// A page, and a chain of one page.
+fn new_pages(alloc: Global) -> Result<(Arc<TalliedPage>, TalliedChain), PullError> {
     let tally = new_tally(alloc)?;
     let make = || Tallied::new(&tally);
-    let page: Page<Tallied, AnyValue> = Page::new(alloc, &make)?;
-    let page = Arc::new(alloc, page)?;
-    let chain: Chain<Tallied, AnyValue> = Chain::new(alloc, &make)?;
-    is_ready(rt);
-    let owner = Arc::try_clone(&page)?;
-    let slot = page.alloc()?.expect(rt, "an item is free");
-    slot.into_owned(owner).free();
-    let slot = page.alloc()?.expect(rt, "an item is free");
-    assert!(*rt; !page.is_full());
+    let page = Arc::new(alloc, Page::new(alloc, &make)?)?;
+    Ok((page, Chain::new(alloc, &make)?))
+}
+
+/// Slots of a page, owned and borrowed. Whether it was full while one slot was out, and which items
+/// are free then.
+fn use_slots(page: &Arc<TalliedPage>) -> Option<(bool, u32)> {
+    let owner = Arc::try_clone(page).ok()?;
+    drop(page.alloc().ok()??.into_owned(owner).free());
+    let slot = page.alloc().ok()??;
+    let is_full = page.is_full();
     Page::free(slot);
-    let first = chain.first();
-    assert_equal(
-        rt,
-        (page.get_mask(), first.page().get_mask()),
-        (u32::MAX, u32::MAX),
-    );
-    assert!(*rt; first.number() == 0 && first.next().is_none());
-    Ok(())
+    Some((is_full, page.get_mask()))
 }
 
 #[test]
 fn slots_of_pages_ask_for_no_memory(rt: HostRuntime) {
-    let _refused = use_pages(&rt, rt.alloc());
+    let Ok((page, chain)) = new_pages(rt.alloc()) else {
+        return;
+    };
+    is_ready(&rt);
+    assert_equal(&rt, use_slots(&page), Some((false, u32::MAX)));
+    let first = chain.first();
+    assert_equal(
+        &rt,
+        (
+            first.page().get_mask(),
+            first.number(),
+            first.next().is_none(),
+        ),
+        (u32::MAX, 0, true),
+    );
 }
 
 /// What opens without memory.

@@ -8,7 +8,7 @@ use crate::parts::{PARTS, Parts};
 use crate::pools::{FixedPools, LazyPools, LinearPools, MutexPools, SpinLockPools, Stack, Stacked};
 use lockfree_object_pool::closures::{Clear, Init, Keep, Reset, WithCapacity};
 use lockfree_object_pool::free_list::FreeList;
-use lockfree_object_pool::stack_reusable::StackReusable;
+use lockfree_object_pool::stack_reusable::{SharedStackPool, StackReusable};
 use lockfree_object_pool::{FixedObjectPool, MutexObjectPool, PullError, SpinLockObjectPool};
 use std::alloc::Global;
 use std::mem;
@@ -128,22 +128,23 @@ fn keeps<F: FreeList<Tallied, Stacked>, W: Abort + Wait + Copy>(
 }
 
 /// So many values are attached to a pool and own it together.
-fn attach<F: FreeList<Tallied, Stacked>, W: Wait + Copy>(
+fn attach<P: Drop, W: Wait + Copy>(
     rt: &W,
     alloc: Global,
-    pool: &Arc<Stack<F>>,
+    pool: &Arc<P>,
     tally: &Arc<Tally>,
     count: usize,
-) -> Result<(), PullError> {
-    let mut held = Vec::with_capacity(alloc, count)?;
+) -> Option<()>
+where
+    Arc<P>: SharedStackPool<Tallied>,
+{
+    let mut held = Vec::with_capacity(alloc, count).ok()?;
     for _ in 0..count {
-        let value = Tallied::new(tally).ok_or(PullError::Memory)?;
-        match StackReusable::new(rt, Arc::try_clone(pool)?, value) {
-            Ok(item) => held.push(item)?,
-            Err(_) => return Err(PullError::Memory),
-        }
+        let owner = Arc::try_clone(pool).ok()?;
+        let item = StackReusable::new(rt, owner, Tallied::new(tally)?).ok()?;
+        held.push(item).ok()?;
     }
-    Ok(())
+    Some(())
 }
 
 /// So many values are attached, and each is kept then.
@@ -158,7 +159,7 @@ fn keeps_attached<F: FreeList<Tallied, Stacked>, W: Abort + Wait + Copy>(
     for items in SIZES {
         if items <= MOST_ATTACHED {
             let attached = attach(rt, alloc, &pool, tally, items);
-            assert_equal(rt, (attached, pool.kept(rt)), (Ok(()), items));
+            assert_equal(rt, (attached, pool.kept(rt)), (Some(()), items));
             pool.clear(rt);
         }
     }

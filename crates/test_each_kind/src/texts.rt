@@ -1,13 +1,19 @@
 //! The texts of each public type that has one, and whether different values differ.
 use crate::assert_equal::assert_equal;
-use lockfree_object_pool::clean::{AnyValue, Empty};
-use lockfree_object_pool::closures::{Clear, Keep, WithCapacity};
+use crate::calls_of_parts::new_seven;
+use lockfree_object_pool::clean::{AnyValue, Clean, Empty};
+use lockfree_object_pool::closures::{Clear, Init, Keep, Reset, WithCapacity};
+use lockfree_object_pool::free_list::FreeList;
+use lockfree_object_pool::made_or_reset::MadeOrReset;
 use lockfree_object_pool::page::{Allocated, Page, PullPass};
 use lockfree_object_pool::recycling::{
     FixedPool, LazyPool, MutexPool, Pool, Recycler, SpinLockPool,
 };
 use lockfree_object_pool::spin_lock::SpinLock;
-use lockfree_object_pool::{NoneObjectPool, PullError};
+use lockfree_object_pool::stack_object_pool::StackObjectPool;
+use lockfree_object_pool::{
+    FixedObjectPool, LazyObjectPool, LinearObjectPool, NoneObjectPool, PullError,
+};
 use object_pool_cores::buffers::BufferPool;
 use object_pool_cores::engine::{self, EngineError, Kind};
 use object_pool_cores::interleave::Seen;
@@ -18,7 +24,7 @@ use std::fmt::{Debug, Display};
 use std::hash::Hash;
 use std::ops::DerefMut;
 use std::process::Abort;
-use std::sync::Arc;
+use std::sync::{Arc, Wait};
 
 /// What `{:?}` and `{:#?}` show of a value.
 fn shows<T: Debug>(rt: &impl Abort, alloc: Global, value: &T, plain: &str, pretty: &str) {
@@ -37,105 +43,119 @@ fn shows_its_value<T: DerefMut<Target = Vec<u8>> + Debug + Drop>(
     shows(rt, alloc, &item, "[5]", "[\n    5,\n]");
 }
 
-#[test]
-fn each_pool_that_never_waits_is_shown(rt: HostRuntime) {
-    let alloc = rt.alloc();
-    let pool = Arc::new(
-        alloc,
-        Pool::<Vec<u8>>::with_recycler_within(alloc, 2).expect(&rt, "made"),
-    )
-    .expect(&rt, "memory is left");
+/// A linear pool of two pages is shown with its limit, and so are its items.
+fn linear_pool_is_shown<I: Init<Vec<u8>, K>, R: Reset<Vec<u8>, K>, K: Clean<Vec<u8>>>(
+    rt: &impl Abort,
+    alloc: Global,
+    pool: LinearObjectPool<Vec<u8>, I, R, K>,
+) {
     let (plain, pretty) = (
         "LinearObjectPool { limit: Some(2), .. }",
         "LinearObjectPool {\n    limit: Some(\n        2,\n    ),\n    ..\n}",
     );
-    shows(&rt, alloc, &*pool, plain, pretty);
-    shows_its_value(&rt, alloc, pool.pull().expect(&rt, "an item is free"));
-    shows_its_value(&rt, alloc, pool.pull_owned().expect(&rt, "an item is free"));
-    let pool = Arc::new(
-        alloc,
-        FixedPool::<Vec<u8>>::with_recycler(alloc, 33).expect(&rt, "made"),
-    )
-    .expect(&rt, "memory is left");
+    shows(rt, alloc, &pool, plain, pretty);
+    let pool = Arc::new(alloc, pool).expect(rt, "memory is left");
+    shows_its_value(rt, alloc, pool.pull().expect(rt, "an item is free"));
+    shows_its_value(rt, alloc, pool.pull_owned().expect(rt, "an item is free"));
+}
+
+/// A fixed pool of 33 items is shown with their number, and so are its items.
+fn fixed_pool_is_shown<I: Init<Vec<u8>, K>, R: Reset<Vec<u8>, K>, K: Clean<Vec<u8>>>(
+    rt: &impl Abort,
+    alloc: Global,
+    pool: FixedObjectPool<Vec<u8>, I, R, K>,
+) {
     let (plain, pretty) = (
         "FixedObjectPool { items: 33, .. }",
         "FixedObjectPool {\n    items: 33,\n    ..\n}",
     );
-    shows(&rt, alloc, &*pool, plain, pretty);
-    shows_its_value(&rt, alloc, pool.pull().expect(&rt, "an item is free"));
-    shows_its_value(&rt, alloc, pool.pull_owned().expect(&rt, "an item is free"));
+    shows(rt, alloc, &pool, plain, pretty);
+    let pool = Arc::new(alloc, pool).expect(rt, "memory is left");
+    shows_its_value(rt, alloc, pool.pull().expect(rt, "an item is free"));
+    shows_its_value(rt, alloc, pool.pull_owned().expect(rt, "an item is free"));
+}
+
+#[test]
+fn each_pool_that_never_waits_is_shown(rt: HostRuntime) {
+    let alloc = rt.alloc();
+    let linear = Pool::<Vec<u8>>::with_recycler_within(alloc, 2);
+    linear_pool_is_shown(&rt, alloc, linear.expect(&rt, "a pool is made"));
+    let fixed = FixedPool::<Vec<u8>>::with_recycler(alloc, 33);
+    fixed_pool_is_shown(&rt, alloc, fixed.expect(&rt, "a pool is made"));
+}
+
+/// A lazy pool of three items is shown with their number, and with how many it made. So are its
+/// items.
+fn lazy_pool_is_shown<I: Init<Vec<u8>, K>, R: Reset<Vec<u8>, K>, K: Clean<Vec<u8>>>(
+    rt: &impl Abort,
+    alloc: Global,
+    pool: LazyObjectPool<Vec<u8>, I, R, K>,
+) {
+    let pool = Arc::new(alloc, pool).expect(rt, "memory is left");
+    shows_its_value(rt, alloc, pool.pull().expect(rt, "an item is free"));
+    shows_its_value(rt, alloc, pool.pull_owned().expect(rt, "an item is free"));
+    let (plain, pretty) = (
+        "LazyObjectPool { items: 3, made: 1, .. }",
+        "LazyObjectPool {\n    items: 3,\n    made: 1,\n    ..\n}",
+    );
+    shows(rt, alloc, &*pool, plain, pretty);
+}
+
+/// A buffer pool is shown with its linear pool, and its buffers with their bytes.
+fn buffer_pool_is_shown(rt: &impl Abort, alloc: Global) {
+    let pool = BufferPool::new(alloc, WithCapacity::new(alloc, 0), Clear, 1);
+    let pool = pool.expect(rt, "a pool is made");
+    let mut buffer = pool.pull().expect(rt, "a buffer is free");
+    buffer.append(&[5]).expect(rt, "memory is left");
+    shows(rt, alloc, &buffer, "[5]", "[\n    5,\n]");
+    let (plain, pretty) = (
+        "BufferPool { pool: LinearObjectPool { limit: Some(1), .. } }",
+        "BufferPool {\n    pool: LinearObjectPool {\n        limit: Some(\n            1,\n        ),\n        ..\n    },\n}",
+    );
+    shows(rt, alloc, &pool, plain, pretty);
+}
+
+/// The pool that keeps nothing is shown by its name.
+fn none_pool_is_shown(rt: &impl Abort, alloc: Global) {
+    let pool = NoneObjectPool::new(|| Some(Vec::<u8>::new(alloc)));
+    let text = "NoneObjectPool { .. }";
+    shows(rt, alloc, &pool, text, text);
+    shows_its_value(rt, alloc, pool.pull().expect(rt, "an item is made"));
 }
 
 #[test]
 fn each_other_pool_is_shown(rt: HostRuntime) {
     let alloc = rt.alloc();
-    let pool = Arc::new(
-        alloc,
-        LazyPool::<Vec<u8>>::with_recycler(alloc, 3).expect(&rt, "made"),
-    )
-    .expect(&rt, "memory is left");
-    shows_its_value(&rt, alloc, pool.pull().expect(&rt, "an item is free"));
-    shows_its_value(&rt, alloc, pool.pull_owned().expect(&rt, "an item is free"));
-    let (plain, pretty) = (
-        "LazyObjectPool { items: 3, made: 1, .. }",
-        "LazyObjectPool {\n    items: 3,\n    made: 1,\n    ..\n}",
-    );
-    shows(&rt, alloc, &*pool, plain, pretty);
-    let pool = NoneObjectPool::new(|| Some(Vec::<u8>::new(alloc)));
-    shows(
-        &rt,
-        alloc,
-        &pool,
-        "NoneObjectPool { .. }",
-        "NoneObjectPool { .. }",
-    );
-    shows_its_value(&rt, alloc, pool.pull().expect(&rt, "an item is made"));
-    let pool = BufferPool::new(alloc, WithCapacity::new(alloc, 0), Clear, 1).expect(&rt, "made");
-    let mut buffer = pool.pull().expect(&rt, "a buffer is free");
-    buffer.append(&[5]).expect(&rt, "memory is left");
-    shows(&rt, alloc, &buffer, "[5]", "[\n    5,\n]");
-    let (plain, pretty) = (
-        "BufferPool { pool: LinearObjectPool { limit: Some(1), .. } }",
-        "BufferPool {\n    pool: LinearObjectPool {\n        limit: Some(\n            1,\n        ),\n        ..\n    },\n}",
-    );
-    shows(&rt, alloc, &pool, plain, pretty);
+    let lazy = LazyPool::<Vec<u8>>::with_recycler(alloc, 3);
+    lazy_pool_is_shown(&rt, alloc, lazy.expect(&rt, "a pool is made"));
+    none_pool_is_shown(&rt, alloc);
+    buffer_pool_is_shown(&rt, alloc);
+}
+
+/// The items of a stack pool are shown.
+fn stack_items_are_shown<
+    I: Init<Vec<u8>, K>,
+    R: Reset<Vec<u8>, K>,
+    K: Clean<Vec<u8>>,
+    F: FreeList<Vec<u8>, MadeOrReset<I, R, K>>,
+    W: Abort + Wait + Copy,
+>(rt: &W, alloc: Global, pool: StackObjectPool<Vec<u8>, I, R, K, F>) {
+    let pool = Arc::new(alloc, pool).expect(rt, "memory is left");
+    shows_its_value(rt, alloc, pool.pull(rt).expect(rt, "an item is made"));
+    shows_its_value(rt, alloc, pool.pull_owned(rt).expect(rt, "an item is made"));
 }
 
 #[test]
 fn each_pool_that_waits_is_shown(rt: HostRuntime) {
     let alloc = rt.alloc();
-    let pool = Arc::new(alloc, MutexPool::<Vec<u8>>::with_recycler(alloc)).expect(&rt, "made");
-    shows(
-        &rt,
-        alloc,
-        &*pool,
-        "MutexObjectPool { .. }",
-        "MutexObjectPool { .. }",
-    );
-    shows_its_value(&rt, alloc, pool.pull(&rt).expect(&rt, "an item is made"));
-    shows_its_value(
-        &rt,
-        alloc,
-        pool.pull_owned(&rt).expect(&rt, "an item is made"),
-    );
-    let pool = Arc::new(
-        alloc,
-        SpinLockPool::<Vec<u8>>::with_recycler(alloc).expect(&rt, "made"),
-    )
-    .expect(&rt, "memory is left");
-    shows(
-        &rt,
-        alloc,
-        &*pool,
-        "SpinLockObjectPool { .. }",
-        "SpinLockObjectPool { .. }",
-    );
-    shows_its_value(&rt, alloc, pool.pull(&rt).expect(&rt, "an item is made"));
-    shows_its_value(
-        &rt,
-        alloc,
-        pool.pull_owned(&rt).expect(&rt, "an item is made"),
-    );
+    let pool = MutexPool::<Vec<u8>>::with_recycler(alloc);
+    let text = "MutexObjectPool { .. }";
+    shows(&rt, alloc, &pool, text, text);
+    stack_items_are_shown(&rt, alloc, pool);
+    let pool = SpinLockPool::<Vec<u8>>::with_recycler(alloc).expect(&rt, "a pool is made");
+    let text = "SpinLockObjectPool { .. }";
+    shows(&rt, alloc, &pool, text, text);
+    stack_items_are_shown(&rt, alloc, pool);
     let lock = SpinLock::new(alloc, Vec::<u8>::new(alloc)).expect(&rt, "memory is left");
     shows_its_value(&rt, alloc, lock.lock(&rt));
 }
@@ -294,7 +314,7 @@ fn what_makes_and_resets_is_copied_and_shown(rt: HostRuntime) {
     is_copied(&rt, alloc, &Clear, "Clear");
     is_copied(&rt, alloc, &WithCapacity::new(alloc, 7), "WithCapacity");
     is_copied(&rt, alloc, &Recycler::new(alloc), "Recycler");
-    let page: Page<u32, AnyValue> = Page::new(alloc, &|| Some(0)).expect(&rt, "a page is made");
+    let page: Page<u64, AnyValue> = Page::new(alloc, &new_seven).expect(&rt, "a page is made");
     let pass = PullPass::default();
     assert!(rt; matches!(page.try_alloc(&pass), Ok(Allocated::Slot(_))));
 }
