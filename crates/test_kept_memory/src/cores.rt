@@ -1,7 +1,6 @@
 //! Turns on pools of one owner, and on players of commands on them.
-use crate::observer::{Observer, Turns};
+use crate::observer::Turns;
 use crate::supply::{Buffer, Supply};
-use anyhow::Result;
 use lockfree_object_pool::PullError;
 use lockfree_object_pool::clean::AnyValue;
 use lockfree_object_pool::closures::Keep;
@@ -10,7 +9,7 @@ use object_pool_cores::sequential::{
     Command, LinearCore, NoneCore, Player, SequentialPool, StackCore,
 };
 use std::alloc::Global;
-use std::rt::Files;
+use std::sync::Wait;
 
 type Linear = LinearCore<Buffer, Supply, Keep, AnyValue>;
 
@@ -18,24 +17,9 @@ type Stack = StackCore<Buffer, Supply, Keep, AnyValue>;
 
 type Fresh = NoneCore<Buffer, Supply>;
 
-/// Observes the cores.
-///
-/// # Errors
-///
-/// If the process's figures can't be read, or a line can't be printed.
-pub fn observe<R: Files + AllocGlobal + Print>(
-    alloc: Global,
-    observer: &mut Observer<R>,
-) -> Result<()> {
-    for (name, kind) in KINDS {
-        observer.observe(alloc, name, &kind)?;
-    }
-    Ok(())
-}
-
 /// What is done in a turn.
-#[derive(Clone, Copy)]
-enum Kind {
+#[derive(Drop)]
+pub enum Kind {
     LinearRefuses,
     StackRefuses,
     LinearPlayerEnds,
@@ -44,7 +28,7 @@ enum Kind {
 }
 
 /// Each kind, and how its line begins.
-const KINDS: [(&str, Kind); 5] = [
+pub const KINDS: [(&str, Kind); 5] = [
     ("refused pulls of a linear core", Kind::LinearRefuses),
     ("refused pulls of a stack core", Kind::StackRefuses),
     ("players on linear cores", Kind::LinearPlayerEnds),
@@ -53,7 +37,7 @@ const KINDS: [(&str, Kind); 5] = [
 ];
 
 impl Turns for Kind {
-    fn take(&self, alloc: Global, turns: usize) -> Option<()> {
+    fn take<W: Wait + Copy>(&self, _rt: &W, alloc: Global, turns: usize) -> Option<()> {
         match self {
             Kind::LinearRefuses => linear_refuses(alloc, turns),
             Kind::StackRefuses => stack_refuses(alloc, turns),

@@ -1,38 +1,21 @@
 //! Turns on fixed pools.
 ghost use Rattle.std.specs.Prelude.{◌≤◌};
 
-use crate::observer::{Observer, Turns};
+use crate::observer::Turns;
 use crate::supply::{Buffer, Supply};
-use anyhow::Result;
 use lockfree_object_pool::closures::Keep;
 use lockfree_object_pool::{FixedObjectPool, PullError};
 use std::alloc::Global;
-use std::rt::Files;
-use std::sync::Arc;
+use std::sync::{Arc, Wait};
 
 type Pool = FixedObjectPool<Buffer, Supply, Keep>;
 
 /// How many items a pool has: a word of them and one more.
 const ITEMS: usize = 33;
 
-/// Observes the fixed pools.
-///
-/// # Errors
-///
-/// If the process's figures can't be read, or a line can't be printed.
-pub fn observe<R: Files + AllocGlobal + Print>(
-    alloc: Global,
-    observer: &mut Observer<R>,
-) -> Result<()> {
-    for (name, kind) in KINDS {
-        observer.observe(alloc, name, &kind)?;
-    }
-    Ok(())
-}
-
 /// What is done in a turn.
-#[derive(Clone, Copy)]
-enum Kind {
+#[derive(Drop)]
+pub enum Kind {
     RefusedPools,
     RefusedPulls,
     Returns,
@@ -41,7 +24,7 @@ enum Kind {
 }
 
 /// Each kind, and how its line begins.
-const KINDS: [(&str, Kind); 5] = [
+pub const KINDS: [(&str, Kind); 5] = [
     ("fixed pools that are refused", Kind::RefusedPools),
     ("refused pulls of a fixed pool", Kind::RefusedPulls),
     ("items of a fixed pool", Kind::Returns),
@@ -50,7 +33,7 @@ const KINDS: [(&str, Kind); 5] = [
 ];
 
 impl Turns for Kind {
-    fn take(&self, alloc: Global, turns: usize) -> Option<()> {
+    fn take<W: Wait + Copy>(&self, _rt: &W, alloc: Global, turns: usize) -> Option<()> {
         match self {
             Kind::RefusedPools => refused_pools(alloc, turns),
             Kind::RefusedPulls => refused_pulls(alloc, turns),

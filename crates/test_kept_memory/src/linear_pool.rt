@@ -1,7 +1,6 @@
 //! Turns on linear pools, their buffer pools and their chains.
-use crate::observer::{Observer, Turns};
+use crate::observer::Turns;
 use crate::supply::{Buffer, Supply};
-use anyhow::Result;
 use lockfree_object_pool::clean::AnyValue;
 use lockfree_object_pool::closures::{Clear, Keep, WithCapacity};
 use lockfree_object_pool::linear_page::Chain;
@@ -9,29 +8,13 @@ use lockfree_object_pool::page::{Allocated, PAGE_ITEMS, PullPass};
 use lockfree_object_pool::{LinearObjectPool, PullError};
 use object_pool_cores::buffers::BufferPool;
 use std::alloc::Global;
-use std::rt::Files;
-use std::sync::Arc;
+use std::sync::{Arc, Wait};
 
 type Pool = LinearObjectPool<Buffer, Supply, Keep>;
 
-/// Observes the linear pools.
-///
-/// # Errors
-///
-/// If the process's figures can't be read, or a line can't be printed.
-pub fn observe<R: Files + AllocGlobal + Print>(
-    alloc: Global,
-    observer: &mut Observer<R>,
-) -> Result<()> {
-    for (name, kind) in KINDS {
-        observer.observe(alloc, name, &kind)?;
-    }
-    Ok(())
-}
-
 /// What is done in a turn.
-#[derive(Clone, Copy)]
-enum Kind {
+#[derive(Drop)]
+pub enum Kind {
     RefusedPools,
     RefusedPulls,
     Returns,
@@ -41,7 +24,7 @@ enum Kind {
 }
 
 /// Each kind, and how its line begins.
-const KINDS: [(&str, Kind); 6] = [
+pub const KINDS: [(&str, Kind); 6] = [
     ("linear pools that are refused", Kind::RefusedPools),
     ("refused pulls of a linear pool", Kind::RefusedPulls),
     ("items of a linear pool", Kind::Returns),
@@ -51,7 +34,7 @@ const KINDS: [(&str, Kind); 6] = [
 ];
 
 impl Turns for Kind {
-    fn take(&self, alloc: Global, turns: usize) -> Option<()> {
+    fn take<W: Wait + Copy>(&self, _rt: &W, alloc: Global, turns: usize) -> Option<()> {
         match self {
             Kind::RefusedPools => refused_pools(alloc, turns),
             Kind::RefusedPulls => refused_pulls(alloc, turns),

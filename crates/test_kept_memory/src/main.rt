@@ -28,13 +28,28 @@ use anyhow::{Context, Result};
 use observer::Observer;
 use std::env;
 use std::process::ExitCode;
-use std::rt::Env;
+use std::rt::{Env, Files};
+use std::sync::Wait;
 
 /// The argument.
 fn argument<R: Env + AllocGlobal>(rt: &R) -> Option<String> {
     let mut arguments = env::args(rt).ok()?;
     let _name = arguments.next();
     arguments.next()
+}
+
+/// Observes each kind, by so many turns. Whether nothing was kept.
+fn observe_all<R: Files + AllocGlobal + Print + Wait + Copy>(rt: R, turns: usize) -> Result<bool> {
+    let mut observer = Observer::new(rt, turns);
+    openings::observe(rt.alloc(), &mut observer)?;
+    pages::observe(rt.alloc(), &mut observer)?;
+    observer.observe_each(rt.alloc(), &linear_pool::KINDS)?;
+    observer.observe_each(rt.alloc(), &fixed_pool::KINDS)?;
+    observer.observe_each(rt.alloc(), &stack_pools::KINDS)?;
+    observer.observe_each(rt.alloc(), &others::KINDS)?;
+    observer.observe_each(rt.alloc(), &cores::KINDS)?;
+    observer.observe_each(rt.alloc(), &worlds::KINDS)?;
+    Ok(observer.saw_nothing_kept())
 }
 
 fn main(rt: HostRuntime) -> Result<ExitCode> {
@@ -46,17 +61,9 @@ fn main(rt: HostRuntime) -> Result<ExitCode> {
         .parse()
         .ok()
         .context("the argument is no number of turns")?;
-    let mut observer = Observer::new(rt, turns);
-    openings::observe(rt.alloc(), &mut observer)?;
-    pages::observe(rt.alloc(), &mut observer)?;
-    linear_pool::observe(rt.alloc(), &mut observer)?;
-    fixed_pool::observe(rt.alloc(), &mut observer)?;
-    stack_pools::observe(&rt, rt.alloc(), &mut observer)?;
-    others::observe(&rt, rt.alloc(), &mut observer)?;
-    cores::observe(rt.alloc(), &mut observer)?;
-    worlds::observe(rt.alloc(), &mut observer)?;
+    let nothing_is_kept = observe_all(rt, turns)?;
     let openings_are_good = refused_openings::observe(&rt, false)?;
-    Ok(status(openings_are_good && observer.saw_nothing_kept()))
+    Ok(status(openings_are_good && nothing_is_kept))
 }
 
 fn status(is_good: bool) -> ExitCode {

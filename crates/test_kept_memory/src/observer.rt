@@ -3,6 +3,7 @@ use anyhow::Result;
 use std::alloc::Global;
 use std::io;
 use std::rt::Files;
+use std::sync::Wait;
 use test_values::peak_memory::{peak_kilobytes, peak_virtual_kilobytes};
 
 /// How many are taken before, so that what is taken once is there.
@@ -14,7 +15,7 @@ const KILOBYTES_BESIDE: u64 = 1_024;
 /// A kind of turns.
 pub trait Turns {
     /// Takes so many turns. `None` where a call answered what it should not.
-    fn take(&self, alloc: Global, turns: usize) -> Option<()>;
+    fn take<W: Wait + Copy>(&self, rt: &W, alloc: Global, turns: usize) -> Option<()>;
 }
 
 /// One who looks at the process's memory, and tells what was seen.
@@ -25,7 +26,7 @@ pub struct Observer<R> {
     saw_nothing_kept: bool,
 }
 
-impl<R: Files + AllocGlobal + Print> Observer<R> {
+impl<R: Files + AllocGlobal + Print + Wait + Copy> Observer<R> {
     /// Creates an observer of so many turns of each kind.
     pub fn new(rt: R, turns: usize) -> Observer<R> {
         Observer {
@@ -41,15 +42,23 @@ impl<R: Files + AllocGlobal + Print> Observer<R> {
         self.saw_nothing_kept
     }
 
-    /// Takes turns, and prints whether the process has more memory then.
+    /// Takes turns of each kind, whose line begins with its name.
     ///
     /// # Errors
     ///
     /// If the process's figures can't be read, or a line can't be printed.
-    pub fn observe<T: Turns>(&mut self, alloc: Global, name: &str, turns: &T) -> Result<()> {
-        let first = turns.take(alloc, FIRST_TURNS);
+    pub fn observe_each<T: Turns>(&mut self, alloc: Global, kinds: &[(&str, T)]) -> Result<()> {
+        for (name, turns) in kinds {
+            self.observe(alloc, name, turns)?;
+        }
+        Ok(())
+    }
+
+    /// Takes turns, and prints whether the process has more memory then.
+    fn observe<T: Turns>(&mut self, alloc: Global, name: &str, turns: &T) -> Result<()> {
+        let first = turns.take(&self.rt, alloc, FIRST_TURNS);
         let before = peak_kilobytes(&self.rt)?;
-        let observed = turns.take(alloc, self.turns);
+        let observed = turns.take(&self.rt, alloc, self.turns);
         let kept = peak_kilobytes(&self.rt)?.saturating_sub(before);
         if first.is_none() || observed.is_none() {
             self.saw_nothing_kept = false;

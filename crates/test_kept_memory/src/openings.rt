@@ -11,6 +11,7 @@ use object_pool_cores::interleave::{Prepared, World};
 use object_pool_cores::sequential::{LinearCore, Player, StackCore};
 use std::alloc::Global;
 use std::rt::Files;
+use std::sync::Wait;
 
 /// How many of a kind open, and stay open together. The names of the lines tell it too.
 const OPENINGS: usize = 100;
@@ -36,24 +37,65 @@ type Stack = StackCore<u32, Zeros, Keep, AnyValue>;
 
 pub type Agents = World<u32, Keep>;
 
-/// Observes openings that are refused.
+/// What opens together, or grows.
+#[derive(Drop)]
+enum Kind {
+    LinearCores,
+    StackCores,
+    Players,
+    Worlds,
+    LinearPools,
+    FixedPools,
+    BufferPools,
+    LazyPool,
+    Buffers,
+}
+
+/// Each kind, and how its line begins.
+const KINDS: [(&str, Kind); 9] = [
+    ("opening 100 linear cores", Kind::LinearCores),
+    ("opening 100 stack cores", Kind::StackCores),
+    ("opening 100 players", Kind::Players),
+    ("opening 100 worlds", Kind::Worlds),
+    ("opening 100 linear pools", Kind::LinearPools),
+    ("opening 100 fixed pools", Kind::FixedPools),
+    ("opening 100 buffer pools", Kind::BufferPools),
+    ("opening a lazy pool of 10,000 buffers", Kind::LazyPool),
+    ("a byte in each of 100 buffers", Kind::Buffers),
+];
+
+/// Observes each kind, and prints whether it takes much.
 ///
 /// # Errors
 ///
 /// If the process's figures can't be read, or a line can't be printed.
-pub fn observe<R: Files + AllocGlobal + Print>(
+pub fn observe<R: Files + AllocGlobal + Print + Wait + Copy>(
     alloc: Global,
     observer: &mut Observer<R>,
 ) -> Result<()> {
-    observe_openings::<Core, R>(alloc, observer, "opening 100 linear cores")?;
-    observe_openings::<Stack, R>(alloc, observer, "opening 100 stack cores")?;
-    observe_openings::<Player<u32, Stack>, R>(alloc, observer, "opening 100 players")?;
-    observe_openings::<Agents, R>(alloc, observer, "opening 100 worlds")?;
-    observe_openings::<Pool, R>(alloc, observer, "opening 100 linear pools")?;
-    observe_openings::<Fixed, R>(alloc, observer, "opening 100 fixed pools")?;
-    observe_openings::<Buffers, R>(alloc, observer, "opening 100 buffer pools")?;
-    observe_lazy_opening(alloc, observer)?;
-    observe_growing(alloc, observer)
+    for (name, kind) in KINDS {
+        let before = observer.before()?;
+        let is_done = kind.is_done(alloc);
+        observer.observe_growth(name, KILOBYTES, before, is_done)?;
+    }
+    Ok(())
+}
+
+impl Kind {
+    /// Does it, and lets all go. Whether each call answered as it should.
+    fn is_done(&self, alloc: Global) -> bool {
+        match self {
+            Kind::LinearCores => all_open::<Core>(alloc).is_some(),
+            Kind::StackCores => all_open::<Stack>(alloc).is_some(),
+            Kind::Players => all_open::<Player<u32, Stack>>(alloc).is_some(),
+            Kind::Worlds => all_open::<Agents>(alloc).is_some(),
+            Kind::LinearPools => all_open::<Pool>(alloc).is_some(),
+            Kind::FixedPools => all_open::<Fixed>(alloc).is_some(),
+            Kind::BufferPools => all_open::<Buffers>(alloc).is_some(),
+            Kind::LazyPool => lazy_pool(alloc).is_some(),
+            Kind::Buffers => all_grow(alloc).is_some(),
+        }
+    }
 }
 
 /// What opens.
@@ -103,30 +145,9 @@ impl Opens for Buffers {
     }
 }
 
-/// Opens many of a kind, and prints whether they take much.
-fn observe_openings<X: Opens, R: Files + AllocGlobal + Print>(
-    alloc: Global,
-    observer: &mut Observer<R>,
-    name: &str,
-) -> Result<()> {
-    let before = observer.before()?;
-    let opened = all_open::<X>(alloc);
-    observer.observe_growth(name, KILOBYTES, before, opened.is_some())
-}
-
-/// Opens a lazy pool, which makes none of its 40 megabytes.
-fn observe_lazy_opening<R: Files + AllocGlobal + Print>(
-    alloc: Global,
-    observer: &mut Observer<R>,
-) -> Result<()> {
-    let before = observer.before()?;
-    let pool = Lazy::new(alloc, WithCapacity::new(alloc, 4_096), Clear, 10_000);
-    observer.observe_growth(
-        "opening a lazy pool of 10,000 buffers",
-        KILOBYTES,
-        before,
-        pool.is_ok(),
-    )
+/// A lazy pool, which makes none of its 40 megabytes.
+fn lazy_pool(alloc: Global) -> Option<Lazy> {
+    Lazy::new(alloc, WithCapacity::new(alloc, 4_096), Clear, 10_000).ok()
 }
 
 /// Many of a kind, all open at once.
@@ -162,22 +183,7 @@ pub fn new_pool(alloc: Global) -> Option<Pool> {
     LinearObjectPool::new(alloc, Copied::new(0), Keep).ok()
 }
 
-/// Appends a byte to each of many buffers, which takes a few bytes each.
-fn observe_growing<R: Files + AllocGlobal + Print>(
-    alloc: Global,
-    observer: &mut Observer<R>,
-) -> Result<()> {
-    let before = observer.before()?;
-    let grown = all_grow(alloc);
-    observer.observe_growth(
-        "a byte in each of 100 buffers",
-        KILOBYTES,
-        before,
-        grown.is_some(),
-    )
-}
-
-/// Holds as many buffers together, with a byte each.
+/// Holds many buffers together, with a byte each, which takes a few bytes.
 fn all_grow(alloc: Global) -> Option<()> {
     let pool: Buffers = BufferPool::new(alloc, WithCapacity::new(alloc, 0), Clear, 4).ok()?;
     let mut held = Vec::with_capacity(alloc, OPENINGS).ok()?;

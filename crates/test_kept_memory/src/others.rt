@@ -1,54 +1,29 @@
 //! Turns on the pool that keeps nothing, and on spin locks.
-use crate::observer::{Observer, Turns};
+use crate::observer::Turns;
 use crate::supply::Supply;
-use anyhow::Result;
 use lockfree_object_pool::spin_lock::SpinLock;
 use lockfree_object_pool::{NoneObjectPool, PullError};
 use std::alloc::Global;
-use std::rt::Files;
 use std::sync::{Arc, Wait};
 
-/// Observes the other kinds.
-///
-/// # Errors
-///
-/// If the process's figures can't be read, or a line can't be printed.
-pub fn observe<R: Files + AllocGlobal + Print, W: Wait + Copy>(
-    rt: &W,
-    alloc: Global,
-    observer: &mut Observer<R>,
-) -> Result<()> {
-    for (name, kind) in KINDS {
-        observer.observe(alloc, name, &On { rt: *rt, kind })?;
-    }
-    Ok(())
-}
-
 /// What is done in a turn.
-#[derive(Clone, Copy)]
-enum Kind {
+#[derive(Drop)]
+pub enum Kind {
     NonePoolPulls,
     Locks,
 }
 
 /// Each kind, and how its line begins.
-const KINDS: [(&str, Kind); 2] = [
+pub const KINDS: [(&str, Kind); 2] = [
     ("items of the none pool", Kind::NonePoolPulls),
     ("spin locks", Kind::Locks),
 ];
 
-/// Turns of a kind, with what they wait by.
-#[derive(Clone, Copy)]
-struct On<W> {
-    rt: W,
-    kind: Kind,
-}
-
-impl<W: Wait + Copy> Turns for On<W> {
-    fn take(&self, alloc: Global, turns: usize) -> Option<()> {
-        match self.kind {
+impl Turns for Kind {
+    fn take<W: Wait + Copy>(&self, rt: &W, alloc: Global, turns: usize) -> Option<()> {
+        match self {
             Kind::NonePoolPulls => none_pool_pulls(alloc, turns),
-            Kind::Locks => locks(&self.rt, alloc, turns),
+            Kind::Locks => locks(rt, alloc, turns),
         }
     }
 }

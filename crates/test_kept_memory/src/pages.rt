@@ -9,6 +9,7 @@ use object_pool_cores::sequential::SequentialPool;
 use std::alloc::Global;
 use std::mem;
 use std::rt::Files;
+use std::sync::Wait;
 
 /// How many pages there are in the end. The names of the lines tell it too.
 const PAGES: usize = 1_000;
@@ -25,7 +26,7 @@ const KILOBYTES: u64 = 1_000;
 /// # Errors
 ///
 /// If the process's figures can't be read, or a line can't be printed.
-pub fn observe<R: Files + AllocGlobal + Print>(
+pub fn observe<R: Files + AllocGlobal + Print + Wait + Copy>(
     alloc: Global,
     observer: &mut Observer<R>,
 ) -> Result<()> {
@@ -51,7 +52,7 @@ pub fn observe<R: Files + AllocGlobal + Print>(
 }
 
 /// A world whose agents have begun before its pages are made.
-fn observe_world<R: Files + AllocGlobal + Print>(
+fn observe_world<R: Files + AllocGlobal + Print + Wait + Copy>(
     alloc: Global,
     observer: &mut Observer<R>,
 ) -> Result<()> {

@@ -1,7 +1,6 @@
 //! Turns on the mutex pool and the spin lock pool, which are one pool over two kinds of list.
-use crate::observer::{Observer, Turns};
+use crate::observer::Turns;
 use crate::supply::{Buffer, Supply};
-use anyhow::Result;
 use lockfree_object_pool::clean::AnyValue;
 use lockfree_object_pool::closures::Keep;
 use lockfree_object_pool::free_list::FreeList;
@@ -9,10 +8,9 @@ use lockfree_object_pool::made_or_reset::MadeOrReset;
 use lockfree_object_pool::spin_lock::SpinLock;
 use lockfree_object_pool::stack::Stack;
 use lockfree_object_pool::stack_object_pool::StackObjectPool;
-use lockfree_object_pool::stack_reusable::StackReusable;
+use lockfree_object_pool::stack_reusable::{SharedStackPool, StackReusable};
 use lockfree_object_pool::{MutexObjectPool, PullError, SpinLockObjectPool};
 use std::alloc::Global;
-use std::rt::Files;
 use std::sync::{Arc, Mutex, Wait};
 
 /// What these pools keep.
@@ -45,25 +43,9 @@ impl List for SpinLocked {
     }
 }
 
-/// Observes the stack pools.
-///
-/// # Errors
-///
-/// If the process's figures can't be read, or a line can't be printed.
-pub fn observe<R: Files + AllocGlobal + Print, W: Wait + Copy>(
-    rt: &W,
-    alloc: Global,
-    observer: &mut Observer<R>,
-) -> Result<()> {
-    for (name, kind) in KINDS {
-        observer.observe(alloc, name, &On { rt: *rt, kind })?;
-    }
-    Ok(())
-}
-
 /// What is done in a turn.
-#[derive(Clone, Copy)]
-enum Kind {
+#[derive(Drop)]
+pub enum Kind {
     MutexRefuses,
     MutexReturns,
     MutexEnds,
@@ -73,7 +55,7 @@ enum Kind {
 }
 
 /// Each kind, and how its line begins.
-const KINDS: [(&str, Kind); 6] = [
+pub const KINDS: [(&str, Kind); 6] = [
     ("refused pulls of a mutex pool", Kind::MutexRefuses),
     ("items of a mutex pool", Kind::MutexReturns),
     ("mutex pools", Kind::MutexEnds),
@@ -82,22 +64,15 @@ const KINDS: [(&str, Kind); 6] = [
     ("spin lock pools", Kind::SpinLockEnds),
 ];
 
-/// Turns of a kind, with what they wait by.
-#[derive(Clone, Copy)]
-struct On<W> {
-    rt: W,
-    kind: Kind,
-}
-
-impl<W: Wait + Copy> Turns for On<W> {
-    fn take(&self, alloc: Global, turns: usize) -> Option<()> {
-        match self.kind {
-            Kind::MutexRefuses => refused_pulls::<Mutexed, W>(&self.rt, alloc, turns),
-            Kind::MutexReturns => returns::<Mutexed, W>(&self.rt, alloc, turns),
-            Kind::MutexEnds => ends::<Mutexed, W>(&self.rt, alloc, turns),
-            Kind::SpinLockRefuses => refused_pulls::<SpinLocked, W>(&self.rt, alloc, turns),
-            Kind::SpinLockReturns => returns::<SpinLocked, W>(&self.rt, alloc, turns),
-            Kind::SpinLockEnds => ends::<SpinLocked, W>(&self.rt, alloc, turns),
+impl Turns for Kind {
+    fn take<W: Wait + Copy>(&self, rt: &W, alloc: Global, turns: usize) -> Option<()> {
+        match self {
+            Kind::MutexRefuses => refused_pulls::<Mutexed, W>(rt, alloc, turns),
+            Kind::MutexReturns => returns::<Mutexed, W>(rt, alloc, turns),
+            Kind::MutexEnds => ends::<Mutexed, W>(rt, alloc, turns),
+            Kind::SpinLockRefuses => refused_pulls::<SpinLocked, W>(rt, alloc, turns),
+            Kind::SpinLockReturns => returns::<SpinLocked, W>(rt, alloc, turns),
+            Kind::SpinLockEnds => ends::<SpinLocked, W>(rt, alloc, turns),
         }
     }
 }
@@ -134,11 +109,24 @@ fn ends<F: List, W: Wait + Copy>(rt: &W, alloc: Global, turns: usize) -> Option<
     let supply = Supply::endless(alloc)?;
     for _ in 0..turns {
         let pool = F::new_pool(alloc, &supply)?;
-        let attached = StackReusable::new(rt, &*pool, supply.buffer()?).ok()?;
-        drop(attached);
-        let owner = Arc::try_clone(&pool).ok()?;
-        let _attached = StackReusable::new(rt, owner, supply.buffer()?).ok()?;
-        let _pulled = pool.pull_owned(rt).ok()?;
+        drop(attached(rt, &*pool, &supply)?);
+        hold_two(rt, &pool, &supply)?;
     }
+    Some(())
+}
+
+/// An item to which a buffer is attached.
+fn attached<P: SharedStackPool<Buffer>, W: Wait + Copy>(
+    rt: &W,
+    pool: P,
+    supply: &Supply,
+) -> Option<StackReusable<Buffer, P, W>> {
+    StackReusable::new(rt, pool, supply.buffer()?).ok()
+}
+
+/// An attached item and one that is pulled are held together, and own their pool.
+fn hold_two<F: List, W: Wait + Copy>(rt: &W, pool: &Arc<Pool<F>>, supply: &Supply) -> Option<()> {
+    let _attached = attached(rt, Arc::try_clone(pool).ok()?, supply)?;
+    let _pulled = pool.pull_owned(rt).ok()?;
     Some(())
 }

@@ -1,30 +1,21 @@
 //! Turns on worlds of agents.
-use crate::observer::{Observer, Turns};
+use crate::observer::Turns;
 use crate::supply::{Buffer, Supply};
-use anyhow::Result;
 use lockfree_object_pool::closures::Keep;
 use lockfree_object_pool::page::PAGE_ITEMS;
 use object_pool_cores::interleave::{Event, Prepared, Seen, World};
 use std::alloc::Global;
-use std::rt::Files;
-
-/// Observes the worlds.
-///
-/// # Errors
-///
-/// If the process's figures can't be read, or a line can't be printed.
-pub fn observe<R: Files + AllocGlobal + Print>(
-    alloc: Global,
-    observer: &mut Observer<R>,
-) -> Result<()> {
-    observer.observe(alloc, "worlds", &WorldEnds)
-}
+use std::sync::Wait;
 
 /// Worlds that end.
-struct WorldEnds;
+#[derive(Drop)]
+pub struct WorldEnds;
+
+/// The only kind, and how its line begins.
+pub const KINDS: [(&str, WorldEnds); 1] = [("worlds", WorldEnds)];
 
 impl Turns for WorldEnds {
-    fn take(&self, alloc: Global, turns: usize) -> Option<()> {
+    fn take<W: Wait + Copy>(&self, _rt: &W, alloc: Global, turns: usize) -> Option<()> {
         ends(alloc, turns)
     }
 }
