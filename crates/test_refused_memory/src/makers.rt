@@ -4,13 +4,13 @@ ghost use Rattle.std.specs.Prelude.{◌≡◌, []};
 
 use crate::assert_equal::assert_equal;
 use crate::refusals::{Refusals, again};
-use lockfree_object_pool::clean::Empty;
-use lockfree_object_pool::closures::{Clear, WithCapacity};
+use lockfree_object_pool::clean::{Clean, Empty};
+use lockfree_object_pool::closures::{Clear, Init, Reset, WithCapacity};
 use lockfree_object_pool::recycling::{LazyPool, MutexPool, Recyclable};
 use lockfree_object_pool::{MutexObjectPool, PullError};
 use std::alloc::Global;
 use std::process::Abort;
-use std::sync::Arc;
+use std::sync::{Arc, Wait};
 
 /// A sheet that has its room from the start.
 #[derive(Drop)]
@@ -53,15 +53,40 @@ macro_rules! pulled {
     }};
 }
 
-/// A refusal that a maker hides is missed between those of the rooms: a second item is pulled while
-/// the first is held.
+/// A value with letters.
+trait Lettered: Drop {
+    fn count(&self) -> usize;
+}
+
+impl Lettered for Sheet {
+    fn count(&self) -> usize {
+        self.letters.len()
+    }
+}
+
+impl Lettered for Vec<u8> {
+    fn count(&self) -> usize {
+        self.len()
+    }
+}
+
+/// A second item is pulled while the first is held. How many letters they have.
+fn two_are_pulled<T: Lettered, I: Init<T, K>, R: Reset<T, K>, K: Clean<T>, W: Abort + Wait + Copy>(
+    rt: &W,
+    refusals: &Refusals,
+    pool: &MutexObjectPool<T, I, R, K>,
+) -> (usize, usize) {
+    let first = pulled!(rt, refusals, pool.pull(rt));
+    let second = pulled!(rt, refusals, pool.pull(rt));
+    (first.count(), second.count())
+}
+
+/// A refusal that a maker hides is missed between those of the rooms.
 #[test]
 fn a_recyclable_value_that_memory_was_refused_for_is_told(rt: HostRuntime) {
     let refusals = Refusals::new();
     let pool = MutexPool::<Sheet>::with_recycler(rt.alloc());
-    let first = pulled!(&rt, &refusals, pool.pull(&rt));
-    let second = pulled!(&rt, &refusals, pool.pull(&rt));
-    assert_equal(&rt, (first.letters.len(), second.letters.len()), (0, 0));
+    assert_equal(&rt, two_are_pulled(&rt, &refusals, &pool), (0, 0));
     refusals.tell(&rt);
 }
 
@@ -69,14 +94,13 @@ fn a_recyclable_value_that_memory_was_refused_for_is_told(rt: HostRuntime) {
 #[test]
 fn a_vector_that_memory_was_refused_for_is_told(rt: HostRuntime) {
     let refusals = Refusals::new();
+    let alloc = rt.alloc();
     let pool: MutexObjectPool<Vec<u8>, _, _, Empty> = MutexObjectPool::new(
-        rt.alloc(),
-        WithCapacity::new(rt.alloc(), 16),
+        alloc,
+        WithCapacity::new(alloc, 16),
         Clear,
     );
-    let first = pulled!(&rt, &refusals, pool.pull(&rt));
-    let second = pulled!(&rt, &refusals, pool.pull(&rt));
-    assert_equal(&rt, (first.len(), second.len()), (0, 0));
+    assert_equal(&rt, two_are_pulled(&rt, &refusals, &pool), (0, 0));
     refusals.tell(&rt);
 }
 

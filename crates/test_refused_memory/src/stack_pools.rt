@@ -11,6 +11,7 @@ use lockfree_object_pool::stack_object_pool::StackObjectPool;
 use lockfree_object_pool::stack_reusable::{SharedStackPool, StackReusable};
 use lockfree_object_pool::{MutexObjectPool, PullError, SpinLockObjectPool};
 use std::alloc::Global;
+use std::ops::Deref;
 use std::process::Abort;
 use std::sync::{Arc, Mutex, Wait};
 use test_values::tallied::{Tallied, TalliedValues};
@@ -60,24 +61,57 @@ fn kept<F: Kind<u32, Numbers>>(alloc: Global) -> Result<Arc<Pool<u32, Numbers, F
     Ok(Arc::new(alloc, F::new_pool(alloc, Copied::new(0))?)?)
 }
 
-/// A pull and its drop, and a pull of what is kept. The end of the pool drops it.
-fn pulls<F: Kind<Tallied, TalliedValues>, W: Abort + Wait + Copy>(
-    rt: &W,
-    alloc: Global,
-    refusals: &Refusals,
-    tally: &Arc<Tally>,
-) {
-    let pool = again!(rt, refusals, tracked::<F>(alloc, tally));
-    let mut item = pool.pull(rt);
+/// A reference to a pool pulls borrowed items, an owner owned ones.
+trait Pulls<W> {
+    type Item: Deref<Target = Tallied> + Drop;
+
+    fn pull_one(&self, rt: &W) -> Result<Self::Item, PullError>;
+}
+
+impl<F: Kind<Tallied, TalliedValues>, W: Wait + Copy> Pulls<W> for &Tracked<F> {
+    type Item = StackReusable<Tallied, Self, W>;
+
+    fn pull_one(&self, rt: &W) -> Result<Self::Item, PullError> {
+        self.pull(rt)
+    }
+}
+
+impl<F: Kind<Tallied, TalliedValues>, W: Wait + Copy> Pulls<W> for Arc<Tracked<F>> {
+    type Item = StackReusable<Tallied, Self, W>;
+
+    fn pull_one(&self, rt: &W) -> Result<Self::Item, PullError> {
+        self.pull_owned(rt)
+    }
+}
+
+/// A pull and its drop, and a pull of what is kept.
+fn pulls_again<P: Pulls<W>, W: Abort>(rt: &W, refusals: &Refusals, tally: &Tally, pool: &P) {
+    let mut item = pool.pull_one(rt);
     if refusals.are_told_by(&item) {
         assert_equal(rt, tally.made(), 0);
-        item = pool.pull(rt);
+        item = pool.pull_one(rt);
     }
     let item = item.expect(rt, "one request alone is refused");
     assert_equal(rt, (item.number, tally.made()), (0, 1));
     drop(item);
-    let again = pool.pull(rt).expect(rt, "an item is kept").number;
+    let again = pool.pull_one(rt).expect(rt, "an item is kept").number;
     assert_equal(rt, (again, tally.made(), tally.living()), (0, 1, 1));
+}
+
+/// A pool is pulled from, by a reference or by an owner. Its end drops what it keeps.
+fn pulls_and_ends<F: Kind<Tallied, TalliedValues>, W: Abort + Wait + Copy>(
+    rt: &W,
+    alloc: Global,
+    refusals: &Refusals,
+    tally: &Arc<Tally>,
+    is_owned: bool,
+) {
+    let pool = again!(rt, refusals, tracked::<F>(alloc, tally));
+    if is_owned {
+        pulls_again(rt, refusals, tally, &pool);
+    } else {
+        pulls_again(rt, refusals, tally, &&*pool);
+    }
     drop(pool);
     assert_equal(rt, tally.living(), 0);
 }
@@ -86,9 +120,9 @@ fn pulls<F: Kind<Tallied, TalliedValues>, W: Abort + Wait + Copy>(
 fn a_pull_that_was_refused_is_asked_again(rt: HostRuntime) {
     let refusals = Refusals::new();
     let tally = refusals.tally(&rt);
-    pulls::<UnderMutex<_, _>, _>(&rt, rt.alloc(), &refusals, &tally);
+    pulls_and_ends::<UnderMutex<_, _>, _>(&rt, rt.alloc(), &refusals, &tally, false);
     let tally = refusals.tally(&rt);
-    pulls::<UnderSpinLock<_, _>, _>(&rt, rt.alloc(), &refusals, &tally);
+    pulls_and_ends::<UnderSpinLock<_, _>, _>(&rt, rt.alloc(), &refusals, &tally, false);
     refusals.tell(&rt);
 }
 
@@ -120,35 +154,13 @@ fn a_filling_that_was_refused_goes_on(rt: HostRuntime) {
     refusals.tell(&rt);
 }
 
-/// An owned pull and its drop, and an owned pull of what is kept. The end of the pool drops it.
-fn owned_pulls<F: Kind<Tallied, TalliedValues>, W: Abort + Wait + Copy>(
-    rt: &W,
-    alloc: Global,
-    refusals: &Refusals,
-    tally: &Arc<Tally>,
-) {
-    let pool = again!(rt, refusals, tracked::<F>(alloc, tally));
-    let mut item = pool.pull_owned(rt);
-    if refusals.are_told_by(&item) {
-        assert_equal(rt, tally.made(), 0);
-        item = pool.pull_owned(rt);
-    }
-    let item = item.expect(rt, "one request alone is refused");
-    assert_equal(rt, (item.number, tally.made()), (0, 1));
-    drop(item);
-    let again = pool.pull_owned(rt).expect(rt, "an item is kept").number;
-    assert_equal(rt, (again, tally.made(), tally.living()), (0, 1, 1));
-    drop(pool);
-    assert_equal(rt, tally.living(), 0);
-}
-
 #[test]
 fn an_owned_pull_that_was_refused_is_asked_again(rt: HostRuntime) {
     let refusals = Refusals::new();
     let tally = refusals.tally(&rt);
-    owned_pulls::<UnderMutex<_, _>, _>(&rt, rt.alloc(), &refusals, &tally);
+    pulls_and_ends::<UnderMutex<_, _>, _>(&rt, rt.alloc(), &refusals, &tally, true);
     let tally = refusals.tally(&rt);
-    owned_pulls::<UnderSpinLock<_, _>, _>(&rt, rt.alloc(), &refusals, &tally);
+    pulls_and_ends::<UnderSpinLock<_, _>, _>(&rt, rt.alloc(), &refusals, &tally, true);
     refusals.tell(&rt);
 }
 
