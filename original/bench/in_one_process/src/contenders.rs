@@ -7,7 +7,7 @@ use kundratu_pool::{Pool, Reusable};
 use lockfree_object_pool::{LinearObjectPool, LinearReusable};
 use sharded_slab::{Clear, Pool as Slab};
 use std::sync::atomic::AtomicU64;
-use std::sync::Mutex;
+use std::sync::{Mutex, MutexGuard};
 
 /// A pool that threads share.
 pub trait Contender: Sync {
@@ -29,19 +29,29 @@ pub trait Contender: Sync {
     fn turn(&self, user: &mut Self::User);
     fn hold(&self) -> Self::Held<'_>;
     /// Pulls an item and adds one to it, for another thread.
-    fn lend(&self) -> Self::Sent<'_>;
+    fn lend(&self, user: &mut Self::User) -> Self::Sent<'_>;
     /// Sets an item of another thread to 0 and returns it.
-    fn take_back(&self, sent: Self::Sent<'_>);
+    fn take_back(&self, user: &mut Self::User, sent: Self::Sent<'_>);
 }
 
 /// A handle of the C library, as a C program has it.
 type OwnHandle = Option<Handle>;
 
-/// The C calls, with a handle a thread. Items that go to another thread go with handles of a list.
+/// How many handles go to the list together, or come from it.
+const TOGETHER: usize = 32;
+
+/// The C calls, with a handle a thread. Items that go to another thread go with further ones, of
+/// which a thread has some idle and the others lie in a list.
 pub struct Handles {
     first: Mutex<OwnHandle>,
     idle: Mutex<Vec<OwnHandle>>,
     cells: Box<[AtomicU64]>,
+}
+
+/// A thread's handle, and idle ones for what it sends.
+pub struct OwnHandles {
+    own: OwnHandle,
+    idle: Vec<OwnHandle>,
 }
 
 impl Handles {
@@ -54,46 +64,64 @@ impl Handles {
             cells,
         }
     }
-}
 
-impl Contender for Handles {
-    type User = OwnHandle;
-    type Held<'p> = OwnHandle;
-    type Sent<'p> = (OwnHandle, usize);
-
-    fn user(&self) -> OwnHandle {
+    fn open(&self) -> OwnHandle {
         let mut first = self.first.lock().expect("no panic");
         let mut own = None;
         assert_eq!(kdr_pool_share(&mut first, &mut own), 0);
         own
     }
 
-    fn turn(&self, user: &mut OwnHandle) {
+    fn idle(&self) -> MutexGuard<'_, Vec<OwnHandle>> {
+        self.idle.lock().expect("no panic")
+    }
+}
+
+impl Contender for Handles {
+    type User = OwnHandles;
+    type Held<'p> = OwnHandle;
+    type Sent<'p> = (OwnHandle, usize);
+
+    fn user(&self) -> OwnHandles {
+        OwnHandles {
+            own: self.open(),
+            idle: Vec::with_capacity(2 * TOGETHER),
+        }
+    }
+
+    fn turn(&self, user: &mut OwnHandles) {
         let mut place = 0;
-        assert_eq!(kdr_pool_pull(user, &mut place), 0);
+        assert_eq!(kdr_pool_pull(&mut user.own, &mut place), 0);
         use_item(&self.cells, place);
-        kdr_pool_return(user);
+        kdr_pool_return(&mut user.own);
     }
 
     fn hold(&self) -> OwnHandle {
-        let mut own = self.user();
+        let mut own = self.open();
         assert_eq!(kdr_pool_pull(&mut own, &mut 0), 0);
         own
     }
 
-    fn lend(&self) -> (OwnHandle, usize) {
-        let idle = self.idle.lock().expect("no panic").pop();
-        let mut handle = idle.unwrap_or_else(|| self.user());
+    fn lend(&self, user: &mut OwnHandles) -> (OwnHandle, usize) {
+        if user.idle.is_empty() {
+            let mut idle = self.idle();
+            let left = idle.len().saturating_sub(TOGETHER);
+            user.idle.extend(idle.drain(left..));
+        }
+        let mut handle = user.idle.pop().unwrap_or_else(|| self.open());
         let mut place = 0;
         assert_eq!(kdr_pool_pull(&mut handle, &mut place), 0);
         write_item(&self.cells, place);
         (handle, place)
     }
 
-    fn take_back(&self, (mut handle, place): (OwnHandle, usize)) {
+    fn take_back(&self, user: &mut OwnHandles, (mut handle, place): (OwnHandle, usize)) {
         reset_item(&self.cells, place);
         kdr_pool_return(&mut handle);
-        self.idle.lock().expect("no panic").push(handle);
+        user.idle.push(handle);
+        if user.idle.len() == 2 * TOGETHER {
+            self.idle().extend(user.idle.drain(TOGETHER..));
+        }
     }
 }
 
@@ -116,13 +144,13 @@ macro_rules! guarding {
                 $pull(&self.0)
             }
 
-            fn lend(&self) -> $guard<'_, u64> {
+            fn lend(&self, _: &mut ()) -> $guard<'_, u64> {
                 let mut guard = $pull(&self.0);
                 *guard += 1;
                 guard
             }
 
-            fn take_back(&self, guard: $guard<'_, u64>) {
+            fn take_back(&self, _: &mut (), guard: $guard<'_, u64>) {
                 drop(guard);
             }
         }
@@ -257,13 +285,13 @@ impl<F: FreeIndices> Contender for Indices<F> {
         HeldIndex(&self.free, self.free.take())
     }
 
-    fn lend(&self) -> HeldIndex<'_, F> {
+    fn lend(&self, _: &mut ()) -> HeldIndex<'_, F> {
         let held = self.hold();
         write_item(&self.cells, held.1);
         held
     }
 
-    fn take_back(&self, held: HeldIndex<'_, F>) {
+    fn take_back(&self, _: &mut (), held: HeldIndex<'_, F>) {
         reset_item(&self.cells, held.1);
     }
 }
@@ -303,8 +331,8 @@ impl Contender for Sharded {
 
     fn user(&self) {}
 
-    fn turn(&self, _: &mut ()) {
-        drop(self.lend());
+    fn turn(&self, user: &mut ()) {
+        drop(self.lend(user));
     }
 
     fn hold(&self) -> HeldKey<'_> {
@@ -312,13 +340,13 @@ impl Contender for Sharded {
         HeldKey(&self.0, item.key())
     }
 
-    fn lend(&self) -> HeldKey<'_> {
+    fn lend(&self, _: &mut ()) -> HeldKey<'_> {
         let mut item = self.0.create().expect("there is room");
         item.0 += 1;
         HeldKey(&self.0, item.key())
     }
 
-    fn take_back(&self, held: HeldKey<'_>) {
+    fn take_back(&self, _: &mut (), held: HeldKey<'_>) {
         drop(held);
     }
 }

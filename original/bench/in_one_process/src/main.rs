@@ -109,13 +109,19 @@ fn one_crossing<C: Contender>(pool: &C, crossing: Crossing, turns: u64) -> f64 {
     let begun = Instant::now();
     thread::scope(|scope| {
         for receiver in receivers {
-            scope.spawn(move || receiver.iter().for_each(|sent| pool.take_back(sent)));
+            scope.spawn(move || {
+                let mut user = pool.user();
+                for sent in receiver {
+                    pool.take_back(&mut user, sent);
+                }
+            });
         }
         for _ in 0..crossing.senders {
             let channels = channels.clone();
             scope.spawn(move || {
+                let mut user = pool.user();
                 for channel in channels.iter().cycle().take(turns as usize) {
-                    channel.send(pool.lend()).expect("somebody reads");
+                    channel.send(pool.lend(&mut user)).expect("somebody reads");
                 }
             });
         }
