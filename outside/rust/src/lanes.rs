@@ -94,6 +94,7 @@ impl Lanes {
     }
 
     #[inline(always)]
+    #[allow(clippy::mut_from_ref)] // the lane is this thread's alone
     fn known(&self) -> Option<&mut Lane> {
         let lane = self.0 .0.get(KNOWN.get());
         // SAFETY: no other thread has this number, and no call of this one is within another.
