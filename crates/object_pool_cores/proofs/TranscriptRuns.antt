@@ -11,7 +11,7 @@ use Rattle.object_pool_cores.specs.Held.{Playing}
 use Rattle.object_pool_cores.specs.Lines.{ended, HasNoLineFeed, with_last_line}
 use Rattle.object_pool_cores.specs.Transcript.{AnswersLine, Transcript}
 use Rattle.object_pool_cores.specs.Served.{AppendsPart, ServesLines, ServesFrontLines, ServesAllLines}
-use Rattle.object_pool_cores.specs.Served.{AnswersLastLine}
+use Rattle.object_pool_cores.specs.Inside.LastLine.{AnswersLastLine}
 use Rattle.object_pool_cores.proofs.LineSplits.{IsLines-rest, IsLines-byte, IsLines-feed, IsLines-join, IsLines-front}
 
 -- a part of what comes behind a text

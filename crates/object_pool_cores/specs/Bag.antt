@@ -2,7 +2,7 @@
 use Rattle.std.specs.Prelude.{◌≡◌, Option, Some, List, [], ◌∷◌, ◌++◌, All, Result, Ok, Err, ◌⊎◌}
 use Rattle.pool_parts.specs.declared.pull_error.PullError.{PullError}
 use Rattle.object_pool_cores.specs.declared.sequential.item.Item.{Item}
-use Rattle.object_pool_cores.specs.Inside.SequentialItem.{item_value}
+use Rattle.object_pool_cores.specs.Item.{item_value}
 
 module _ {T : Type 0} where
   -- the value of the item that a pull gave, or why it was refused

@@ -3,7 +3,7 @@ use Rattle.std.specs.Prelude.{◌≡◌, Option, Some, None, Result, Ok, Err}
 use Rattle.pool_parts.specs.declared.pull_error.PullError.{PullError}
 use Rattle.pool_parts.specs.declared.pull_error.PullError.TheVariants.{Init}
 use Rattle.object_pool_cores.specs.declared.sequential.item.Item.{Item}
-use Rattle.object_pool_cores.specs.Inside.SequentialItem.{item_value, item_number}
+use Rattle.object_pool_cores.specs.Item.{item_value, item_number}
 
 -- a pull gives an answer of init, without a number, or is refused where init may answer None
 abbrev pub PullsFresh : {T : Type 0} → (Option T → Type 0) → Result (Item T) PullError → Type 0

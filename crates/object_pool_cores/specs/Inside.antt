@@ -3,6 +3,6 @@
 pub mod Buffered
 pub mod EngineCore
 pub mod HeldTable
+pub mod LastLine
 pub mod Numbered
 pub mod PageWord
-pub mod SequentialItem

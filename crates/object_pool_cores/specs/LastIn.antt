@@ -6,7 +6,7 @@ use Rattle.pool_parts.specs.Refusal.{RefusesMaking}
 use Rattle.object_pool_cores.specs.declared.sequential.item.Item.{Item}
 use Rattle.object_pool_cores.specs.declared.sequential.attach_error.AttachError.{AttachError}
 use Rattle.object_pool_cores.specs.declared.sequential.attach_error.AttachError.TheVariants.{Memory}
-use Rattle.object_pool_cores.specs.Inside.SequentialItem.{item_value, item_number}
+use Rattle.object_pool_cores.specs.Item.{item_value, item_number}
 
 module _ {T : Type 0} where
   -- a pull gives an item without a number: the first value, or where nothing is kept an answer of

@@ -4,7 +4,7 @@ use Rattle.std.specs.Prelude.{◌≡◌, ℕ, ◌+◌, ◌≤◌, Option, Some, 
 use Rattle.pool_parts.specs.declared.pull_error.PullError.{PullError}
 use Rattle.pool_parts.specs.declared.pull_error.PullError.TheVariants.{Memory, Init, Limit}
 use Rattle.object_pool_cores.specs.declared.sequential.item.Item.{Item}
-use Rattle.object_pool_cores.specs.Inside.SequentialItem.{item_value, item_number}
+use Rattle.object_pool_cores.specs.Item.{item_value, item_number}
 use Rattle.pool_world.specs.Pool.{Pool, Free, Out, IsSame, AllowsPages, with_place, IsGrowth, after_growth}
 
 module _ {T : Type 0} where

@@ -6,6 +6,7 @@ pub mod Engine
 pub mod Fresh
 pub mod Held
 pub mod Inside
+pub mod Item
 pub mod LastIn
 pub mod Laws
 pub mod LeastChoice

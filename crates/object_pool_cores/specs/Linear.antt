@@ -4,7 +4,7 @@ use Rattle.std.specs.Prelude.{◌≡◌, ℕ, ◌+◌, ◌-◌, ◌/◌, ◌≤�
 use Rattle.pool_parts.specs.declared.pull_error.PullError.{PullError}
 use Rattle.object_pool_cores.specs.declared.sequential.item.Item.{Item}
 use Rattle.object_pool_cores.specs.declared.sequential.linear_core.LinearCore.{LinearCore}
-use Rattle.object_pool_cores.specs.Inside.SequentialItem.{item_number}
+use Rattle.object_pool_cores.specs.Item.{item_number}
 use Rattle.pool_world.specs.Pool.{Pool, Out, IsPool, IsSame, opening}
 use Rattle.object_pool_cores.specs.LeastChoice.{PullsItem, ReturnsItem}
 use Rattle.object_pool_cores.specs.OnePage.{ArePageAnswers}

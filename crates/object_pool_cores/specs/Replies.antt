@@ -12,7 +12,7 @@ use Rattle.object_pool_cores.specs.declared.sequential.reply.Reply.TheVariants.{
 use Rattle.object_pool_cores.specs.declared.sequential.reply.Reply.TheVariants.{Forgotten, Attached, AttachRefused}
 use Rattle.object_pool_cores.specs.declared.sequential.reply.Reply.TheVariants.{NoSuchHolder}
 use Rattle.pool_world.specs.declared.run_error.RunError.{RunError}
-use Rattle.object_pool_cores.specs.Inside.SequentialItem.{item_number, with_value}
+use Rattle.object_pool_cores.specs.Item.{item_number, with_value}
 use Rattle.object_pool_cores.specs.Held.{Playing, held_at}
 
 module _ {T : Type 0} where

@@ -1,7 +1,7 @@
 -- The text of a reply, without its line feed.
 use Rattle.std.specs.Prelude.{◌≡◌, ℕ, Option, Some, None, List, ◌++◌, [], codes, option_map}
 use Rattle.std.specs.Fmt.{decimal}
-use Rattle.object_pool_cores.specs.Inside.SequentialItem.{item_value}
+use Rattle.object_pool_cores.specs.Item.{item_value}
 use Rattle.pool_parts.specs.declared.pull_error.PullError.{PullError}
 use Rattle.pool_parts.specs.declared.pull_error.PullError.TheVariants.{Memory, Init, Limit}
 use Rattle.object_pool_cores.specs.declared.sequential.attach_error.AttachError.{AttachError}

@@ -1,6 +1,6 @@
 -- What an engine wrote for the bytes that it read. `before` and `after` are
 -- the bytes that the writer holds, for a writer of which they are known.
-use Rattle.std.specs.Prelude.{◌≡◌, ℕ, Option, List, ◌++◌, [], Result, ◌⊎◌}
+use Rattle.std.specs.Prelude.{◌≡◌, ℕ, Option, List, ◌++◌, Result, ◌⊎◌}
 use Rattle.std.specs.Io.KnownBytes.{Appends}
 use Rattle.pool_parts.specs.declared.pull_error.PullError.{PullError}
 use Rattle.object_pool_cores.specs.declared.sequential.item.Item.{Item}
@@ -49,14 +49,6 @@ module _ {P : Type 0} (pulls : P → Result (Item ℕ) PullError → P → Type 
       pub last : Playing P ℕ
       pub cut : bytes ≡ front ++ back
       pub served : ServesLines old before front rest last after
-
-    -- the unterminated final line was answered, where it has any bytes
-    pub record AnswersLastLine (old : Playing P ℕ) (before : Option (List ℕ)) (rest : List ℕ)
-        (after : Option (List ℕ)) : Type 0 where
-      pub text : List ℕ
-      pub last : Playing P ℕ
-      pub told : Transcript pulls gives attaches old (with_last_line [] rest) text last
-      pub written : Writes before after text
 
   -- the writing stopped: at the lines whose line feed was read,
   -- or, only where all was read, at the last line without one

@@ -4,7 +4,7 @@ use Rattle.pool_parts.specs.declared.pull_error.PullError.{PullError}
 use Rattle.object_pool_cores.specs.declared.sequential.item.Item.{Item}
 use Rattle.object_pool_cores.specs.declared.sequential.attach_error.AttachError.{AttachError}
 use Rattle.object_pool_cores.specs.declared.sequential.stack_core.StackCore.{StackCore}
-use Rattle.object_pool_cores.specs.Inside.SequentialItem.{has_room}
+use Rattle.object_pool_cores.specs.Item.{has_room}
 use Rattle.object_pool_cores.specs.LastIn.{PullsLast, ReturnsLast, AttachesLast}
 
 module _ {T I R K : Type 0} where

@@ -2,7 +2,8 @@
 //!
 //! A pulled buffer is empty, whatever was done with it before, and it returns to its pool when it
 //! is dropped.
-ghost use Rattle.std.specs.Prelude.{◌≡◌, ◌≤◌, ◌<◌, [], None, Some, IfOk, IfErr, IsSome, IfSome, vec_capacity};
+ghost use Rattle.std.specs.Prelude.{◌≡◌, ◌≤◌, ◌<◌, [], None, Some, IfOk, IfErr, IsSome, IfSome};
+ghost use Rattle.std.specs.Prelude.{vec_capacity};
 
 use linear_pools::LinearObjectPool;
 use pool_parts::PullError;
@@ -65,7 +66,8 @@ pub struct BufferPool<I: Init<T, K>, R: Reset<T, K>, T = Vec<u8>, K: Clean<T> = 
 
 impl<I: Init<Vec<u8>, Empty>, R: Reset<Vec<u8>, Empty>> BufferPool<I, R> {
     ghost use Rattle.pool_parts.specs.Refusal.{RefusesMaking, RefusesPull};
-    ghost use Rattle.object_pool_cores.specs.Buffers.{maker_of, limit_of_pages, bytes_of, page_of, IsOnItsPage};
+    ghost use Rattle.object_pool_cores.specs.Buffers.{maker_of, limit_of_pages, bytes_of, page_of};
+    ghost use Rattle.object_pool_cores.specs.Buffers.{IsOnItsPage};
 
     /// Creates a pool of one page, which grows to at most `pages` pages of 32 buffers.
     ///

@@ -3,7 +3,7 @@ use Rattle.std.proofs.Common.{◌≡◌, ◌≢◌, ℕ, ◌+◌, ◌<◌, ◌�
 use Rattle.std.proofs.Common.{slice_set, refl, sym, ap, ◌∙◌, arith, inl, inr, length-append}
 use Rattle.std.specs.Prelude.{Bool, unwrap_or, OnSome, is_some, option_map}
 use Rattle.object_pool_cores.specs.declared.sequential.item.Item.{Item}
-use Rattle.object_pool_cores.specs.Inside.SequentialItem.{with_value}
+use Rattle.object_pool_cores.specs.Item.{with_value}
 use Rattle.object_pool_cores.specs.Held.{held_at}
 use Rattle.std.specs.List.{slice_get}
 use Rattle.std.proofs.lemmas.Bool.{cases_lt, cases_eq}

@@ -3,7 +3,7 @@
 use Rattle.std.specs.Prelude.{◌≡◌, ℕ, ◌≤◌, ◌-◌, ◌^◌, min, zero, suc, Option, None, List, [], ◌∷◌, ◌++◌, nat_eq}
 use Rattle.std.specs.Prelude.{slice_set, Some, Bool, true, false}
 use Rattle.std.specs.HashMap.{HashMap, get, spare}
-use Rattle.object_pool_cores.specs.Inside.SequentialItem.{with_value}
+use Rattle.object_pool_cores.specs.Item.{with_value}
 use Rattle.object_pool_cores.specs.declared.sequential.item.Item.{Item}
 
 -- what is held at each index that was given out, and how

@@ -7,7 +7,7 @@ use Rattle.std.proofs.lemmas.Option.{get_or_from_slice_get, slice_get_within}
 use Rattle.pool_parts.specs.declared.pull_error.PullError.{PullError}
 use Rattle.object_pool_cores.specs.declared.sequential.item.Item.{Item}
 use Rattle.object_pool_cores.specs.declared.sequential.linear_core.LinearCore.{LinearCore}
-use Rattle.object_pool_cores.specs.Inside.SequentialItem.{item_value}
+use Rattle.object_pool_cores.specs.Item.{item_value}
 use Rattle.pool_world.specs.Pool.{Free, Out, IsSame, with_place, place_of, after_growth}
 use Rattle.object_pool_cores.specs.LeastChoice.{IsExhausted, TakesLeast, GrowsFirst, PullsLeast, PullsItem}
 use Rattle.object_pool_cores.specs.Bag.{IsPutIn, PullsFromBag, ReturnsToBag, pulled_value}

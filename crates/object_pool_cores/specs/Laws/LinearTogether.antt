@@ -7,7 +7,7 @@ use Rattle.pool_parts.specs.declared.pull_error.PullError.{PullError}
 use Rattle.object_pool_cores.specs.declared.sequential.item.Item.{Item}
 use Rattle.object_pool_cores.specs.declared.sequential.linear_core.LinearCore.{LinearCore}
 use Rattle.object_pool_cores.specs.Attach.{RefusesAttach}
-use Rattle.object_pool_cores.specs.Inside.SequentialItem.{item_value, item_number, with_value}
+use Rattle.object_pool_cores.specs.Item.{item_value, item_number, with_value}
 use Rattle.pool_world.specs.Pool.{Pool, Absent, Free, Out, IsPool, IsSame, with_place, after_growth}
 use Rattle.object_pool_cores.specs.LeastChoice.{PullsLeast}
 use Rattle.object_pool_cores.specs.Linear.{core_pool, limit_of, LinearPulls, LinearGives, HeldTogether, IsOutOf}

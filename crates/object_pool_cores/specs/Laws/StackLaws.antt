@@ -8,7 +8,7 @@ use Rattle.std.proofs.lemmas.List.Elements.{All-nil}
 use Rattle.pool_parts.specs.declared.pull_error.PullError.{PullError}
 use Rattle.object_pool_cores.specs.declared.sequential.item.Item.{Item}
 use Rattle.object_pool_cores.specs.declared.sequential.stack_core.StackCore.{StackCore}
-use Rattle.object_pool_cores.specs.Inside.SequentialItem.{item_value, has_room, with_value}
+use Rattle.object_pool_cores.specs.Item.{item_value, has_room, with_value}
 use Rattle.object_pool_cores.specs.Bag.{PullsFromBag, ReturnsToBag, pulled_value}
 use Rattle.pool_parts.specs.LastIn.{TakesFirst, StaysEmpty}
 use Rattle.object_pool_cores.specs.LastIn.{PullsLast}

@@ -1,5 +1,5 @@
 //! The command that a line writes.
-ghost use Rattle.std.specs.Prelude.{◌≡◌, ◌≢◌, ◌≤◌, ◌<◌, ◌++◌, ◌∷◌, ℕ, List, All, MatchOption, length};
+ghost use Rattle.std.specs.Prelude.{◌≡◌, ◌≢◌, ◌≤◌, ◌++◌, ◌∷◌, ℕ, List, All, MatchOption, length};
 ghost use Rattle.std.specs.Char.{IsAsciiDigit};
 ghost use Rattle.std.specs.Str.Parse.{digits_value};
 ghost use Rattle.object_pool_cores.specs.declared.engine.command_text.TheConstants.{MOST_DIGITS};

@@ -1,5 +1,5 @@
 //! The text of a reply, in an array of fixed size.
-ghost use Rattle.std.specs.Prelude.{◌≡◌, ◌≤◌, ◌+◌, ◌++◌, length};
+ghost use Rattle.std.specs.Prelude.{◌≡◌, ◌≤◌, ◌++◌, length};
 ghost use Rattle.std.specs.Fmt.{decimal};
 ghost use Rattle.object_pool_cores.specs.Lines.{ended};
 ghost use Rattle.object_pool_cores.specs.ReplyText.{refusal_text, attach_refusal_text, pulled_text};

@@ -1,10 +1,12 @@
 //! The engine on any sequential pool: it reads lines, plays their commands and writes the replies.
-ghost use Rattle.std.specs.Prelude.{◌≡◌, ◌≢◌, ◌≤◌, ◌++◌, ℕ, List, [], Some, Err, IfOk, OnOk, OnErr, length};
+ghost use Rattle.std.specs.Prelude.{◌≡◌, ◌≢◌, ◌≤◌, ◌++◌, ℕ, List, [], Some, Err, IfOk, OnOk, OnErr};
+ghost use Rattle.std.specs.Prelude.{length};
 ghost use Rattle.std.specs.Io.KnownBytes.{Appends, Consumes, IsAtEnd, Keeps};
 ghost use Rattle.object_pool_cores.specs.declared.engine.session.TheConstants.{CHUNK};
 ghost use Rattle.object_pool_cores.specs.Inside.Buffered.{IsBuffered, IsOpenLine};
+ghost use Rattle.object_pool_cores.specs.Inside.LastLine.{AnswersLastLine};
 ghost use Rattle.object_pool_cores.specs.Transcript.{AnswersLine};
-ghost use Rattle.object_pool_cores.specs.Served.{AnswersLastLine, AppendsPart, ServesLines, ServesAllLines};
+ghost use Rattle.object_pool_cores.specs.Served.{AppendsPart, ServesLines, ServesAllLines};
 ghost use Rattle.object_pool_cores.specs.Served.{ServesFrontLines, StopsWriting};
 
 use crate::engine::EngineError;

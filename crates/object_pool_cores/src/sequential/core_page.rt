@@ -1,7 +1,8 @@
 //! A sequential page of 32 items.
-ghost use Rattle.std.specs.Prelude.{◌≡◌, ◌↔◌, ◌<◌, Option, Some, None, MatchOption, IsTrue, IfOk, IfErr, IfSome};
-ghost use Rattle.std.specs.Prelude.{slice_set};
-ghost use Rattle.object_pool_cores.specs.OnePage.{IsMadePage, HasNoFreeId, IsMask, IsOutId, TakesLeastId};
+ghost use Rattle.std.specs.Prelude.{◌≡◌, ◌↔◌, Option, Some, None, MatchOption, IsTrue, IfOk, IfErr};
+ghost use Rattle.std.specs.Prelude.{IfSome, slice_set};
+ghost use Rattle.object_pool_cores.specs.OnePage.{IsMadePage, HasNoFreeId, IsMask, IsOutId};
+ghost use Rattle.object_pool_cores.specs.OnePage.{TakesLeastId};
 ghost use Rattle.pool_parts.specs.Answers.{MayMake};
 ghost use Rattle.pool_parts.specs.Refusal.{RefusesMaking};
 

@@ -1,9 +1,9 @@
 //! The items that a player holds, by their indexes.
-ghost use Rattle.std.specs.Prelude.{◌≡◌, ◌≢◌, ◌<◌, ℕ, is_some, nat_eq, option_map, ◌++◌, ◌∷◌, [], length, slice_set};
-ghost use Rattle.std.specs.Prelude.{Some, None, IfNone, OnOk, OnSome};
+ghost use Rattle.std.specs.Prelude.{◌≡◌, ◌≢◌, ◌<◌, ℕ, is_some, nat_eq, option_map, ◌++◌, ◌∷◌, []};
+ghost use Rattle.std.specs.Prelude.{length, slice_set, Some, None, IfNone, OnOk, OnSome};
 ghost use Rattle.std.specs.Option.{option_copied};
 ghost use Rattle.std.specs.HashMap.{get};
-ghost use Rattle.object_pool_cores.specs.Inside.SequentialItem.{item_value, with_value};
+ghost use Rattle.object_pool_cores.specs.Item.{item_value, with_value};
 ghost use Rattle.object_pool_cores.specs.Held.{held_at};
 ghost use Rattle.object_pool_cores.specs.Inside.HeldTable.{IsReplaced};
 
@@ -20,7 +20,8 @@ pub(crate) struct HeldItems<T> {
 }
 
 impl<T> Model for HeldItems<T> {
-    ghost use Rattle.object_pool_cores.specs.Inside.HeldTable.{HeldState, IsBelow, spare_of, table_of};
+    ghost use Rattle.object_pool_cores.specs.Inside.HeldTable.{HeldState, IsBelow, spare_of};
+    ghost use Rattle.object_pool_cores.specs.Inside.HeldTable.{table_of};
 
     ghost Value = { HeldState T };
 

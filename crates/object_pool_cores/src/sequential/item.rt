@@ -1,7 +1,8 @@
 //! One item, while it is in use.
 ghost use Rattle.std.specs.Prelude.{◌≡◌, IsTrue, IsSome, Some, None};
 ghost use Rattle.std.specs.Borrow.{Lends, sem};
-ghost use Rattle.object_pool_cores.specs.Inside.SequentialItem.{item_value, item_number, has_room, with_value};
+ghost use Rattle.object_pool_cores.specs.Item.{item_value, item_number, has_room};
+ghost use Rattle.object_pool_cores.specs.Item.{with_value};
 
 use pool_parts::stack::Room;
 use std::ops::{Deref, DerefMut};

@@ -1,12 +1,12 @@
 //! A sequential linear pool: the least free number first, and a page more if none is free.
-ghost use Rattle.std.specs.Prelude.{◌≡◌, ◌≢◌, ◌≤◌, Option, Some, None, Result, Ok, Err, IfOk, OnErr};
-ghost use Rattle.std.specs.Prelude.{[]};
-ghost use Rattle.object_pool_cores.specs.Inside.SequentialItem.{item_value};
+ghost use Rattle.std.specs.Prelude.{◌≡◌, ◌≢◌, ◌≤◌, Some, None, Err, IfOk, OnErr, []};
+ghost use Rattle.object_pool_cores.specs.Item.{item_value};
 ghost use Rattle.object_pool_cores.specs.Attach.{RefusesAttach};
 ghost use Rattle.object_pool_cores.specs.PageProbes.{ProbesFew};
-ghost use Rattle.object_pool_cores.specs.Linear.{core_pool, limit_of, looked_of, start_page_of, linear_init, linear_reset};
-ghost use Rattle.object_pool_cores.specs.Linear.{IsOpening, LinearPulls, LinearGives, ProbesUpTo, ProbesTheRest, StartsNoFurther};
-ghost use Rattle.object_pool_cores.specs.Linear.{HeldTogether, IsOutOf};
+ghost use Rattle.object_pool_cores.specs.Linear.{core_pool, limit_of, looked_of, start_page_of};
+ghost use Rattle.object_pool_cores.specs.Linear.{linear_init, linear_reset, IsOpening, LinearPulls};
+ghost use Rattle.object_pool_cores.specs.Linear.{LinearGives, ProbesUpTo, ProbesTheRest};
+ghost use Rattle.object_pool_cores.specs.Linear.{StartsNoFurther, HeldTogether, IsOutOf};
 
 use crate::sequential::numbered_items::NumberedItems;
 use crate::sequential::{AttachError, Item, SequentialPool};
@@ -206,10 +206,14 @@ impl<T: Drop, I: Init<T, K>, R: Reset<T, K>, K: Clean<T>> SequentialPool<T>
         }
     }
 
-    ghost use Rattle.object_pool_cores.specs.Laws.LinearBag.{LinearPulls-from_bag, LinearGives-to_bag};
-    ghost use Rattle.object_pool_cores.specs.Laws.LinearTogether.{HeldTogether-none, HeldTogether-pulled};
-    ghost use Rattle.object_pool_cores.specs.Laws.LinearTogether.{HeldTogether-refused, HeldTogether-attached};
-    ghost use Rattle.object_pool_cores.specs.Laws.LinearTogether.{HeldTogether-given, HeldTogether-forgotten};
+    ghost use Rattle.object_pool_cores.specs.Laws.LinearBag.{LinearPulls-from_bag};
+    ghost use Rattle.object_pool_cores.specs.Laws.LinearBag.{LinearGives-to_bag};
+    ghost use Rattle.object_pool_cores.specs.Laws.LinearTogether.{HeldTogether-none};
+    ghost use Rattle.object_pool_cores.specs.Laws.LinearTogether.{HeldTogether-pulled};
+    ghost use Rattle.object_pool_cores.specs.Laws.LinearTogether.{HeldTogether-refused};
+    ghost use Rattle.object_pool_cores.specs.Laws.LinearTogether.{HeldTogether-attached};
+    ghost use Rattle.object_pool_cores.specs.Laws.LinearTogether.{HeldTogether-given};
+    ghost use Rattle.object_pool_cores.specs.Laws.LinearTogether.{HeldTogether-forgotten};
     ghost use Rattle.object_pool_cores.specs.Laws.LinearTogether.{HeldTogether-written};
     ghost use Rattle.std.proofs.Common.{ap};
 
@@ -237,7 +241,8 @@ impl<T: Drop, I: Init<T, K>, R: Reset<T, K>, K: Clean<T>> SequentialPool<T>
         HeldTogether-attached old new held value item refused };
 
     ghost together_after_give = { λ old new held index item together here gives.
-        HeldTogether-given (R.leaves (linear_reset old)) old new held index item together here gives };
+        HeldTogether-given (R.leaves (linear_reset old)) old new held index item together here
+        gives };
 
     ghost together_after_forget = { λ core held index together.
         HeldTogether-forgotten core held index together };

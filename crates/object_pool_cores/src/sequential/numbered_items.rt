@@ -1,8 +1,8 @@
 //! The items of a sequential linear pool, by their numbers.
-ghost use Rattle.std.specs.Prelude.{◌≡◌, ◌≤◌, ◌↔◌, ◌*◌, ◌+◌, ◌-◌, ◌/◌, min, [], Option, Some, None, Err, OnOk, OnErr};
-ghost use Rattle.std.specs.Prelude.{IfSome, IfNone, ◌<◌, IsTrue, IfOk, IfErr, ℕ, nat_lt, length};
-ghost use Rattle.std.specs.Prelude.{slice_get, is_some, if◌then◌else◌};
-ghost use Rattle.object_pool_cores.specs.Inside.SequentialItem.{item_value, item_number};
+ghost use Rattle.std.specs.Prelude.{◌≡◌, ◌≤◌, ◌↔◌, ◌*◌, ◌+◌, ◌-◌, ◌/◌, min, [], Some, None, Err};
+ghost use Rattle.std.specs.Prelude.{OnOk, OnErr, IfSome, IfNone, IsTrue, IfOk, IfErr, ℕ, nat_lt};
+ghost use Rattle.std.specs.Prelude.{length, slice_get, is_some, if◌then◌else◌};
+ghost use Rattle.object_pool_cores.specs.Item.{item_value, item_number};
 ghost use Rattle.object_pool_cores.specs.PageProbes.{ProbesEach};
 ghost use Rattle.object_pool_cores.specs.OnePage.{IsMadePage, HasNoFreeId};
 ghost use Rattle.object_pool_cores.specs.Inside.Numbered.{AreWhole, HasNoneBelow, laid_out};
@@ -28,7 +28,8 @@ pub(crate) struct NumberedItems<T, K: Clean<T>> {
 }
 
 impl<T, K: Clean<T>> Model for NumberedItems<T, K> {
-    ghost use Rattle.object_pool_cores.specs.Inside.Numbered.{AreWhole, Numbered, IsWellNumbered, laid_out};
+    ghost use Rattle.object_pool_cores.specs.Inside.Numbered.{AreWhole, Numbered, IsWellNumbered};
+    ghost use Rattle.object_pool_cores.specs.Inside.Numbered.{laid_out};
 
     ghost Value = { Numbered T };
 
@@ -49,7 +50,8 @@ impl<T, K: Clean<T>> Model for NumberedItems<T, K> {
 }
 
 impl<T: Drop, K: Clean<T>> NumberedItems<T, K> {
-    ghost use Rattle.object_pool_cores.specs.Inside.Numbered.{listed_pool, FindsNone, Grows, ProbesPages, TakesLeastOf};
+    ghost use Rattle.object_pool_cores.specs.Inside.Numbered.{listed_pool, FindsNone, Grows};
+    ghost use Rattle.object_pool_cores.specs.Inside.Numbered.{ProbesPages, TakesLeastOf};
 
     /// Creates a table of no items.
     pub(crate) fn new(alloc: Global, limit: Option<usize>) -> NumberedItems<T, K>

@@ -1,8 +1,9 @@
 //! A player of commands on a sequential pool.
-ghost use Rattle.std.specs.Prelude.{◌≡◌, ◌<◌, ◌≤◌, ◌+◌, All, Option, option_map, Some, None, [], IfOk, OnErr, IsOk, IsErr, length, vec_capacity};
+ghost use Rattle.std.specs.Prelude.{◌≡◌, ◌≤◌, ◌+◌, All, option_map, [], IfOk, OnErr, IsOk, IsErr};
+ghost use Rattle.std.specs.Prelude.{length, vec_capacity};
 ghost use Rattle.std.specs.Option.{option_copied};
 ghost use Rattle.object_pool_cores.specs.Held.{held_at};
-ghost use Rattle.object_pool_cores.specs.Inside.SequentialItem.{item_value};
+ghost use Rattle.object_pool_cores.specs.Item.{item_value};
 ghost use Rattle.object_pool_cores.specs.Replies.{Plays, Ran, MayTakeMemory};
 
 use crate::sequential::held_items::HeldItems;
@@ -35,7 +36,7 @@ impl<T: Drop, P: SequentialPool<T> + Drop> Drop for Player<T, P> {
 }
 
 impl<T, P: SequentialPool<T>> Model for Player<T, P> {
-    ghost use Rattle.std.specs.Prelude.{◌≡◌, Option};
+    ghost use Rattle.std.specs.Prelude.{◌≡◌};
     ghost use Rattle.object_pool_cores.specs.Held.{Playing};
 
     ghost Value = { Playing P T };

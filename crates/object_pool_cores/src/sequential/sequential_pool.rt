@@ -1,10 +1,10 @@
 //! The calls of a sequential pool, whichever way it chooses its items.
-ghost use Rattle.std.specs.Prelude.{◌≡◌, ◌∷◌, [], ◌++◌, ◌↔◌, ℕ, Option, Some, None, List, Result, Ok, Err, IsTrue};
-ghost use Rattle.std.specs.Prelude.{OnErr, MatchResult, slice_get, slice_set};
+ghost use Rattle.std.specs.Prelude.{◌≡◌, ◌∷◌, [], ◌++◌, ◌↔◌, ℕ, Option, Some, None, List, Result};
+ghost use Rattle.std.specs.Prelude.{Ok, Err, IsTrue, OnErr, MatchResult, slice_get, slice_set};
 ghost use Rattle.pool_parts.specs.declared.pull_error.PullError.{PullError};
 ghost use Rattle.object_pool_cores.specs.declared.sequential.item.Item.{Item};
 ghost use Rattle.object_pool_cores.specs.declared.sequential.attach_error.AttachError.{AttachError};
-ghost use Rattle.object_pool_cores.specs.Inside.SequentialItem.{item_value, with_value};
+ghost use Rattle.object_pool_cores.specs.Item.{item_value, with_value};
 ghost use Rattle.object_pool_cores.specs.Attach.{refused_value};
 ghost use Rattle.object_pool_cores.specs.Bag.{PullsFromBag, ReturnsToBag, pulled_value};
 

@@ -1,7 +1,8 @@
 //! A sequential stack pool: the value that was returned last comes first.
 ghost use Rattle.std.specs.Prelude.{◌≡◌, [], IfOk, IsTrue};
-ghost use Rattle.object_pool_cores.specs.Inside.SequentialItem.{item_value, has_room};
-ghost use Rattle.object_pool_cores.specs.Stack.{kept_of, stack_init, stack_reset, StackPulls, StackGives, StackAttaches, HoldRooms};
+ghost use Rattle.object_pool_cores.specs.Item.{item_value, has_room};
+ghost use Rattle.object_pool_cores.specs.Stack.{kept_of, stack_init, stack_reset, StackPulls};
+ghost use Rattle.object_pool_cores.specs.Stack.{StackGives, StackAttaches, HoldRooms};
 
 use crate::sequential::{AttachError, Item, SequentialPool};
 use pool_parts::PullError;
@@ -117,7 +118,8 @@ impl<T: Drop, I: Init<T, K>, R: Reset<T, K>, K: Clean<T>> SequentialPool<T>
         item.has_room()
     }
 
-    ghost use Rattle.object_pool_cores.specs.Laws.StackLaws.{StackPulls-from_bag, StackGives-to_bag, HoldRooms-push};
+    ghost use Rattle.object_pool_cores.specs.Laws.StackLaws.{StackPulls-from_bag};
+    ghost use Rattle.object_pool_cores.specs.Laws.StackLaws.{StackGives-to_bag, HoldRooms-push};
     ghost use Rattle.object_pool_cores.specs.Laws.StackLaws.{HoldRooms-less, HoldRooms-written};
     ghost use Rattle.std.proofs.Common.{ap};
 

@@ -1,16 +1,17 @@
 //! A world's pages and agents, and what each event does to them.
-ghost use Rattle.std.specs.Prelude.{slice_set, vec_len, vec_capacity, ◌++◌, ◌∷◌, [], ◌≡◌, ◌≢◌, ◌+◌, ◌<◌, ◌≤◌, ◌==◌};
-ghost use Rattle.std.specs.Prelude.{◌⊎◌, Option, Some, None, option_map, option_copied, slice_get, length, IfOk, OnOk};
+ghost use Rattle.std.specs.Prelude.{slice_set, vec_len, vec_capacity, ◌++◌, ◌∷◌, [], ◌≡◌, ◌≢◌, ◌<◌};
+ghost use Rattle.std.specs.Prelude.{◌≤◌, ◌⊎◌, Some, None, option_map, option_copied, slice_get};
+ghost use Rattle.std.specs.Prelude.{length, IfOk, OnOk};
 ghost use Rattle.pool_world.specs.World.Inside.LinkCapacity.{LinksNoPage, prepared_by};
-ghost use Rattle.pool_world.specs.World.Machine.{at_point, linked_page};
-ghost use Rattle.pool_world.specs.World.Machine.{has_bit, word_of, page_value, with_word};
-ghost use Rattle.pool_world.specs.World.Machine.{with_page_value, opening_world, tries, tries_hinted, comes_to};
-ghost use Rattle.pool_world.specs.World.Machine.{may_name, read_mask, read_hinted, clears, clear_hinted};
-ghost use Rattle.pool_world.specs.World.Machine.{clear_bit, held_by, read_next, make_page, exchange_next};
-ghost use Rattle.pool_world.specs.World.Machine.{move_out, write, or_mask, begin, IsOutcome, MayGrow};
-ghost use Rattle.pool_world.specs.World.Machine.{LinksWhole, MovesHome, Steps};
-ghost use Rattle.pool_world.specs.World.Capacity.{HasCapacityFor, HasCapacityForMade, KeepsCapacity};
-ghost use Rattle.pool_world.specs.Pool.{number};
+ghost use Rattle.pool_world.specs.World.Machine.{at_point, linked_page, word_of, page_value};
+ghost use Rattle.pool_world.specs.World.Machine.{with_word, with_page_value, opening_world};
+ghost use Rattle.pool_world.specs.World.Machine.{may_name, read_mask, read_hinted, clears};
+ghost use Rattle.pool_world.specs.World.Machine.{clear_hinted, clear_bit, held_by, read_next};
+ghost use Rattle.pool_world.specs.World.Machine.{make_page, exchange_next, move_out, write};
+ghost use Rattle.pool_world.specs.World.Machine.{or_mask, begin, IsOutcome, MayGrow, LinksWhole};
+ghost use Rattle.pool_world.specs.World.Machine.{MovesHome, Steps};
+ghost use Rattle.pool_world.specs.World.Capacity.{HasCapacityFor, HasCapacityForMade};
+ghost use Rattle.pool_world.specs.World.Capacity.{KeepsCapacity};
 ghost use Rattle.pool_world.specs.declared.interleave.point.Point.TheVariants.{Reading};
 ghost use Rattle.pool_world.specs.declared.interleave.event.Seen.TheVariants.{NoMemory};
 ghost use Rattle.pool_world.specs.declared.interleave.event.Event.TheVariants.{MakePage};

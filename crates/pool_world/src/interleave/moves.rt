@@ -1,5 +1,5 @@
 //! The bits that an agent tries, and where it goes next.
-ghost use Rattle.std.specs.Prelude.{◌≡◌, ◌<◌, ◌==◌, ◌+◌, ◌-◌, Option, Some, nat_eq, bit_and};
+ghost use Rattle.std.specs.Prelude.{◌≡◌, ◌<◌, ◌==◌, ◌+◌, ◌-◌, Some, nat_eq, bit_and};
 ghost use Rattle.std.specs.Int.{w32, trailing_zeros};
 ghost use Rattle.std.specs.Option.{option_eq};
 ghost use Rattle.pool_parts.specs.declared.page.TheConstants.{PAGE_ITEMS};

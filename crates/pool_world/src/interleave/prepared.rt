@@ -1,5 +1,5 @@
 //! The values of a page before it is linked.
-ghost use Rattle.std.specs.Prelude.{◌≡◌, ◌≢◌, Option, Some, None, map, length, All, IfOk, IfErr};
+ghost use Rattle.std.specs.Prelude.{◌≡◌, ◌≢◌, Some, None, map, length, All, IfOk, IfErr};
 ghost use Rattle.pool_parts.specs.declared.pull_error.PullError.TheVariants.{Init, Limit};
 
 use pool_parts::PullError;

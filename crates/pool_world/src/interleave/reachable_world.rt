@@ -1,11 +1,14 @@
 //! A machine that events led to from its opening, and the steps of which are exact.
-ghost use Rattle.std.specs.Prelude.{◌≡◌, ◌≢◌, ◌≤◌, ◌+◌, Option, option_map, option_copied, slice_get, length, IfOk, IsOk, vec_len, vec_capacity};
+ghost use Rattle.std.specs.Prelude.{◌≡◌, ◌≢◌, ◌≤◌, ◌+◌, option_map, option_copied, slice_get};
+ghost use Rattle.std.specs.Prelude.{length, IfOk, IsOk, vec_len, vec_capacity};
 ghost use Rattle.pool_world.specs.Pool.{AllowsPages};
 ghost use Rattle.pool_world.specs.World.Headline.{IsNew, IsReachable, RunsEvents};
+ghost use Rattle.pool_world.specs.World.Inside.Tables.{Tables};
 ghost use Rattle.pool_world.specs.World.Machine.{held_by, opening_world, page_value, Steps};
 ghost use Rattle.pool_world.specs.World.StepBounds.{BoundsOwnSteps};
 ghost use Rattle.pool_world.specs.World.Enabled.{IsExact};
-ghost use Rattle.pool_world.specs.World.Capacity.{HasCapacityFor, HasCapacityForMade, KeepsCapacity};
+ghost use Rattle.pool_world.specs.World.Capacity.{HasCapacityFor, HasCapacityForMade};
+ghost use Rattle.pool_world.specs.World.Capacity.{KeepsCapacity};
 ghost use Rattle.pool_world.specs.declared.interleave.event.Seen.TheVariants.{NoMemory};
 
 use crate::interleave::machine::Machine;
@@ -23,9 +26,6 @@ pub struct ReachableWorld<T> {
 }
 
 impl<T> Model for ReachableWorld<T> {
-    ghost use Rattle.pool_world.specs.World.Inside.Tables.{Tables};
-    ghost use Rattle.pool_world.specs.World.Headline.{IsReachable};
-
     ghost Value = { Tables T };
 
     ghost view = { λ reached. reached.machine };

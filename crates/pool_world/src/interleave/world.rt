@@ -1,13 +1,14 @@
 //! The world of agents.
-ghost use Rattle.std.specs.Prelude.{◌≡◌, ◌≢◌, ◌≤◌, ◌+◌, Some, None, option_map, option_copied, slice_get, IfOk, IfErr};
-ghost use Rattle.std.specs.Prelude.{IsOk, vec_len, vec_capacity};
+ghost use Rattle.std.specs.Prelude.{◌≡◌, ◌≢◌, ◌≤◌, ◌+◌, Some, None, option_map, option_copied};
+ghost use Rattle.std.specs.Prelude.{slice_get, IfOk, IfErr, IsOk, vec_len, vec_capacity};
 ghost use Rattle.pool_parts.specs.declared.pull_error.PullError.TheVariants.{Memory};
 ghost use Rattle.pool_world.specs.World.Headline.{IsNew, IsReachable, RunsEvents};
 ghost use Rattle.pool_world.specs.World.Machine.{held_by, opening_world, page_value, Steps};
 ghost use Rattle.pool_world.specs.World.StepBounds.{BoundsOwnSteps};
 ghost use Rattle.pool_world.specs.World.Enabled.{IsExact};
 ghost use Rattle.pool_world.specs.World.AbstractPool.{abstract_pool};
-ghost use Rattle.pool_world.specs.World.Capacity.{HasCapacityFor, HasCapacityForMade, KeepsCapacity};
+ghost use Rattle.pool_world.specs.World.Capacity.{HasCapacityFor, HasCapacityForMade};
+ghost use Rattle.pool_world.specs.World.Capacity.{KeepsCapacity};
 ghost use Rattle.pool_world.specs.declared.interleave.event.Seen.TheVariants.{NoMemory};
 ghost use Rattle.pool_world.specs.World.Inside.Shown.{world_capacity, world_reset, world_state};
 
@@ -182,7 +183,8 @@ impl<T: Drop, R: Reset<T, AnyValue>> World<T, R> {
         ensures run { RunsEvents (R.leaves (world_reset self.old))
             (record { world = world_state self.old; events = events.items; seen = seen.old.items })
             (record { world = world_state self.new; seen = seen.new.items; result = result }) }
-        ensures own_steps { BoundsOwnSteps (R.leaves (world_reset self.old)) (world_state self.new) }
+        ensures own_steps { BoundsOwnSteps (R.leaves (world_reset self.old))
+            (world_state self.new) }
         ensures reachable { IsReachable (world_state self.old) }
         ensures reset { world_reset self.new ≡ world_reset self.old }
         ensures room_is_there { vec_len seen.old + vec_len events ≤ vec_capacity seen.old

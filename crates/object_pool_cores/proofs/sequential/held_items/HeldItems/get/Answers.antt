@@ -2,7 +2,7 @@ use Rattle.std.proofs.Common.{Some, ap, sym, ◌∙◌}
 use Rattle.std.specs.HashMap.{get}
 use Rattle.std.specs.Prelude.{nat_eq}
 use Rattle.std.specs.Prelude.{option_map}
-use Rattle.object_pool_cores.specs.Inside.SequentialItem.{item_value}
+use Rattle.object_pool_cores.specs.Item.{item_value}
 use Rattle.object_pool_cores.proofs.Cores.HeldTableSteps.{unwrap_or-listed}
 use Rattle.object_pool_cores.proofs.sequential.held_items.HeldItems.get.Goals as goal
 
