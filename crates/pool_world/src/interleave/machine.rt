@@ -394,7 +394,7 @@ impl<T: Drop> Machine<T> {
             }
             Err(PullError::Limit) => Seen::NotEnabled,
             Err(cause) => {
-                self.agents[agent] = Point::Ended;
+                self.go(agent, Point::Ended);
                 Seen::Refused(agent, cause)
             }
         }
@@ -441,7 +441,7 @@ impl<T: Drop> Machine<T> {
         }
         match take_value(&mut self.pages, page, id) {
             Some(value) => {
-                self.agents[agent] = Point::Holding(page, id, value);
+                self.go(agent, Point::Holding(page, id, value));
                 Seen::MovedOut(agent)
             }
             None => Seen::NotEnabled,
@@ -457,7 +457,7 @@ impl<T: Drop> Machine<T> {
             Some(Point::Holding(page, id, _)) => (*page, *id),
             _ => return Seen::NotEnabled,
         };
-        self.agents[agent] = Point::Holding(page, id, value);
+        self.go(agent, Point::Holding(page, id, value));
         Seen::Wrote(agent)
     }
 
@@ -493,7 +493,7 @@ impl<T: Drop> Machine<T> {
         }
         let word = word_of(&self.pages, page);
         set_word(&mut self.pages, page, with_bit(word, id));
-        self.agents[agent] = Point::Ended;
+        self.go(agent, Point::Ended);
         Seen::Returned(agent, number(page, id))
     }
 }

@@ -1,4 +1,4 @@
-use Rattle.std.proofs.Common.{◌≡◌, Some, slice_get, arith, ◌==◌, false}
+use Rattle.std.proofs.Common.{◌≡◌, Some, slice_get, arith, ◌==◌, true, false, refl}
 use Rattle.std.proofs.lemmas.Bool.Decides.{nat_tests}
 use Rattle.std.proofs.lemmas.Grind.{common_steps}
 use Rattle.std.proofs.lemmas.Option.{gets}
@@ -10,6 +10,14 @@ pub returns-in_default-clause-step : goal.returns-in_default-clause-step
 returns-in_default-clause-step g c =
     clears_as_hinted _ _ (slice_get c.args.self.now.state.agents c.args.agent) _ _
     (λ k mask asked here. grind (arith, common_steps, gets, here)) c.clear_hinted.ensures.step
+
+pub returns-then-mask-eq0-clause-step : goal.returns-then-mask-eq0-clause-step
+returns-then-mask-eq0-clause-step g c =
+    let inside : slice_get c.self.inside.agents.items c.args.agent ≡ Some
+    (Clearing c.in-Some-Clearing.page c.in-Some-Clearing.mask c.in-Some-Clearing.asked) =
+    grind (arith, common_steps, gets, c.in-Some-Clearing.ensures.lookup) in
+    let none : (c.in-Some-Clearing.mask == 0) ≡ true = grind (arith, nat_tests) in
+    rw (← c.self.view_is) (rw inside (rw none (refl, refl)))
 
 pub returns-clause-step : goal.returns-clause-step
 returns-clause-step g c =

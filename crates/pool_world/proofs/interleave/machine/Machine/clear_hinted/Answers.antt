@@ -1,4 +1,4 @@
-use Rattle.std.proofs.Common.{◌≡◌, Some, slice_get, arith, ◌==◌, false}
+use Rattle.std.proofs.Common.{◌≡◌, Some, slice_get, arith, ◌==◌, true, false, refl}
 use Rattle.std.proofs.lemmas.Bool.Decides.{nat_tests}
 use Rattle.std.proofs.lemmas.Grind.{common_steps}
 use Rattle.std.proofs.lemmas.Option.{gets}
@@ -10,6 +10,14 @@ pub returns-in_default-clause-step : goal.returns-in_default-clause-step
 returns-in_default-clause-step g c =
     clears_only_at_clearing _ _ (slice_get c.args.self.now.state.agents c.args.agent)
     (λ hint mask here. grind (arith, common_steps, gets, here))
+
+pub returns-then-mask-eq0-clause-step : goal.returns-then-mask-eq0-clause-step
+returns-then-mask-eq0-clause-step g c =
+    let inside : slice_get c.self.inside.agents.items c.args.agent ≡ Some
+    (ClearingHinted c.in-Some-ClearingHinted.hint c.in-Some-ClearingHinted.mask) =
+    grind (arith, common_steps, gets, c.in-Some-ClearingHinted.ensures.lookup) in
+    let none : (c.in-Some-ClearingHinted.mask == 0) ≡ true = grind (arith, nat_tests) in
+    rw (← c.self.view_is) (rw inside (rw none (refl, refl)))
 
 pub returns-clause-step : goal.returns-clause-step
 returns-clause-step g c =

@@ -11,6 +11,38 @@ pub returns-in_default-clause-step : goal.returns-in_default-clause-step
 returns-in_default-clause-step g c =
     goes_on_only_at_link _ _ _ (λ k asked here. grind (arith, common_steps, gets, here))
 
+pub returns-then-page-pages-clause-step : goal.returns-then-page-pages-clause-step
+returns-then-page-pages-clause-step g c =
+    let at : slice_get c.self.inside.agents.items c.args.agent
+    ≡ Some (AtLink c.in-Some-AtLink.page c.in-Some-AtLink.asked) =
+    grind (arith, common_steps, gets, c.in-Some-AtLink.ensures.lookup) in
+    let past : nat_lt c.in-Some-AtLink.page (length c.self.inside.pages.items) ≡ false = grind (arith, nat_tests) in
+    rw (← c.self.view_is) (rw at (rw past (refl, refl)))
+
+pub returns-then-is_last_allowed-clause-step : goal.returns-then-is_last_allowed-clause-step
+returns-then-is_last_allowed-clause-step g c =
+    let at : slice_get c.self.inside.agents.items c.args.agent
+    ≡ Some (AtLink c.in-Some-AtLink.page c.in-Some-AtLink.asked) =
+    grind (arith, common_steps, gets, c.in-Some-AtLink.ensures.lookup) in
+    let linked : nat_lt c.in-Some-AtLink.page (length c.self.inside.pages.items) ≡ true = grind (arith, nat_tests) in
+    let last : option_eq nat_eq c.self.inside.limit (Some (c.in-Some-AtLink.page + 1)) ≡ true =
+    grind (arith, nat_tests, c.is_last_allowed.ensures) in
+    let gone = c.go.ensures.state in
+    rw (← c.self.view_is) (rw at (rw (linked, last) (refl, (cc))))
+
+pub returns-then-is_last-clause-step : goal.returns-then-is_last-clause-step
+returns-then-is_last-clause-step g c =
+    let at : slice_get c.self.inside.agents.items c.args.agent
+    ≡ Some (AtLink c.in-Some-AtLink.page c.in-Some-AtLink.asked) =
+    grind (arith, common_steps, gets, c.in-Some-AtLink.ensures.lookup) in
+    let linked : nat_lt c.in-Some-AtLink.page (length c.self.inside.pages.items) ≡ true = grind (arith, nat_tests) in
+    let below : option_eq nat_eq c.self.inside.limit (Some (c.in-Some-AtLink.page + 1)) ≡ false =
+    grind (arith, nat_tests, c.is_last_allowed.ensures) in
+    let last : (length c.self.inside.pages.items == c.in-Some-AtLink.page + 1) ≡ true =
+    grind (arith, nat_tests, c.is_last.ensures) in
+    let gone = c.go-then-is_last.ensures.state in
+    rw (← c.self.view_is) (rw at (rw (linked, below, last) (refl, (cc))))
+
 pub returns-clause-step : goal.returns-clause-step
 returns-clause-step g c =
     let at : slice_get c.self.inside.agents.items c.args.agent
