@@ -8,14 +8,19 @@ mod item;
 mod pools;
 mod replay;
 
+use crate::shared::shared;
 use anyhow::Result;
 use arguments::{Arguments, Kind};
 use item::{Item, Numbered, Restore, Totals};
-use lockfree_object_pool::closures::Init;
+use lockfree_object_pool::clean::AnyValue;
+use lockfree_object_pool::closures::{Init, Reset};
 use lockfree_object_pool::free_list::FreeList;
-use lockfree_object_pool::{LinearObjectPool, MutexObjectPool, NoneObjectPool, SpinLockObjectPool};
-use pools::{Linear, Stacked, StackedItems};
+use lockfree_object_pool::{
+    LinearObjectPool, MutexObjectPool, NoneObjectPool, PullError, SpinLockObjectPool,
+};
+use pools::{Stacked, StackedItems};
 use replay::replay;
+use std::alloc::Global;
 use std::sync::{Arc, Wait};
 use test_values::tally::{Tally, new_tally};
 
@@ -50,38 +55,58 @@ fn replay_on<R: Input + Print + AllocGlobal + Wait + Copy>(
         clears,
     };
     match kind {
-        Kind::Linear => {
-            let pool = LinearObjectPool::new(rt.alloc(), init, reset)?;
-            replay_on_linear(rt, tally, pool)
-        }
+        Kind::Linear => replay_on_linear(rt, tally, init, reset),
         Kind::Mutex => {
-            let pool = MutexObjectPool::new(rt.alloc(), init, reset);
-            replay_on_stack(rt, tally, pool)
+            let pool = new_mutex(rt.alloc(), init, reset)?;
+            replay_on_stack(rt, tally, &pool)
         }
         Kind::SpinLock => {
-            let pool = SpinLockObjectPool::new(rt.alloc(), init, reset)?;
-            replay_on_stack(rt, tally, pool)
+            let pool = new_spin_lock(rt.alloc(), init, reset)?;
+            replay_on_stack(rt, tally, &pool)
         }
         Kind::None => replay_on_none(rt, tally, init),
     }
 }
 
-fn replay_on_linear<R: Input + Print + AllocGlobal>(
-    rt: &R,
-    tally: &Arc<Tally>,
-    pool: Linear,
-) -> Result<()> {
-    let pool = Arc::new(rt.alloc(), pool)?;
+fn replay_on_linear<
+    R: Input + Print + AllocGlobal,
+    I: Init<Item, AnyValue>,
+    S: Reset<Item, AnyValue>,
+>(rt: &R, tally: &Arc<Tally>, init: I, reset: S) -> Result<()> {
+    let pool = new_linear(rt.alloc(), init, reset)?;
     replay(rt, tally, &&*pool, &pool)
+}
+
+fn new_linear<I: Init<Item, AnyValue>, S: Reset<Item, AnyValue>>(
+    alloc: Global,
+    init: I,
+    reset: S,
+) -> Result<Arc<LinearObjectPool<Item, I, S, AnyValue>>, PullError> {
+    shared(alloc, LinearObjectPool::new(alloc, init, reset)?)
 }
 
 fn replay_on_stack<R: Input + Print + AllocGlobal + Wait + Copy, F: FreeList<Item, StackedItems>>(
     rt: &R,
     tally: &Arc<Tally>,
-    pool: Stacked<F>,
+    pool: &Arc<Stacked<F>>,
 ) -> Result<()> {
-    let pool = Arc::new(rt.alloc(), pool)?;
-    replay(rt, tally, &&*pool, &pool)
+    replay(rt, tally, &&**pool, pool)
+}
+
+fn new_mutex(
+    alloc: Global,
+    init: Numbered,
+    reset: Restore,
+) -> Result<Arc<MutexObjectPool<Item, Numbered, Restore, AnyValue>>, PullError> {
+    shared(alloc, MutexObjectPool::new(alloc, init, reset))
+}
+
+fn new_spin_lock(
+    alloc: Global,
+    init: Numbered,
+    reset: Restore,
+) -> Result<Arc<SpinLockObjectPool<Item, Numbered, Restore, AnyValue>>, PullError> {
+    shared(alloc, SpinLockObjectPool::new(alloc, init, reset)?)
 }
 
 fn replay_on_none<R: Input + Print + AllocGlobal>(

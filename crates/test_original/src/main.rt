@@ -7,6 +7,7 @@
 #![tactic(auto)]
 
 mod answers;
+mod shared;
 mod times;
 
 use answers::answer_calls;

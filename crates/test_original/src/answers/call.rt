@@ -24,18 +24,25 @@ pub enum Call {
 
 /// Reads the call that a line writes.
 pub fn call_of(words: &[&str]) -> Option<Call> {
-    let call = match words {
-        ["pull"] => Call::Borrow(Origin::Pool),
-        ["pull_owned"] => Call::Own(Origin::Pool),
-        ["attach", number] => Call::Borrow(Origin::Caller(number.parse().ok()?)),
-        ["attach_owned", number] => Call::Own(Origin::Caller(number.parse().ok()?)),
-        ["write", place, content] => Call::Write {
+    match words {
+        ["pull"] => Some(Call::Borrow(Origin::Pool)),
+        ["pull_owned"] => Some(Call::Own(Origin::Pool)),
+        [word, number] => call_with(word, number.parse().ok()?),
+        ["write", place, content] => Some(Call::Write {
             place: place.parse().ok()?,
             content: content.parse().ok()?,
-        },
-        ["drop", place] => Call::Drop(place.parse().ok()?),
-        ["forget", place] => Call::Forget(place.parse().ok()?),
-        _ => return None,
-    };
-    Some(call)
+        }),
+        _ => None,
+    }
+}
+
+/// The call of a word and a number.
+fn call_with(word: &str, number: u64) -> Option<Call> {
+    match word {
+        "attach" => Some(Call::Borrow(Origin::Caller(number))),
+        "attach_owned" => Some(Call::Own(Origin::Caller(number))),
+        "drop" => Some(Call::Drop(number as usize)),
+        "forget" => Some(Call::Forget(number as usize)),
+        _ => None,
+    }
 }

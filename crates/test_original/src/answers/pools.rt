@@ -17,8 +17,6 @@ use lockfree_object_pool::{
 use std::ops::DerefMut;
 use std::sync::{Arc, Wait};
 
-pub type Linear = LinearObjectPool<Item, Numbered, Restore, AnyValue>;
-
 /// What a stack pool keeps.
 pub type StackedItems = MadeOrReset<Numbered, Restore, AnyValue>;
 

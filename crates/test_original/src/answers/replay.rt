@@ -4,6 +4,7 @@ use super::held::{Given, Held, Place, Source};
 use super::item::{Item, Shown, Totals};
 use super::pools::Gives;
 use anyhow::{Context, Result, ensure};
+use std::alloc::Global;
 use std::io::{BufRead, BufReader, BufWriter, Write};
 use std::ops::DerefMut;
 use std::sync::Arc;
@@ -33,9 +34,9 @@ impl fmt::Display for Answer {
             Answer::Came(Shown { number, content }, Some(Place { page, id })) => {
                 write!(f, "item {number} at {page} {id} has {content}")
             }
-            Answer::Refused => write!(f, "refused"),
+            Answer::Refused => f.write_str("refused"),
             Answer::Was(content) => write!(f, "had {content}"),
-            Answer::Went => write!(f, "went"),
+            Answer::Went => f.write_str("went"),
         }
     }
 }
@@ -54,31 +55,52 @@ pub fn replay<R: Input + Print + AllocGlobal, P: Gives<R>, Q: Gives<R>>(
     let mut held = Vec::new(rt.alloc());
     let mut output = BufWriter::new(rt.alloc(), io::writer(rt))?;
     for line in BufReader::new(rt.alloc(), rt.reader())?.lines(rt.alloc()) {
-        let line = line?;
-        let words: Vec<&str> = line.split_whitespace().collect(rt.alloc())?;
-        let answer = match call_of(&words).context("a line is no call")? {
-            Call::Borrow(origin) => {
-                let given = borrowed.give(rt, source_of(tally, origin)?);
-                hold_borrowed(&mut held, given)?
-            }
-            Call::Own(origin) => {
-                let given = owned.give(rt, source_of(tally, origin)?);
-                hold_owned(&mut held, given)?
-            }
-            Call::Write { place, content } => write(&mut held, place, content)?,
-            Call::Drop(place) => {
-                drop(taken(&mut held, place)?);
-                Answer::Went
-            }
-            Call::Forget(place) => {
-                mem::forget(taken(&mut held, place)?);
-                Answer::Went
-            }
-        };
-        writeln!(output, "{answer}: {}", Totals { tally })?;
+        let call = call_in(rt.alloc(), line)?;
+        let answer = answer_to(rt, tally, borrowed, owned, &mut held, call)?;
+        show(&mut output, &answer, tally)?;
     }
     output.flush()?;
     Ok(())
+}
+
+/// Writes an answer, and the counts.
+fn show<W: Write>(output: &mut W, answer: &Answer, tally: &Tally) -> Result<()> {
+    writeln!(output, "{answer}: {}", Totals { tally })?;
+    Ok(())
+}
+
+/// The call that a line writes.
+fn call_in(alloc: Global, line: io::Result<String>) -> Result<Call> {
+    let line = line?;
+    let words: Vec<&str> = line.split_whitespace().collect(alloc)?;
+    call_of(&words).context("a line is no call")
+}
+
+/// Does a call, and returns its answer.
+fn answer_to<R, P: Gives<R>, Q: Gives<R>>(
+    rt: &R,
+    tally: &Arc<Tally>,
+    borrowed: &P,
+    owned: &Q,
+    held: &mut Vec<Held<P::Came, Q::Came>>,
+    call: Call,
+) -> Result<Answer>
+    requires borrowed { P.may_give borrowed.now }
+    requires owned { Q.may_give owned.now }
+{
+    match call {
+        Call::Borrow(origin) => {
+            let source = source_of(tally, origin)?;
+            hold_borrowed(held, borrowed.give(rt, source))
+        }
+        Call::Own(origin) => {
+            let source = source_of(tally, origin)?;
+            hold_owned(held, owned.give(rt, source))
+        }
+        Call::Write { place, content } => write(held, place, content),
+        Call::Drop(place) => let_go(held, place, false),
+        Call::Forget(place) => let_go(held, place, true),
+    }
 }
 
 /// What a pool is asked for.
@@ -128,8 +150,14 @@ fn write<A: DerefMut<Target = Item>, B: DerefMut<Target = Item>>(
     Ok(Answer::Was(item.write(content)))
 }
 
-/// The item at a place, which the last one takes.
-fn taken<A: Drop, B: Drop>(held: &mut Vec<Held<A, B>>, place: usize) -> Result<Held<A, B>> {
+/// Drops or forgets the item at a place, which the last one takes.
+fn let_go<H: Drop>(held: &mut Vec<H>, place: usize, is_forgotten: bool) -> Result<Answer> {
     ensure!(place < held.len(), "no such item");
-    Ok(held.swap_remove(place))
+    let item = held.swap_remove(place);
+    if is_forgotten {
+        mem::forget(item);
+    } else {
+        drop(item);
+    }
+    Ok(Answer::Went)
 }

@@ -4,11 +4,15 @@ ghost use Rattle.std.specs.Prelude.{◌≤◌};
 use super::pulls::{Fixed, Lazy, Linear, Near, Pulls, Stack, Stacked, Waiting, WaitingOwner, Zero};
 use super::task::{Kind, Task, Work};
 use super::turns::{be_refused, hold, pull_and_drop, total};
+use crate::shared::shared;
 use anyhow::Result;
+use lockfree_object_pool::clean::AnyValue;
 use lockfree_object_pool::free_list::FreeList;
 use lockfree_object_pool::{
-    FixedObjectPool, LazyObjectPool, LinearObjectPool, MutexObjectPool, SpinLockObjectPool,
+    FixedObjectPool, LazyObjectPool, LinearObjectPool, MutexObjectPool, PullError,
+    SpinLockObjectPool,
 };
+use std::alloc::Global;
 use std::rt::Clock;
 use std::sync::{Arc, Wait};
 use std::thread;
@@ -36,36 +40,20 @@ pub fn measure<R: Clock + Threads + Wait + AllocGlobal + Copy + Send + Sync>(
     rt: &R,
     task: Task,
 ) -> Result<Measured> {
-    let (init, reset) = (Zero::new(0), Zero::new(0));
     match task.kind {
-        Kind::Linear => {
-            let pool = LinearObjectPool::new(rt.alloc(), init, reset)?;
-            measure_linear(rt, pool, task)
-        }
+        Kind::Linear => measure_linear(rt, task),
         Kind::SpinLock => {
-            let pool = SpinLockObjectPool::new(rt.alloc(), init, reset)?;
-            measure_stack(rt, pool, task)
+            let pool = new_spin_lock(rt.alloc())?;
+            measure_stack(rt, task, &pool)
         }
         Kind::Mutex => {
-            let pool = MutexObjectPool::new(rt.alloc(), init, reset);
-            measure_stack(rt, pool, task)
+            let pool = new_mutex(rt.alloc())?;
+            measure_stack(rt, task, &pool)
         }
-        Kind::Fixed => {
-            let pool = FixedObjectPool::new(rt.alloc(), init, reset, items_of(task))?;
-            measure_fixed(rt, pool, task)
-        }
-        Kind::FixedNear => {
-            let pool = FixedObjectPool::new(rt.alloc(), init, reset, items_of(task))?;
-            measure_fixed_near(rt, pool, task)
-        }
-        Kind::Lazy => {
-            let pool = LazyObjectPool::new(rt.alloc(), init, reset, items_of(task))?;
-            measure_lazy(rt, pool, task)
-        }
-        Kind::LazyWait => {
-            let pool = LazyObjectPool::new(rt.alloc(), init, reset, items_of(task))?;
-            measure_lazy_waiting(rt, pool, task)
-        }
+        Kind::Fixed => measure_fixed(rt, task),
+        Kind::FixedNear => measure_fixed_near(rt, task),
+        Kind::Lazy => measure_lazy(rt, task),
+        Kind::LazyWait => measure_lazy_waiting(rt, task),
     }
 }
 
@@ -81,63 +69,87 @@ fn items_of(task: Task) -> usize
     }
 }
 
-fn measure_linear<R: Clock + Threads + AllocGlobal + Sync>(
-    rt: &R,
-    pool: Linear,
-    task: Task,
-) -> Result<Measured> {
-    let pool = Arc::new(rt.alloc(), pool)?;
+fn measure_linear<R: Clock + Threads + AllocGlobal + Sync>(rt: &R, task: Task) -> Result<Measured> {
+    let pool = new_linear(rt.alloc())?;
     measure_pulls(rt, task, &&*pool, &pool)
+}
+
+fn new_linear(alloc: Global) -> Result<Arc<Linear>, PullError> {
+    shared(
+        alloc,
+        LinearObjectPool::new(alloc, Zero::new(0), Zero::new(0))?,
+    )
 }
 
 fn measure_stack<
     R: Clock + Threads + Wait + AllocGlobal + Copy + Send + Sync,
     F: FreeList<u64, Stacked> + Send + Sync,
->(rt: &R, pool: Stack<F>, task: Task) -> Result<Measured> {
-    let pool = Arc::new(rt.alloc(), pool)?;
-    measure_pulls(rt, task, &&*pool, &pool)
+>(rt: &R, task: Task, pool: &Arc<Stack<F>>) -> Result<Measured> {
+    measure_pulls(rt, task, &&**pool, pool)
 }
 
-fn measure_fixed<R: Clock + Threads + AllocGlobal + Sync>(
-    rt: &R,
-    pool: Fixed,
-    task: Task,
-) -> Result<Measured> {
-    let pool = Arc::new(rt.alloc(), pool)?;
+fn new_spin_lock(
+    alloc: Global,
+) -> Result<Arc<SpinLockObjectPool<u64, Zero, Zero, AnyValue>>, PullError> {
+    shared(
+        alloc,
+        SpinLockObjectPool::new(alloc, Zero::new(0), Zero::new(0))?,
+    )
+}
+
+fn new_mutex(alloc: Global) -> Result<Arc<MutexObjectPool<u64, Zero, Zero, AnyValue>>, PullError> {
+    shared(
+        alloc,
+        MutexObjectPool::new(alloc, Zero::new(0), Zero::new(0)),
+    )
+}
+
+fn measure_fixed<R: Clock + Threads + AllocGlobal + Sync>(rt: &R, task: Task) -> Result<Measured> {
+    let pool = new_fixed(rt.alloc(), task)?;
     measure_pulls(rt, task, &&*pool, &pool)
 }
 
 /// Each thread begins at a page of its own, whose word shares no cache line with another thread's.
 fn measure_fixed_near<R: Clock + Threads + AllocGlobal + Sync>(
     rt: &R,
-    pool: Fixed,
     task: Task,
 ) -> Result<Measured> {
-    let pool = Arc::new(rt.alloc(), pool)?;
+    let pool = new_fixed(rt.alloc(), task)?;
     measure_pulls(rt, task, &Near { pool: &pool }, &pool)
 }
 
-fn measure_lazy<R: Clock + Threads + AllocGlobal + Sync>(
-    rt: &R,
-    pool: Lazy,
-    task: Task,
-) -> Result<Measured> {
-    let pool = Arc::new(rt.alloc(), pool)?;
+fn new_fixed(alloc: Global, task: Task) -> Result<Arc<Fixed>, PullError> {
+    let items = items_of(task);
+    shared(
+        alloc,
+        FixedObjectPool::new(alloc, Zero::new(0), Zero::new(0), items)?,
+    )
+}
+
+fn measure_lazy<R: Clock + Threads + AllocGlobal + Sync>(rt: &R, task: Task) -> Result<Measured> {
+    let pool = new_lazy(rt.alloc(), task)?;
     measure_pulls(rt, task, &&*pool, &pool)
 }
 
 /// The lazy pool by pulls that wait.
 fn measure_lazy_waiting<R: Clock + Threads + Wait + AllocGlobal + Sync>(
     rt: &R,
-    pool: Lazy,
     task: Task,
 ) -> Result<Measured> {
-    let pool = Arc::new(rt.alloc(), pool)?;
+    let pool = new_lazy(rt.alloc(), task)?;
     measure_pulls(
         rt,
         task,
         &Waiting { pool: &pool },
         &WaitingOwner { pool: &pool },
+    )
+}
+
+fn new_lazy(alloc: Global, task: Task) -> Result<Arc<Lazy>, PullError> {
+    let items = items_of(task);
+    shared(
+        alloc,
+        LazyObjectPool::new(alloc, Zero::new(0), Zero::new(0), items)?,
     )
 }
 

@@ -112,21 +112,33 @@ fn kind_of(word: &str) -> Option<Kind> {
 
 fn work_of(words: &[&str]) -> Option<Work> {
     match words {
-        ["pull", held] => Some(Work::Pull {
-            held: held.parse().ok()?,
-        }),
-        ["pull_owned", held] => Some(Work::PullOwned {
-            held: held.parse().ok()?,
-        }),
-        ["share", threads, held] => Some(Work::Share {
-            threads: threads.parse().ok()?,
-            held: held.parse().ok()?,
-        }),
         ["hold"] => Some(Work::Hold),
         ["refuse"] => Some(Work::Refuse),
-        ["wait", threads, items] => Some(Work::Wait {
-            threads: threads.parse().ok()?,
-            items: items.parse().ok()?,
+        [word, held] => work_of_one(word, held.parse().ok()?),
+        [word, threads, count] => work_of_threads(word, threads.parse().ok()?, count.parse().ok()?),
+        _ => None,
+    }
+}
+
+/// The work of one thread that a word names, while so many items are held.
+fn work_of_one(word: &str, held: usize) -> Option<Work> {
+    match word {
+        "pull" => Some(Work::Pull { held }),
+        "pull_owned" => Some(Work::PullOwned { held }),
+        _ => None,
+    }
+}
+
+/// The work of so many threads that a word names, with the number behind theirs.
+fn work_of_threads(word: &str, threads: usize, count: usize) -> Option<Work> {
+    match word {
+        "share" => Some(Work::Share {
+            threads,
+            held: count,
+        }),
+        "wait" => Some(Work::Wait {
+            threads,
+            items: count,
         }),
         _ => None,
     }
