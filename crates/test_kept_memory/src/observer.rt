@@ -81,8 +81,9 @@ impl<R: Files + AllocGlobal + Print + Wait + Copy> Observer<R> {
         peak_virtual_kilobytes(&self.rt)
     }
 
-    /// Prints whether the process ever had so many kilobytes more for such work, or for what it
-    /// made, which is there yet. Whether it is: it isn't where a call answered what it should not.
+    /// Prints whether the process ever had so many kilobytes more than before such work. That is
+    /// the most that the work held at once: what it made may be gone by now. `is_made` is false
+    /// where a call answered what it should not.
     ///
     /// # Errors
     ///
