@@ -3,7 +3,9 @@ use crate::assert_equal::assert_equal;
 use crate::calls_of_parts::new_seven;
 use lockfree_object_pool::clean::{AnyValue, Clean, Empty};
 use lockfree_object_pool::closures::{Clear, Init, Keep, Reset, WithCapacity};
+use lockfree_object_pool::fixed_reusable::{FixedReusableOf, SharedFixedPool};
 use lockfree_object_pool::free_list::FreeList;
+use lockfree_object_pool::lazy_reusable::{LazyReusableOf, SharedLazyPool};
 use lockfree_object_pool::made_or_reset::MadeOrReset;
 use lockfree_object_pool::page::{Allocated, Page, PullPass};
 use lockfree_object_pool::recycling::{
@@ -11,6 +13,7 @@ use lockfree_object_pool::recycling::{
 };
 use lockfree_object_pool::spin_lock::SpinLock;
 use lockfree_object_pool::stack_object_pool::StackObjectPool;
+use lockfree_object_pool::stack_reusable::{SharedStackPool, StackReusable};
 use lockfree_object_pool::{
     FixedObjectPool, LazyObjectPool, LinearObjectPool, NoneObjectPool, PullError,
 };
@@ -43,62 +46,140 @@ fn shows_its_value<T: DerefMut<Target = Vec<u8>> + Debug + Drop>(
     shows(rt, alloc, &item, "[5]", "[\n    5,\n]");
 }
 
-/// A linear pool of two pages is shown with its limit, and so are its items.
-fn linear_pool_is_shown<I: Init<Vec<u8>, K>, R: Reset<Vec<u8>, K>, K: Clean<Vec<u8>>>(
+/// What is pulled shows the value that is written to it.
+fn item_is_shown<T: DerefMut<Target = Vec<u8>> + Debug + Drop>(
     rt: &impl Abort,
     alloc: Global,
-    pool: LinearObjectPool<Vec<u8>, I, R, K>,
+    pulled: Result<T, PullError>,
 ) {
+    shows_its_value(rt, alloc, pulled.expect(rt, "an item is given"));
+}
+
+/// As `item_is_shown`, of an item of a fixed pool. Where its proof names no pool, it is short.
+fn fixed_item_is_shown<P: SharedFixedPool<Vec<u8>>>(
+    rt: &impl Abort,
+    alloc: Global,
+    pulled: Result<FixedReusableOf<Vec<u8>, P>, PullError>,
+) {
+    item_is_shown(rt, alloc, pulled);
+}
+
+/// The same of a lazy pool.
+fn lazy_item_is_shown<P: SharedLazyPool<Vec<u8>>>(
+    rt: &impl Abort,
+    alloc: Global,
+    pulled: Result<LazyReusableOf<Vec<u8>, P>, PullError>,
+) {
+    item_is_shown(rt, alloc, pulled);
+}
+
+/// The same of a stack pool.
+fn stack_item_is_shown<P: SharedStackPool<Vec<u8>>, W: Abort + Wait + Copy>(
+    rt: &W,
+    alloc: Global,
+    pulled: Result<StackReusable<Vec<u8>, P, W>, PullError>,
+) {
+    item_is_shown(rt, alloc, pulled);
+}
+
+/// A pool whose items show their values.
+trait ShowsItems<W>: Drop {
+    /// A borrowed item shows its value.
+    fn borrowed_is_shown(&self, rt: &W, alloc: Global);
+
+    /// An owned item shows its value.
+    fn owned_is_shown(pool: &Arc<Self>, rt: &W, alloc: Global);
+}
+
+impl<I: Init<Vec<u8>, K>, R: Reset<Vec<u8>, K>, K: Clean<Vec<u8>>, W: Abort> ShowsItems<W>
+    for LinearObjectPool<Vec<u8>, I, R, K> {
+    fn borrowed_is_shown(&self, rt: &W, alloc: Global) {
+        item_is_shown(rt, alloc, self.pull());
+    }
+
+    fn owned_is_shown(pool: &Arc<Self>, rt: &W, alloc: Global) {
+        item_is_shown(rt, alloc, pool.pull_owned());
+    }
+}
+
+impl<I: Init<Vec<u8>, K>, R: Reset<Vec<u8>, K>, K: Clean<Vec<u8>>, W: Abort> ShowsItems<W>
+    for FixedObjectPool<Vec<u8>, I, R, K> {
+    fn borrowed_is_shown(&self, rt: &W, alloc: Global) {
+        fixed_item_is_shown(rt, alloc, self.pull());
+    }
+
+    fn owned_is_shown(pool: &Arc<Self>, rt: &W, alloc: Global) {
+        fixed_item_is_shown(rt, alloc, pool.pull_owned());
+    }
+}
+
+impl<I: Init<Vec<u8>, K>, R: Reset<Vec<u8>, K>, K: Clean<Vec<u8>>, W: Abort> ShowsItems<W>
+    for LazyObjectPool<Vec<u8>, I, R, K> {
+    fn borrowed_is_shown(&self, rt: &W, alloc: Global) {
+        lazy_item_is_shown(rt, alloc, self.pull());
+    }
+
+    fn owned_is_shown(pool: &Arc<Self>, rt: &W, alloc: Global) {
+        lazy_item_is_shown(rt, alloc, pool.pull_owned());
+    }
+}
+
+impl<
+    I: Init<Vec<u8>, K>,
+    R: Reset<Vec<u8>, K>,
+    K: Clean<Vec<u8>>,
+    F: FreeList<Vec<u8>, MadeOrReset<I, R, K>>,
+    W: Abort + Wait + Copy,
+> ShowsItems<W> for StackObjectPool<Vec<u8>, I, R, K, F> {
+    fn borrowed_is_shown(&self, rt: &W, alloc: Global) {
+        stack_item_is_shown(rt, alloc, self.pull(rt));
+    }
+
+    fn owned_is_shown(pool: &Arc<Self>, rt: &W, alloc: Global) {
+        stack_item_is_shown(rt, alloc, pool.pull_owned(rt));
+    }
+}
+
+/// The items of a pool show their values, and then the pool is shown.
+fn pool_is_shown<P: ShowsItems<W> + Debug, W: Abort>(
+    rt: &W,
+    alloc: Global,
+    made: Result<P, PullError>,
+    plain: &str,
+    pretty: &str,
+) {
+    let pool = made.expect(rt, "a pool is made");
+    let pool = Arc::new(alloc, pool).expect(rt, "memory is left");
+    pool.borrowed_is_shown(rt, alloc);
+    P::owned_is_shown(&pool, rt, alloc);
+    shows(rt, alloc, &*pool, plain, pretty);
+}
+
+/// A linear pool of two pages is shown with its limit, and a fixed pool with its 33 items.
+#[test]
+fn each_pool_that_never_waits_is_shown(rt: HostRuntime) {
+    let linear = Pool::<Vec<u8>>::with_recycler_within(rt.alloc(), 2);
     let (plain, pretty) = (
         "LinearObjectPool { limit: Some(2), .. }",
         "LinearObjectPool {\n    limit: Some(\n        2,\n    ),\n    ..\n}",
     );
-    shows(rt, alloc, &pool, plain, pretty);
-    let pool = Arc::new(alloc, pool).expect(rt, "memory is left");
-    shows_its_value(rt, alloc, pool.pull().expect(rt, "an item is free"));
-    shows_its_value(rt, alloc, pool.pull_owned().expect(rt, "an item is free"));
-}
-
-/// A fixed pool of 33 items is shown with their number, and so are its items.
-fn fixed_pool_is_shown<I: Init<Vec<u8>, K>, R: Reset<Vec<u8>, K>, K: Clean<Vec<u8>>>(
-    rt: &impl Abort,
-    alloc: Global,
-    pool: FixedObjectPool<Vec<u8>, I, R, K>,
-) {
+    pool_is_shown(&rt, rt.alloc(), linear, plain, pretty);
+    let fixed = FixedPool::<Vec<u8>>::with_recycler(rt.alloc(), 33);
     let (plain, pretty) = (
         "FixedObjectPool { items: 33, .. }",
         "FixedObjectPool {\n    items: 33,\n    ..\n}",
     );
-    shows(rt, alloc, &pool, plain, pretty);
-    let pool = Arc::new(alloc, pool).expect(rt, "memory is left");
-    shows_its_value(rt, alloc, pool.pull().expect(rt, "an item is free"));
-    shows_its_value(rt, alloc, pool.pull_owned().expect(rt, "an item is free"));
+    pool_is_shown(&rt, rt.alloc(), fixed, plain, pretty);
 }
 
-#[test]
-fn each_pool_that_never_waits_is_shown(rt: HostRuntime) {
-    let alloc = rt.alloc();
-    let linear = Pool::<Vec<u8>>::with_recycler_within(alloc, 2);
-    linear_pool_is_shown(&rt, alloc, linear.expect(&rt, "a pool is made"));
-    let fixed = FixedPool::<Vec<u8>>::with_recycler(alloc, 33);
-    fixed_pool_is_shown(&rt, alloc, fixed.expect(&rt, "a pool is made"));
-}
-
-/// A lazy pool of three items is shown with their number, and with how many it made. So are its
-/// items.
-fn lazy_pool_is_shown<I: Init<Vec<u8>, K>, R: Reset<Vec<u8>, K>, K: Clean<Vec<u8>>>(
-    rt: &impl Abort,
-    alloc: Global,
-    pool: LazyObjectPool<Vec<u8>, I, R, K>,
-) {
-    let pool = Arc::new(alloc, pool).expect(rt, "memory is left");
-    shows_its_value(rt, alloc, pool.pull().expect(rt, "an item is free"));
-    shows_its_value(rt, alloc, pool.pull_owned().expect(rt, "an item is free"));
+/// A lazy pool of three items is shown with their number, and with how many it made.
+fn lazy_pool_is_shown(rt: &impl Abort, alloc: Global) {
+    let pool = LazyPool::<Vec<u8>>::with_recycler(alloc, 3);
     let (plain, pretty) = (
         "LazyObjectPool { items: 3, made: 1, .. }",
         "LazyObjectPool {\n    items: 3,\n    made: 1,\n    ..\n}",
     );
-    shows(rt, alloc, &*pool, plain, pretty);
+    pool_is_shown(rt, alloc, pool, plain, pretty);
 }
 
 /// A buffer pool is shown with its linear pool, and its buffers with their bytes.
@@ -120,44 +201,33 @@ fn none_pool_is_shown(rt: &impl Abort, alloc: Global) {
     let pool = NoneObjectPool::new(|| Some(Vec::<u8>::new(alloc)));
     let text = "NoneObjectPool { .. }";
     shows(rt, alloc, &pool, text, text);
-    shows_its_value(rt, alloc, pool.pull().expect(rt, "an item is made"));
+    item_is_shown(rt, alloc, pool.pull());
 }
 
 #[test]
 fn each_other_pool_is_shown(rt: HostRuntime) {
     let alloc = rt.alloc();
-    let lazy = LazyPool::<Vec<u8>>::with_recycler(alloc, 3);
-    lazy_pool_is_shown(&rt, alloc, lazy.expect(&rt, "a pool is made"));
+    lazy_pool_is_shown(&rt, alloc);
     none_pool_is_shown(&rt, alloc);
     buffer_pool_is_shown(&rt, alloc);
 }
 
-/// The items of a stack pool are shown.
-fn stack_items_are_shown<
-    I: Init<Vec<u8>, K>,
-    R: Reset<Vec<u8>, K>,
-    K: Clean<Vec<u8>>,
-    F: FreeList<Vec<u8>, MadeOrReset<I, R, K>>,
-    W: Abort + Wait + Copy,
->(rt: &W, alloc: Global, pool: StackObjectPool<Vec<u8>, I, R, K, F>) {
-    let pool = Arc::new(alloc, pool).expect(rt, "memory is left");
-    shows_its_value(rt, alloc, pool.pull(rt).expect(rt, "an item is made"));
-    shows_its_value(rt, alloc, pool.pull_owned(rt).expect(rt, "an item is made"));
+/// A guard of a spin lock shows the value that is written to it.
+fn guard_is_shown<W: Abort + Wait>(rt: &W, alloc: Global) {
+    let lock = SpinLock::new(alloc, Vec::<u8>::new(alloc)).expect(rt, "memory is left");
+    shows_its_value(rt, alloc, lock.lock(rt));
 }
 
 #[test]
 fn each_pool_that_waits_is_shown(rt: HostRuntime) {
     let alloc = rt.alloc();
-    let pool = MutexPool::<Vec<u8>>::with_recycler(alloc);
     let text = "MutexObjectPool { .. }";
-    shows(&rt, alloc, &pool, text, text);
-    stack_items_are_shown(&rt, alloc, pool);
-    let pool = SpinLockPool::<Vec<u8>>::with_recycler(alloc).expect(&rt, "a pool is made");
+    let pool = MutexPool::<Vec<u8>>::with_recycler(alloc);
+    pool_is_shown(&rt, alloc, Ok(pool), text, text);
     let text = "SpinLockObjectPool { .. }";
-    shows(&rt, alloc, &pool, text, text);
-    stack_items_are_shown(&rt, alloc, pool);
-    let lock = SpinLock::new(alloc, Vec::<u8>::new(alloc)).expect(&rt, "memory is left");
-    shows_its_value(&rt, alloc, lock.lock(&rt));
+    let pool = SpinLockPool::<Vec<u8>>::with_recycler(alloc);
+    pool_is_shown(&rt, alloc, pool, text, text);
+    guard_is_shown(&rt, alloc);
 }
 
 /// How many of these values are equal to this one, and how many are shown alike.
