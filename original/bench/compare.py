@@ -90,7 +90,10 @@ def build(original: Path) -> list[Path]:
     link.symlink_to(original.resolve(), target_is_directory=True)
     command = ["cargo", "build", "--release", "--offline", "--quiet"]
     settings = {"CARGO_TARGET_DIR": str(HERE / "target"), "RUSTFLAGS": "-A warnings"}
-    subprocess.run(command, cwd=HERE, env={**os.environ, **settings}, check=True)
+    try:
+        subprocess.run(command, cwd=HERE, env={**os.environ, **settings}, check=True)
+    finally:
+        link.unlink()
     return [OURS / "out" / "test_original", HERE / "target" / "release" / "bench"]
 
 
