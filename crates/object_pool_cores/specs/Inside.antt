@@ -1,4 +1,4 @@
--- What the types of the code show and keep: views and invariants. A theorem is stated in the files
+-- What the types of the code show and keep, and what its steps do. A theorem is stated in the files
 -- beside this folder.
 pub mod Buffered
 pub mod EngineCore
