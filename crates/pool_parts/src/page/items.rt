@@ -1,6 +1,7 @@
 //! The items of a page, or of a fixed pool: words with a bit for each item, and a place for each
 //! item's value.
-ghost use Rattle.std.specs.Prelude.{◌≡◌, ◌+◌, ◌*◌, ◌/◌, ◌^◌, ◌<◌, ◌≤◌, ℕ, [], None, Some, IfOk, IfErr, MatchOption, false};
+ghost use Rattle.std.specs.Prelude.{◌≡◌, ◌+◌, ◌*◌, ◌/◌, ◌^◌, ◌<◌, ◌≤◌, ℕ, [], None, Some, IfOk, IfErr, MatchOption, false, length, All, IsSomeAnd};
+ghost use Rattle.pool_parts.specs.declared.pull_error.PullError.TheVariants.{Memory};
 ghost use Rattle.std.specs.Int.{bit_at};
 
 use super::rule::{Opening, PageRule, Tells, Witnesses};
@@ -68,6 +69,28 @@ impl<T, K: Clean<T>> Items<T, K> {
             (λ items. IsFilled count (λ made. I.post init.now (Some made)) (items_opening items)) }
     {
         let items = Items::<T, K>::make_items(alloc, count, init)?;
+        Items::open(alloc, words, raise, items)
+    }
+
+    /// Shares items that were made, as the words say.
+    fn open(
+        alloc: Global,
+        words: &[u64],
+        raise: u64,
+        items: Vec<Option<T>>,
+    ) -> Result<Items<T, K>, PullError>
+    where
+        T: Drop,
+        requires some_item { 1 ≤ length items.items }
+        requires small { length items.items + 31 < 2 ^ 64 }
+        requires all_free { IsAllFree (length items.items) words.now }
+        requires meets { All (λ item. IsSomeAnd item K.meets) items.items }
+        ensures refused { IfErr result (λ error. error ≡ Memory) }
+        ensures count { IfOk result
+            (λ opened. (items_identity opened).slots ≡ length items.items) }
+        ensures raise { IfOk result (λ opened. items_raise opened ≡ raise) }
+        ensures opened { IfOk result (λ opened. items_opening opened ≡ items.items) }
+    {
         let opening = Opening {
             values: Snapshot::of(&items),
             raise: Snapshot::of(&raise),
