@@ -74,9 +74,9 @@ module _ {T : Type 0} (meets : T → Type 0) where
     nothing_past id out = grind (arith, free.set id, get_or_past items id None)
 
     starts : (raise : ℕ) → IsKept meets raise items (opening words items (first_view items))
-    starts raise = (
-      opens_page,
-      record {
+    starts raise = record {
+      is_page = opens_page;
+      history = record {
         operations = [];
         legal = tt;
         free_lies = λ id free value home. opening_at items id (Some value) home;
@@ -85,11 +85,11 @@ module _ {T : Type 0} (meets : T → Type 0) where
         no_stranger = λ user past. refl;
         counted = λ place. let fits = free.words_fit place in let none = mul-zero raise in
             grind arith;
-      },
-      λ user known at.
+      };
+      have_met = λ user known at.
           let first = (only_one (first_view items) known user at).1 in
-          met_nobody (first_view items ∷ []) known (sym (ap (λ (known : UserView T). known.met) first)),
-    )
+          met_nobody (first_view items ∷ []) known (sym (ap (λ (known : UserView T). known.met) first));
+    }
 
     -- the same of values that are said to be these
     pub opens : (raise : ℕ) (said : List (Option T)) → said ≡ items

@@ -36,22 +36,22 @@ module _ {T : Type 0} (meets : T → Type 0) (raise : ℕ) (opening : List (Opti
   pub loads : (slots place : ℕ)
       → Enters (IsKept meets raise opening) slots place (λ word known. Loads (first_view opening) place word (known, []))
   loads slots place page kept places fits =
-      let has = kept.1 in
+      let has = kept.history in
       let known : UserView T = newcomer raise opening has.operations (length page.views) in
       let own : operations_of (length page.views) has.operations ≡ [] =
       has.no_stranger (length page.views) (omega arith) in
       let sound : IsSound known =
       record { legal = has.legal; since_load = prefix_same has.operations; own_operations = own; holds = refl } in (
         known,
-        (
-          joins_page meets page known kept.0 refl,
-          joins_history raise opening page known has record {
+        record {
+          is_page = joins_page meets page known kept.is_page refl;
+          history = joins_history raise opening page known has record {
             seen = prefix_same has.operations;
             told = (has.operations, sym (append-nil has.operations));
             acting = λ _. record { sound = sound; number = refl; same_opening = refl; own_so_far = own };
-          },
-          met_snoc page.views known (met_nobody page.views known refl) kept.2,
-        ),
+          };
+          have_met = met_snoc page.views known (met_nobody page.views known refl) kept.have_met;
+        },
         record {
           holds_none = refl;
           here = refl;
@@ -68,18 +68,18 @@ module _ {T : Type 0} (meets : T → Type 0) (raise : ℕ) (opening : List (Opti
   -- one user knows something else, and holds what it held, or nothing
   sees : (page : PageState T) (user : ℕ) (old known : UserView T) → (kept : IsKept meets raise opening page)
       → get_elem? page.views user ≡ some old → ((i : ℕ) → known.held ≡ Some i → old.held ≡ Some i)
-      → AllHaveMet (set page.views user known) → Knows opening kept.1.operations user known
+      → AllHaveMet (set page.views user known) → Knows opening kept.history.operations user known
       → IsKept meets raise opening (told_page page user known)
-  sees page user old known kept at held met knows = (
-    keeps_item meets page page.words user old known kept.0 refl (λ i. refl) at held,
-    saw_history raise opening page page.words user known kept.1 (λ i. refl) (λ i. refl) knows,
-    met,
-  )
+  sees page user old known kept at held met knows = record {
+    is_page = keeps_item meets page page.words user old known kept.is_page refl (λ i. refl) at held;
+    history = saw_history raise opening page page.words user known kept.history (λ i. refl) (λ i. refl) knows;
+    have_met = met;
+  }
 
   -- so it is where a user reads a word
   reads : (page : PageState T) (place user : ℕ) (old known : UserView T) → (kept : IsKept meets raise opening page)
       → get_elem? page.views user ≡ some old → known.held ≡ old.held → AllHaveMet (set page.views user known)
-      → Knows opening kept.1.operations user known
+      → Knows opening kept.history.operations user known
       → IsKept meets raise opening
       (state (set page.words place (get_or page.words place 0)) page.homes (set page.views user known))
   reads page place user old known kept at same met knows =
@@ -106,7 +106,7 @@ module _ {T : Type 0} (meets : T → Type 0) (raise : ℕ) (opening : List (Opti
   pub loads_again : (slots place user : ℕ) (me : User T) → me.0.gone ≡ false
       → Allows (IsKept meets raise opening) slots user me place (λ word. word) (LoadsAgain place me)
   loads_again slots place user me here page kept places at fits =
-      let has = kept.1 in
+      let has = kept.history in
       let knew = has.informed user me.0 at in
       let step = after_load raise opening page has user me.0 at here (me.0.loads + 1) me.0.tries in
       let known : UserView T =
@@ -118,7 +118,7 @@ module _ {T : Type 0} (meets : T → Type 0) (raise : ℕ) (opening : List (Opti
         keeps,
         tt,
         reads page place user me.0 known kept at refl
-            (met_same page.views user me.0 known at refl refl refl kept.2)
+            (met_same page.views user me.0 known at refl refl refl kept.have_met)
             record { seen = step.0.seen; told = knew.told; acting = λ _. is },
         record {
           holds_same = refl;
@@ -143,49 +143,49 @@ module _ {T : Type 0} (meets : T → Type 0) (raise : ℕ) (opening : List (Opti
   -- a witness of what a user knows
   pub witnesses : (user : ℕ) (me : UserView T) → Splits (IsKept meets raise opening) user me me (witness_of me)
   witnesses user me page kept at =
-      let has = kept.1 in
+      let has = kept.history in
       subst (λ views. IsKept meets raise opening record
       { words = page.words; homes = page.homes; views = views ++ witness_of me ∷ [] })
-      (sym (set_again page.views user me at)) (
-        joins_page meets page (witness_of me) kept.0 refl,
-        joins_history raise opening page (witness_of me) has record {
+      (sym (set_again page.views user me at)) record {
+        is_page = joins_page meets page (witness_of me) kept.is_page refl;
+        history = joins_history raise opening page (witness_of me) has record {
           seen = (has.informed user me at).seen;
           told = (has.operations, sym (append-nil has.operations));
           acting = λ gone. absurd (true≢false gone);
-        },
-        met_snoc page.views (witness_of me) (met_nobody page.views (witness_of me) refl) kept.2,
-      )
+        };
+        have_met = met_snoc page.views (witness_of me) (met_nobody page.views (witness_of me) refl) kept.have_met;
+      }
 
   -- a user that introduces itself
   pub introduces : (user : ℕ) (me : UserView T) → me.gone ≡ false
       → Splits (IsKept meets raise opening) user me me (introduction_of me)
   introduces user me here page kept at =
-      let has = kept.1 in
+      let has = kept.history in
       let knew = has.informed user me at in
       subst (λ views. IsKept meets raise opening record
       { words = page.words; homes = page.homes; views = views ++ introduction_of me ∷ [] })
-      (sym (set_again page.views user me at)) (
-        joins_page meets page (introduction_of me) kept.0 refl,
-        joins_history raise opening page (introduction_of me) has record {
+      (sym (set_again page.views user me at)) record {
+        is_page = joins_page meets page (introduction_of me) kept.is_page refl;
+        history = joins_history raise opening page (introduction_of me) has record {
           seen = knew.told;
           told = (has.operations, sym (append-nil has.operations));
           acting = λ gone. absurd (true≢false gone);
-        },
-        met_snoc page.views (introduction_of me) (λ other count met.
+        };
+        have_met = met_snoc page.views (introduction_of me) (λ other count met.
             let said : (me.user, me.meetings) ≡ (other, count) = cc in
             let often = ap (λ (said : ℕ × ℕ). said.1) said in (
               me,
               subst (λ i. get_elem? page.views i ≡ some me)
                   (sym (knew.acting here).number ∙ ap (λ (said : ℕ × ℕ). said.0) said) at,
               λ _. omega arith,
-            )) kept.2,
-      )
+            )) kept.have_met;
+      }
 
   -- a user to whom another was introduced is told the history so far
   pub meets_other : (slots place user : ℕ) (me : User T) → me.0.gone ≡ false
       → Allows (IsKept meets raise opening) slots user me place (λ word. word) (λ _. Meets me)
   meets_other slots place user me here page kept places at fits =
-      let has = kept.1 in
+      let has = kept.history in
       let knew = has.informed user me.0 at in
       let is = knew.acting here in
       let known : UserView T = record me.0 { told = has.operations; meetings = me.0.meetings + 1 } in (
@@ -193,7 +193,7 @@ module _ {T : Type 0} (meets : T → Type 0) (raise : ℕ) (opening : List (Opti
         keeps,
         tt,
         reads page place user me.0 known kept at refl
-            (met_set page.views user me.0 known at (λ _. (here, omega arith)) (kept.2 user me.0 at) kept.2) record {
+            (met_set page.views user me.0 known at (λ _. (here, omega arith)) (kept.have_met user me.0 at) kept.have_met) record {
               seen = knew.seen;
               told = prefix_same has.operations;
               acting = λ _. told_since me.0 me.0.since has.operations me.0.met (me.0.meetings + 1) has.operations
@@ -207,7 +207,7 @@ module _ {T : Type 0} (meets : T → Type 0) (raise : ℕ) (opening : List (Opti
           own = ap (λ u. operations_of u has.operations) is.number ∙ is.own_so_far;
           holds = is.sound.holds;
           apart = λ count met.
-              let there = kept.2 user me.0 at me.0.user count met in
+              let there = kept.have_met user me.0 at me.0.user count met in
               let same : there.0 ≡ me.0 =
               some-injective there.0 me.0 (sym there.1 ∙ ap (get_elem? page.views) is.number ∙ at) in
               let said = there.2 (ap (λ (known : UserView T). known.gone) same ∙ here) in
@@ -224,27 +224,27 @@ module _ {T : Type 0} (meets : T → Type 0) (raise : ℕ) (opening : List (Opti
         | inl same ↦ absurd (apart same.0)
         | inr found ↦ found.1
       ] in
-      let knew = kept.1.informed user me at in
+      let knew = kept.history.informed user me at in
       let has_told : IsKept meets raise opening (told_page page user known) =
       sees page user me known kept at (λ i holds. holds)
-      (met_set page.views user me known at (λ _. (here, omega arith)) (kept.2 other them theirs) kept.2) record {
+      (met_set page.views user me known at (λ _. (here, omega arith)) (kept.have_met other them theirs) kept.have_met) record {
         seen = knew.seen;
-        told = (kept.1.informed other them theirs).seen;
+        told = (kept.history.informed other them theirs).seen;
         acting = λ _. let is = knew.acting here in
-            told_since me me.since them.operations them.met me.meetings kept.1.operations user is.sound.since_load is;
+            told_since me me.since them.operations them.met me.meetings kept.history.operations user is.sound.since_load is;
       } in
-      let none : IsPrefixOf [] has_told.1.operations =
-      (has_told.1.operations, sym (append-nil has_told.1.operations)) in
+      let none : IsPrefixOf [] has_told.history.operations =
+      (has_told.history.operations, sym (append-nil has_told.history.operations)) in
       let views : List (UserView T) = set page.views user known in
       sees (told_page page user known) other them gone_view has_told at_other (λ i holds. cc)
       (met_set views other them gone_view at_other (λ gone. absurd (true≢false gone))
-      (met_nobody views gone_view refl) has_told.2)
+      (met_nobody views gone_view refl) has_told.have_met)
       record { seen = none; told = none; acting = λ gone. absurd (true≢false gone) }
 
   pub loads_on : (slots place user : ℕ) (me : User T) → me.0.gone ≡ false
       → Allows (IsKept meets raise opening) slots user me place (λ word. word) (LoadsOn place me)
   loads_on slots place user me here page kept places at fits =
-      let has = kept.1 in
+      let has = kept.history in
       let known : UserView T = has_seen me.0 has.operations (me.0.loads + 1) me.0.tries in
       let step = after_load raise opening page has user me.0 at here (me.0.loads + 1) me.0.tries in
       let is = step.0.acting here in (
@@ -252,7 +252,7 @@ module _ {T : Type 0} (meets : T → Type 0) (raise : ℕ) (opening : List (Opti
         keeps,
         tt,
         reads page place user me.0 known kept at refl
-            (met_same page.views user me.0 known at refl refl refl kept.2) step.0,
+            (met_same page.views user me.0 known at refl refl refl kept.have_met) step.0,
         record {
           holds_same = refl;
           carries_same = refl;
@@ -268,16 +268,16 @@ module _ {T : Type 0} (meets : T → Type 0) (raise : ℕ) (opening : List (Opti
       → (slots : ℕ) → length page.homes ≡ slots → (place bit : ℕ) → bit < 32
       → bit_at (get_or page.words place 0) bit ≡ 1
       → (item_of place bit < slots)
-      × ((value : T) × (value_at own kept.1.operations (item_of place bit) ≡ Some value))
+      × ((value : T) × (value_at own kept.history.operations (item_of place bit) ≡ Some value))
   set_free page kept own same slots places place bit within one =
       let id : ℕ = item_of place bit in
       let free : IsSet page id = item_bit_of page.words place bit within ∙ one in
-      let item = kept.0.free_is_home id free in
+      let item = kept.is_page.free_is_home id free in
       let inside = at_below page.homes id (some (Some item.0)) item.1 in (
         omega arith,
         (
           item.0,
-          ap (λ o. value_at o kept.1.operations id) same ∙ kept.1.free_lies id free item.0 item.1,
+          ap (λ o. value_at o kept.history.operations id) same ∙ kept.history.free_lies id free item.0 item.1,
         ),
       )
 
@@ -286,7 +286,7 @@ module _ {T : Type 0} (meets : T → Type 0) (raise : ℕ) (opening : List (Opti
       Counts slots place me word (count_in word))
   unfolding loads_on
   counts slots place user me once here page kept places at fits =
-      let has = kept.1 in
+      let has = kept.history in
       let loaded = loads_on slots place user me here page kept places at fits in
       let opened = (has.informed user me.0 at).acting here in (
         loaded.0,
@@ -307,8 +307,8 @@ module _ {T : Type 0} (meets : T → Type 0) (raise : ℕ) (opening : List (Opti
       → Allows (IsKept meets raise opening) slots user me place (λ word.
       bit_and word operand) (Clears meets slots place operand me)
   clears slots place user operand bit me within inside lacks holds_none here page kept places at fits =
-      let is = kept.0 in
-      let has = kept.1 in
+      let is = kept.is_page in
+      let has = kept.history in
       let word : ℕ = get_or page.words place 0 in
       let words : List ℕ = set page.words place (bit_and word operand) in
       let id : ℕ = item_of place bit in
@@ -337,11 +337,11 @@ module _ {T : Type 0} (meets : T → Type 0) (raise : ℕ) (opening : List (Opti
               known,
               takes id (Some item.0),
               item.1,
-              (
-                takes_item meets page words user id known is inside_places turned free refl,
-                history.0,
-                met_same page.views user me.0 known at refl refl refl kept.2,
-              ),
+              record {
+                is_page = takes_item meets page words user id known is inside_places turned free refl;
+                history = history.0;
+                have_met = met_same page.views user me.0 known at refl refl refl kept.have_met;
+              },
               record {
                 took = λ i inside lacks_i _. subst (λ i.
                     Takes meets slots (item_of place i) me (known, (id, Some item.0) ∷ me.1))
@@ -367,11 +367,12 @@ module _ {T : Type 0} (meets : T → Type 0) (raise : ℕ) (opening : List (Opti
               known,
               keeps,
               tt,
-              (
-                keeps_item meets page words user me.0 known is turned.same_count same_bits at (λ i holds. holds),
-                saw_history raise opening page words user known has same_bits counts_same step.0,
-                met_same page.views user me.0 known at refl refl refl kept.2,
-              ),
+              record {
+                is_page = keeps_item meets page words user me.0 known is turned.same_count same_bits at
+                    (λ i holds. holds);
+                history = saw_history raise opening page words user known has same_bits counts_same step.0;
+                have_met = met_same page.views user me.0 known at refl refl refl kept.have_met;
+              },
               record {
                 took = λ i inside lacks_i one. let here =
                     ap (bit_at word) (lacks_one operand bit i inside lacks lacks_i) in absurd (omega arith);
@@ -416,8 +417,8 @@ module _ {T : Type 0} (meets : T → Type 0) (raise : ℕ) (opening : List (Opti
       moved ∙ ap (λ (carried : List (ℕ × Option T)). (out.0, (id, Some value) ∷ rest carried)) carries in
       subst (λ me. Allows (IsKept meets raise opening) slots user me (id / 32) (λ word.
       (word + operand) % 2 ^ 64) (λ _. GivesBack me)) (sym is_me) (λ page kept places at fits.
-      let is = kept.0 in
-      let has = kept.1 in
+      let is = kept.is_page in
+      let has = kept.history in
       let place : ℕ = id / 32 in
       let bit : ℕ = id % 32 in
       let word : ℕ = get_or page.words place 0 in
@@ -444,11 +445,11 @@ module _ {T : Type 0} (meets : T → Type 0) (raise : ℕ) (opening : List (Opti
         known,
         gives,
         tt,
-        (
-          gives_item meets page words user id out.0 value known is inside turned at holds met refl,
-          history.0,
-          met_same page.views user out.0 known at refl refl refl kept.2,
-        ),
+        record {
+          is_page = gives_item meets page words user id out.0 value known is inside turned at holds met refl;
+          history = history.0;
+          have_met = met_same page.views user out.0 known at refl refl refl kept.have_met;
+        },
         record {
           holds_none = refl;
           carries = refl;

@@ -114,8 +114,10 @@ module _ {T : Type 0} where
   AllHaveMet views = (user : ℕ) (known : UserView T) → get_elem? views user ≡ some known → HasMet views known
 
   -- what holds of a page between any two steps
-  abbrev pub IsKept : (T → Type 0) → ℕ → List (Option T) → PageState T → Type 0
-  IsKept meets raise opening page = IsPage meets page × HasHistory raise opening page × AllHaveMet page.views
+  pub record IsKept (meets : T → Type 0) (raise : ℕ) (opening : List (Option T)) (page : PageState T) : Type 0 where
+    pub is_page : IsPage meets page
+    pub history : HasHistory raise opening page
+    pub have_met : AllHaveMet page.views
 
   -- a user went on: the page's history is longer by what others did, and then by what it did itself
   pub record GoesOn (made : History T) (old new : UserView T) : Type 0 where
