@@ -1,10 +1,31 @@
 -- Items of a page that meet one condition, and so another; and what is known of one of them.
-use Rattle.std.proofs.Common.{◌≡◌, ℕ, zero, suc, ◌<◌, List, [], ◌∷◌, length, Option, Some, None, get_or, arith, subst}
-use Rattle.std.proofs.lemmas.List.Elements.{All-get_or}
+use Rattle.std.proofs.Common.{◌≡◌, ℕ, zero, suc, ◌+◌, ◌<◌, List, [], ◌∷◌, ◌++◌, length, Option, Some, None, get_or}
+use Rattle.std.proofs.Common.{arith, refl, subst, sym, length-append}
+use Rattle.std.proofs.lemmas.List.Elements.{All-append, All-get_or, All-nil}
 use Rattle.std.specs.Prelude.{IsSomeAnd}
 use Rattle.pool_parts.specs.Items.{IsFilled}
 
 module _ {T : Type 0} where
+  -- no items
+  pub filled_none : (meets : T → Type 0) (items : List (Option T)) → items ≡ [] → IsFilled 0 meets items
+  filled_none meets items none = subst (IsFilled 0 meets) (sym none) record {
+    all = refl;
+    each = All-nil (λ item. IsSomeAnd item meets);
+  }
+
+  only_item : (meets : T → Type 0) (value : T) → meets value → (id : ℕ) (other : Option T) → id < 1
+      → IsSomeAnd (get_or (Some value ∷ []) id other) meets
+  only_item meets value met zero other below = met
+  only_item meets value met (suc id) other below = absurd (omega arith)
+
+  -- one item more
+  pub filled_more : (meets : T → Type 0) (count : ℕ) (items more : List (Option T)) (value : T)
+      → IsFilled count meets items → more ≡ items ++ Some value ∷ [] → meets value → IsFilled (count + 1) meets more
+  filled_more meets count items more value is pushed met = subst (IsFilled (count + 1) meets) (sym pushed) record {
+    all = let all = is.all in let longer = length-append items (Some value ∷ []) in omega arith;
+    each = All-append (λ item. IsSomeAnd item meets) items (Some value ∷ []) is.each (only_item meets value met);
+  }
+
   is_some_as : (made opens : T → Type 0) → ((value : T) → made value → opens value) → (item : Option T)
       → IsSomeAnd item made → IsSomeAnd item opens
   is_some_as made opens every (Some value) is = every value is

@@ -1,11 +1,15 @@
--- What a user has seen that tried the bits of a word.
-use Rattle.std.proofs.Common.{◌≡◌, ◌≢◌, [], ℕ, ◌+◌, ◌-◌, ◌*◌, ◌<◌, ◌≤◌, ap, sym, ◌∙◌, subst, arith}
+-- What a user has seen that tried the bits of a word, and how a value moves out and back.
+use Rattle.std.proofs.Common.{◌≡◌, ◌≢◌, List, [], ◌∷◌, get_or, Option, None, Some, ℕ, ◌+◌, ◌-◌, ◌*◌, ◌<◌, ◌≤◌}
+use Rattle.std.proofs.Common.{ap, sym, ◌∙◌, subst, arith}
 use Rattle.std.specs.Int.{bit_at}
 use native.Mathlib.Decide.{ℕ_discrete}
 use mathlib.Core.Logic.{dite}
 use Rattle.pool_parts.specs.Word.{ClearsBit, IsLeastBit}
 use Rattle.pool_parts.specs.Ledger.{History, IsPrefixOf, WasOutBetween}
-use Rattle.pool_parts.specs.Inside.PageRule.{User, item_of, GoesOn, Misses}
+use Rattle.atomic_table.specs.Table.{rest}
+use Rattle.pool_parts.specs.declared.page.history.Operation.TheVariants.{Pull, Return}
+use Rattle.pool_parts.specs.declared.page.user_view.UserView.{UserView}
+use Rattle.pool_parts.specs.Inside.PageRule.{User, item_of, GoesOn, Misses, Takes, MovesOut, GivesBack}
 use Rattle.pool_parts.specs.Inside.Taking.{MissesAll}
 use Rattle.pool_parts.proofs.Ledger.{still_out, out_since}
 
@@ -47,3 +51,43 @@ module _ {T : Type 0} where
         subst (WasOutBetween new.0.opening old.0.operations new.0.operations) whole (each (id - 32 * place) (omega arith));
     goes_on = goes;
   }
+
+-- what an exchange finds at the item that a step took
+pub came_out : {T : Type 0} (meets : T → Type 0) (places id : ℕ) (found : Option T) (old took : User T)
+    → (takes : Takes meets places id old took) → took.1 ≡ (id, found) ∷ rest took.1 → found ≡ Some takes.value.0
+came_out {T} meets places id found old took takes at =
+    ap (λ (carried : List (ℕ × Option T)). (get_or carried 0 (id, None)).1) (sym at ∙ takes.value.2)
+
+-- the item was taken, and an exchange moved its value out
+pub moved_out : {T : Type 0} (meets : T → Type 0) (places id : ℕ) (found : Option T) (value : T) (old took new : User T)
+    → Takes meets places id old took → took.1 ≡ (id, found) ∷ rest took.1
+    → new ≡ (took.0, (id, None) ∷ rest took.1) → found ≡ Some value
+    → (id < places) × meets value × MovesOut id value old new
+moved_out {T} meets places id found value old took new takes at moved is =
+    let lay = takes.value in
+    let out : found ≡ Some lay.0 = came_out meets places id found old took takes at in
+    let same : lay.0 ≡ value = cc in
+    subst (λ (new : User T). (id < places) × meets value × MovesOut id value old new) (sym moved) (
+      takes.in_places,
+      subst meets same lay.1,
+      record {
+        holds = takes.holds;
+        carries = ap (λ (carried : List (ℕ × Option T)). (id, None) ∷ rest carried) lay.2;
+        counts = takes.counts;
+        goes_on = subst (λ v. GoesOn (Pull took.0.user id v ∷ []) old.0 took.0) same lay.3;
+      },
+    )
+
+-- a holder's value went home, and then its bit was set
+pub gave_back : {T : Type 0} (id : ℕ) (value : T) (out home new : User T) → out.0.held ≡ Some id
+    → out.1 ≡ (id, None) ∷ [] → home ≡ (out.0, (id, Some value) ∷ rest out.1) → GivesBack home new
+    → (new.1 ≡ []) × GoesOn (Return new.0.user id value ∷ []) out.0 new.0
+gave_back {T} id value out home new holds carries moved gives =
+    let is_home : home ≡ (out.0, (id, Some value) ∷ []) =
+    moved ∙ ap (λ (carried : List (ℕ × Option T)). (out.0, (id, Some value) ∷ rest carried)) carries in
+    let carried : home.1 ≡ (id, Some value) ∷ [] = ap (λ (me : User T). me.1) is_home in (
+      gives.carries ∙ ap rest carried,
+      subst (λ (known : UserView T). GoesOn (Return new.0.user id value ∷ []) known new.0)
+          (ap (λ (me : User T). me.0) is_home)
+          (gives.operations id value (ap (λ (me : User T). me.0.held) is_home ∙ holds) carried),
+    )

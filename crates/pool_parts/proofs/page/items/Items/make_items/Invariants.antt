@@ -1,10 +1,9 @@
-use Rattle.std.proofs.Common.{◌≡◌, length, Some}
-use Rattle.std.specs.Prelude.{All, IsSomeAnd}
+use Rattle.std.proofs.Common.{Some}
+use Rattle.pool_parts.specs.Items.{IsFilled}
 use Rattle.pool_parts.proofs.page.items.Items.make_items.Given as goal
 
 abbrev pub invariant-loop : goal.invariant-loop
 invariant-loop g l = record {
-  made : length l.items.items ≡ l.counter;
-  each : All (λ item. IsSomeAnd item g.K.Clean.meets) l.items.items;
-  answers : All (λ item. IsSomeAnd item (λ made. g.I.Fn.post l.init tt (Some made))) l.items.items;
+  meet : IsFilled l.counter g.K.Clean.meets l.items.items;
+  answers : IsFilled l.counter (λ made. g.I.Fn.post l.fn.init tt (Some made)) l.items.items;
 }
