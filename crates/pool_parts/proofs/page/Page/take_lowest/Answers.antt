@@ -1,4 +1,4 @@
-use Rattle.std.proofs.Common.{◌∙◌, ◌∷◌, [], sym, ap, subst, arith}
+use Rattle.std.proofs.Common.{◌∙◌, ◌∷◌, [], None, sym, ap, subst, arith}
 use Rattle.atomic_table.specs.Seated.{TableId}
 use Rattle.pool_parts.specs.Item.{Item, IsItemOf}
 use Rattle.pool_parts.specs.Page.{page_identity}
@@ -44,3 +44,32 @@ invariant_of-result g c =
       found = ∣ (λ id within. knows_out c.args.seat.me.0 c.take_lowest.new.seat.me.0 id missed.goes_on
           c.requires.sound.since_load (missed.each_was_out id (omega arith) (omega arith))) ∣₁;
     }
+
+pub take_lowest-requires-clause-in_items : goal.take_lowest-requires-clause-in_items
+take_lowest-requires-clause-in_items g c = omega (arith, c.args.self.now.items.covered, c.args.self.now.items.some_item)
+
+pub take_lowest-requires-clause-found : goal.take_lowest-requires-clause-found
+take_lowest-requires-clause-found g c = c.requires.found
+
+pub invariant_of-id : goal.invariant_of-id
+invariant_of-id g c =
+    let took = c.in-Some.ensures.outcome in
+    record {
+      here = took.goes_on.here;
+      holds = took.holds;
+      carries = took.carries ∙ ap (λ carried. (c.in-Some.taken.number, None) ∷ carried) c.requires.carries_none;
+    }
+
+pub returns-in-Some-clause-loads : goal.returns-in-Some-clause-loads
+returns-in-Some-clause-loads g c =
+    ap (λ (known : UserView g.row.T.Denot). known.loads) c.new.ensures.view ∙ c.take_lowest.ensures.steps.0
+
+pub returns-in-Some-clause-tries : goal.returns-in-Some-clause-tries
+returns-in-Some-clause-tries g c =
+    rw (ap (λ (known : UserView g.row.T.Denot). known.tries) c.new.ensures.view) c.take_lowest.ensures.steps.1
+
+pub returns-in-None-clause-loads : goal.returns-in-None-clause-loads
+returns-in-None-clause-loads g c = c.take_lowest.ensures.steps.0
+
+pub returns-in-None-clause-tries : goal.returns-in-None-clause-tries
+returns-in-None-clause-tries g c = c.take_lowest.ensures.steps.1
