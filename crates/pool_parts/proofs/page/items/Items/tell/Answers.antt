@@ -1,4 +1,4 @@
-use Rattle.std.proofs.Common.{arith}
+use Rattle.std.proofs.Common.{arith, ◌∙◌, sym}
 use Rattle.pool_parts.proofs.PageSteps.{tells}
 use Rattle.pool_parts.proofs.page.items.Items.tell.Goals as goal
 
@@ -10,3 +10,26 @@ join_seat-requires g c = (
   omega (arith, c.args.self.now.covered, c.args.self.now.some_item),
   tells _ _ _ _ _ _ _ c.args.note.now.here,
 )
+
+pub invariant_of-note : goal.invariant_of-note
+invariant_of-note g c =
+    let found = rw c.join_seat.ensures.2 at c.look_again.ensures.found in
+    let note = c.args.note.now in
+    record {
+      here = found.here;
+      holds_none = found.holds_same ∙ note.holds_none;
+      carries_none = found.carries_same ∙ note.carries_none;
+    }
+
+pub returns : goal.returns
+returns g c =
+    let found = rw c.join_seat.ensures.2 at c.look_again.ensures.found in
+    record {
+      of_page = c.look_again.ensures.items ∙ c.join_seat.ensures.0;
+      same_user = found.starts.same_user;
+      same_opening = found.starts.same_opening;
+      legal = found.sound.legal;
+      from_own = found.starts.after_known;
+      from_told = found.starts.after_told;
+      same_operations = found.sound.own_operations ∙ found.starts.own_same ∙ sym found.starts.own_before;
+    }
