@@ -1,9 +1,13 @@
--- Items of a page that meet one condition, and so another; and what is known of one of them.
+-- Items of a page that meet one condition, and so another; what is known of one of them; and what opens with them.
 use Rattle.std.proofs.Common.{◌≡◌, ℕ, zero, suc, ◌+◌, ◌<◌, List, [], ◌∷◌, ◌++◌, length, Option, Some, None, get_or}
 use Rattle.std.proofs.Common.{arith, refl, subst, sym, length-append}
 use Rattle.std.proofs.lemmas.List.Elements.{All-append, All-get_or, All-nil}
 use Rattle.std.specs.Prelude.{IsSomeAnd}
+use Rattle.std.proofs.Common.{Result, Ok, Err, IfOk, IfErr}
+use Rattle.pool_parts.specs.declared.pull_error.PullError.{PullError}
+use Rattle.pool_parts.specs.declared.pull_error.PullError.TheVariants.{Memory}
 use Rattle.pool_parts.specs.Items.{IsFilled}
+use Rattle.pool_parts.specs.Refusal.{RefusesMaking}
 
 module _ {T : Type 0} where
   -- no items
@@ -47,3 +51,16 @@ module _ {T : Type 0} where
   filled_at made count items id value is at =
       subst (λ item. IsSomeAnd item made) at
       (All-get_or (λ item. IsSomeAnd item made) items id None (below_length items id value at) is.each)
+
+  -- what opens with items that are filled is filled at its opening
+  pub opened_filled : {A E : Type 0} (opening : A → List (Option T)) (meets : T → Type 0) (count : ℕ)
+      (items : List (Option T)) → IsFilled count meets items → (opened : Result A E)
+      → IfOk opened (λ value. opening value ≡ items) → IfOk opened (λ value. IsFilled count meets (opening value))
+  opened_filled opening meets count items is (Ok value) same = subst (IsFilled count meets) (sym same) is
+  opened_filled opening meets count items is (Err error) same = tt
+
+-- a refusal for want of memory is one that the making of items may answer
+pub refuses_memory : {A : Type 0} (none : Type 0) (made : Result A PullError) → IfErr made (λ error. error ≡ Memory)
+    → IfErr made (RefusesMaking none)
+refuses_memory none (Ok value) is = tt
+refuses_memory none (Err error) is = subst (RefusesMaking none) (sym is) tt

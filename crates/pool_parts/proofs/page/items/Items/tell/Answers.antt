@@ -1,4 +1,5 @@
-use Rattle.std.proofs.Common.{arith, ◌∙◌, sym}
+use Rattle.std.proofs.Common.{arith, ◌∙◌, ap, sym}
+use Rattle.pool_parts.specs.Inside.PageRule.{User}
 use Rattle.pool_parts.proofs.PageSteps.{tells}
 use Rattle.pool_parts.proofs.page.items.Items.tell.Goals as goal
 
@@ -33,3 +34,13 @@ returns g c =
       from_told = found.starts.after_told;
       same_operations = found.sound.own_operations ∙ found.starts.own_same ∙ sym found.starts.own_before;
     }
+
+pub look_again-requires-clause-items : goal.look_again-requires-clause-items
+look_again-requires-clause-items g c = c.join_seat.ensures.0 ∙ c.requires.note
+
+pub look_again-requires-clause-in_items : goal.look_again-requires-clause-in_items
+look_again-requires-clause-in_items g c = omega (arith, c.args.self.now.covered, c.args.self.now.some_item)
+
+pub look_again-requires-clause-here : goal.look_again-requires-clause-here
+look_again-requires-clause-here g c =
+    ap (λ (me : User g.row.T.Denot). me.0.gone) c.join_seat.ensures.2 ∙ c.args.note.now.here
