@@ -108,7 +108,7 @@ impl<T: Drop, K: Clean<T>, O: Clean<T>> Chain<T, K, O> {
                 }
             }
         }
-        self.first().walk_on(seen, known, limit, init)
+        self.first().walk_on(seen, &mut known, limit, init)
     }
 
     /// Returns the first page that a hint names within the limit, its number, and a note of the

@@ -1,5 +1,5 @@
 //! The walk from page to page for an item.
-ghost use Rattle.std.specs.Prelude.{◌≡◌, ◌+◌, ◌-◌, ◌≤◌, ◌<◌, ⊤, Option, None, Some, IfSome, IsSome, IsTrue, IsFalse, IfOk, IfErr};
+ghost use Rattle.std.specs.Prelude.{◌≡◌, ◌+◌, ◌-◌, ◌^◌, ◌≤◌, ◌<◌, ⊤, Option, None, Some, IfSome, IsSome, IsTrue, IsFalse, IfOk, IfErr};
 ghost use Rattle.std.specs.Arc.{arc_value};
 ghost use Rattle.pool_parts.specs.Answers.{MayOpen};
 ghost use Rattle.pool_parts.specs.FullSeen.{full_page};
@@ -51,11 +51,43 @@ pub enum WalkRefusal<'p, T, K: Clean<T>, O: Clean<T>> {
 }
 
 /// A page that was found full in this pull, its number, and a note of the link to it.
-#[derive(Drop)]
 pub(super) struct KnownFull<'p, T, K: Clean<T>, O: Clean<T>> {
     pub(super) number: usize,
     pub(super) note: LinkNote<T, K, O>,
     pub(super) seen: FullSeen<'p, T>,
+}
+
+/// Not derived: so a caller's proof has one call here, not one for each field.
+impl<T, K: Clean<T>, O: Clean<T>> Drop for KnownFull<'_, T, K, O> {
+    fn drop(self) {
+        let KnownFull {
+            number: _,
+            note: _,
+            seen: _,
+        } = self;
+    }
+}
+
+impl<'p, T, K: Clean<T>, O: Clean<T>> KnownFull<'p, T, K, O> {
+    ghost use Rattle.page_chain.specs.LinkNote.{known_link, known_next};
+
+    /// Returns the evidence that the page was full, and compares another note of its link.
+    fn into_seen(self, note: &mut LinkNote<T, K, O>) -> FullSeen<'p, T>
+        requires { known_link self.note ≡ known_link note.old }
+        ensures link { known_link note.new ≡ known_link note.old }
+        ensures next { known_next note.new ≡ known_next note.old }
+        ensures agree { IfSome (known_next self.entry.note)
+            (λ page. IfSome (known_next note.old) (λ known. known ≡ page)) }
+        ensures seen { result ≡ self.entry.seen }
+    {
+        let KnownFull {
+            number: _,
+            note: known,
+            seen,
+        } = self;
+        note.compare(known);
+        seen
+    }
 }
 
 impl<T, K: Clean<T>, O: Clean<T>> From<PullError> for WalkRefusal<'_, T, K, O> {
@@ -208,7 +240,7 @@ impl<'c, T: Drop, K: Clean<T>, O: Clean<T>> LinearPage<'c, T, K, O> {
                     number,
                 })
             }
-            Allocated::Full(seen) => match self.walk_on(seen, None, limit, init) {
+            Allocated::Full(seen) => match self.walk_on(seen, &mut None, limit, init) {
                 Ok(reached) => Ok(reached),
                 Err(refusal) => Err(refusal.cause()),
             },
@@ -226,12 +258,12 @@ impl<'c, T: Drop, K: Clean<T>, O: Clean<T>> LinearPage<'c, T, K, O> {
     pub(super) fn walk_on<'p, I: Fn() -> Option<T>>(
         &self,
         seen: FullSeen<'p, T>,
-        hinted: Option<KnownFull<'p, T, K, O>>,
+        hinted: &mut Option<KnownFull<'p, T, K, O>>,
         limit: Option<usize>,
         init: &I,
     ) -> Result<WalkEnd<'c, T, K, O>, WalkRefusal<'p, T, K, O>>
         requires of_page { full_page seen ≡ shown_page self.now }
-        requires hinted { IfSome hinted (IsFullAt self.now.directory.now) }
+        requires hinted { IfSome hinted.old (IsFullAt self.now.directory.now) }
         requires some_page { IfSome limit (λ pages. 1 ≤ pages) }
         requires opens { MayOpen I.pre I.post K.meets O.meets init.now }
         ensures taken { IfOk result (λ reached.
@@ -246,7 +278,7 @@ impl<'c, T: Drop, K: Clean<T>, O: Clean<T>> LinearPage<'c, T, K, O> {
         let pass = seen.pass;
         let mut page: &'c OpenedPage<T, K, O> = self.page;
         let mut at = PageNumber::of_start(self.directory.allocator(), self.number);
-        let (mut full, mut hinted) = (seen, hinted);
+        let mut full = seen;
         loop {
             let number = at.get();
             if is_last(limit, number - self.number) {
@@ -255,16 +287,15 @@ impl<'c, T: Drop, K: Clean<T>, O: Clean<T>> LinearPage<'c, T, K, O> {
                     seen: full,
                 }));
             }
-            let next = number.checked_add(1).ok_or(PullError::Memory)?;
-            let (linked, mut note) = self.behind(next, page, full, init)?;
-            let (known, rest) = known_at(hinted, next);
-            hinted = rest;
-            match self.ask(linked, next, &mut note, known, pass) {
+            let (linked, mut note) = self.behind(number, page, full, init)?;
+            let answer = self.ask(linked, number + 1, &mut note, hinted, pass);
+            at = PageNumber::of_link(number + 1, note);
+            match answer {
                 Allocated::Slot(slot) => {
                     return Ok(WalkEnd {
                         slot,
                         page: linked.owner(),
-                        number: PageNumber::of_link(next, note),
+                        number: at,
                     });
                 }
                 Allocated::Full(seen) => {
@@ -272,12 +303,11 @@ impl<'c, T: Drop, K: Clean<T>, O: Clean<T>> LinearPage<'c, T, K, O> {
                 }
             }
             page = linked;
-            at = PageNumber::of_link(next, note);
         }
     }
 
-    /// Returns the page with this number and a note of its link. If the page before it has no link
-    /// yet, it makes the page and links it.
+    /// Returns the page behind the one with this number, and a note of the link to it. If there is
+    /// none yet, it makes the page and links it.
     fn behind<I: Fn() -> Option<T>>(
         &self,
         number: usize,
@@ -285,68 +315,59 @@ impl<'c, T: Drop, K: Clean<T>, O: Clean<T>> LinearPage<'c, T, K, O> {
         seen: FullSeen<'_, T>,
         init: &I,
     ) -> Result<(&'c OpenedPage<T, K, O>, LinkNote<T, K, O>), PullError>
-        requires past_first { 0 < number }
         requires of_page { full_page seen ≡ page_identity (arc_value before.now) }
         requires opens { MayOpen I.pre I.post K.meets O.meets init.now }
+        ensures fits { IfOk result (λ _. number + 1 < 2 ^ 64) }
         ensures known { IfOk result
-            (λ next. IsKnownAt self.now.directory.now number next.1
+            (λ next. IsKnownAt self.now.directory.now (number + 1) next.1
             (page_identity (arc_value next.0.now))) }
         ensures refused { IfErr result (RefusesMaking (I.post init.now None)) }
     {
-        let before = LinearPage::new(self.directory, before, number - 1);
+        let before = LinearPage::new(self.directory, before, number);
         let mut note = before.next_note()?;
         let next = before.get_or_create_next_as(seen, init, &mut note)?;
         Ok((next.page, note))
     }
 
-    /// Pulls from a page that the walk came to, or returns what the page answered already in this
-    /// pull.
+    /// Pulls from a page that the walk came to. If it is the one that was asked by a hint, it
+    /// returns what that page answered in this pull.
     fn ask<'p>(
         &self,
         page: &'c OpenedPage<T, K, O>,
         number: usize,
         note: &mut LinkNote<T, K, O>,
-        known: Option<KnownFull<'p, T, K, O>>,
+        hinted: &mut Option<KnownFull<'p, T, K, O>>,
         pass: &'p PullPass,
     ) -> Allocated<'c, 'p, T, K>
         requires linked { IsKnownAt self.now.directory.now number note.old
             (page_identity (arc_value page.now)) }
-        requires full { IfSome known (IsFullAt self.now.directory.now) }
-        requires here { IfSome known (λ known. known.number ≡ number) }
+        requires full { IfSome hinted.old (IsFullAt self.now.directory.now) }
+        ensures full { IfSome hinted.new (IsFullAt self.now.directory.now) }
         ensures linked { IsKnownAt self.now.directory.now number note.new
             (page_identity (arc_value page.now)) }
         ensures answer { IsAnsweredBy K.meets O.meets (page_identity (arc_value page.now)) result }
     {
-        match known {
-            Some(known) => {
-                note.compare(known.note);
-                Allocated::Full(known.seen)
-            }
+        match known_at(hinted, number) {
+            Some(known) => Allocated::Full(known.into_seen(note)),
             None => page.take(pass).answer,
         }
     }
 }
 
-/// Splits what was found of the hinted page: first if it has this number, second otherwise.
+/// Takes what was found of the hinted page, if it has this number.
 fn known_at<'p, T, K: Clean<T>, O: Clean<T>>(
-    hinted: Option<KnownFull<'p, T, K, O>>,
+    hinted: &mut Option<KnownFull<'p, T, K, O>>,
     number: usize,
-) -> (
-    Option<KnownFull<'p, T, K, O>>,
-    Option<KnownFull<'p, T, K, O>>,
-)
-    ensures same { IfSome result.0 (λ known. hinted.entry ≡ Some known) }
-    ensures here { IfSome result.0 (λ known. known.number ≡ number) }
-    ensures rest { IfSome result.1 (λ rest. hinted.entry ≡ Some rest) }
+) -> Option<KnownFull<'p, T, K, O>>
+    ensures same { IfSome result (λ known. hinted.old ≡ Some known) }
+    ensures here { IfSome result (λ known. known.number ≡ number) }
+    ensures rest { IfSome hinted.new (λ rest. hinted.old ≡ Some rest) }
 {
-    let Some(known) = hinted else {
-        return (None, None);
+    let is_here = match hinted {
+        Some(known) => known.number == number,
+        None => false,
     };
-    if known.number == number {
-        (Some(known), None)
-    } else {
-        (None, Some(known))
-    }
+    if is_here { hinted.take() } else { None }
 }
 
 /// Returns whether the page after so many links is the last that the limit allows.

@@ -1,6 +1,5 @@
-use Rattle.std.proofs.Common.{rules, arith, sym, subst, inr}
-use Rattle.pool_parts.specs.Slot.{slot_item}
-use Rattle.page_chain.specs.Walk.{start_at}
+use Rattle.std.proofs.Common.{◌≡◌, ◌+◌, ◌-◌, ◌<◌, IfSome, refl, arith, sym, subst, inr}
+use Rattle.page_chain.specs.Walk.{start_at, number_of}
 use Rattle.page_chain.specs.Inside.Walk.{IsKnownAt}
 use Rattle.page_chain.proofs.FullPages.{one_more_full}
 use Rattle.page_chain.proofs.linear_page.LinearPage.walk_on.Goals as goal
@@ -22,29 +21,41 @@ returns-then-is_last-clause-evidence g c =
 pub returns-in-Slot-clause-taken : goal.returns-in-Slot-clause-taken
 returns-in-Slot-clause-taken g c =
     let links = c.args.self.now.directory.now in
-    let known : IsKnownAt {opens = g.O.Clean} links c.in_ok-next.next _ (slot_item c.in-Slot.slot).page =
-    subst (IsKnownAt {opens = g.O.Clean} links c.in_ok-next.next _) (sym c.in-Slot.ensures.answer.0.of_page)
-    c.in-Slot.ensures.linked in
+    let from_start = c.loop-pass.invariant.from_start in
+    let here = c.get-number.ensures in
+    let next = c.of_link-at.ensures.number in
+    let answer = c.in-Slot.ensures.answer in
+    let further : c.get-number.result - c.args.self.now.number + 1 ≡ number_of c.of_link-at.result - c.args.self.now.number
+    = omega (arith, from_start, here, next) in
     record {
-      is_item = search rules;
-      opened = search rules;
-      pulled = search rules;
-      from_start = search rules;
-      on_page = inr (c.of_link.ensures.linked _ _ known);
-      of_start = search rules;
-      within = search rules;
+      is_item = record { of_page = refl; in_page = answer.0.in_page; meets_condition = answer.0.meets_condition };
+      opened = answer.1;
+      pulled = answer.2;
+      from_start = omega (arith, from_start, here, next);
+      on_page = inr (c.of_link-at.ensures.linked _ _
+          (subst (IsKnownAt {opens = g.O.Clean} links _ _) (sym answer.0.of_page) c.in-Slot.ensures.linked));
+      of_start = λ same. absurd (omega (arith, from_start, here, next, same));
+      within = subst (λ passed. IfSome c.args.limit (λ pages. passed < pages)) further
+          (c.is_last.ensures.not_last c.if-is_last.false);
     }
 
 pub loop-pass-preserved : goal.loop-pass-preserved
 loop-pass-preserved g c =
+    let links = c.args.self.now.directory.now in
     let kept = c.loop-pass.invariant in
+    let here = c.get-number.ensures in
+    let next = c.of_link-at.ensures.number in
     let start = start_at {opens = g.O.Clean} c.args.self.now in
+    let further : c.get-number.result - c.args.self.now.number + 1 ≡ number_of c.of_link-at.result - c.args.self.now.number
+    = omega (arith, kept.from_start, here, next) in
     record {
-      from_start = search rules;
-      full = search rules;
-      on_page = search rules;
+      from_start = omega (arith, kept.from_start, here, next);
+      full = c.in-Full.ensures.answer;
+      on_page = inr (c.of_link-at.ensures.linked _ _
+          (subst (IsKnownAt {opens = g.O.Clean} links _ _) (sym c.in-Full.ensures.answer) c.in-Full.ensures.linked));
       each = λ number from within. one_more_full start c.loop-pass.at c.loop-pass.full kept.on_page kept.each number from
-          (search rules);
-      hinted = search rules;
-      within = search rules;
+          (omega (arith, within, here, next));
+      hinted = c.in-Full.ensures.full;
+      within = subst (λ passed. IfSome c.args.limit (λ pages. passed < pages)) further
+          (c.is_last.ensures.not_last c.if-is_last.false);
     }
