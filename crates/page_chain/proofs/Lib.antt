@@ -1,3 +1,4 @@
 pub mod FullPages
 pub mod LinkPlaces
 pub mod NumberShared
+pub mod TakenItems
