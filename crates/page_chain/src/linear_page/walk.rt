@@ -324,8 +324,7 @@ impl<'c, T: Drop, K: Clean<T>, O: Clean<T>> LinearPage<'c, T, K, O> {
         ensures refused { IfErr result (RefusesMaking (I.post init.now None)) }
     {
         let before = LinearPage::new(self.directory, before, number);
-        let mut note = before.next_note()?;
-        let next = before.get_or_create_next_as(seen, init, &mut note)?;
+        let (next, note) = before.get_or_create_next(seen, init)?;
         Ok((next.page, note))
     }
 
