@@ -150,9 +150,7 @@ pub type FixedReusable<'p, T, I, R, K = AnyValue> = FixedReusableOf<
 impl<T: Drop, P: SharedFixedPool<T>> FixedReusableOf<T, P> {
     ghost use Rattle.pool_parts.specs.Note.{IsGivenBack};
     ghost use Rattle.fixed_pools.specs.Inside.FixedItem.{pulled_item, pulled_view};
-    ghost use Rattle.fixed_pools.specs.FixedAnswer.{returns_since};
     ghost use Rattle.fixed_pools.specs.FixedReusable.{reusable_pool, reusable_item, reusable_view};
-    ghost use Rattle.fixed_pools.specs.StepCount.{steps_of};
     ghost use Rattle.pool_parts.specs.Note.{witness_page, witness_history};
     ghost use Rattle.pool_parts.specs.declared.page.TheConstants.{PAGE_ITEMS};
 
@@ -161,8 +159,7 @@ impl<T: Drop, P: SharedFixedPool<T>> FixedReusableOf<T, P> {
         requires in_pool { pulled.holding.number < (P.identity pool).slots }
         ensures pool { reusable_pool result ≡ pool }
         ensures item { reusable_item result ≡ pulled_item pulled }
-        ensures steps { steps_of (reusable_view result) ≡ steps_of (pulled_view pulled) }
-        ensures returns { returns_since (reusable_view result) ≡ returns_since (pulled_view pulled) }
+        ensures view { reusable_view result ≡ pulled_view pulled }
     {
         let PulledItem { holding, value } = pulled;
         FixedReusableOf {
