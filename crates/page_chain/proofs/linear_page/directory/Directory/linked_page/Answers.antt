@@ -1,4 +1,5 @@
 use Rattle.std.proofs.Common.{sym, ◌∙◌}
+use Rattle.std.proofs.lemmas.Option.{none-some}
 use Rattle.page_chain.proofs.LinkPlaces.{knows_link}
 use Rattle.page_chain.proofs.linear_page.directory.Directory.linked_page.Goals as goal
 
@@ -12,6 +13,12 @@ get_as-requires g c =
     let here = rw c.get.ensures at c.place-place.ensures in
     let note = c.into_note-note.ensures in
     (λ i. (note.row i, note.offset i)) ∙ (knows_link _ _ _ _ c.requires here).place
+
+pub unreachable-requires : goal.unreachable-requires
+unreachable-requires g c =
+    let here = rw c.get.ensures at c.place-place.ensures in
+    let known = c.into_note-note.ensures.next ∙ (knows_link _ _ _ _ c.requires here).leads_here in
+    none-some _ (sym c.in_default.ensures.none ∙ known)
 
 pub returns : goal.returns
 returns g c =
