@@ -35,10 +35,7 @@ impl<T: Drop, K: Clean<T>, O: Clean<T>> Row<T, K, O> {
         ensures refused { IfErr result (RefusesMaking ⊥) }
     {
         let len = 1 << number;
-        let mut links = Vec::with_capacity(alloc, len)?;
-        for _ in 0..len {
-            links.push(OnceBox::new(alloc))?;
-        }
+        let links = empty_cells(alloc, len)?;
         let hints = no_hints(alloc, len.div_ceil(HINTS))?;
         Ok(Box::new(alloc, Row { links, hints })?)
     }
@@ -52,6 +49,18 @@ impl<T: Drop, K: Clean<T>, O: Clean<T>> Row<T, K, O> {
         }
         None
     }
+}
+
+/// Returns set-once cells in which nothing is set.
+fn empty_cells<X: Drop>(alloc: Global, count: usize) -> Result<Vec<OnceBox<X>>, PullError>
+    ensures len { IfOk result (λ cells. length cells.items ≡ count) }
+    ensures refused { IfErr result (RefusesMaking ⊥) }
+{
+    let mut cells = Vec::with_capacity(alloc, count)?;
+    for _ in 0..count {
+        cells.push(OnceBox::new(alloc))?;
+    }
+    Ok(cells)
 }
 
 /// Returns words in which no hint is set.
@@ -102,13 +111,9 @@ impl<T: Drop, K: Clean<T>, O: Clean<T>> Directory<T, K, O> {
     pub(super) fn new(alloc: Global) -> Result<Directory<T, K, O>, PullError>
         ensures refused { IfErr result (RefusesMaking ⊥) }
     {
-        let mut rows = Vec::with_capacity(alloc, ROWS)?;
-        for _ in 0..ROWS {
-            rows.push(OnceBox::new(alloc))?;
-        }
         Ok(Directory {
             alloc,
-            rows,
+            rows: empty_cells(alloc, ROWS)?,
             hinted_rows: HintWord::new(),
         })
     }
