@@ -187,8 +187,8 @@ impl<T: Drop, K: Clean<T>, O: Clean<T>> Directory<T, K, O> {
         requires { 0 < number }
     {
         let place = self.place(number);
-        if let Some((word, bit)) = place.hint() {
-            word.set(bit);
+        if let Some(word) = place.hint_word() {
+            word.set(place.hint_place());
             self.hinted_rows.set(number.ilog2());
         }
     }
@@ -197,8 +197,9 @@ impl<T: Drop, K: Clean<T>, O: Clean<T>> Directory<T, K, O> {
     pub(super) fn clear_hint(&self, number: usize)
         requires { 0 < number }
     {
-        if let Some((word, bit)) = self.place(number).hint() {
-            word.clear(bit);
+        let place = self.place(number);
+        if let Some(word) = place.hint_word() {
+            word.clear(place.hint_place());
         }
     }
 
@@ -248,13 +249,16 @@ impl<'c, T: Drop, K: Clean<T>, O: Clean<T>> LinkPlace<'c, T, K, O> {
     ghost use Rattle.page_chain.specs.Inside.Links.{link_cell};
     ghost use Rattle.pool_parts.specs.Page.{page_identity};
 
-    /// Returns the word of the page's hint and the hint's place in it, if the row exists.
-    fn hint(&self) -> Option<(&'c HintWord, u32)>
-        ensures { IfSome result (λ hint. hint.1 < 64) }
+    /// Returns the word of the page's hint, if the row exists.
+    fn hint_word(&self) -> Option<&'c HintWord> {
+        self.row.get()?.hints.get(self.offset / HINTS)
+    }
+
+    /// Returns the place of the page's hint in its word.
+    fn hint_place(&self) -> u32
+        ensures { result < 64 }
     {
-        let hints = &self.row.get()?.hints;
-        let word = hints.get(self.offset / HINTS)?;
-        Some((word, (self.offset % HINTS) as u32))
+        (self.offset % HINTS) as u32
     }
 
     /// Returns a note of the link, if the row exists.
