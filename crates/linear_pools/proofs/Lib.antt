@@ -1,1 +1,2 @@
+pub mod PullAnswers
 pub mod ReusableShared

@@ -16,7 +16,7 @@ use pool_parts::PullError;
 use pool_parts::clean::{AnyValue, Clean};
 use pool_parts::closures::{Init, Reset};
 use pool_parts::made_or_reset::MadeOrReset;
-use pool_parts::page::{Allocated, FullSeen, PageNote, PullPass};
+use pool_parts::page::{Allocated, FullSeen, PageNote, PageSlot, PullPass};
 use std::alloc::Global;
 use std::fmt::{self, Debug, Formatter, Write};
 use std::sync::Arc;
@@ -94,7 +94,7 @@ impl<T: Drop, I: Init<T, K>, R: Reset<T, K>, K: Clean<T>> LinearObjectPool<T, I,
     ghost use Rattle.linear_pools.specs.LinearPool.{pool_init, pool_reset, pool_limit, pool_first_page};
     ghost use Rattle.linear_pools.specs.LinearPool.{reusable_pool, reusable_item, reusable_page};
     ghost use Rattle.linear_pools.specs.LinearPool.{owned_pool, owned_item, owned_page, Pulls, PullsAfter, IsLinearRefusal};
-    ghost use Rattle.page_chain.specs.Walk.{number_of, cause_of};
+    ghost use Rattle.page_chain.specs.Walk.{number_of};
     ghost use Rattle.pool_parts.specs.Note.{note_page};
     ghost use Rattle.pool_parts.specs.Refusal.{RefusesMaking, RefusesPull};
     ghost use Rattle.pool_parts.specs.Slot.{slot_item};
@@ -196,9 +196,9 @@ impl<T: Drop, I: Init<T, K>, R: Reset<T, K>, K: Clean<T>> LinearObjectPool<T, I,
     {
         let pass = PullPass::new();
         match self.chain.ask_first(&pass) {
-            Allocated::Slot(slot) => Ok(LinearReusable::new(self, slot, self.chain.first_number())),
-            Allocated::Full(seen) => match self.pull_further(seen) {
-                Ok(reached) => Ok(LinearReusable::new(self, reached.slot, reached.number)),
+            Allocated::Slot(slot) => Ok(self.of_first(slot)),
+            Allocated::Full(seen) => match self.pull_on(seen) {
+                Ok(item) => Ok(item),
                 Err(refusal) => Err(refusal.cause()),
             },
         }
@@ -217,20 +217,8 @@ impl<T: Drop, I: Init<T, K>, R: Reset<T, K>, K: Clean<T>> LinearObjectPool<T, I,
         ensures refused { IfErr result (IsLinearRefusal I.answers self.now) }
     {
         match self.chain.ask_first(pass) {
-            Allocated::Slot(slot) => {
-                let number = self.chain.first_number();
-                Ok(LinearReusable::new(self, slot, number))
-            }
-            Allocated::Full(seen) => match self.pull_further(seen) {
-                Ok(
-                    WalkEnd {
-                        slot,
-                        number,
-                        page: _,
-                    },
-                ) => Ok(LinearReusable::new(self, slot, number)),
-                Err(refusal) => Err(refusal),
-            },
+            Allocated::Slot(slot) => Ok(self.of_first(slot)),
+            Allocated::Full(seen) => self.pull_on(seen),
         }
     }
 
@@ -252,20 +240,8 @@ impl<T: Drop, I: Init<T, K>, R: Reset<T, K>, K: Clean<T>> LinearObjectPool<T, I,
         ensures refused { IfErr result (IsLinearRefusal I.answers self.now) }
     {
         match self.chain.ask_first_from(pass, note) {
-            Allocated::Slot(slot) => {
-                let number = self.chain.first_number();
-                Ok(LinearReusable::new(self, slot, number))
-            }
-            Allocated::Full(seen) => match self.pull_further(seen) {
-                Ok(
-                    WalkEnd {
-                        slot,
-                        number,
-                        page: _,
-                    },
-                ) => Ok(LinearReusable::new(self, slot, number)),
-                Err(refusal) => Err(refusal),
-            },
+            Allocated::Slot(slot) => Ok(self.of_first(slot)),
+            Allocated::Full(seen) => self.pull_on(seen),
         }
     }
 
@@ -283,6 +259,19 @@ impl<T: Drop, I: Init<T, K>, R: Reset<T, K>, K: Clean<T>> LinearObjectPool<T, I,
             (I.answers (pool_init (arc_value self.now)) None)) }
     {
         let owner = Arc::try_clone(self)?;
+        self.pull_by(owner)
+    }
+
+    /// Pulls as `pull` does, for an owner of this pool. The reusable has that owner.
+    #[inline]
+    fn pull_by(&self, owner: Arc<Self>) -> Result<LinearOwnedReusable<T, I, R, K>, PullError>
+        requires { arc_value owner ≡ self.now }
+        ensures pool { IfOk result (λ item. owned_pool item ≡ self.now) }
+        ensures pulled { IfOk result (λ item.
+            Pulls K.meets I.answers R.leaves self.now (owned_page item) (owned_item item)) }
+        ensures refused { IfErr result
+            (RefusesPull (IsSome (pool_limit self.now)) (I.answers (pool_init self.now) None)) }
+    {
         let pass = PullPass::new();
         match self.chain.ask_first(&pass) {
             Allocated::Slot(slot) => {
@@ -296,6 +285,35 @@ impl<T: Drop, I: Init<T, K>, R: Reset<T, K>, K: Clean<T>> LinearObjectPool<T, I,
         }
     }
 
+    /// Holds an item of the first page.
+    #[inline]
+    fn of_first<'s>(
+        &'s self,
+        slot: PageSlot<'s, T, MadeOrReset<I, R, K>>,
+    ) -> LinearReusable<'s, T, I, R, K>
+        ensures pool { reusable_pool result ≡ self.now }
+        ensures item { reusable_item result ≡ slot_item slot.entry }
+        ensures number { number_of (reusable_page result) ≡ 0 }
+    {
+        LinearReusable::new(self, slot, self.chain.first_number())
+    }
+
+    /// Pulls on after the first page was found full, and holds the item.
+    #[inline]
+    fn pull_on<'s, 'p>(&'s self, seen: FullSeen<'p, T>) -> LinearPulled<'s, 'p, T, I, R, K>
+        requires { full_page seen ≡ pool_first_page self.now }
+        ensures pool { IfOk result (λ item. reusable_pool item ≡ self.now) }
+        ensures pulled { IfOk result (λ item.
+            Pulls K.meets I.answers R.leaves self.now (reusable_page item) (reusable_item item)) }
+        ensures past_first { IfOk result (λ item. 0 < number_of (reusable_page item)) }
+        ensures refused { IfErr result (IsLinearRefusal I.answers self.now) }
+    {
+        match self.pull_further(seen) {
+            Ok(reached) => Ok(LinearReusable::new(self, reached.slot, reached.number)),
+            Err(refusal) => Err(refusal),
+        }
+    }
+
     /// Pulls on after the first page was found full. It returns the item with its page's number.
     #[inline]
     fn pull_further<'s, 'p>(
@@ -306,10 +324,7 @@ impl<T: Drop, I: Init<T, K>, R: Reset<T, K>, K: Clean<T>> LinearObjectPool<T, I,
         ensures pulled { IfOk result (λ reached.
             Pulls K.meets I.answers R.leaves self.now reached.number (slot_item reached.slot)) }
         ensures past_first { IfOk result (λ reached. 0 < number_of reached.number) }
-        ensures evidence { IfErr result (IsLinearRefusal I.answers self.now) }
-        ensures refused { IfErr result (λ refusal.
-            RefusesPull (IsSome (pool_limit self.now)) (I.answers (pool_init self.now) None)
-            (cause_of refusal)) }
+        ensures refused { IfErr result (IsLinearRefusal I.answers self.now) }
     {
         let init = &self.init;
         self.chain.pull_further(seen, self.limit(), &|| init.make())

@@ -1,14 +1,8 @@
-use Rattle.std.proofs.Common.{rules}
+use Rattle.linear_pools.proofs.PullAnswers.{first_pulls}
 use Rattle.linear_pools.proofs.linear_object_pool.LinearObjectPool.try_pull.Goals as goal
 
 pub returns-in-Slot-clause-pulled : goal.returns-in-Slot-clause-pulled
-returns-in-Slot-clause-pulled g c = record {
-  in_page = search rules;
-  on_page = search rules;
-  within = search rules;
-  opened = search rules;
-  same_opening = search rules;
-  pulled = search rules;
-  meets_condition = search rules;
-  made_or_reset = search rules;
-}
+returns-in-Slot-clause-pulled g c =
+    let answer = c.in-Slot.ensures.answer in
+    first_pulls _ _ _ _ _ _ _ c.of_first.ensures.item c.of_first.ensures.number answer.0 answer.1 answer.2
+    c.in-Slot.ensures.opening

@@ -1,0 +1,123 @@
+-- That what a chain's pages answered is what a linear pool's pull gives.
+use Rattle.std.proofs.Common.{◌≡◌, ℕ, ◌-◌, ◌<◌, Option, None, Some, IfSome, IsSome, Ok, Err, IfOk, refl, sym, subst, inl, arith}
+use Rattle.std.specs.declared.result.Result.{Result}
+use Rattle.std.specs.Option.{option_map}
+use Rattle.pool_parts.specs.Answers.{IsAnswer, IsMadeOrReset}
+use Rattle.pool_parts.specs.Item.{Item, IsItemOf, IsPulled}
+use Rattle.pool_parts.specs.Items.{IsFilled}
+use Rattle.pool_parts.specs.Note.{IsPulledAfter}
+use Rattle.page_chain.specs.Walk.{Start, number_of, IsTaken, IsRefusedBy, cause_of}
+use Rattle.page_chain.specs.declared.linear_page.page_number.PageNumber.{PageNumber}
+use Rattle.page_chain.specs.declared.linear_page.walk.WalkEnd.{WalkEnd}
+use Rattle.page_chain.specs.declared.linear_page.walk.WalkRefusal.{WalkRefusal}
+use Rattle.page_chain.specs.declared.linear_page.walk.WalkRefusal.TheVariants.{Limit, Making}
+use Rattle.pool_parts.specs.Refusal.{RefusesPull}
+use Rattle.pool_parts.specs.Slot.{slot_item}
+use Rattle.pool_parts.specs.declared.pull_error.PullError.{PullError}
+use Rattle.pool_parts.specs.declared.pull_error.PullError.TheVariants.{Memory, Init, Limit as LimitCause}
+use Rattle.pool_parts.specs.declared.made_or_reset.MadeOrReset.{MadeOrReset}
+use Rattle.pool_parts.specs.declared.page.TheConstants.{PAGE_ITEMS}
+use Rattle.pool_parts.specs.declared.page.note.PageNote.{PageNote}
+use Rattle.linear_pools.specs.LinearPool.{pool_limit, pool_start, pool_first_page, pool_first_opening, reusable_page, reusable_item, Pulls, PullsAfter}
+use Rattle.linear_pools.specs.declared.linear_object_pool.LinearObjectPool.{LinearObjectPool}
+use Rattle.linear_pools.specs.declared.linear_object_pool.answer_of.AnswerOf.{AnswerOf}
+use Rattle.linear_pools.specs.declared.linear_object_pool.page_limit.PageLimit.{PageLimit}
+use Rattle.linear_pools.specs.declared.linear_reusable.LinearReusable.{LinearReusable}
+
+within_first : (limit : Option PageLimit) (number : ℕ) → number ≡ 0
+    → IfSome (option_map (λ limit. limit.pages) limit) (λ pages. number < pages)
+within_first None number first = tt
+within_first (Some limit) number first = let some_page = limit.some_page in omega arith
+
+within_from_first : (limit : Option ℕ) (number : ℕ) → IfSome limit (λ pages. number - 0 < pages)
+    → IfSome limit (λ pages. number < pages)
+within_from_first None number within = tt
+within_from_first (Some pages) number within = omega (arith, within)
+
+-- a pull whose walk had no item is refused for the walk's cause
+pub refuses_pull : {T K O : Type 0} (start : Start) (limit : Option ℕ) (init_refuses : Type 0)
+    (refusal : WalkRefusal T K O) (cause : PullError) → cause ≡ cause_of refusal
+    → IsRefusedBy start limit init_refuses refusal → RefusesPull (IsSome limit) init_refuses cause
+refuses_pull start limit init_refuses (Limit seen) cause same refused =
+    rw same (subst (λ limit. IsSome limit) (sym refused.1) refl)
+refuses_pull start limit init_refuses (Making Memory) cause same refused = rw same tt
+refuses_pull start limit init_refuses (Making Init) cause same refused = rw same refused
+refuses_pull start limit init_refuses (Making LimitCause) cause same refused = absurd refused
+
+module _ {T I R K : Type 0} (meets : T → Type 0) (answers : I → Option T → Type 0) (leaves : R → T → T → Type 0)
+    (pool : LinearObjectPool T I R K) where
+  -- an item that the first page answered is what a pull gives
+  pub first_pulls : (number : PageNumber T (MadeOrReset I R K) (AnswerOf I K)) (held item : Item T) → held ≡ item
+      → number_of number ≡ 0
+      → IsItemOf (λ value. meets value × IsMadeOrReset answers leaves value) (pool_first_page pool) item
+      → IsFilled PAGE_ITEMS (IsAnswer answers) item.opening → IsPulled item → item.opening ≡ pool_first_opening pool
+      → Pulls meets answers leaves pool number held
+  first_pulls number held item same first is_item opened pulled opening =
+      subst (λ item. Pulls meets answers leaves pool number item) (sym same) (record {
+        in_page = is_item.in_page;
+        on_page = inl (first, is_item.of_page);
+        within = within_first pool.limit number.number first;
+        opened = opened;
+        same_opening = λ _. opening;
+        pulled = pulled;
+        meets_condition = is_item.meets_condition.0;
+        made_or_reset = is_item.meets_condition.1;
+      })
+
+  -- an item that the walk took past the first page is what a pull gives
+  pub further_pulls : {E : Type 0} (limit : Option ℕ)
+      (result : Result (WalkEnd T (MadeOrReset I R K) (AnswerOf I K)) E) → limit ≡ pool_limit pool
+      → IfOk result (λ reached. IsTaken (λ value. meets value × IsMadeOrReset answers leaves value) (IsAnswer answers)
+      (pool_start pool) limit reached.number (slot_item reached.slot))
+      → IfOk result (λ reached. 0 < number_of reached.number)
+      → IfOk result (λ reached. Pulls meets answers leaves pool reached.number (slot_item reached.slot))
+  further_pulls limit (Ok reached) same taken past = record {
+    in_page = taken.is_item.in_page;
+    on_page = taken.on_page;
+    within = subst (λ limit. IfSome limit (λ pages. number_of reached.number < pages)) same
+        (within_from_first limit reached.number.number taken.within);
+    opened = taken.opened;
+    same_opening = λ zero. absurd (omega (arith, past, zero));
+    pulled = taken.pulled;
+    meets_condition = taken.is_item.meets_condition.0;
+    made_or_reset = taken.is_item.meets_condition.1;
+  }
+  further_pulls limit (Err refusal) same taken past = tt
+
+  -- a pull gives the same item of the same page, however they are held
+  pub same_pulls : (number other : PageNumber T (MadeOrReset I R K) (AnswerOf I K)) (held item : Item T)
+      → number ≡ other → held ≡ item → Pulls meets answers leaves pool other item
+      → Pulls meets answers leaves pool number held
+  same_pulls number other held item same_number same pulls =
+      subst (λ item. Pulls meets answers leaves pool number item) (sym same)
+      (subst (λ number. Pulls meets answers leaves pool number item) (sym same_number) pulls)
+
+  -- an item that the first page answered after a note of it is what a pull by the note gives
+  pub first_after : (note : PageNote T) (number : PageNumber T (MadeOrReset I R K) (AnswerOf I K)) (held item : Item T)
+      → held ≡ item → number_of number ≡ 0
+      → IsItemOf (λ value. meets value × IsMadeOrReset answers leaves value) (pool_first_page pool) item
+      → IsPulledAfter note item → PullsAfter meets answers leaves pool note number held
+  first_after note number held item same first is_item after =
+      subst (λ item. PullsAfter meets answers leaves pool note number item) (sym same) (record {
+        in_page = is_item.in_page;
+        meets_condition = is_item.meets_condition.0;
+        made_or_reset = is_item.meets_condition.1;
+        of_first = λ _. is_item.of_page;
+        after_note = λ _. after;
+        further = λ past. absurd (omega (arith, past, first));
+      })
+
+  -- a note of the first page says nothing of an item of a later one
+  pub further_after : {E : Type 0} (note : PageNote T) (result : Result (LinearReusable T I R K) E)
+      → IfOk result (λ item. Pulls meets answers leaves pool (reusable_page item) (reusable_item item))
+      → IfOk result (λ item. 0 < number_of (reusable_page item))
+      → IfOk result (λ item. PullsAfter meets answers leaves pool note (reusable_page item) (reusable_item item))
+  further_after note (Ok item) pulls past = record {
+    in_page = pulls.in_page;
+    meets_condition = pulls.meets_condition;
+    made_or_reset = pulls.made_or_reset;
+    of_first = λ zero. absurd (omega (arith, past, zero));
+    after_note = λ zero. absurd (omega (arith, past, zero));
+    further = λ _. pulls;
+  }
+  further_after note (Err refusal) pulls past = tt
