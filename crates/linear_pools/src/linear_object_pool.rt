@@ -171,8 +171,10 @@ impl<T: Drop, I: Init<T, K>, R: Reset<T, K>, K: Clean<T>> LinearObjectPool<T, I,
     pub fn limit(&self) -> Option<usize>
         ensures { result ≡ pool_limit self.now }
     {
-        let PageLimit { pages } = self.limit.as_ref()?;
-        Some(*pages)
+        match &self.limit {
+            Some(limit) => Some(limit.pages),
+            None => None,
+        }
     }
 
     /// Pulls a free item, which nobody else has until it is dropped. It waits for no other thread.
