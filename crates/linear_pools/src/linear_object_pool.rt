@@ -261,26 +261,14 @@ impl<T: Drop, I: Init<T, K>, R: Reset<T, K>, K: Clean<T>> LinearObjectPool<T, I,
             (I.answers (pool_init (arc_value self.now)) None)) }
     {
         let owner = Arc::try_clone(self)?;
-        self.pull_by(owner)
-    }
-
-    /// Pulls as `pull` does, for an owner of this pool. The reusable has that owner.
-    #[inline]
-    fn pull_by(&self, owner: Arc<Self>) -> Result<LinearOwnedReusable<T, I, R, K>, PullError>
-        requires { arc_value owner ≡ self.now }
-        ensures pool { IfOk result (λ item. owned_pool item ≡ self.now) }
-        ensures pulled { IfOk result (λ item.
-            Pulls K.meets I.answers R.leaves self.now (owned_page item) (owned_item item)) }
-        ensures refused { IfErr result
-            (RefusesPull (IsSome (pool_limit self.now)) (I.answers (pool_init self.now) None)) }
-    {
+        let pool: &Self = self;
         let pass = PullPass::new();
-        match self.chain.ask_first(&pass) {
+        match pool.chain.ask_first(&pass) {
             Allocated::Slot(slot) => {
-                let number = self.chain.first_number();
+                let number = pool.chain.first_number();
                 Ok(LinearOwnedReusable::new(owner, slot, number))
             }
-            Allocated::Full(seen) => match self.pull_further(seen) {
+            Allocated::Full(seen) => match pool.pull_further(seen) {
                 Ok(reached) => Ok(LinearOwnedReusable::new(owner, reached.slot, reached.number)),
                 Err(refusal) => Err(refusal.cause()),
             },
