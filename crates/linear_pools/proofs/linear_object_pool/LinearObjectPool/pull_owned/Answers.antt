@@ -1,7 +1,7 @@
 use Rattle.std.proofs.Common.{None, IsSome, subst}
 use Rattle.pool_parts.specs.Refusal.{RefusesPull}
 use Rattle.linear_pools.specs.LinearPool.{pool_init, pool_limit, owned_item, owned_page, Pulls}
-use Rattle.linear_pools.proofs.PullAnswers.{first_pulls, same_pulls, refuses_pull}
+use Rattle.linear_pools.proofs.PullAnswers.{first_pulls, refuses_pull}
 use Rattle.linear_pools.proofs.linear_object_pool.LinearObjectPool.pull_owned.Goals as goal
 
 pub returns-in-Slot-clause-pulled : goal.returns-in-Slot-clause-pulled
@@ -11,12 +11,6 @@ returns-in-Slot-clause-pulled g c =
     (owned_item c.new.result)) c.deref-pool.ensures
     (first_pulls _ _ _ _ _ _ _ c.new.ensures.item (rw c.new.ensures.page c.first_number-number.ensures) answer.0 answer.1
     answer.2 c.in-Slot.ensures.opening)
-
-pub returns-in-Ok-clause-pulled : goal.returns-in-Ok-clause-pulled
-returns-in-Ok-clause-pulled g c =
-    subst (λ pool. Pulls g.K.Clean.meets g.I.Init.answers g.R.Reset.leaves pool (owned_page c.new-in-Ok.result)
-    (owned_item c.new-in-Ok.result)) c.deref-pool.ensures
-    (same_pulls _ _ _ _ _ _ _ _ c.new-in-Ok.ensures.page c.new-in-Ok.ensures.item c.in-Ok.ensures.pulled)
 
 pub returns-in-Err-clause-refused : goal.returns-in-Err-clause-refused
 returns-in-Err-clause-refused g c =
