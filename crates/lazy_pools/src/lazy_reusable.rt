@@ -159,8 +159,6 @@ pub type LazyReusable<'p, T, I, R, K = AnyValue> = LazyReusableOf<
 
 impl<T: Drop, P: SharedLazyPool<T>> LazyReusableOf<T, P> {
     ghost use Rattle.lazy_pools.specs.LazyAnswer.{IsBroughtBack};
-    ghost use Rattle.fixed_pools.specs.FixedAnswer.{returns_since};
-    ghost use Rattle.fixed_pools.specs.StepCount.{steps_of};
     ghost use Rattle.lazy_pools.specs.LazyReusable.{lazy_pool, lazy_place, lazy_value, lazy_view};
     ghost use Rattle.lazy_pools.specs.Inside.LazyItem.{lazy_item_place};
     ghost use Rattle.pool_parts.specs.Item.{item_with};
@@ -173,8 +171,7 @@ impl<T: Drop, P: SharedLazyPool<T>> LazyReusableOf<T, P> {
         ensures pool { lazy_pool result ≡ pool }
         ensures place { lazy_place result ≡ lazy_item_place item }
         ensures value { lazy_value result ≡ item.value }
-        ensures steps { steps_of (lazy_view result) ≡ steps_of (holding_view item.holding) }
-        ensures returns { returns_since (lazy_view result) ≡ returns_since (holding_view item.holding) }
+        ensures view { lazy_view result ≡ holding_view item.holding }
     {
         let LazyItem { holding, value } = item;
         LazyReusableOf {

@@ -1,8 +1,42 @@
-use Rattle.std.proofs.Common.{sym, subst}
+use Rattle.std.proofs.Common.{◌*◌, subst, sym}
+use Rattle.fixed_pools.specs.FixedAnswer.{returns_since}
+use Rattle.fixed_pools.specs.StepCount.{IsWithin, no_steps, passes_to_take, steps_of}
+use Rattle.lazy_pools.specs.LazyAnswer.{IsPulledLazily}
+use Rattle.lazy_pools.specs.LazyPool.{lazy_identity, lazy_init, lazy_opening, lazy_pages}
+use Rattle.lazy_pools.specs.LazyReusable.{lazy_place, lazy_value, lazy_view}
 use Rattle.pool_parts.specs.Answers.{IsMadeOrReset}
+use Rattle.pool_parts.specs.Holding.{holding_view}
 use Rattle.lazy_pools.proofs.lazy_object_pool.LazyObjectPool.pull_owned.Goals as goal
+
+pub returns-in_ok-item-in-Ok-clause-pulled : goal.returns-in_ok-item-in-Ok-clause-pulled
+returns-in_ok-item-in-Ok-clause-pulled g c =
+    let words = c.deref-in-Ok.result.now in
+    let answers = g.I.Init.answers in
+    let of_pool = IsPulledLazily (lazy_identity words) (lazy_opening words) (answers (lazy_init words)) in
+    let item = c.in_ok-item-in-Ok.item in
+    let place = lazy_place c.new.result in
+    let value = lazy_value c.new.result in
+    subst (λ pool. IsPulledLazily (lazy_identity pool) (lazy_opening pool) (answers (lazy_init pool)) place value)
+    c.deref-in-Ok.ensures
+    (subst (of_pool place) (sym c.new.ensures.value)
+    (subst (λ placed. of_pool placed item.value) (sym c.new.ensures.place) c.in_ok-item-in-Ok.ensures.pulled))
+
+pub returns-in_ok-item-in-Ok-clause-meets : goal.returns-in_ok-item-in-Ok-clause-meets
+returns-in_ok-item-in-Ok-clause-meets g c =
+    subst g.K.Clean.meets (sym c.new.ensures.value) c.in_ok-item-in-Ok.ensures.meets
 
 pub returns-in_ok-item-in-Ok-clause-made_or_reset : goal.returns-in_ok-item-in-Ok-clause-made_or_reset
 returns-in_ok-item-in-Ok-clause-made_or_reset g c =
-    subst (λ value. IsMadeOrReset g.I.Init.answers g.R.Reset.leaves value) (sym c.new.ensures.value)
+    subst (IsMadeOrReset g.I.Init.answers g.R.Reset.leaves) (sym c.new.ensures.value)
     c.in_ok-item-in-Ok.ensures.made_or_reset
+
+pub returns-in_ok-item-in-Ok-clause-brief : goal.returns-in_ok-item-in-Ok-clause-brief
+returns-in_ok-item-in-Ok-clause-brief g c =
+    let pages = lazy_pages c.deref.result.now in
+    let view = lazy_view c.new.result in
+    subst (λ pool. IsWithin (lazy_pages pool * passes_to_take (returns_since view)) no_steps (steps_of view))
+    c.deref.ensures
+    (subst (λ known. IsWithin (pages * passes_to_take (returns_since known)) no_steps (steps_of known))
+    (sym c.new.ensures.view)
+    (subst (λ held. IsWithin (pages * passes_to_take (returns_since (holding_view held))) no_steps (steps_of (holding_view held)))
+    (sym c.in_ok-item-in-Ok.ensures.same) c.in-Ok.ensures.brief))

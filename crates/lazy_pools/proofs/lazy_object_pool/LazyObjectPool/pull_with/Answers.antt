@@ -1,0 +1,30 @@
+use Rattle.std.proofs.Common.{◌*◌, subst, sym}
+use Rattle.fixed_pools.specs.FixedAnswer.{returns_since}
+use Rattle.fixed_pools.specs.StepCount.{IsWithin, no_steps, passes_to_take, steps_of}
+use Rattle.lazy_pools.specs.LazyAnswer.{IsPulledLazily, MakesValue}
+use Rattle.lazy_pools.specs.LazyPool.{lazy_identity, lazy_opening, lazy_pages}
+use Rattle.lazy_pools.specs.LazyReusable.{lazy_place}
+use Rattle.pool_parts.specs.Holding.{holding_view}
+use Rattle.lazy_pools.proofs.lazy_object_pool.LazyObjectPool.pull_with.Goals as goal
+
+pub returns-in_ok-item-in-Ok-clause-pulled : goal.returns-in_ok-item-in-Ok-clause-pulled
+returns-in_ok-item-in-Ok-clause-pulled g c =
+    let words = c.args.self.now in
+    let answers = MakesValue (g.F.FnOnce.post c.args.make tt) in
+    let of_pool = IsPulledLazily (lazy_identity words) (lazy_opening words) answers in
+    let item = c.in_ok-item-in-Ok.item in
+    let place = lazy_place c.new.result in
+    subst (of_pool place) (sym c.new.ensures.value)
+    (subst (λ placed. of_pool placed item.value) (sym c.new.ensures.place) c.in_ok-item-in-Ok.ensures.pulled)
+
+pub returns-in_ok-item-in-Ok-clause-meets : goal.returns-in_ok-item-in-Ok-clause-meets
+returns-in_ok-item-in-Ok-clause-meets g c =
+    subst g.K.Clean.meets (sym c.new.ensures.value) c.in_ok-item-in-Ok.ensures.meets
+
+pub returns-in_ok-item-in-Ok-clause-brief : goal.returns-in_ok-item-in-Ok-clause-brief
+returns-in_ok-item-in-Ok-clause-brief g c =
+    let pages = lazy_pages c.args.self.now in
+    subst (λ known. IsWithin (pages * passes_to_take (returns_since known)) no_steps (steps_of known))
+    (sym c.new.ensures.view)
+    (subst (λ held. IsWithin (pages * passes_to_take (returns_since (holding_view held))) no_steps (steps_of (holding_view held)))
+    (sym c.in_ok-item-in-Ok.ensures.same) c.in-Ok.ensures.brief)
