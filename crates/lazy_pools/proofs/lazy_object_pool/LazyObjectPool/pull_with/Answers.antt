@@ -1,10 +1,12 @@
 use Rattle.std.proofs.Common.{◌*◌, subst, sym}
+use Rattle.std.specs.Prelude.{Option}
 use Rattle.fixed_pools.specs.FixedAnswer.{returns_since}
 use Rattle.fixed_pools.specs.StepCount.{IsWithin, no_steps, passes_to_take, steps_of}
 use Rattle.lazy_pools.specs.LazyAnswer.{IsPulledLazily, MakesValue}
 use Rattle.lazy_pools.specs.LazyPool.{lazy_identity, lazy_opening, lazy_pages}
 use Rattle.lazy_pools.specs.LazyReusable.{lazy_place}
 use Rattle.pool_parts.specs.Holding.{holding_view}
+use Rattle.pool_parts.specs.declared.page.user_view.UserView.{UserView}
 use Rattle.lazy_pools.proofs.lazy_object_pool.LazyObjectPool.pull_with.Goals as goal
 
 pub returns-in_ok-item-in-Ok-clause-pulled : goal.returns-in_ok-item-in-Ok-clause-pulled
@@ -24,7 +26,7 @@ returns-in_ok-item-in-Ok-clause-meets g c =
 pub returns-in_ok-item-in-Ok-clause-brief : goal.returns-in_ok-item-in-Ok-clause-brief
 returns-in_ok-item-in-Ok-clause-brief g c =
     let pages = lazy_pages c.args.self.now in
-    subst (λ known. IsWithin (pages * passes_to_take (returns_since known)) no_steps (steps_of known))
-    (sym c.new.ensures.view)
-    (subst (λ held. IsWithin (pages * passes_to_take (returns_since (holding_view held))) no_steps (steps_of (holding_view held)))
-    (sym c.in_ok-item-in-Ok.ensures.same) c.in-Ok.ensures.brief)
+    let brief = λ (known : UserView (Option g.row.T.Denot)).
+    IsWithin (pages * passes_to_take (returns_since known)) no_steps (steps_of known) in
+    subst brief (sym c.new.ensures.view)
+    (subst (λ held. brief (holding_view held)) (sym c.in_ok-item-in-Ok.ensures.same) c.in-Ok.ensures.brief)

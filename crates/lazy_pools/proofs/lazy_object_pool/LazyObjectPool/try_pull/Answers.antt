@@ -1,10 +1,12 @@
 use Rattle.std.proofs.Common.{subst, sym}
+use Rattle.std.specs.Prelude.{Option}
 use Rattle.fixed_pools.specs.StepCount.{IsWithin, no_steps, steps_of}
 use Rattle.lazy_pools.specs.LazyAnswer.{IsPulledLazily}
 use Rattle.lazy_pools.specs.LazyPool.{lazy_identity, lazy_init, lazy_opening, lazy_pages}
 use Rattle.lazy_pools.specs.LazyReusable.{lazy_place}
 use Rattle.pool_parts.specs.Answers.{IsMadeOrReset}
 use Rattle.pool_parts.specs.Holding.{holding_view}
+use Rattle.pool_parts.specs.declared.page.user_view.UserView.{UserView}
 use Rattle.lazy_pools.proofs.lazy_object_pool.LazyObjectPool.try_pull.Goals as goal
 
 pub returns-in-Ok-item-clause-pulled : goal.returns-in-Ok-item-clause-pulled
@@ -29,7 +31,7 @@ returns-in-Ok-item-clause-made_or_reset g c =
 pub returns-in-Ok-item-clause-brief : goal.returns-in-Ok-item-clause-brief
 returns-in-Ok-item-clause-brief g c =
     let pages = lazy_pages c.args.self.now in
-    subst (λ known. IsWithin pages no_steps (steps_of known))
-    (sym c.new.ensures.view)
-    (subst (λ held. IsWithin pages no_steps (steps_of (holding_view held)))
-    (sym c.in-Ok-item.ensures.same) c.in-Ok.ensures.brief)
+    let brief = λ (known : UserView (Option g.row.T.Denot)).
+    IsWithin pages no_steps (steps_of known) in
+    subst brief (sym c.new.ensures.view)
+    (subst (λ held. brief (holding_view held)) (sym c.in-Ok-item.ensures.same) c.in-Ok.ensures.brief)
