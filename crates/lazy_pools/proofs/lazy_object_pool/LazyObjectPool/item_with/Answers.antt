@@ -1,0 +1,19 @@
+use Rattle.std.proofs.Common.{Some, refl, subst}
+use Rattle.fixed_pools.specs.FixedAnswer.{IsPulledFrom}
+use Rattle.lazy_pools.specs.LazyPool.{lazy_identity, lazy_opening}
+use Rattle.pool_parts.specs.Holding.{held_item}
+use Rattle.lazy_pools.proofs.lazy_object_pool.LazyObjectPool.item_with.Goals as goal
+
+pub returns-in-Some-clause-pulled : goal.returns-in-Some-clause-pulled
+returns-in-Some-clause-pulled g c =
+    let pool = c.args.self.now in
+    record {
+      found = Some c.in-Some.value;
+      pulled =
+          subst (λ place. IsPulledFrom (lazy_identity pool) (lazy_opening pool) (held_item c.args.pulled.holding place))
+          c.in-Some.is c.requires.pulled;
+      value_is = refl;
+    }
+
+pub returns-in-Ok-clause-meets : goal.returns-in-Ok-clause-meets
+returns-in-Ok-clause-meets g c = c.requires.each_meets c.in-Ok.value c.in-Ok.ensures
