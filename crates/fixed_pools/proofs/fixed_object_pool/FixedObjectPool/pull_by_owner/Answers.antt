@@ -24,6 +24,8 @@ pub returns-in-Ok-clause-brief : goal.returns-in-Ok-clause-brief
 returns-in-Ok-clause-brief g c =
     let view = reusable_view c.new.result in
     let words = c.deref-2.result.now in
-    subst (λ pool. IsWithin (pool_pages pool * passes_to_take (returns_since view)) (steps_of (note_view c.args.note)) (steps_of view)) c.deref-2.ensures
-    (subst (λ known. IsWithin (pool_pages words * passes_to_take (returns_since known)) (steps_of (note_view c.args.note)) (steps_of known))
+    let before = steps_of (note_view c.args.note) in
+    subst (λ pool. IsWithin (pool_pages pool * passes_to_take (returns_since view)) before (steps_of view))
+    c.deref-2.ensures
+    (subst (λ known. IsWithin (pool_pages words * passes_to_take (returns_since known)) before (steps_of known))
     (sym c.new.ensures.view) c.in-Ok.ensures.brief)

@@ -9,7 +9,8 @@ use Rattle.fixed_pools.proofs.fixed_object_pool.FixedObjectPool.pull_owned.Goals
 pub returns-clause-pulled : goal.returns-clause-pulled
 returns-clause-pulled g c =
     subst (λ pool. IsPulledFrom (pool_identity pool) (pool_opening pool) (reusable_item c.new.result)) c.deref.ensures
-    (subst (IsPulledFrom (pool_identity c.deref.result.now) (pool_opening c.deref.result.now)) (sym c.new.ensures.item) c.in-Ok.ensures.pulled)
+    (subst (IsPulledFrom (pool_identity c.deref.result.now) (pool_opening c.deref.result.now)) (sym c.new.ensures.item)
+    c.in-Ok.ensures.pulled)
 
 pub returns-clause-meets : goal.returns-clause-meets
 returns-clause-meets g c =
