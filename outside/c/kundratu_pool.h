@@ -7,7 +7,7 @@
  *
  * A handle is the way into a pool. It holds one place at a time, or none; who needs many places has many handles. A handle is
  * used by one call at a time, and goes from thread to thread, with its place, as any other value does: under a lock, by the start
- * or the end of a thread, or through a sequentially consistent atomic.
+ * or the end of a thread, or by a release store and the acquire load that reads it, as a channel does.
  *
  * No call waits for another thread. kdr_pool_new() and kdr_pool_share() ask for memory; kdr_pool_pull(), kdr_pool_pull_near(),
  * kdr_pool_return() and kdr_pool_items() ask for none. The pool ends with its last handle.

@@ -1,8 +1,7 @@
 //! A pool's handles. A thread has some idle ones in a lane, which no other thread reaches while it
-//! runs: it takes and keeps them by plain reads and writes. The others lie behind a lock.
-//!
-//! A lane is at one part of its pool: its handles are of that part. It knows the page where pulls
-//! begin. So threads keep to parts and pages of their own, whichever handles they have.
+//! runs: it takes and keeps them by plain reads and writes. The others lie behind a lock. A lane is
+//! at one part of its pool, of which its handles are, and knows the page where pulls begin. So
+//! threads keep to parts and pages of their own, whichever handles they have.
 use crate::guard::Source;
 use crate::sys::{kdr_pool_pull_near, kdr_pool_return, kdr_pool_share, Handle, DONE, PAGE};
 use crate::threads::{self, KNOWN, NUMBERS};

@@ -1,6 +1,6 @@
 //! The pools by the names of lockfree-object-pool 0.1.6: what its own tests show, in other words,
-//! and what a program meets that changes to this crate. But for its first line, and for the module
-//! `here` at its end, this file passes with that crate too.
+//! and what a program meets that changes to this crate. But for its first line, this file passes
+//! with that crate too.
 use kundratu_pool as pools;
 
 use pools::{
@@ -329,69 +329,4 @@ fn a_stack_pool_keeps_all_that_comes_back() {
     let spin_lock = SpinLockObjectPool::<()>::new(init, |()| {});
     let many = || drop((0..MANY).map(|_| spin_lock.pull()).collect::<Vec<_>>());
     assert_eq!([made(many), made(many)], [MANY, 0]);
-}
-
-/// What this crate does in another way.
-mod here {
-    use super::*;
-
-    #[test]
-    fn chunks_double_and_each_is_made_only_where_all_items_are_out() {
-        let [count, calls] = [(); 2].map(|()| Arc::new(AtomicUsize::new(0)));
-        let (make, called) = (counted(&count), Arc::clone(&calls));
-        let init = move || (called.fetch_add(1, SeqCst), make()).1;
-        let pool = LinearObjectPool::new(init, |_| {});
-        let all_made = || [&count, &calls].map(|number| number.load(SeqCst));
-        let mut items = Vec::new();
-        for chunk in 0..12 {
-            let made = 32 * ((2 << chunk) - 1);
-            items.push(pool.pull());
-            assert_eq!(all_made(), [made; 2]);
-            items.extend((items.len()..made).map(|_| pool.pull()));
-            assert_eq!(all_made(), [made; 2]);
-            items.swap_remove(made / 2);
-            items.push(pool.pull());
-            assert_eq!(all_made(), [made; 2]);
-        }
-    }
-
-    #[test]
-    fn threads_that_hold_no_more_items_than_there_are_make_no_chunk() {
-        let count = Arc::new(AtomicUsize::new(0));
-        let pool = LinearObjectPool::new(counted(&count), |_| {});
-        thread::scope(|scope| {
-            for _ in 0..8 {
-                scope.spawn(|| {
-                    for turn in 0..10_000 {
-                        let _items: Vec<_> = (0..turn % 5).map(|_| pool.pull()).collect();
-                    }
-                });
-            }
-        });
-        assert_eq!(count.load(SeqCst), 32);
-    }
-
-    #[test]
-    fn threads_that_need_a_chunk_at_once_make_it_once() {
-        let count = Arc::new(AtomicUsize::new(0));
-        let pool = LinearObjectPool::new(counted(&count), |_| {});
-        let _first: Vec<_> = (0..32).map(|_| pool.pull()).collect();
-        thread::scope(|scope| {
-            for _ in 0..8 {
-                scope.spawn(|| (0..8).map(|_| pool.pull()).for_each(std::mem::forget));
-            }
-        });
-        assert_eq!(count.load(SeqCst), 32 + 64);
-    }
-
-    #[test]
-    fn a_chunk_whose_making_panics_is_made_at_a_later_pull() {
-        static CALLS: AtomicUsize = AtomicUsize::new(0);
-        let init = || assert_ne!(CALLS.fetch_add(1, SeqCst), 40, "on purpose");
-        let pool = LinearObjectPool::<()>::new(init, |()| {});
-        let _first: Vec<_> = (0..32).map(|_| pool.pull()).collect();
-        assert!(catch_unwind(AssertUnwindSafe(|| drop(pool.pull()))).is_err());
-        let _item = pool.pull();
-        assert_eq!(CALLS.load(SeqCst), 41 + 64);
-    }
 }
