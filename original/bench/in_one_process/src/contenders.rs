@@ -1,12 +1,13 @@
 //! The pools that are measured.
 use crate::{reset_item, use_item, write_item};
 use crossbeam_queue::ArrayQueue;
-use kundratu_pool::sys::{kdr_pool_new, kdr_pool_pull, kdr_pool_return, kdr_pool_share, Handle};
+use kundratu_pool::sys::{kdr_pool_new, kdr_pool_pull, kdr_pool_pull_near, kdr_pool_return};
+use kundratu_pool::sys::{kdr_pool_share, Handle};
 use kundratu_pool::{LinearObjectPool as Growing, LinearReusable as GrowingReusable};
 use kundratu_pool::{Pool, Reusable};
 use lockfree_object_pool::{LinearObjectPool, LinearReusable};
 use sharded_slab::{Clear, Pool as Slab};
-use std::sync::atomic::AtomicU64;
+use std::sync::atomic::{AtomicU64, AtomicUsize, Ordering};
 use std::sync::{Mutex, MutexGuard};
 
 /// A pool that threads share.
@@ -40,18 +41,27 @@ type OwnHandle = Option<Handle>;
 /// How many handles go to the list together, or come from it.
 const TOGETHER: usize = 32;
 
+/// How many places a page has.
+const PAGE: usize = 32;
+
+/// How many pages a thread's pulls go on where they begin elsewhere: the words of pages so far
+/// apart share no cache line.
+const APART: usize = 17;
+
 /// The C calls, with a handle a thread. Items that go to another thread go with further ones, of
-/// which a thread has some idle and the others lie in a list.
+/// which a thread has some idle and the others lie in a list. It pulls them at a page of its own.
 pub struct Handles {
     first: Mutex<OwnHandle>,
     idle: Mutex<Vec<OwnHandle>>,
+    users: AtomicUsize,
     cells: Box<[AtomicU64]>,
 }
 
-/// A thread's handle, and idle ones for what it sends.
+/// A thread's handle, idle ones for what it sends, and the page where it pulls for those.
 pub struct OwnHandles {
     own: OwnHandle,
     idle: Vec<OwnHandle>,
+    page: usize,
 }
 
 impl Handles {
@@ -61,6 +71,7 @@ impl Handles {
         Handles {
             first: Mutex::new(first),
             idle: Mutex::default(),
+            users: AtomicUsize::new(0),
             cells,
         }
     }
@@ -75,6 +86,11 @@ impl Handles {
     fn idle(&self) -> MutexGuard<'_, Vec<OwnHandle>> {
         self.idle.lock().expect("no panic")
     }
+
+    /// A page whose word is on another cache line.
+    fn apart(&self, page: usize) -> usize {
+        (page + APART) % (self.cells.len() / PAGE)
+    }
 }
 
 impl Contender for Handles {
@@ -86,6 +102,7 @@ impl Contender for Handles {
         OwnHandles {
             own: self.open(),
             idle: Vec::with_capacity(2 * TOGETHER),
+            page: APART * self.users.fetch_add(1, Ordering::Relaxed),
         }
     }
 
@@ -107,10 +124,15 @@ impl Contender for Handles {
             let mut idle = self.idle();
             let left = idle.len().saturating_sub(TOGETHER);
             user.idle.extend(idle.drain(left..));
+            user.page = self.apart(user.page); // others return items where it was
         }
         let mut handle = user.idle.pop().unwrap_or_else(|| self.open());
         let mut place = 0;
-        assert_eq!(kdr_pool_pull(&mut handle, &mut place), 0);
+        let answer = kdr_pool_pull_near(&mut handle, user.page, &mut place);
+        assert_eq!(answer, 0);
+        if place / PAGE != user.page {
+            user.page = self.apart(place / PAGE); // others come to that page too
+        }
         write_item(&self.cells, place);
         (handle, place)
     }
