@@ -1,6 +1,6 @@
 //! Numbers of threads.
 use super::TESTED;
-use crate::threads::{own, NUMBERS};
+use crate::threads::{own, KNOWN, NUMBERS};
 use std::cell::RefCell;
 use std::collections::HashSet;
 use std::sync::mpsc::{channel, Sender};
@@ -39,12 +39,12 @@ fn threads_that_run_at_once_have_different_numbers_while_there_are_some() {
     assert!(NUMBERS - 2 <= numbers.len() && numbers.iter().all(|number| *number < NUMBERS));
 }
 
-/// Tells at its end which number its thread has.
-struct Teller(Sender<usize>);
+/// Tells at its end which number its thread has, and by which one it finds its lane.
+struct Teller(Sender<[usize; 2]>);
 
 impl Drop for Teller {
     fn drop(&mut self) {
-        self.0.send(own()).expect("somebody reads");
+        self.0.send([own(), KNOWN.get()]).expect("somebody reads");
     }
 }
 
@@ -65,5 +65,5 @@ fn a_thread_has_no_number_once_it_was_given_back() {
         LATE.set(Some(Teller(sender)));
     };
     thread::spawn(run).join().expect("it ends");
-    assert!(receiver.iter().any(|number| number == NUMBERS));
+    assert!(receiver.iter().any(|numbers| numbers == [NUMBERS; 2]));
 }
