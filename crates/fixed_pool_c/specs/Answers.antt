@@ -3,12 +3,10 @@
 use Rattle.std.specs.Prelude.{◌≡◌, ℕ, ◌+◌, ◌*◌, ◌/◌, ◌⊎◌, ⊤, Option, Some, None}
 use Rattle.std.specs.Arc.{arc_value}
 use Rattle.fixed_pools.specs.FixedAnswer.{IsPulledWith, IsFullNoteAfter, returns_since}
-use Rattle.fixed_pools.specs.StepCount.{steps_of}
+use Rattle.fixed_pools.specs.StepCount.{IsWithinSince, passes_to_take, passes_to_refuse}
 use Rattle.pool_parts.specs.Note.{IsGivenBack}
 use Rattle.fixed_pools.specs.FixedPool.{pool_identity, pool_items, pool_opening, pool_pages}
 use Rattle.fixed_pools.specs.FixedReusable.{reusable_pool, reusable_item, reusable_view}
-use Rattle.fixed_pools.specs.StepCount.{steps_of}
-use Rattle.fixed_pools.specs.StepCount.{IsWithin, passes_to_take, passes_to_refuse}
 use Rattle.pool_parts.specs.Items.{IsFilled}
 use Rattle.pool_parts.specs.Note.{IsNoteOf, note_view}
 use Rattle.pool_parts.specs.declared.page.note.PageNote.{PageNote}
@@ -33,8 +31,8 @@ pub record Pulls (old new : Held) (place : ℕ) : Type 0 where
   pub number : place ≡ (reusable_item out).id
   -- the pull's user made so many loads and tries at most in the first pass, and in a further one
   -- for each return meanwhile
-  pub brief : IsWithin (pool_pages (arc_value idle.pool) * passes_to_take (returns_since (reusable_view out)))
-      (steps_of (note_view idle.note)) (steps_of (reusable_view out))
+  pub brief : IsWithinSince (pool_pages (arc_value idle.pool) * passes_to_take (returns_since (reusable_view out)))
+      (note_view idle.note) (reusable_view out)
 
 -- the handle held no place, and holds none: at one moment of the call all places were out (or 2^32
 -- returns and more came within it)
@@ -45,8 +43,8 @@ pub record FindsAllOut (old new : Held) : Type 0 where
   pub holds_none : new.hand ≡ Some (Empty later)
   pub same_pool : arc_value later.pool ≡ arc_value idle.pool
   pub full : IsFullNoteAfter (pool_identity (arc_value idle.pool)) idle.note later.note
-  pub brief : IsWithin (pool_pages (arc_value idle.pool) * passes_to_refuse (returns_since (note_view later.note)))
-      (steps_of (note_view idle.note)) (steps_of (note_view later.note))
+  pub brief : IsWithinSince (pool_pages (arc_value idle.pool) * passes_to_refuse (returns_since (note_view later.note)))
+      (note_view idle.note) (note_view later.note)
 
 -- the handle held a place, and holds none: the place was returned, and the handle's history ends
 -- with its return

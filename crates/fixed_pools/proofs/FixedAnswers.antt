@@ -6,7 +6,7 @@ use Rattle.pool_parts.specs.declared.page.note.PageNote.{PageNote}
 use Rattle.pool_parts.specs.declared.page.user_view.UserView.{UserView}
 use Rattle.fixed_pools.specs.FixedAnswer.{IsPulledWith, IsFullSince, FoundFull, returns_between, returns_since}
 use Rattle.fixed_pools.specs.Inside.FixedCount.{FindsFull}
-use Rattle.fixed_pools.specs.StepCount.{StepCount, IsWithin, steps_of}
+use Rattle.fixed_pools.specs.StepCount.{IsWithin, IsWithinSince}
 use Rattle.pool_parts.specs.Note.{note_view}
 use Rattle.pool_parts.specs.FullSeen.{full_page, IsAllOut}
 use Rattle.pool_parts.specs.Inside.PageRule.{User, StartsFrom, IsSound, KnowsOut}
@@ -53,12 +53,22 @@ module _ {T : Type 0} where
         full = subst (λ since. IsFullSince items since known.0) (sym (goes.same_since ∙ from_now)) found.full;
       }
 
-  -- what a call has read and tried, by the returns since its first load
-  pub within_passes : (passes : ℕ → ℕ) (words : ℕ) (before : StepCount) (start known : UserView T)
+  -- what a call has read and tried whose user had done nothing, by the returns since its first load
+  pub within_passes : (passes : ℕ → ℕ) (words : ℕ) (start known : UserView T)
+      → known.since ≡ start.operations → start.loads ≡ 1 → start.tries ≡ 0
+      → known.loads + 1 ≤ start.loads + words * passes (returns_between start.operations known.operations)
+      → known.tries ≤ start.tries + 32 * (words * passes (returns_between start.operations known.operations))
+      → IsWithin (words * passes (returns_since known)) known
+  within_passes passes words start known since loads tries fewer fewer_tries =
+      subst (λ from. IsWithin (words * passes (returns_between from known.operations)) known) (sym since)
+      record { loads = omega arith; tries = omega arith }
+
+  -- the same of a user that had done something before
+  pub within_passes_since : (passes : ℕ → ℕ) (words : ℕ) (before start known : UserView T)
       → known.since ≡ start.operations → start.loads ≡ before.loads + 1 → start.tries ≡ before.tries
       → known.loads + 1 ≤ start.loads + words * passes (returns_between start.operations known.operations)
       → known.tries ≤ start.tries + 32 * (words * passes (returns_between start.operations known.operations))
-      → IsWithin (words * passes (returns_since known)) before (steps_of known)
-  within_passes passes words before start known since loads tries fewer fewer_tries =
-      subst (λ from. IsWithin (words * passes (returns_between from known.operations)) before (steps_of known)) (sym since)
+      → IsWithinSince (words * passes (returns_since known)) before known
+  within_passes_since passes words before start known since loads tries fewer fewer_tries =
+      subst (λ from. IsWithinSince (words * passes (returns_between from known.operations)) before known) (sym since)
       record { loads = omega arith; tries = omega arith }

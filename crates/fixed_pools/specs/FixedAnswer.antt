@@ -3,9 +3,12 @@ use Rattle.std.specs.Prelude.{◌≡◌, ◌⊎◌, ℕ, ◌-◌, ◌^◌, ◌<�
 use Rattle.atomic_table.specs.Seated.{TableId}
 use Rattle.pool_parts.specs.declared.page.note.PageNote.{PageNote}
 use Rattle.pool_parts.specs.declared.page.user_view.UserView.{UserView}
+use Rattle.pool_parts.specs.Answers.{IsMadeOrReset}
 use Rattle.pool_parts.specs.Item.{Item, IsPulled}
 use Rattle.pool_parts.specs.Note.{note_page, note_view}
 use Rattle.pool_parts.specs.Note.{IsPulledAfter}
+use Rattle.fixed_pools.specs.FixedPool.{pool_identity, pool_opening}
+use Rattle.fixed_pools.specs.declared.fixed_object_pool.FixedObjectPool.{FixedObjectPool}
 use Rattle.pool_parts.specs.Ledger.{History, operations_of, returns_of, IsLegal, IsPrefixOf, WasFullBetween}
 
 module _ {T : Type 0} where
@@ -56,3 +59,18 @@ module _ {T : Type 0} where
     -- its user did nothing
     pub same_operations : operations_of (note_view new).user (note_view new).operations ≡ operations_of (note_view old).user
         (note_view old).operations
+
+module _ {T I R K : Type 0} where
+  -- a pull of this pool gave this item: its value meets the pool's condition, and was made or reset as the pool's are
+  pub record PullsFixed (meets : T → Type 0) (answers : I → Option T → Type 0) (leaves : R → T → T → Type 0)
+      (pool : FixedObjectPool T I R K) (item : Item T) : Type 0 where
+    pub from_pool : IsPulledFrom (pool_identity pool) (pool_opening pool) item
+    pub meets_condition : meets item.value
+    pub made_or_reset : IsMadeOrReset answers leaves item.value
+
+  -- the same of a pull by a note
+  pub record PullsFixedAfter (meets : T → Type 0) (answers : I → Option T → Type 0) (leaves : R → T → T → Type 0)
+      (pool : FixedObjectPool T I R K) (note : PageNote T) (item : Item T) : Type 0 where
+    pub after_note : IsPulledWith (pool_identity pool) note item
+    pub meets_condition : meets item.value
+    pub made_or_reset : IsMadeOrReset answers leaves item.value

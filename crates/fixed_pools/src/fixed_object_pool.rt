@@ -89,9 +89,8 @@ impl<T: Drop, I: Init<T, K>, R: Reset<T, K>, K: Clean<T>> Drop for FixedObjectPo
 }
 
 impl<T: Drop, I: Init<T, K>, R: Reset<T, K>, K: Clean<T>> FixedObjectPool<T, I, R, K> {
-    ghost use Rattle.pool_parts.specs.Answers.{IsMadeOrReset};
-    ghost use Rattle.fixed_pools.specs.FixedAnswer.{IsPulledFrom, IsPulledWith, IsFullNoteAfter, returns_since};
-    ghost use Rattle.fixed_pools.specs.StepCount.{steps_of};
+    ghost use Rattle.fixed_pools.specs.FixedAnswer.{PullsFixed, PullsFixedAfter, IsFullNoteAfter, returns_since};
+    ghost use Rattle.fixed_pools.specs.StepCount.{IsWithin, IsWithinSince, passes_to_take, passes_to_refuse};
     ghost use Rattle.pool_parts.specs.FullSeen.{full_view};
     ghost use Rattle.pool_parts.specs.Note.{IsGivenBack};
     ghost use Rattle.pool_parts.specs.FullSeen.{IsAllOut, IsAllOutAfter};
@@ -100,8 +99,6 @@ impl<T: Drop, I: Init<T, K>, R: Reset<T, K>, K: Clean<T>> FixedObjectPool<T, I, 
     ghost use Rattle.fixed_pools.specs.Near.{near_pool};
     ghost use Rattle.pool_parts.specs.Items.{IsFilled};
     ghost use Rattle.fixed_pools.specs.FixedReusable.{reusable_pool, reusable_item, reusable_view};
-    ghost use Rattle.fixed_pools.specs.StepCount.{steps_of};
-    ghost use Rattle.fixed_pools.specs.StepCount.{IsWithin, no_steps, passes_to_take, passes_to_refuse};
     ghost use Rattle.pool_parts.specs.Note.{note_page, note_view, witness_page, IsNoteOf, HasLearned};
     ghost use Rattle.pool_parts.specs.Refusal.{RefusesMaking};
 
@@ -161,13 +158,10 @@ impl<T: Drop, I: Init<T, K>, R: Reset<T, K>, K: Clean<T>> FixedObjectPool<T, I, 
     pub fn pull(&self) -> Result<FixedReusable<'_, T, I, R, K>, PullError>
         ensures pool { IfOk result (λ item. (reusable_pool item).now ≡ self.now) }
         ensures pulled { IfOk result (λ item.
-            IsPulledFrom (pool_identity self.now) (pool_opening self.now) (reusable_item item)) }
-        ensures meets { IfOk result (λ item. K.meets (reusable_item item).value) }
-        ensures made_or_reset { IfOk result (λ item.
-            IsMadeOrReset I.answers R.leaves (reusable_item item).value) }
+            PullsFixed K.meets I.answers R.leaves self.now (reusable_item item)) }
         ensures brief { IfOk result (λ item.
-            IsWithin (pool_pages self.now * passes_to_take (returns_since (reusable_view item))) no_steps
-            (steps_of (reusable_view item))) }
+            IsWithin (pool_pages self.now * passes_to_take (returns_since (reusable_view item)))
+            (reusable_view item)) }
         ensures refused { IfErr result (λ error. error ≡ Limit) }
     {
         match self.items.pull_in_order(self.items.hinted(), None) {
@@ -177,7 +171,7 @@ impl<T: Drop, I: Init<T, K>, R: Reset<T, K>, K: Clean<T>> FixedObjectPool<T, I, 
     }
 
     /// Pulls a free item as `pull` does, but begins at this page, counted round and round. If the
-    /// page has no free item, it goes on at the hinted page, then at those behind that one, then
+    /// page has no free item, it goes on at the hinted page, then at those after that one, then
     /// from page 0 on.
     ///
     /// Threads that keep to pages of their own share no word of items: as long as the page has a
@@ -197,13 +191,10 @@ impl<T: Drop, I: Init<T, K>, R: Reset<T, K>, K: Clean<T>> FixedObjectPool<T, I, 
     pub fn pull_near(&self, page: usize) -> Result<FixedReusable<'_, T, I, R, K>, PullError>
         ensures pool { IfOk result (λ item. (reusable_pool item).now ≡ self.now) }
         ensures pulled { IfOk result (λ item.
-            IsPulledFrom (pool_identity self.now) (pool_opening self.now) (reusable_item item)) }
-        ensures meets { IfOk result (λ item. K.meets (reusable_item item).value) }
-        ensures made_or_reset { IfOk result (λ item.
-            IsMadeOrReset I.answers R.leaves (reusable_item item).value) }
+            PullsFixed K.meets I.answers R.leaves self.now (reusable_item item)) }
         ensures brief { IfOk result (λ item.
-            IsWithin (pool_pages self.now * passes_to_take (returns_since (reusable_view item))) no_steps
-            (steps_of (reusable_view item))) }
+            IsWithin (pool_pages self.now * passes_to_take (returns_since (reusable_view item)))
+            (reusable_view item)) }
         ensures refused { IfErr result (λ error. error ≡ Limit) }
     {
         let start = self.items.page_round(page);
@@ -237,16 +228,13 @@ impl<T: Drop, I: Init<T, K>, R: Reset<T, K>, K: Clean<T>> FixedObjectPool<T, I, 
     pub fn try_pull<'s, 'p>(&'s self, pass: &'p PullPass) -> FixedPulled<'s, 'p, T, I, R, K>
         ensures pool { IfOk result (λ item. (reusable_pool item).now ≡ self.now) }
         ensures pulled { IfOk result (λ item.
-            IsPulledFrom (pool_identity self.now) (pool_opening self.now) (reusable_item item)) }
-        ensures meets { IfOk result (λ item. K.meets (reusable_item item).value) }
-        ensures made_or_reset { IfOk result (λ item.
-            IsMadeOrReset I.answers R.leaves (reusable_item item).value) }
+            PullsFixed K.meets I.answers R.leaves self.now (reusable_item item)) }
         ensures brief { IfOk result (λ item.
-            IsWithin (pool_pages self.now) no_steps (steps_of (reusable_view item))) }
+            IsWithin (pool_pages self.now) (reusable_view item)) }
         ensures busy { IfErr result (IsAllOut (pool_identity self.now).slots
             (pool_identity self.now) (pool_opening self.now)) }
         ensures busy_brief { IfErr result (λ busy.
-            IsWithin (pool_pages self.now) no_steps (steps_of (full_view busy))) }
+            IsWithin (pool_pages self.now) (full_view busy)) }
     {
         Ok(FixedReusable::new(self, self.items.try_pull(pass)?))
     }
@@ -265,16 +253,13 @@ impl<T: Drop, I: Init<T, K>, R: Reset<T, K>, K: Clean<T>> FixedObjectPool<T, I, 
         requires { note_page note ≡ pool_identity self.now }
         ensures pool { IfOk result (λ item. (reusable_pool item).now ≡ self.now) }
         ensures pulled { IfOk result (λ item.
-            IsPulledWith (pool_identity self.now) note (reusable_item item)) }
-        ensures meets { IfOk result (λ item. K.meets (reusable_item item).value) }
-        ensures made_or_reset { IfOk result (λ item.
-            IsMadeOrReset I.answers R.leaves (reusable_item item).value) }
+            PullsFixedAfter K.meets I.answers R.leaves self.now note (reusable_item item)) }
         ensures brief { IfOk result (λ item.
-            IsWithin (pool_pages self.now) (steps_of (note_view note)) (steps_of (reusable_view item))) }
+            IsWithinSince (pool_pages self.now) (note_view note) (reusable_view item)) }
         ensures busy { IfErr result
             (IsAllOutAfter (pool_identity self.now).slots (pool_identity self.now) note) }
         ensures busy_brief { IfErr result (λ busy.
-            IsWithin (pool_pages self.now) (steps_of (note_view note)) (steps_of (full_view busy))) }
+            IsWithinSince (pool_pages self.now) (note_view note) (full_view busy)) }
     {
         let pulled = self.items.pull_from(pass, note)?;
         Ok(FixedReusable::new(self, pulled))
@@ -306,14 +291,11 @@ impl<T: Drop, I: Init<T, K>, R: Reset<T, K>, K: Clean<T>> FixedObjectPool<T, I, 
     pub fn pull_owned(self: &Arc<Self>) -> Result<FixedOwnedReusable<T, I, R, K>, PullError>
         ensures pool { IfOk result (λ item. arc_value (reusable_pool item) ≡ arc_value self.now) }
         ensures pulled { IfOk result (λ item.
-            IsPulledFrom (pool_identity (arc_value self.now)) (pool_opening (arc_value self.now))
-            (reusable_item item)) }
-        ensures meets { IfOk result (λ item. K.meets (reusable_item item).value) }
-        ensures made_or_reset { IfOk result (λ item.
-            IsMadeOrReset I.answers R.leaves (reusable_item item).value) }
+            PullsFixed K.meets I.answers R.leaves (arc_value self.now) (reusable_item item)) }
         ensures brief { IfOk result (λ item.
-            IsWithin (pool_pages (arc_value self.now) * passes_to_take (returns_since (reusable_view item)))
-            no_steps (steps_of (reusable_view item))) }
+            IsWithin
+            (pool_pages (arc_value self.now) * passes_to_take (returns_since (reusable_view item)))
+            (reusable_view item)) }
         ensures refused { IfErr result (λ error. (error ≡ Memory) ⊎ (error ≡ Limit)) }
     {
         let owner = Arc::try_clone(self)?;
@@ -340,20 +322,18 @@ impl<T: Drop, I: Init<T, K>, R: Reset<T, K>, K: Clean<T>> FixedObjectPool<T, I, 
         requires { note_page note ≡ pool_identity (arc_value self) }
         ensures pool { IfOk result (λ item. arc_value (reusable_pool item) ≡ arc_value self) }
         ensures pulled { IfOk result (λ item.
-            IsPulledWith (pool_identity (arc_value self)) note (reusable_item item)) }
-        ensures meets { IfOk result (λ item. K.meets (reusable_item item).value) }
-        ensures made_or_reset { IfOk result (λ item.
-            IsMadeOrReset I.answers R.leaves (reusable_item item).value) }
+            PullsFixedAfter K.meets I.answers R.leaves (arc_value self) note (reusable_item item)) }
         ensures brief { IfOk result (λ item.
-            IsWithin (pool_pages (arc_value self) * passes_to_take (returns_since (reusable_view item)))
-            (steps_of (note_view note)) (steps_of (reusable_view item))) }
+            IsWithinSince
+            (pool_pages (arc_value self) * passes_to_take (returns_since (reusable_view item)))
+            (note_view note) (reusable_view item)) }
         ensures same_owner { IfErr result (λ kept. arc_value kept.0 ≡ arc_value self) }
         ensures full { IfErr result (λ kept.
             IsFullNoteAfter (pool_identity (arc_value self)) note kept.1) }
         ensures full_brief { IfErr result (λ kept.
-            IsWithin
+            IsWithinSince
             (pool_pages (arc_value self) * passes_to_refuse (returns_since (note_view kept.1)))
-            (steps_of (note_view note)) (steps_of (note_view kept.1))) }
+            (note_view note) (note_view kept.1)) }
     {
         let start = self.items.page_round(page);
         match self.items.pull_onward(start, note) {

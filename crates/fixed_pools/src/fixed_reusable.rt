@@ -152,7 +152,7 @@ impl<T: Drop, P: SharedFixedPool<T>> FixedReusableOf<T, P> {
     ghost use Rattle.fixed_pools.specs.Inside.FixedItem.{pulled_item, pulled_view};
     ghost use Rattle.fixed_pools.specs.FixedReusable.{reusable_pool, reusable_item, reusable_view};
     ghost use Rattle.pool_parts.specs.Note.{witness_page, witness_history};
-    ghost use Rattle.pool_parts.specs.declared.page.TheConstants.{PAGE_ITEMS};
+    ghost use Rattle.pool_parts.specs.declared.page.word.TheConstants.{PAGE_ITEMS};
 
     pub(crate) fn new(pool: P, pulled: PulledItem<T>) -> FixedReusableOf<T, P>
         requires of_pool { holding_page pulled.holding ≡ P.identity pool }

@@ -105,7 +105,7 @@ impl<T: Drop, I: Init<T, K>, R: Reset<T, K>, K: Clean<T>> LazyObjectPool<T, I, R
     ghost use Rattle.pool_parts.specs.Answers.{IsMadeOrReset};
     ghost use Rattle.fixed_pools.specs.FixedAnswer.{IsPulledFrom};
     ghost use Rattle.fixed_pools.specs.Inside.FixedItem.{pulled_item};
-    ghost use Rattle.fixed_pools.specs.StepCount.{IsWithin, no_steps, passes_to_take};
+    ghost use Rattle.fixed_pools.specs.StepCount.{IsWithin, passes_to_take};
     ghost use Rattle.pool_parts.specs.Holding.{holding_page, held_item};
     ghost use Rattle.pool_parts.specs.Items.{IsFilled};
     ghost use Rattle.lazy_pools.specs.LazyAnswer.{IsBroughtBack, IsPulledLazily, RefusesLazily, RefusesOnePass, RefusesWaiting};
@@ -114,7 +114,6 @@ impl<T: Drop, I: Init<T, K>, R: Reset<T, K>, K: Clean<T>> LazyObjectPool<T, I, R
     ghost use Rattle.lazy_pools.specs.LazyPool.{lazy_identity, lazy_items, lazy_pages, lazy_opening, lazy_init, lazy_reset};
     ghost use Rattle.lazy_pools.specs.LazyReusable.{lazy_pool, lazy_place, lazy_value, held_place, lazy_view};
     ghost use Rattle.lazy_pools.specs.Inside.LazyItem.{lazy_item_place};
-    ghost use Rattle.fixed_pools.specs.StepCount.{steps_of};
     ghost use Rattle.fixed_pools.specs.FixedAnswer.{returns_since};
     ghost use Rattle.pool_parts.specs.Note.{note_page, witness_page, IsNoteOf, HasLearned, IsReturned};
     ghost use Rattle.pool_parts.specs.Refusal.{RefusesMaking, RefusesPull};
@@ -184,8 +183,8 @@ impl<T: Drop, I: Init<T, K>, R: Reset<T, K>, K: Clean<T>> LazyObjectPool<T, I, R
         ensures made_or_reset { IfOk result (λ item.
             IsMadeOrReset I.answers R.leaves (lazy_value item)) }
         ensures brief { IfOk result (λ item.
-            IsWithin (lazy_pages self.now * passes_to_take (returns_since (lazy_view item))) no_steps
-            (steps_of (lazy_view item))) }
+            IsWithin (lazy_pages self.now * passes_to_take (returns_since (lazy_view item)))
+            (lazy_view item)) }
         ensures refused { IfErr result (RefusesLazily (I.answers (lazy_init self.now) None)) }
     {
         match self.places.pull() {
@@ -227,7 +226,7 @@ impl<T: Drop, I: Init<T, K>, R: Reset<T, K>, K: Clean<T>> LazyObjectPool<T, I, R
         ensures made_or_reset { IfOk result (λ item.
             IsMadeOrReset I.answers R.leaves (lazy_value item)) }
         ensures brief { IfOk result (λ item.
-            IsWithin (lazy_pages self.now) no_steps (steps_of (lazy_view item))) }
+            IsWithin (lazy_pages self.now) (lazy_view item)) }
         ensures refused { IfErr result
             (RefusesOnePass (lazy_identity self.now) (lazy_opening self.now)
             (I.answers (lazy_init self.now) None)) }
@@ -256,8 +255,9 @@ impl<T: Drop, I: Init<T, K>, R: Reset<T, K>, K: Clean<T>> LazyObjectPool<T, I, R
         ensures made_or_reset { IfOk result (λ item.
             IsMadeOrReset I.answers R.leaves (lazy_value item)) }
         ensures brief { IfOk result (λ item.
-            IsWithin (lazy_pages (arc_value self.now) * passes_to_take (returns_since (lazy_view item))) no_steps
-            (steps_of (lazy_view item))) }
+            IsWithin
+            (lazy_pages (arc_value self.now) * passes_to_take (returns_since (lazy_view item)))
+            (lazy_view item)) }
         ensures refused { IfErr result
             (RefusesPull ⊤ (I.answers (lazy_init (arc_value self.now)) None)) }
     {

@@ -163,7 +163,7 @@ impl<T: Drop, P: SharedLazyPool<T>> LazyReusableOf<T, P> {
     ghost use Rattle.lazy_pools.specs.Inside.LazyItem.{lazy_item_place};
     ghost use Rattle.pool_parts.specs.Item.{item_with};
     ghost use Rattle.pool_parts.specs.Note.{witness_page, witness_history};
-    ghost use Rattle.pool_parts.specs.declared.page.TheConstants.{PAGE_ITEMS};
+    ghost use Rattle.pool_parts.specs.declared.page.word.TheConstants.{PAGE_ITEMS};
 
     pub(crate) fn new(pool: P, item: LazyItem<T>) -> LazyReusableOf<T, P>
         requires of_pool { holding_page item.holding ≡ P.identity pool }

@@ -16,13 +16,13 @@ use Rattle.pool_parts.specs.Slot.{slot_item}
 use Rattle.pool_parts.specs.declared.pull_error.PullError.{PullError}
 use Rattle.pool_parts.specs.declared.pull_error.PullError.TheVariants.{Memory, Init, Limit as LimitCause}
 use Rattle.pool_parts.specs.declared.made_or_reset.MadeOrReset.{MadeOrReset}
-use Rattle.pool_parts.specs.declared.page.TheConstants.{PAGE_ITEMS}
+use Rattle.pool_parts.specs.declared.page.word.TheConstants.{PAGE_ITEMS}
 use Rattle.pool_parts.specs.declared.page.note.PageNote.{PageNote}
 use Rattle.linear_pools.specs.LinearPool.{pool_limit, pool_start, pool_first_page, pool_first_opening}
 use Rattle.linear_pools.specs.LinearPool.{reusable_page, reusable_item, Pulls, PullsAfter}
 use Rattle.linear_pools.specs.declared.linear_object_pool.LinearObjectPool.{LinearObjectPool}
-use Rattle.linear_pools.specs.declared.linear_object_pool.answer_of.AnswerOf.{AnswerOf}
-use Rattle.linear_pools.specs.declared.linear_object_pool.page_limit.PageLimit.{PageLimit}
+use Rattle.linear_pools.specs.declared.linear_object_pool.AnswerOf.{AnswerOf}
+use Rattle.linear_pools.specs.declared.linear_object_pool.PageLimit.{PageLimit}
 use Rattle.linear_pools.specs.declared.linear_reusable.LinearReusable.{LinearReusable}
 
 within_first : (limit : Option PageLimit) (number : ℕ) → number ≡ 0

@@ -8,7 +8,7 @@ use Rattle.pool_parts.specs.declared.clean.Clean.{Ghosts}
 use Rattle.pool_parts.specs.declared.closures.Init as Init
 use Rattle.pool_parts.specs.declared.closures.Reset as Reset
 use Rattle.linear_pools.specs.contracts.linear_object_pool.LinearObjectPool as LinearObjectPool
-use Rattle.linear_pools.specs.contracts.linear_object_pool.answer_of.AnswerOf as AnswerOf
+use Rattle.linear_pools.specs.contracts.linear_object_pool.AnswerOf as AnswerOf
 use Rattle.linear_pools.specs.contracts.linear_reusable.LinearReusable as LinearReusable
 use Rattle.pool_parts.specs.contracts.made_or_reset.MadeOrReset as MadeOrReset
 use Rattle.linear_pools.specs.contracts.linear_owned_reusable.OwnedTakenItem as OwnedTakenItem

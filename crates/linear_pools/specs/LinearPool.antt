@@ -11,14 +11,14 @@ use Rattle.pool_parts.specs.Note.{IsPulledAfter}
 use Rattle.pool_parts.specs.Page.{page_identity}
 use Rattle.page_chain.specs.Walk.{Start, start_of, number_of, IsLinkedAt, IsRefusedBy}
 use Rattle.linear_pools.specs.declared.linear_object_pool.LinearObjectPool.{LinearObjectPool}
-use Rattle.linear_pools.specs.declared.linear_object_pool.answer_of.AnswerOf.{AnswerOf}
+use Rattle.linear_pools.specs.declared.linear_object_pool.AnswerOf.{AnswerOf}
 use Rattle.linear_pools.specs.declared.linear_owned_reusable.LinearOwnedReusable.{LinearOwnedReusable}
 use Rattle.page_chain.specs.declared.linear_page.page_number.PageNumber.{PageNumber}
 use Rattle.page_chain.specs.declared.linear_page.walk.WalkRefusal.{WalkRefusal}
 use Rattle.linear_pools.specs.declared.linear_reusable.LinearReusable.{LinearReusable}
 use Rattle.pool_parts.specs.declared.made_or_reset.MadeOrReset.{MadeOrReset}
 use Rattle.pool_parts.specs.declared.page.note.PageNote.{PageNote}
-use Rattle.pool_parts.specs.declared.page.TheConstants.{PAGE_ITEMS}
+use Rattle.pool_parts.specs.declared.page.word.TheConstants.{PAGE_ITEMS}
 
 module _ {T I R K : Type 0} where
   -- what makes the pool's values

@@ -6,12 +6,11 @@
 ghost use Rattle.std.specs.Prelude.{◌≡◌, ◌≤◌, ◌<◌, Option, None, Some, IsSome, IfOk, IfErr};
 ghost use Rattle.std.specs.Arc.{arc_value};
 ghost use Rattle.std.specs.Option.{option_map};
+ghost use Rattle.pool_parts.specs.Answers.{IsAnswer};
 
 use crate::linear_owned_reusable::LinearOwnedReusable;
 use crate::linear_reusable::LinearReusable;
-pub use answer_of::AnswerOf;
 use page_chain::linear_page::{Chain, WalkEnd, WalkRefusal};
-use page_limit::PageLimit;
 use pool_parts::PullError;
 use pool_parts::clean::{AnyValue, Clean};
 use pool_parts::closures::{Init, Reset};
@@ -19,10 +18,8 @@ use pool_parts::made_or_reset::MadeOrReset;
 use pool_parts::page::{Allocated, FullSeen, PageNote, PageSlot, PullPass};
 use std::alloc::Global;
 use std::fmt::{self, Debug, Formatter, Write};
+use std::marker::PhantomData;
 use std::sync::Arc;
-
-mod answer_of;
-mod page_limit;
 
 /// Why [`LinearObjectPool::try_pull`] took no item: each page up to the pool's limit was found
 /// full, or no further page could be made.
@@ -56,6 +53,24 @@ pub type LinearPulled<'s, 'p, T, I, R, K = AnyValue> = Result<
     LinearReusable<'s, T, I, R, K>,
     LinearRefusal<'p, T, I, R, K>,
 >;
+
+/// The condition of the values with which a pool's pages open: an initializer of its type may
+/// answer them. Only contracts name it.
+pub struct AnswerOf<I, K> {
+    init: PhantomData<I>,
+    condition: PhantomData<K>,
+}
+
+impl<T, I: Init<T, K>, K: Clean<T>> Clean<T> for AnswerOf<I, K> {
+    ghost meets = { λ value. IsAnswer I.answers value };
+}
+
+/// A number of pages, at least 1.
+#[derive(Drop)]
+struct PageLimit {
+    pages: usize,
+    ghost some_page: { 1 ≤ pages },
+}
 
 /// A pool whose items lie in pages of 32. It opens with one page, and makes a further one if each
 /// page is full.
@@ -275,7 +290,7 @@ impl<T: Drop, I: Init<T, K>, R: Reset<T, K>, K: Clean<T>> LinearObjectPool<T, I,
         }
     }
 
-    /// Holds an item of the first page.
+    /// Returns an item of the first page as its user holds it.
     #[inline]
     fn of_first<'s>(
         &'s self,
@@ -288,7 +303,8 @@ impl<T: Drop, I: Init<T, K>, R: Reset<T, K>, K: Clean<T>> LinearObjectPool<T, I,
         LinearReusable::new(self, slot, self.chain.first_number())
     }
 
-    /// Pulls on after the first page was found full, and holds the item.
+    /// Pulls from a later page, once the first one was found full, and returns the item as its user
+    /// holds it.
     #[inline]
     fn pull_on<'s, 'p>(&'s self, seen: FullSeen<'p, T>) -> LinearPulled<'s, 'p, T, I, R, K>
         requires { full_page seen ≡ pool_first_page self.now }
@@ -304,7 +320,8 @@ impl<T: Drop, I: Init<T, K>, R: Reset<T, K>, K: Clean<T>> LinearObjectPool<T, I,
         }
     }
 
-    /// Pulls on after the first page was found full. It returns the item with its page's number.
+    /// Takes an item of a later page, once the first one was found full. It returns the item's slot
+    /// with its page's number.
     #[inline]
     fn pull_further<'s, 'p>(
         &'s self,

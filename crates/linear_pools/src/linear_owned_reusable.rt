@@ -3,7 +3,7 @@ ghost use Rattle.std.specs.Prelude.{◌≡◌, ◌<◌};
 ghost use Rattle.std.specs.Arc.{arc_value};
 ghost use Rattle.pool_parts.specs.Holding.{holding_page};
 ghost use Rattle.page_chain.specs.Walk.{start_of, IsWalkedTo};
-ghost use Rattle.pool_parts.specs.declared.page.TheConstants.{PAGE_ITEMS};
+ghost use Rattle.pool_parts.specs.declared.page.word.TheConstants.{PAGE_ITEMS};
 
 use crate::linear_object_pool::{AnswerOf, LinearObjectPool};
 use page_chain::linear_page::PageNumber;

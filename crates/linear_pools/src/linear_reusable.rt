@@ -1,6 +1,6 @@
 //! A value that was pulled from a linear pool, with a borrow of the pool.
 ghost use Rattle.std.specs.Prelude.{◌≡◌, ◌≢◌, ◌<◌};
-ghost use Rattle.pool_parts.specs.declared.page.TheConstants.{PAGE_ITEMS};
+ghost use Rattle.pool_parts.specs.declared.page.word.TheConstants.{PAGE_ITEMS};
 
 use crate::linear_object_pool::{AnswerOf, LinearObjectPool};
 use page_chain::linear_page::PageNumber;

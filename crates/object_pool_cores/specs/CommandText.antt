@@ -17,7 +17,7 @@ pub record IsNumber (text : List ℕ) (n : ℕ) : Type 0 where
 abbrev pub AreNumbers : List ℕ → ℕ → ℕ → Type 0
 AreNumbers text first second = (a b : List ℕ) × (text ≡ a ++ 32 ∷ b) × IsNumber a first × IsNumber b second
 
--- the line is the command's word, with its numbers behind it
+-- the line is the command's word, with its numbers after it
 abbrev pub IsCommand : List ℕ → Command ℕ → Type 0
 IsCommand line Pull = line ≡ codes "pull"
 IsCommand line (Write index value) =

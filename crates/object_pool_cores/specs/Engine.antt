@@ -3,7 +3,7 @@
 use Rattle.std.specs.Prelude.{◌≡◌, ◌≤◌, ℕ, Option, Some, None, List, [], Result, Err, OnOk, replicate, ⊤}
 use Rattle.std.specs.Io.KnownBytes.{Appends, Consumes, IsAtEnd}
 use Rattle.pool_parts.specs.declared.pull_error.PullError.{PullError}
-use Rattle.pool_parts.specs.declared.page.TheConstants.{PAGE_ITEMS}
+use Rattle.pool_parts.specs.declared.page.word.TheConstants.{PAGE_ITEMS}
 use Rattle.object_pool_cores.specs.declared.engine.engine_error.EngineError.{EngineError}
 use Rattle.object_pool_cores.specs.declared.engine.engine_error.EngineError.TheVariants.{Read, Write, Memory}
 use Rattle.object_pool_cores.specs.declared.engine.kind.Kind.{Kind}

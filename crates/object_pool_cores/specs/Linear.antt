@@ -10,7 +10,7 @@ use Rattle.object_pool_cores.specs.LeastChoice.{PullsItem, ReturnsItem}
 use Rattle.object_pool_cores.specs.OnePage.{ArePageAnswers}
 use Rattle.object_pool_cores.specs.PageProbes.{ProbesEach}
 use Rattle.object_pool_cores.specs.Inside.Numbered as numbered
-use Rattle.pool_parts.specs.declared.page.TheConstants.{PAGE_ITEMS}
+use Rattle.pool_parts.specs.declared.page.word.TheConstants.{PAGE_ITEMS}
 
 module _ {T I R K : Type 0} where
   -- the pool that a core stands for
@@ -68,7 +68,7 @@ module _ {T I R K : Type 0} where
     pub stops : IfSome (item_number item) (λ n. start_page_of new ≡ n / PAGE_ITEMS)
     pub each : ProbesEach (start_page_of new - start_page_of old + 1) (looked_of old) (looked_of new)
 
-  -- a pull that took none probed each page from its start on, and the next pull starts behind them
+  -- a pull that took none probed each page from its start on, and the next pull starts after them
   pub record ProbesTheRest (old new : LinearCore T I R K) : Type 0 where
     pub onward : start_page_of old ≤ start_page_of new
     pub stops : start_page_of new ≡ (core_pool old).pages

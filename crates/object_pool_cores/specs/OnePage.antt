@@ -2,7 +2,7 @@
 -- 32 ids.
 use Rattle.std.specs.Prelude.{◌≡◌, ℕ, ◌<◌, ◌↔◌, Option, Some, None, List, All, length, map, slice_get, slice_set}
 use Rattle.std.specs.Int.{bit_at}
-use Rattle.pool_parts.specs.declared.page.TheConstants.{PAGE_ITEMS}
+use Rattle.pool_parts.specs.declared.page.word.TheConstants.{PAGE_ITEMS}
 
 module _ {T : Type 0} where
   -- the id is free with this value

@@ -1,7 +1,7 @@
 -- How many pages a pull probes: it reads the word of each, once.
 use Rattle.std.specs.Prelude.{◌≡◌, ℕ, ◌+◌, ◌-◌, ◌*◌, ◌/◌, ◌^◌, ◌≤◌, min, zero, suc}
 use Rattle.pool_world.specs.Pool.{Pool, Place, Absent, Free, Out}
-use Rattle.pool_parts.specs.declared.page.TheConstants.{PAGE_ITEMS}
+use Rattle.pool_parts.specs.declared.page.word.TheConstants.{PAGE_ITEMS}
 
 -- one probe of each of so many pages; the count of probes stays at the greatest number of 64 bits
 abbrev pub ProbesEach : ℕ → ℕ → ℕ → Type 0

@@ -79,7 +79,7 @@ module _ {P T : Type 0} (pulls : P → Result (Item T) PullError → P → Type 
   Replies old (command ∷ commands) [] new = ⊥
 
   -- the commands that were done are a prefix of all, and their replies come
-  -- behind those before; after Ok all are done, and after an error not all
+  -- after those before; after Ok all are done, and after an error not all
   pub record Ran (old : Playing P T) (commands : List (Command T)) (before : List (Reply T))
       (result : Result (Unit {0}) RunError) (after : List (Reply T)) (new : Playing P T) : Type 0 where
     pub done : List (Command T)

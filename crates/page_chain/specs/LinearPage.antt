@@ -10,7 +10,7 @@ use Rattle.pool_parts.specs.declared.clean.Clean.{Ghosts}
 use Rattle.page_chain.specs.declared.linear_page.Chain.{Chain}
 use Rattle.page_chain.specs.declared.linear_page.LinearPage.{LinearPage}
 use Rattle.page_chain.specs.declared.linear_page.link_note.LinkNote.{LinkNote}
-use Rattle.pool_parts.specs.declared.page.TheConstants.{PAGE_ITEMS}
+use Rattle.pool_parts.specs.declared.page.word.TheConstants.{PAGE_ITEMS}
 
 -- which page the chain's first one is
 abbrev pub first_page : {T K O : Type 0} → Chain T K O → TableId
@@ -21,7 +21,7 @@ module _ {T K O : Type 0} {opens : Ghosts O T} where
   abbrev pub shown_page : LinearPage T K O opens → TableId
   shown_page page = page_identity (arc_value page.page.now)
 
-  -- how many links the page lies behind its chain's first one
+  -- how many links the page lies after its chain's first one
   abbrev pub page_number : LinearPage T K O opens → ℕ
   page_number page = page.number
 

@@ -21,7 +21,7 @@ use Rattle.pool_parts.specs.declared.page.full_seen.FullSeen.{FullSeen}
 use Rattle.pool_parts.specs.declared.pull_error.PullError.{PullError}
 use Rattle.pool_parts.specs.declared.pull_error.PullError.TheVariants.{Limit as LimitCause}
 use Rattle.pool_parts.specs.Refusal.{RefusesMaking}
-use Rattle.pool_parts.specs.declared.page.TheConstants.{PAGE_ITEMS}
+use Rattle.pool_parts.specs.declared.page.word.TheConstants.{PAGE_ITEMS}
 
 -- where a walk starts: the links of its chain, a page of that chain, and the page's number
 pub record Start : Type 0 where
@@ -34,7 +34,7 @@ module _ {T K O : Type 0} where
   abbrev pub start_of : Chain T K O → Start
   start_of chain = record { links = chain.directory; page = first_page chain; number = 0 }
 
-  -- how many links the page lies behind its chain's first one
+  -- how many links the page lies after its chain's first one
   abbrev pub number_of : PageNumber T K O → ℕ
   number_of known = known.number
 

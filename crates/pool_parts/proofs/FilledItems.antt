@@ -1,4 +1,4 @@
--- Items of a page that meet one condition, and so another; what is known of one of them; and what opens with them.
+-- Lists of items whose values meet a condition: how they come about, and what is known of each value.
 use Rattle.std.proofs.Common.{◌≡◌, ℕ, zero, suc, ◌+◌, ◌<◌, List, [], ◌∷◌, ◌++◌, length, Option, Some, None, get_or}
 use Rattle.std.proofs.Common.{arith, refl, subst, sym, length-append}
 use Rattle.std.proofs.lemmas.List.Elements.{All-append, All-get_or, All-nil}

@@ -10,7 +10,7 @@ use Rattle.pool_parts.specs.Item.{IsItemOf, IsPulledOf}
 use Rattle.pool_parts.specs.Note.{note_view, IsPulledAfter}
 use Rattle.pool_parts.specs.Ledger.{IsLegal, IsPrefixOf, WasOutBetween}
 use Rattle.pool_parts.specs.Slot.{slot_item}
-use Rattle.pool_parts.specs.declared.page.TheConstants.{PAGE_ITEMS}
+use Rattle.pool_parts.specs.declared.page.word.TheConstants.{PAGE_ITEMS}
 
 module _ {T : Type 0} where
   -- which page was found full

@@ -1,7 +1,7 @@
 -- The words of a page: bit i of word w is set where item 32 w + i is free. The 32 bits above are the word's count.
 use Rattle.std.specs.Prelude.{◌≡◌, ◌≢◌, ℕ, ◌<◌}
 use Rattle.std.specs.Int.{bit_at}
-use Rattle.pool_parts.specs.declared.page.TheConstants.{PAGE_ITEMS}
+use Rattle.pool_parts.specs.declared.page.word.TheConstants.{PAGE_ITEMS}
 
 -- bit id is the lowest of the word's set bits
 pub record IsLeastBit (word id : ℕ) : Type 0 where

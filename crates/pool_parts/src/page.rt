@@ -1,8 +1,9 @@
 //! A page of 32 items that threads share without a lock. Its word has a bit for each item, which is
 //! set if the item is free.
 //!
-//! This file has the pure steps of a word, and a page with its calls. Its modules:
+//! This file has a page with its calls. Its modules:
 //!
+//! - `word`: the pure steps on a word
 //! - `history`: what users do with the items of a page
 //! - `rule`: what holds between any two steps, and the kinds of step
 //! - `items`, `steps`: the words and places of a page or of a fixed pool, and the steps on them
@@ -14,12 +15,10 @@
 //!
 //! No call waits for another thread or tries again: a page reads its word once, and then clears
 //! single bits.
-ghost use Rattle.std.specs.Prelude.{◌≡◌, ◌==◌, ◌+◌, ◌-◌, ◌^◌, ◌<◌, ◌≤◌, ◌↔◌, ℕ, [], false, Option, None, Some, IsTrue, IsNone, IfSome, IsOk, IfOk, IfErr, bit_and, bit_or};
-ghost use Rattle.std.specs.Int.{w32, bit_at, bit_not};
+ghost use Rattle.std.specs.Prelude.{◌≡◌, ◌+◌, ◌<◌, ◌≤◌, ℕ, [], false, Option, None, Some, IfSome, IsOk, IfOk, IfErr};
+ghost use Rattle.std.specs.Int.{bit_at};
 ghost use Rattle.pool_parts.specs.Inside.Items.{items_identity, items_raise};
-ghost use Rattle.pool_parts.specs.Word.{IsLeastBit, SetsBit, ClearsBit};
-ghost use Rattle.pool_parts.specs.Inside.Word.{IsLowHalf, whole_word, count_in};
-ghost use Rattle.pool_parts.specs.declared.page.TheConstants.{PAGE_ITEMS};
+ghost use Rattle.pool_parts.specs.declared.page.word.TheConstants.{PAGE_ITEMS};
 
 use crate::PullError;
 use crate::clean::Clean;
@@ -27,6 +26,7 @@ use holding::Holding;
 use items::Items;
 use std::alloc::Global;
 use user_view::UserSeat;
+use word::is_none_free;
 
 mod full_seen;
 pub mod history;
@@ -39,95 +39,13 @@ pub mod rule;
 mod slot;
 mod steps;
 pub mod user_view;
+mod word;
 
 pub use full_seen::{Allocated, FullSeen, PullPass, Taken};
 pub use note::{PageNote, Returned, Witness};
 pub use owned_slot::OwnedSlot;
 pub use slot::{PageSlot, TakenId};
-
-/// The number of an item in its page, below 32.
-pub type PageId = u8;
-
-/// How many items a page has.
-pub const PAGE_ITEMS: usize = 32;
-
-/// Clears the lowest set bit of a word, and returns the rest with that bit's place. `None` if no
-/// bit is set.
-pub fn take_least(word: u32) -> Option<(u32, PageId)>
-    ensures none { IsNone result ↔ (word ≡ 0) }
-    ensures least { IfSome result (λ taken. IsLeastBit word taken.1) }
-    ensures rest { IfSome result (λ taken. ClearsBit word taken.1 taken.0) }
-    ensures value { IfSome result (λ taken. taken.0 ≡ bit_and word (word - 1)) }
-{
-    if word == 0 {
-        return None;
-    }
-    Some((word & (word - 1), word.trailing_zeros() as PageId))
-}
-
-/// Returns the word with one bit set.
-pub fn with_bit(word: u32, id: PageId) -> u32
-    requires { id < PAGE_ITEMS }
-    ensures bits { SetsBit word id result }
-    ensures value { result ≡ bit_or word (2 ^ id) }
-{
-    word | 1 << id
-}
-
-/// Returns the word with one bit clear.
-pub fn without_bit(word: u32, id: PageId) -> u32
-    requires { id < PAGE_ITEMS }
-    ensures bits { ClearsBit word id result }
-    ensures value { result ≡ bit_and word (bit_not w32 (2 ^ id)) }
-{
-    word & !(1 << id)
-}
-
-/// Returns whether the bit is set.
-pub fn has_bit(word: u32, id: PageId) -> bool
-    requires { id < PAGE_ITEMS }
-    ensures bits { IsTrue result ↔ (bit_at word id ≡ 1) }
-    ensures value { result ≡ (bit_at word id == 1) }
-{
-    word >> id & 1 == 1
-}
-
-/// Returns whether the bit is set in a whole word, which has a count too.
-fn is_bit_set(word: u64, id: PageId) -> bool
-    requires { id < PAGE_ITEMS }
-    ensures { IsTrue result ↔ (bit_at word id ≡ 1) }
-{
-    word >> id & 1 == 1
-}
-
-/// Returns whether no bit is set.
-fn is_none_free(word: u32) -> bool
-    ensures { IsTrue result ↔ (word ≡ 0) }
-{
-    word == 0
-}
-
-/// Returns the lower half of a word: the bits of its items, without the count above them.
-fn low_half(word: u64) -> u32
-    ensures { IsLowHalf word result }
-{
-    (word & u32::MAX as u64) as u32
-}
-
-/// Returns the count in the upper half of a word.
-fn count_of(word: u64) -> u32
-    ensures { result ≡ count_in word }
-{
-    (word >> 32) as u32
-}
-
-/// Returns a word in which each bit is set but this one, those of the count too.
-fn all_but(id: PageId) -> u64
-    requires { id < PAGE_ITEMS }
-    ensures { ClearsBit whole_word id result }
-{
-    u64::MAX & !(1 << id)
-}
+pub use word::{PAGE_ITEMS, PageId, has_bit, take_least, with_bit, without_bit};
 
 /// 32 items that threads share.
 ///

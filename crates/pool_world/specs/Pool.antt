@@ -2,7 +2,7 @@
 use Rattle.std.specs.Prelude.{◌≡◌, ◌≢◌, ℕ, ◌<◌, ◌+◌, ◌*◌, ◌≤◌, ◌==◌, if◌then◌else◌, Option, Some, None, List}
 use Rattle.std.specs.Prelude.{slice_get, ◌-◌, nat_lt, length}
 use Rattle.std.specs.Prelude.{⊤}
-use Rattle.pool_parts.specs.declared.page.TheConstants.{PAGE_ITEMS}
+use Rattle.pool_parts.specs.declared.page.word.TheConstants.{PAGE_ITEMS}
 
 -- the number of an item, by its page and its place there
 abbrev pub number : ℕ → ℕ → ℕ

@@ -5,7 +5,7 @@ use Rattle.std.specs.Prelude.{◌≡◌, ◌≢◌, ◌⊎◌, ℕ, ◌+◌, ◌
 use Rattle.std.specs.Prelude.{List, [], ◌∷◌, ◌++◌, map, ⊤}
 use Rattle.pool_parts.specs.declared.page.history.Operation.{Operation}
 use Rattle.pool_parts.specs.declared.page.history.Operation.TheVariants.{Pull, Return}
-use Rattle.pool_parts.specs.declared.page.TheConstants.{PAGE_ITEMS}
+use Rattle.pool_parts.specs.declared.page.word.TheConstants.{PAGE_ITEMS}
 use Rattle.pool_parts.specs.declared.pull_error.PullError.{PullError}
 use Rattle.pool_parts.specs.declared.pull_error.PullError.TheVariants.{Memory, Init, Limit}
 use Rattle.pool_parts.specs.Ledger.{History, user_of, operations_of, held_id, value_at, MayPull, MayReturn}

@@ -1,6 +1,6 @@
 //! The numbers of items, by their pages and their places there.
 ghost use Rattle.std.specs.Prelude.{◌≡◌, ◌≤◌, ◌<◌, ◌*◌, ◌+◌, MatchOption};
-ghost use Rattle.pool_parts.specs.declared.page.TheConstants.{PAGE_ITEMS};
+ghost use Rattle.pool_parts.specs.declared.page.word.TheConstants.{PAGE_ITEMS};
 ghost use Rattle.pool_world.specs.Pool.{number};
 
 use pool_parts::page::{PAGE_ITEMS, PageId};

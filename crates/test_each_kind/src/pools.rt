@@ -123,12 +123,11 @@ fn hold_twice<P: Pulls<W>, W>(
 }
 
 /// A pool ends with its last owned item, or where it was refused.
-fn ends_owned<P: Pulls<W>, W>(
-    rt: &W,
-    alloc: Global,
-    pool: P,
-    count: usize,
-) -> Result<(), PullError> {
+fn ends_owned<P: Drop, W>(rt: &W, alloc: Global, pool: P, count: usize) -> Result<(), PullError>
+where
+    Arc<P>: Pulls<W>,
+{
+    let pool = Arc::new(alloc, pool)?;
     let held = held(rt, alloc, &pool, count)?;
     drop(pool);
     drop(held);
@@ -146,7 +145,7 @@ impl Kind for LinearPools {
     ) -> Result<(), PullError> {
         let pool: Linear = LinearObjectPool::new(alloc, parts.init, parts.reset)?;
         if how.is_owned {
-            return ends_owned(rt, alloc, Arc::new(alloc, pool)?, how.items);
+            return ends_owned(rt, alloc, pool, how.items);
         }
         hold_twice(rt, alloc, &&pool, how.items)
     }
@@ -168,7 +167,7 @@ impl Kind for FixedPools {
             at_least_one(how.items),
         )?;
         if how.is_owned {
-            return ends_owned(rt, alloc, Arc::new(alloc, pool)?, how.items);
+            return ends_owned(rt, alloc, pool, how.items);
         }
         hold_twice(rt, alloc, &&pool, how.items)
     }
@@ -190,7 +189,7 @@ impl Kind for LazyPools {
             at_least_one(how.items),
         )?;
         if how.is_owned {
-            return ends_owned(rt, alloc, Arc::new(alloc, pool)?, how.items);
+            return ends_owned(rt, alloc, pool, how.items);
         }
         hold_twice(rt, alloc, &&pool, how.items)
     }
@@ -232,7 +231,7 @@ fn stack_ends<F: FreeList<Tallied, Stacked>, W: Wait + Copy>(
     how: Use,
 ) -> Result<(), PullError> {
     if how.is_owned {
-        return ends_owned(rt, alloc, Arc::new(alloc, pool)?, how.items);
+        return ends_owned(rt, alloc, pool, how.items);
     }
     hold_twice(rt, alloc, &&pool, how.items)
 }

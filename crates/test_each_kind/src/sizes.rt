@@ -64,6 +64,14 @@ fn items_of_each_size_of_core_come_back(rt: HostRuntime) {
 /// A fixed pool whose item i is the answer of call i, and whose reset changes nothing.
 type Numbered = FixedObjectPool<Tallied, TalliedValues, Keep>;
 
+/// Whether a place of a list wasn't seen before. It is seen then.
+fn is_new(seen: &mut [bool], place: usize) -> bool {
+    match seen.get_mut(place) {
+        Some(is_seen) => !mem::replace(is_seen, true),
+        None => false,
+    }
+}
+
 /// So many items are held together, and no more come. How many of them are different, and show the
 /// answer of the call of their number.
 fn different(rt: &impl Abort, alloc: Global, pool: &Numbered, items: usize) -> usize {
@@ -73,10 +81,8 @@ fn different(rt: &impl Abort, alloc: Global, pool: &Numbered, items: usize) -> u
     for _ in 0..items {
         let item = pool.pull().expect(rt, "an item is free");
         let number = item.number();
-        if let Some(is_seen) = seen.get_mut(number)
-            && !mem::replace(is_seen, true)
-        {
-            different = different.saturating_add(usize::from(item.number == number));
+        if is_new(&mut seen, number) && item.number == number {
+            different = different.saturating_add(1);
         }
         held.push(item).expect(rt, "there is room");
     }

@@ -1,8 +1,8 @@
 //! The texts of each public type that has one, and whether different values differ.
 use crate::assert_equal::assert_equal;
 use crate::calls_of_parts::new_seven;
-use lockfree_object_pool::clean::{AnyValue, Clean, Empty};
-use lockfree_object_pool::closures::{Clear, Init, Keep, Reset, WithCapacity};
+use lockfree_object_pool::clean::{AnyValue, Empty};
+use lockfree_object_pool::closures::{Clear, Keep, WithCapacity};
 use lockfree_object_pool::fixed_reusable::{FixedReusableOf, SharedFixedPool};
 use lockfree_object_pool::free_list::FreeList;
 use lockfree_object_pool::lazy_reusable::{LazyReusableOf, SharedLazyPool};
@@ -14,9 +14,7 @@ use lockfree_object_pool::recycling::{
 use lockfree_object_pool::spin_lock::SpinLock;
 use lockfree_object_pool::stack_object_pool::StackObjectPool;
 use lockfree_object_pool::stack_reusable::{SharedStackPool, StackReusable};
-use lockfree_object_pool::{
-    FixedObjectPool, LazyObjectPool, LinearObjectPool, NoneObjectPool, PullError,
-};
+use lockfree_object_pool::{NoneObjectPool, PullError};
 use object_pool_cores::buffers::BufferPool;
 use object_pool_cores::engine::{self, EngineError, Kind};
 use object_pool_cores::interleave::Seen;
@@ -91,8 +89,7 @@ trait ShowsItems<W>: Drop {
     fn owned_is_shown(pool: &Arc<Self>, rt: &W, alloc: Global);
 }
 
-impl<I: Init<Vec<u8>, K>, R: Reset<Vec<u8>, K>, K: Clean<Vec<u8>>, W: Abort> ShowsItems<W>
-    for LinearObjectPool<Vec<u8>, I, R, K> {
+impl<W: Abort> ShowsItems<W> for Pool<Vec<u8>> {
     fn borrowed_is_shown(&self, rt: &W, alloc: Global) {
         item_is_shown(rt, alloc, self.pull());
     }
@@ -102,8 +99,7 @@ impl<I: Init<Vec<u8>, K>, R: Reset<Vec<u8>, K>, K: Clean<Vec<u8>>, W: Abort> Sho
     }
 }
 
-impl<I: Init<Vec<u8>, K>, R: Reset<Vec<u8>, K>, K: Clean<Vec<u8>>, W: Abort> ShowsItems<W>
-    for FixedObjectPool<Vec<u8>, I, R, K> {
+impl<W: Abort> ShowsItems<W> for FixedPool<Vec<u8>> {
     fn borrowed_is_shown(&self, rt: &W, alloc: Global) {
         fixed_item_is_shown(rt, alloc, self.pull());
     }
@@ -113,8 +109,7 @@ impl<I: Init<Vec<u8>, K>, R: Reset<Vec<u8>, K>, K: Clean<Vec<u8>>, W: Abort> Sho
     }
 }
 
-impl<I: Init<Vec<u8>, K>, R: Reset<Vec<u8>, K>, K: Clean<Vec<u8>>, W: Abort> ShowsItems<W>
-    for LazyObjectPool<Vec<u8>, I, R, K> {
+impl<W: Abort> ShowsItems<W> for LazyPool<Vec<u8>> {
     fn borrowed_is_shown(&self, rt: &W, alloc: Global) {
         lazy_item_is_shown(rt, alloc, self.pull());
     }
@@ -124,13 +119,13 @@ impl<I: Init<Vec<u8>, K>, R: Reset<Vec<u8>, K>, K: Clean<Vec<u8>>, W: Abort> Sho
     }
 }
 
-impl<
-    I: Init<Vec<u8>, K>,
-    R: Reset<Vec<u8>, K>,
-    K: Clean<Vec<u8>>,
-    F: FreeList<Vec<u8>, MadeOrReset<I, R, K>>,
-    W: Abort + Wait + Copy,
-> ShowsItems<W> for StackObjectPool<Vec<u8>, I, R, K, F> {
+/// A mutex pool or a spin lock pool, by its free list.
+type Stack<F> = StackObjectPool<Vec<u8>, Recycler, Recycler, Recycler, F>;
+
+/// What such a pool keeps.
+type Recycled = MadeOrReset<Recycler, Recycler, Recycler>;
+
+impl<F: FreeList<Vec<u8>, Recycled>, W: Abort + Wait + Copy> ShowsItems<W> for Stack<F> {
     fn borrowed_is_shown(&self, rt: &W, alloc: Global) {
         stack_item_is_shown(rt, alloc, self.pull(rt));
     }

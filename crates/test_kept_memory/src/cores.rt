@@ -1,6 +1,6 @@
 //! Turns on pools of one owner, and on players of commands on them.
 use crate::observer::Turns;
-use crate::supply::{Buffer, Supply};
+use crate::supply::{Buffer, Supply, refused};
 use lockfree_object_pool::PullError;
 use lockfree_object_pool::clean::AnyValue;
 use lockfree_object_pool::closures::Keep;
@@ -48,8 +48,7 @@ impl Turns for Kind {
     }
 }
 
-/// A linear core whose page is full refuses each pull, after it has made any number of a page's
-/// items.
+/// A linear core refuses each pull while its page is full.
 fn linear_refuses(alloc: Global, turns: usize) -> Option<()> {
     let supply = Supply::endless(alloc)?;
     let mut core: Linear = LinearCore::new(alloc, supply.share()?, Keep).ok()?;
@@ -57,11 +56,14 @@ fn linear_refuses(alloc: Global, turns: usize) -> Option<()> {
     for _ in 0..PAGE_ITEMS {
         held.push(core.pull().ok()?).ok()?;
     }
+    pages_are_refused(&mut core, &supply, turns)
+}
+
+/// A core refuses each pull, after it has made any number of a page's items.
+fn pages_are_refused(core: &mut Linear, supply: &Supply, turns: usize) -> Option<()> {
     for turn in 0..turns {
         supply.end_after(turn % PAGE_ITEMS);
-        let Err(PullError::Init) = core.pull() else {
-            return None;
-        };
+        refused(core.pull(), PullError::Init)?;
     }
     Some(())
 }
@@ -72,9 +74,7 @@ fn stack_refuses(alloc: Global, turns: usize) -> Option<()> {
     let mut core: Stack = StackCore::new(alloc, supply.share()?, Keep);
     supply.end_after(0);
     for _ in 0..turns {
-        let Err(PullError::Init) = core.pull() else {
-            return None;
-        };
+        refused(core.pull(), PullError::Init)?;
     }
     Some(())
 }

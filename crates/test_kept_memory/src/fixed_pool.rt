@@ -2,7 +2,7 @@
 ghost use Rattle.std.specs.Prelude.{◌≤◌};
 
 use crate::observer::Turns;
-use crate::supply::{Buffer, Supply};
+use crate::supply::{Buffer, Supply, refused};
 use lockfree_object_pool::closures::Keep;
 use lockfree_object_pool::{FixedObjectPool, PullError};
 use std::alloc::Global;
@@ -56,9 +56,8 @@ fn refused_pools(alloc: Global, turns: usize) -> Option<()> {
     let supply = Supply::endless(alloc)?;
     for turn in 0..turns {
         supply.end_after(turn % ITEMS);
-        let Err(PullError::Init) = Pool::new(alloc, supply.share()?, Keep, ITEMS) else {
-            return None;
-        };
+        let pool = Pool::new(alloc, supply.share()?, Keep, ITEMS);
+        refused(pool, PullError::Init)?;
     }
     Some(())
 }
@@ -70,13 +69,14 @@ fn refused_pulls(alloc: Global, turns: usize) -> Option<()> {
     for _ in 0..ITEMS {
         held.push(pool.pull().ok()?).ok()?;
     }
+    all_are_held(&pool, turns)
+}
+
+/// Pulls of a pool are refused, since each item is held.
+fn all_are_held(pool: &Arc<Pool>, turns: usize) -> Option<()> {
     for turn in 0..turns {
-        let Err(PullError::Limit) = pool.pull_near(turn) else {
-            return None;
-        };
-        let Err(PullError::Limit) = pool.pull_owned() else {
-            return None;
-        };
+        refused(pool.pull_near(turn), PullError::Limit)?;
+        refused(pool.pull_owned(), PullError::Limit)?;
     }
     Some(())
 }
@@ -113,9 +113,7 @@ fn ends(alloc: Global, turns: usize) -> Option<()> {
         let pool = new_pool(alloc, &supply, 2)?;
         let _first = pool.pull_owned().ok()?;
         let _second = pool.pull_owned().ok()?;
-        let Err(PullError::Limit) = pool.pull_owned() else {
-            return None;
-        };
+        refused(pool.pull_owned(), PullError::Limit)?;
         drop(pool);
     }
     Some(())

@@ -1,6 +1,6 @@
 //! Turns on linear pools, their buffer pools and their chains.
 use crate::observer::Turns;
-use crate::supply::{Buffer, Supply};
+use crate::supply::{Buffer, Supply, refused};
 use lockfree_object_pool::clean::AnyValue;
 use lockfree_object_pool::closures::{Clear, Keep, WithCapacity};
 use lockfree_object_pool::linear_page::Chain;
@@ -56,9 +56,8 @@ fn refused_pools(alloc: Global, turns: usize) -> Option<()> {
     let supply = Supply::endless(alloc)?;
     for turn in 0..turns {
         supply.end_after(turn % PAGE_ITEMS);
-        let Err(PullError::Init) = Pool::new(alloc, supply.share()?, Keep) else {
-            return None;
-        };
+        let pool = Pool::new(alloc, supply.share()?, Keep);
+        refused(pool, PullError::Init)?;
     }
     Some(())
 }
@@ -71,15 +70,16 @@ fn refused_pulls(alloc: Global, turns: usize) -> Option<()> {
     for _ in 0..PAGE_ITEMS {
         held.push(pool.pull().ok()?).ok()?;
     }
+    pages_are_refused(&pool, &supply, turns)
+}
+
+/// Pulls are refused, each after some items of the page that it needs were made.
+fn pages_are_refused(pool: &Arc<Pool>, supply: &Supply, turns: usize) -> Option<()> {
     for turn in 0..turns {
         supply.end_after(turn % PAGE_ITEMS);
-        let Err(PullError::Init) = pool.pull() else {
-            return None;
-        };
+        refused(pool.pull(), PullError::Init)?;
         supply.end_after(turn % PAGE_ITEMS);
-        let Err(PullError::Init) = pool.pull_owned() else {
-            return None;
-        };
+        refused(pool.pull_owned(), PullError::Init)?;
     }
     Some(())
 }
@@ -125,6 +125,12 @@ fn grow(chain: &Chain<Buffer, AnyValue>, supply: &Supply) -> Option<()> {
     for _ in 0..PAGE_ITEMS {
         held.push(first.page().alloc().ok()??).ok()?;
     }
+    link(chain, supply)
+}
+
+/// Links a second page behind the first one, which is full.
+fn link(chain: &Chain<Buffer, AnyValue>, supply: &Supply) -> Option<()> {
+    let first = chain.first();
     let pass = PullPass::new();
     let Allocated::Full(seen) = first.page().try_alloc(&pass).ok()? else {
         return None;

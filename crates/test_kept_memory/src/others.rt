@@ -1,6 +1,6 @@
 //! Turns on the pool that keeps nothing, and on spin locks.
 use crate::observer::Turns;
-use crate::supply::Supply;
+use crate::supply::{Supply, refused};
 use lockfree_object_pool::spin_lock::SpinLock;
 use lockfree_object_pool::{NoneObjectPool, PullError};
 use std::alloc::Global;
@@ -37,9 +37,7 @@ fn none_pool_pulls(alloc: Global, turns: usize) -> Option<()> {
         supply.end_after(2);
         let _borrowed = pool.pull().ok()?;
         let _owned = pool.pull_owned().ok()?;
-        let Err(PullError::Init) = pool.pull() else {
-            return None;
-        };
+        refused(pool.pull(), PullError::Init)?;
     }
     Some(())
 }

@@ -1,6 +1,6 @@
 //! Turns on the mutex pool and the spin lock pool, which are one pool over two kinds of list.
 use crate::observer::Turns;
-use crate::supply::{Buffer, Supply};
+use crate::supply::{Buffer, Supply, refused};
 use lockfree_object_pool::clean::AnyValue;
 use lockfree_object_pool::closures::Keep;
 use lockfree_object_pool::free_list::FreeList;
@@ -83,12 +83,8 @@ fn refused_pulls<F: List, W: Wait + Copy>(rt: &W, alloc: Global, turns: usize) -
     let pool = F::new_pool(alloc, &supply)?;
     supply.end_after(0);
     for _ in 0..turns {
-        let Err(PullError::Init) = pool.pull(rt) else {
-            return None;
-        };
-        let Err(PullError::Init) = pool.pull_owned(rt) else {
-            return None;
-        };
+        refused(pool.pull(rt), PullError::Init)?;
+        refused(pool.pull_owned(rt), PullError::Init)?;
     }
     Some(())
 }

@@ -1,4 +1,6 @@
-//! What makes the buffers of the pools: as many as it is told to make, and then none.
+//! What makes the buffers of the pools: as many as it is told to make, and then none. What is asked
+//! for is refused then.
+use lockfree_object_pool::PullError;
 use lockfree_object_pool::clean::AnyValue;
 use lockfree_object_pool::closures::Init;
 use std::alloc::Global;
@@ -52,5 +54,13 @@ impl Supply {
 impl Init<Buffer, AnyValue> for Supply {
     fn make(&self) -> Option<Buffer> {
         self.buffer()
+    }
+}
+
+/// Looks at an answer that has to be a refusal for this cause. `None` if it is another one.
+pub fn refused<X: Drop>(answer: Result<X, PullError>, cause: PullError) -> Option<()> {
+    match answer {
+        Err(found) if found == cause => Some(()),
+        _ => None,
     }
 }

@@ -1,5 +1,6 @@
 //! What a test asserts by one call. A library may have no call that ends the process, so each crate
 //! of tests has this one.
+use std::alloc::Global;
 use std::fmt::Debug;
 use std::process::Abort;
 
@@ -7,4 +8,10 @@ use std::process::Abort;
 /// itself, and in its proof each step states all that lives there.
 pub(crate) fn assert_equal<T: PartialEq + Debug + Drop>(rt: &impl Abort, left: T, right: T) {
     assert_eq!(*rt; left, right);
+}
+
+/// Ends the test where `{:?}` shows a value otherwise, and shows both texts.
+pub(crate) fn assert_shown<T: Debug>(rt: &impl Abort, alloc: Global, value: &T, text: &str) {
+    let shown = format!(in alloc; "{value:?}").expect(rt, "memory is left");
+    assert_equal(rt, shown.as_str(), text);
 }

@@ -1,10 +1,13 @@
 //! A pool of a type that says itself how its values are made and reset.
 ghost use Rattle.std.specs.Prelude.{◌≡◌, ⊤, [], IfSome};
 
-use crate::assert_equal::assert_equal;
+use crate::assert_equal::{assert_equal, assert_shown};
+use lockfree_object_pool::free_list::FreeList;
+use lockfree_object_pool::made_or_reset::MadeOrReset;
 use lockfree_object_pool::recycling::{
     FixedPool, MutexPool, OwnedReusable, Pool, Recyclable, Recycler, Reusable, SpinLockPool,
 };
+use lockfree_object_pool::stack_object_pool::StackObjectPool;
 use lockfree_object_pool::{LinearObjectPool, PullError};
 use std::alloc::Global;
 use std::process::Abort;
@@ -46,12 +49,20 @@ impl Worker {
     fn use_once(&self) -> Option<(usize, u64)>
         ensures { IfSome result (λ found. (found.0 ≡ 0) × (found.1 ≡ 0)) }
     {
-        let mut scratch = self.pool.pull().ok()?;
-        let found = (scratch.words.len(), scratch.sum);
-        scratch.words.push(5).ok()?;
-        scratch.sum = 5;
-        Some(found)
+        read_and_write(&mut *self.pool.pull().ok()?)
     }
+}
+
+/// What a clean scratch holds, which is then written.
+fn read_and_write(scratch: &mut Scratch) -> Option<(usize, u64)>
+    requires words { scratch.old.words.items ≡ [] }
+    requires sum { scratch.old.sum ≡ 0 }
+    ensures { IfSome result (λ found. (found.0 ≡ 0) × (found.1 ≡ 0)) }
+{
+    let found = (scratch.words.len(), scratch.sum);
+    scratch.words.push(5).ok()?;
+    scratch.sum = 5;
+    Some(found)
 }
 
 #[test]
@@ -83,18 +94,17 @@ fn an_owned_value_and_its_pool_are_shown(rt: HostRuntime) {
     let worker = Worker {
         pool: Pool::with_recycler(rt.alloc()).expect(&rt, "a pool is made"),
     };
-    let shown = format!(in rt.alloc(); "{worker:?}").expect(&rt, "memory is left");
-    assert_equal(
+    assert_shown(
         &rt,
-        shown.as_str(),
+        rt.alloc(),
+        &worker,
         "Worker { pool: LinearObjectPool { limit: None, .. } }",
     );
     let pool = Arc::new(rt.alloc(), worker.pool).expect(&rt, "memory is left");
     let mut scratch: OwnedReusable<Scratch> = pool.pull_owned().expect(&rt, "an item is free");
     scratch.words.push(7).expect(&rt, "memory is left");
     scratch.sum = 7;
-    let shown = format!(in rt.alloc(); "{scratch:?}").expect(&rt, "memory is left");
-    assert_equal(&rt, shown.as_str(), "Scratch { words: [7], sum: 7 }");
+    assert_shown(&rt, rt.alloc(), &scratch, "Scratch { words: [7], sum: 7 }");
 }
 
 /// A vector or a text, which has a length and room.
@@ -158,11 +168,7 @@ fn vectors_and_texts_come_empty_with_their_room(rt: HostRuntime) {
 fn use_fixed_once(pool: &FixedPool<Scratch>) -> Option<(usize, u64)>
     ensures { IfSome result (λ found. (found.0 ≡ 0) × (found.1 ≡ 0)) }
 {
-    let mut scratch = pool.pull().ok()?;
-    let found = (scratch.words.len(), scratch.sum);
-    scratch.words.push(5).ok()?;
-    scratch.sum = 5;
-    Some(found)
+    read_and_write(&mut *pool.pull().ok()?)
 }
 
 #[test]
@@ -193,14 +199,25 @@ fn a_recyclable_type_that_refuses_has_no_pool(rt: HostRuntime) {
     assert_equal(&rt, refused, Some(PullError::Init));
 }
 
-/// How pulls of stack pools are answered whose values are never made.
+/// How a pull of a stack pool is answered whose values are never made.
+fn refusal_of_stack<F: FreeList<Never, MadeOrReset<Recycler, Recycler, Recycler>>, W: Wait + Copy>(
+    rt: &W,
+    pool: &StackObjectPool<Never, Recycler, Recycler, Recycler, F>,
+) -> Option<PullError> {
+    pool.pull(rt).err()
+}
+
+/// The same of each kind of stack pool.
 fn refusals_of_stacks<W: Abort + Wait + Copy>(
     rt: &W,
     alloc: Global,
 ) -> (Option<PullError>, Option<PullError>) {
-    let mutex = MutexPool::<Never>::with_recycler(alloc).pull(rt).err();
+    let mutex = MutexPool::<Never>::with_recycler(alloc);
     let spin_lock = SpinLockPool::<Never>::with_recycler(alloc).expect(rt, "a pool is made");
-    (mutex, spin_lock.pull(rt).err())
+    (
+        refusal_of_stack(rt, &mutex),
+        refusal_of_stack(rt, &spin_lock),
+    )
 }
 
 #[test]
@@ -229,13 +246,7 @@ fn vectors_and_texts_keep_much_room(rt: HostRuntime) {
 #[test]
 fn a_fixed_pool_and_its_item_are_shown(rt: HostRuntime) {
     let pool = FixedPool::<Scratch>::with_recycler(rt.alloc(), 33).expect(&rt, "a pool is made");
-    let shown = format!(in rt.alloc();
-        "{pool:?} {:?}",
-        pool.pull().expect(&rt, "an item is free")
-    ).expect(&rt, "memory is left");
-    assert_equal(
-        &rt,
-        shown.as_str(),
-        "FixedObjectPool { items: 33, .. } Scratch { words: [], sum: 0 }",
-    );
+    assert_shown(&rt, rt.alloc(), &pool, "FixedObjectPool { items: 33, .. }");
+    let scratch = pool.pull().expect(&rt, "an item is free");
+    assert_shown(&rt, rt.alloc(), &scratch, "Scratch { words: [], sum: 0 }");
 }

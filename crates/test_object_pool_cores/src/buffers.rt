@@ -8,6 +8,8 @@ use object_pool_cores::buffers::*;
 use pool_parts::PullError;
 use pool_parts::closures::{Init, InitBy, Makes, ResetBy, Resets};
 use std::alloc::Global;
+use std::fmt::Debug;
+use std::process::Abort;
 use std::sync::Arc;
 use std::thread;
 
@@ -22,6 +24,22 @@ type ReadyPool = BufferPool<WithCapacity, Clear>;
 /// A pool of one page, whose buffers have room for 16 bytes.
 fn one_page(alloc: Global) -> Result<ReadyPool, PullError> {
     BufferPool::new(alloc, WithCapacity::new(alloc, 16), Clear, 1)
+}
+
+/// Creates such a pool. There has to be memory for it.
+fn made_pool(rt: &(impl Abort + AllocGlobal)) -> ReadyPool {
+    one_page(rt.alloc()).expect(rt, "a pool is made")
+}
+
+/// Pulls a buffer. One has to be free.
+fn pulled<'p>(rt: &impl Abort, pool: &'p ReadyPool) -> Buffer<'p, WithCapacity, Clear> {
+    pool.pull().expect(rt, "an item is free")
+}
+
+/// Checks what a value is shown by.
+fn shows(rt: &(impl Abort + AllocGlobal), value: &impl Debug, expected: &str) {
+    let text = format!(in rt.alloc(); "{value:?}").expect(rt, "memory is left");
+    assert_equal(rt, text.as_str(), expected);
 }
 
 /// What a buffer holds after two appends, and what the same room holds when it is pulled again.
@@ -75,7 +93,7 @@ fn pulled_by<I: InitBy<Vec<u8>>, R: ResetBy<Vec<u8>>>(
 
 #[test]
 fn a_buffer_holds_what_was_appended_and_comes_again_empty(rt: HostRuntime) {
-    let pool = one_page(rt.alloc()).expect(&rt, "a pool is made");
+    let pool = made_pool(&rt);
     let (written, again) = written_and_pulled(rt.alloc(), &pool).expect(&rt, "nothing is refused");
     assert_equal(&rt, written.as_slice(), b"abc".as_slice());
     assert_equal(&rt, again, 0);
@@ -88,13 +106,10 @@ fn a_buffer_holds_what_was_appended_and_comes_again_empty(rt: HostRuntime) {
 #[test]
 fn closures_make_and_clear_buffers(rt: HostRuntime) {
     let alloc = rt.alloc();
-    let made = pulled_by(
-        alloc,
-        || fresh(alloc, 16),
-        |bytes: &mut Vec<u8>| clear(bytes),
-    );
+    let clears = |bytes: &mut Vec<u8>| clear(bytes);
+    let made = pulled_by(alloc, || fresh(alloc, 16), clears);
     assert_equal(&rt, made, Ok(0));
-    let refused = pulled_by(alloc, || None, |bytes: &mut Vec<u8>| clear(bytes));
+    let refused = pulled_by(alloc, || None, clears);
     assert_equal(&rt, refused, Err(PullError::Init));
 }
 
@@ -128,7 +143,7 @@ fn pulled_at_last(pool: &ReadyPool) -> Option<Buffer<'_, WithCapacity, Clear>> {
 
 #[test]
 fn five_threads_find_each_buffer_empty(rt: HostRuntime) {
-    let pool = one_page(rt.alloc()).expect(&rt, "a pool is made");
+    let pool = made_pool(&rt);
     let pool = Arc::new(rt.alloc(), pool).expect(&rt, "memory is left");
     let mut threads = Vec::with_capacity(rt.alloc(), 5).expect(&rt, "memory is left");
     for _ in 0..5 {
@@ -144,24 +159,22 @@ fn five_threads_find_each_buffer_empty(rt: HostRuntime) {
 
 #[test]
 fn a_pool_and_its_buffer_are_shown(rt: HostRuntime) {
-    let pool = one_page(rt.alloc()).expect(&rt, "a pool is made");
-    let mut buffer = pool.pull().expect(&rt, "an item is free");
+    let pool = made_pool(&rt);
+    let mut buffer = pulled(&rt, &pool);
     buffer.append(&[7, 9]).expect(&rt, "memory is left");
-    let text = format!(in rt.alloc(); "{pool:?} {buffer:?}").expect(&rt, "memory is left");
-    let expected = "BufferPool { pool: LinearObjectPool { limit: Some(1), .. } } [7, 9]";
-    assert_equal(&rt, text.as_str(), expected);
+    let expected = "BufferPool { pool: LinearObjectPool { limit: Some(1), .. } }";
+    shows(&rt, &pool, expected);
+    shows(&rt, &buffer, "[7, 9]");
 }
 
 #[test]
 fn an_empty_buffer_and_a_full_one_are_shown(rt: HostRuntime) {
-    let pool = one_page(rt.alloc()).expect(&rt, "a pool is made");
-    let mut buffer = pool.pull().expect(&rt, "an item is free");
-    let empty = format!(in rt.alloc(); "{buffer:?}").expect(&rt, "memory is left");
+    let pool = made_pool(&rt);
+    let mut buffer = pulled(&rt, &pool);
+    shows(&rt, &buffer, "[]");
     buffer
         .append(&[0, 1, 2, 3, 4, 5, 6, 7, 8, 9, 10, 11, 12, 13, 14, 255])
         .expect(&rt, "memory is left");
-    let full = format!(in rt.alloc(); "{buffer:?}").expect(&rt, "memory is left");
-    assert_equal(&rt, empty.as_str(), "[]");
     let expected = "[0, 1, 2, 3, 4, 5, 6, 7, 8, 9, 10, 11, 12, 13, 14, 255]";
-    assert_equal(&rt, full.as_str(), expected);
+    shows(&rt, &buffer, expected);
 }

@@ -15,9 +15,8 @@ mod long_replies;
 use devices::{Device, Parts};
 
 /// Plays an input on a pool, of at least one page where it has a limit.
-fn play<H: Wait, R: Read, W: Write>(
+fn play<H: Wait + AllocGlobal, R: Read, W: Write>(
     rt: &H,
-    alloc: Global,
     kind: Kind,
     reset: Reset,
     input: &mut R,
@@ -27,33 +26,31 @@ fn play<H: Wait, R: Read, W: Write>(
         Kind::Bounded(pages) => Kind::Bounded(pages.max(1)),
         Kind::Linear | Kind::Stack | Kind::None => kind,
     };
-    run(rt, alloc, kind, reset, input, output)
+    run(rt, rt.alloc(), kind, reset, input, output)
 }
 
 /// What the engine answers to an input.
-fn output_of<H: Abort + Wait>(
+fn output_of<H: Abort + Wait + AllocGlobal>(
     rt: &H,
-    alloc: Global,
     kind: Kind,
     reset: Reset,
     input: &str,
 ) -> Vec<u8> {
-    let mut output = Vec::new(alloc);
+    let mut output = Vec::new(rt.alloc());
     let mut bytes = input.as_bytes();
-    play(rt, alloc, kind, reset, &mut bytes, &mut output).expect(rt, "the input is played");
+    play(rt, kind, reset, &mut bytes, &mut output).expect(rt, "the input is played");
     output
 }
 
 /// Plays an input, whose output has to be the one that is expected.
-fn answers<H: Abort + Wait>(
+fn answers<H: Abort + Wait + AllocGlobal>(
     rt: &H,
-    alloc: Global,
     kind: Kind,
     reset: Reset,
     input: &str,
     expected: &str,
 ) {
-    let output = output_of(rt, alloc, kind, reset, input);
+    let output = output_of(rt, kind, reset, input);
     assert_eq!(*rt;
         output.as_slice(),
         expected.as_bytes(),
@@ -74,15 +71,14 @@ fn is_repeated(bytes: &[u8], reply: &[u8], times: usize) -> bool {
 
 /// Plays an input on a pool that keeps values. It has to end so, with these bytes on the device.
 /// Returns how often the device was written to.
-fn plays<H: Abort + Wait, R: Read>(
+fn plays<H: Abort + Wait + AllocGlobal, R: Read>(
     rt: &H,
-    alloc: Global,
     kind: Kind,
     input: &mut R,
     mut output: Device,
     expected: (Result<(), EngineError>, &[u8]),
 ) -> usize {
-    let result = play(rt, alloc, kind, Reset::Keep, input, &mut output);
+    let result = play(rt, kind, Reset::Keep, input, &mut output);
     assert_equal(rt, (result, output.bytes()), expected);
     output.calls()
 }
@@ -124,7 +120,7 @@ fn answers_each_line(rt: HostRuntime) {
         ),
     ];
     for (reset, input, expected) in &ROWS {
-        answers(&rt, rt.alloc(), Kind::Linear, *reset, input, expected);
+        answers(&rt, Kind::Linear, *reset, input, expected);
     }
 }
 
@@ -134,7 +130,7 @@ fn a_reset_to_zero_and_bad_lines(rt: HostRuntime) {
         "return 3\npull\nPULL\nwrite 0 4294967296\nwrite 0 4294967295\nreturn 0\nreturn 0\npull\n\n";
     let expected =
         "no such holder\npulled 0 number 0 value 0\nbad line\nbad line\nwritten 0\nreturned 0\nno such holder\npulled 1 number 0 value 0\nbad line\n";
-    answers(&rt, rt.alloc(), Kind::Linear, Reset::Zero, input, expected);
+    answers(&rt, Kind::Linear, Reset::Zero, input, expected);
 }
 
 #[test]
@@ -143,14 +139,7 @@ fn a_line_of_more_than_64_bytes_is_bad(rt: HostRuntime) {
     assert_equal(&rt, letters.len(), 64);
     let input = format!(in rt.alloc(); "{letters}pull\npull\n").expect(&rt, "memory is left");
     let expected = "bad line\npulled 0 number 0 value 0\n";
-    answers(
-        &rt,
-        rt.alloc(),
-        Kind::Linear,
-        Reset::Keep,
-        input.as_str(),
-        expected,
-    );
+    answers(&rt, Kind::Linear, Reset::Keep, input.as_str(), expected);
 }
 
 /// 33 pulls, a return and a pull, with the replies of a pool that may have one page.
@@ -170,14 +159,7 @@ fn past_a_page(alloc: Global) -> Result<(String, String), AllocError> {
 fn a_bounded_pool_refuses_at_its_limit(rt: HostRuntime) {
     let (input, expected) = past_a_page(rt.alloc()).expect(&rt, "memory is left");
     let kind = Kind::Bounded(1);
-    answers(
-        &rt,
-        rt.alloc(),
-        kind,
-        Reset::Keep,
-        input.as_str(),
-        expected.as_str(),
-    );
+    answers(&rt, kind, Reset::Keep, input.as_str(), expected.as_str());
 }
 
 #[test]
@@ -195,7 +177,7 @@ fn plays_a_stack_and_fresh_items(rt: HostRuntime) {
         ),
     ];
     for (kind, input, expected) in &ROWS {
-        answers(&rt, rt.alloc(), *kind, Reset::Keep, input, expected);
+        answers(&rt, *kind, Reset::Keep, input, expected);
     }
 }
 
@@ -203,7 +185,7 @@ fn plays_a_stack_and_fresh_items(rt: HostRuntime) {
 fn no_line_has_no_reply(rt: HostRuntime) {
     const KINDS: [Kind; 4] = [Kind::Linear, Kind::Bounded(1), Kind::Stack, Kind::None];
     for kind in &KINDS {
-        answers(&rt, rt.alloc(), *kind, Reset::Zero, "", "");
+        answers(&rt, *kind, Reset::Zero, "", "");
     }
 }
 
@@ -212,7 +194,7 @@ fn replies_to_one_read_are_one_write(rt: HostRuntime) {
     let mut input = SESSION;
     let output = Device::new(1024, 1024);
     let expected = (Ok(()), REPLIES);
-    let writes = plays(&rt, rt.alloc(), Kind::Linear, &mut input, output, expected);
+    let writes = plays(&rt, Kind::Linear, &mut input, output, expected);
     // One write for the read, and one for the line that has no line feed.
     assert_equal(&rt, writes, 2);
 }
@@ -231,14 +213,7 @@ fn a_zero_byte_makes_a_line_bad_and_ends_nothing(rt: HostRuntime) {
     for (parts, replies) in rows {
         let mut input = Parts::new(parts, None);
         let output = Device::new(1024, 1024);
-        plays(
-            &rt,
-            rt.alloc(),
-            Kind::None,
-            &mut input,
-            output,
-            (Ok(()), replies),
-        );
+        plays(&rt, Kind::None, &mut input, output, (Ok(()), replies));
     }
 }
 

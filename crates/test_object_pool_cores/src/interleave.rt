@@ -2,6 +2,7 @@
 ghost use Rattle.std.specs.Prelude.{◌≤◌};
 
 use crate::assert_equal::assert_equal;
+use crate::tallies::made_tally;
 use object_pool_cores::interleave::*;
 use pool_parts::PullError;
 use pool_parts::clean::AnyValue;
@@ -13,7 +14,7 @@ use std::rc::Rc;
 use std::sync::Arc;
 use test_values::counted::NEVER;
 use test_values::tallied::Tallied;
-use test_values::tally::{Tally, new_tally};
+use test_values::tally::Tally;
 
 mod hints;
 mod late_links;
@@ -30,21 +31,21 @@ fn zeros(alloc: Global) -> Result<Prepared<u32>, PullError> {
 }
 
 /// Creates a world with this first page, and no limit.
-fn world_of<T: Drop>(rt: &impl Abort, alloc: Global, first: Prepared<T>) -> World<T, Keep> {
-    World::new(alloc, first, Keep).expect(rt, "a world is made")
+fn world_of<T: Drop>(rt: &(impl Abort + AllocGlobal), first: Prepared<T>) -> World<T, Keep> {
+    World::new(rt.alloc(), first, Keep).expect(rt, "a world is made")
 }
 
 /// Creates a world of zeros, with no limit.
-fn unbounded(rt: &impl Abort, alloc: Global) -> World<u32, Keep> {
-    world_of(rt, alloc, zeros(alloc).expect(rt, "values are made"))
+fn unbounded(rt: &(impl Abort + AllocGlobal)) -> World<u32, Keep> {
+    world_of(rt, zeros(rt.alloc()).expect(rt, "values are made"))
 }
 
 /// Creates a world of zeros that may have so many pages.
-fn limited(rt: &impl Abort, alloc: Global, pages: usize) -> World<u32, Keep>
+fn limited(rt: &(impl Abort + AllocGlobal), pages: usize) -> World<u32, Keep>
     requires { 1 ≤ pages }
 {
-    let first = zeros(alloc).expect(rt, "values are made");
-    World::with_limit(alloc, first, Keep, pages).expect(rt, "a world is made")
+    let first = zeros(rt.alloc()).expect(rt, "values are made");
+    World::with_limit(rt.alloc(), first, Keep, pages).expect(rt, "a world is made")
 }
 
 /// An event as it stands in a table of steps. The values of a page come from what the table is
@@ -104,15 +105,14 @@ fn event_of<T, P: Pages<T>>(alloc: Global, pages: &P, act: Act) -> Result<Event<
 
 /// Steps the world through a table of events, each of which has to give its answer.
 fn play<T: Drop, R: Reset<T, AnyValue>, P: Pages<T>>(
-    rt: &impl Abort,
-    alloc: Global,
+    rt: &(impl Abort + AllocGlobal),
     pages: &P,
     world: &mut World<T, R>,
     steps: &[(Act, Seen)],
 ) {
     for step in steps {
         let (act, answer) = *step;
-        let event = event_of(alloc, pages, act).expect(rt, "values are made");
+        let event = event_of(rt.alloc(), pages, act).expect(rt, "values are made");
         assert_equal(rt, world.step(event), answer);
     }
 }
@@ -125,6 +125,13 @@ fn hold<T: Drop, R: Reset<T, AnyValue>>(world: &mut World<T, R>, agents: usize) 
         let _ = world.step(Event::ClearBit(agent));
         let _ = world.step(Event::MoveOut(agent));
     }
+}
+
+/// Creates a world of zeros in which each item of the one page is held.
+fn first_page_held(rt: &(impl Abort + AllocGlobal)) -> World<u32, Keep> {
+    let mut world = unbounded(rt);
+    hold(&mut world, 32);
+    world
 }
 
 /// The agent returns its item.
@@ -151,14 +158,14 @@ fn owners(alloc: Global, shared: &Rc<u32>) -> Result<Prepared<Rc<u32>>, PullErro
 type TalliedWorld = World<Tallied, Keep>;
 
 /// Creates such a world, with no limit.
-fn tallied_world(rt: &impl Abort, alloc: Global, tally: &Arc<Tally>) -> TalliedWorld {
-    let first = make_tallied(alloc, tally, NEVER).expect(rt, "values are made");
-    world_of(rt, alloc, first)
+fn tallied_world(rt: &(impl Abort + AllocGlobal), tally: &Arc<Tally>) -> TalliedWorld {
+    let first = make_tallied(rt.alloc(), tally, NEVER).expect(rt, "values are made");
+    world_of(rt, first)
 }
 
 #[test]
 fn a_lost_clearing_tries_the_next_bit(rt: HostRuntime) {
-    let mut world = unbounded(&rt, rt.alloc());
+    let mut world = unbounded(&rt);
     const STEPS: [(Act, Seen); 7] = [
         (Act::Begin, Seen::Began(0)),
         (Act::Begin, Seen::Began(1)),
@@ -168,12 +175,12 @@ fn a_lost_clearing_tries_the_next_bit(rt: HostRuntime) {
         (Act::ClearBit(1), Seen::Found(1, 4294967294)),
         (Act::ClearBit(1), Seen::Pulled(1, 1)),
     ];
-    play(&rt, rt.alloc(), &ZeroPages, &mut world, &STEPS);
+    play(&rt, &ZeroPages, &mut world, &STEPS);
     assert_equal(&rt, world.word(0), Some(4294967292));
 }
 
 /// Has two agents make a page each while one is held: the second is too late to link its own.
-fn lose_a_link(rt: &impl Abort, alloc: Global, tally: &Arc<Tally>, mut world: TalliedWorld) {
+fn lose_a_link(rt: &(impl Abort + AllocGlobal), tally: &Arc<Tally>, mut world: TalliedWorld) {
     const STEPS: [(Act, Seen); 14] = [
         (Act::Begin, Seen::Began(32)),
         (Act::Begin, Seen::Began(33)),
@@ -191,27 +198,26 @@ fn lose_a_link(rt: &impl Abort, alloc: Global, tally: &Arc<Tally>, mut world: Ta
         (Act::ClearBit(33), Seen::Pulled(33, 33)),
     ];
     hold(&mut world, 32);
-    play(rt, alloc, tally, &mut world, &STEPS);
+    play(rt, tally, &mut world, &STEPS);
     assert_equal(rt, (tally.now(), world.pages()), ((96, 32), 2));
 }
 
 #[test]
 fn a_lost_link_takes_from_the_linked_page(rt: HostRuntime) {
-    let tally = new_tally(rt.alloc()).expect(&rt, "memory is left");
-    let world = tallied_world(&rt, rt.alloc(), &tally);
+    let tally = made_tally(&rt);
+    let world = tallied_world(&rt, &tally);
     assert_equal(&rt, world.limit(), None);
-    lose_a_link(&rt, rt.alloc(), &tally, world);
-    let tally = new_tally(rt.alloc()).expect(&rt, "memory is left");
+    lose_a_link(&rt, &tally, world);
+    let tally = made_tally(&rt);
     let first = make_tallied(rt.alloc(), &tally, NEVER).expect(&rt, "values are made");
     let world = World::with_limit(rt.alloc(), first, Keep, 2).expect(&rt, "a world is made");
     assert_equal(&rt, world.limit(), Some(2));
-    lose_a_link(&rt, rt.alloc(), &tally, world);
+    lose_a_link(&rt, &tally, world);
 }
 
 #[test]
 fn a_bit_that_was_taken_is_passed_over(rt: HostRuntime) {
-    let mut world = unbounded(&rt, rt.alloc());
-    hold(&mut world, 32);
+    let mut world = first_page_held(&rt);
     give_back(&mut world, 0);
     give_back(&mut world, 2);
     const STEPS: [(Act, Seen); 7] = [
@@ -223,32 +229,32 @@ fn a_bit_that_was_taken_is_passed_over(rt: HostRuntime) {
         (Act::ClearBit(32), Seen::Found(32, 4)),
         (Act::ClearBit(32), Seen::Pulled(32, 2)),
     ];
-    play(&rt, rt.alloc(), &ZeroPages, &mut world, &STEPS);
+    play(&rt, &ZeroPages, &mut world, &STEPS);
     assert_equal(&rt, world.word(0), Some(0));
 }
 
 #[test]
 fn an_event_that_is_not_enabled_changes_nothing(rt: HostRuntime) {
-    let mut world = unbounded(&rt, rt.alloc());
+    let mut world = unbounded(&rt);
     const STEPS: [(Act, Seen); 3] = [
         (Act::Begin, Seen::Began(0)),
         (Act::MoveOut(0), Seen::NotEnabled),
         (Act::ReadMask(1), Seen::NotEnabled),
     ];
-    play(&rt, rt.alloc(), &ZeroPages, &mut world, &STEPS);
+    play(&rt, &ZeroPages, &mut world, &STEPS);
     assert_equal(&rt, (world.pages(), world.word(0)), (1, Some(FULL)));
 }
 
 #[test]
 fn an_agent_alone_holds_after_three_events(rt: HostRuntime) {
-    let mut world = unbounded(&rt, rt.alloc());
+    let mut world = unbounded(&rt);
     const STEPS: [(Act, Seen); 4] = [
         (Act::Begin, Seen::Began(0)),
         (Act::ReadMask(0), Seen::Word(0, FULL)),
         (Act::ClearBit(0), Seen::Pulled(0, 0)),
         (Act::MoveOut(0), Seen::MovedOut(0)),
     ];
-    play(&rt, rt.alloc(), &ZeroPages, &mut world, &STEPS);
+    play(&rt, &ZeroPages, &mut world, &STEPS);
     assert_equal(&rt, world.step(Event::Write(0, 5)), Seen::Wrote(0));
     assert_equal(&rt, (world.held(0), world.place(0, 0)), (Some(&5), None));
     give_back(&mut world, 0);
@@ -257,8 +263,7 @@ fn an_agent_alone_holds_after_three_events(rt: HostRuntime) {
 
 #[test]
 fn an_agent_alone_links_a_page_after_a_full_one(rt: HostRuntime) {
-    let mut world = unbounded(&rt, rt.alloc());
-    hold(&mut world, 32);
+    let mut world = first_page_held(&rt);
     const STEPS: [(Act, Seen); 8] = [
         (Act::Begin, Seen::Began(32)),
         (Act::ReadMask(32), Seen::Word(32, 0)),
@@ -269,13 +274,12 @@ fn an_agent_alone_links_a_page_after_a_full_one(rt: HostRuntime) {
         (Act::ClearBit(32), Seen::Pulled(32, 32)),
         (Act::MoveOut(32), Seen::MovedOut(32)),
     ];
-    play(&rt, rt.alloc(), &ZeroPages, &mut world, &STEPS);
+    play(&rt, &ZeroPages, &mut world, &STEPS);
 }
 
 #[test]
 fn a_refusal_leaves_the_pages_alone(rt: HostRuntime) {
-    let mut world = unbounded(&rt, rt.alloc());
-    hold(&mut world, 32);
+    let mut world = first_page_held(&rt);
     const STEPS: [(Act, Seen); 7] = [
         (Act::Begin, Seen::Began(32)),
         (Act::ReadMask(32), Seen::Word(32, 0)),
@@ -288,14 +292,13 @@ fn a_refusal_leaves_the_pages_alone(rt: HostRuntime) {
             Seen::Refused(32, PullError::Init),
         ),
     ];
-    play(&rt, rt.alloc(), &ZeroPages, &mut world, &STEPS);
+    play(&rt, &ZeroPages, &mut world, &STEPS);
     assert_equal(&rt, (world.pages(), world.word(0)), (1, Some(128)));
 }
 
 #[test]
 fn a_page_may_be_linked_although_a_number_came_back(rt: HostRuntime) {
-    let mut world = unbounded(&rt, rt.alloc());
-    hold(&mut world, 32);
+    let mut world = first_page_held(&rt);
     give_back(&mut world, 0);
     const STEPS: [(Act, Seen); 13] = [
         (Act::Begin, Seen::Began(32)),
@@ -312,7 +315,7 @@ fn a_page_may_be_linked_although_a_number_came_back(rt: HostRuntime) {
         (Act::ReadMask(32), Seen::Word(32, FULL)),
         (Act::ClearBit(32), Seen::Pulled(32, 32)),
     ];
-    play(&rt, rt.alloc(), &ZeroPages, &mut world, &STEPS);
+    play(&rt, &ZeroPages, &mut world, &STEPS);
     assert_equal(&rt, (world.pages(), world.word(0)), (2, Some(32)));
 }
 
@@ -324,20 +327,20 @@ fn a_full_world_at_its_limit_refuses(rt: HostRuntime) {
     ];
     const LAST: [(Act, Seen); 1] = [(Act::ReadNext(32), Seen::Refused(32, PullError::Limit))];
     for (returned, word) in [(0, 0), (1, 128)] {
-        let mut world = limited(&rt, rt.alloc(), 1);
+        let mut world = limited(&rt, 1);
         hold(&mut world, 32);
-        play(&rt, rt.alloc(), &ZeroPages, &mut world, &LOOKS);
+        play(&rt, &ZeroPages, &mut world, &LOOKS);
         for _ in 0..returned {
             give_back(&mut world, 7);
         }
-        play(&rt, rt.alloc(), &ZeroPages, &mut world, &LAST);
+        play(&rt, &ZeroPages, &mut world, &LAST);
         assert_equal(&rt, (world.pages(), world.word(0)), (1, Some(word)));
     }
 }
 
 #[test]
 fn an_agent_alone_is_refused_after_two_events_a_page(rt: HostRuntime) {
-    let mut world = limited(&rt, rt.alloc(), 2);
+    let mut world = limited(&rt, 2);
     hold(&mut world, 32);
     const STEPS: [(Act, Seen); 5] = [
         (Act::Begin, Seen::Began(32)),
@@ -346,7 +349,7 @@ fn an_agent_alone_is_refused_after_two_events_a_page(rt: HostRuntime) {
         (Act::MakePage(32), Seen::Made(32)),
         (Act::ExchangeNext(32), Seen::Linked(32)),
     ];
-    play(&rt, rt.alloc(), &ZeroPages, &mut world, &STEPS);
+    play(&rt, &ZeroPages, &mut world, &STEPS);
     for agent in 33..64 {
         let _ = world.step(Event::Begin);
         let _ = world.step(Event::ReadMask(agent));
@@ -364,13 +367,13 @@ fn an_agent_alone_is_refused_after_two_events_a_page(rt: HostRuntime) {
         (Act::ReadMask(64), Seen::Word(64, 0)),
         (Act::ReadNext(64), Seen::Refused(64, PullError::Limit)),
     ];
-    play(&rt, rt.alloc(), &ZeroPages, &mut world, &LAST);
+    play(&rt, &ZeroPages, &mut world, &LAST);
 }
 
 #[test]
 fn a_page_is_made_whole_or_not_at_all(rt: HostRuntime) {
     for refused in 0..32usize {
-        let tally = new_tally(rt.alloc()).expect(&rt, "memory is left");
+        let tally = made_tally(&rt);
         let refusal = make_tallied(rt.alloc(), &tally, refused).err();
         assert_equal(
             &rt,
@@ -381,7 +384,8 @@ fn a_page_is_made_whole_or_not_at_all(rt: HostRuntime) {
 }
 
 /// What lies at the first place after an agent wrote 9 there and returned it.
-fn left_of_nine<R: Reset<u32, AnyValue>>(rt: &impl Abort, alloc: Global, reset: R) -> Option<u32> {
+fn left_of_nine<R: Reset<u32, AnyValue>>(rt: &(impl Abort + AllocGlobal), reset: R) -> Option<u32> {
+    let alloc = rt.alloc();
     let first = zeros(alloc).expect(rt, "values are made");
     let mut world = World::new(alloc, first, reset).expect(rt, "a world is made");
     hold(&mut world, 1);
@@ -391,16 +395,16 @@ fn left_of_nine<R: Reset<u32, AnyValue>>(rt: &impl Abort, alloc: Global, reset: 
 }
 
 /// The same, of a closure that resets.
-fn left_by_closure<F: ResetBy<u32>>(rt: &impl Abort, alloc: Global, reset: F) -> Option<u32>
+fn left_by_closure<F: ResetBy<u32>>(rt: &(impl Abort + AllocGlobal), reset: F) -> Option<u32>
     requires { F.may_reset reset }
 {
-    left_of_nine(rt, alloc, Resets::<u32, F, AnyValue>::new(reset))
+    left_of_nine(rt, Resets::<u32, F, AnyValue>::new(reset))
 }
 
 #[test]
 fn a_return_stores_what_reset_left(rt: HostRuntime) {
-    let kept = left_of_nine(&rt, rt.alloc(), Keep);
-    let copied = left_of_nine(&rt, rt.alloc(), Copied::<u32, AnyValue>::new(3));
-    let halved = left_by_closure(&rt, rt.alloc(), |value: &mut u32| *value /= 2);
+    let kept = left_of_nine(&rt, Keep);
+    let copied = left_of_nine(&rt, Copied::<u32, AnyValue>::new(3));
+    let halved = left_by_closure(&rt, |value: &mut u32| *value /= 2);
     assert_equal(&rt, (kept, copied, halved), (Some(9), Some(3), Some(4)));
 }

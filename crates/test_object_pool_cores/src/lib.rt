@@ -14,3 +14,5 @@ mod interleave;
 mod run_error;
 #[cfg(test)]
 mod sequential;
+#[cfg(test)]
+mod tallies;

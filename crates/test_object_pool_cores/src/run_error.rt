@@ -1,13 +1,13 @@
 //! What becomes of a value that memory was refused for.
 use crate::assert_equal::assert_equal;
+use crate::tallies::made_tally;
 use object_pool_cores::sequential::RunError;
 use std::alloc::AllocFailed;
 use test_values::tallied::Tallied;
-use test_values::tally::new_tally;
 
 #[test]
 fn a_value_that_memory_was_refused_for_is_dropped(rt: HostRuntime) {
-    let tally = new_tally(rt.alloc()).expect(&rt, "memory is left");
+    let tally = made_tally(&rt);
     let refused = AllocFailed {
         value: Tallied::new(&tally),
     };

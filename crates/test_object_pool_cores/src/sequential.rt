@@ -2,6 +2,7 @@
 ghost use Rattle.std.specs.Prelude.{◌≤◌};
 
 use crate::assert_equal::assert_equal;
+use crate::tallies::made_tally;
 use object_pool_cores::sequential::*;
 use pool_parts::PullError;
 use pool_parts::clean::AnyValue;
@@ -11,7 +12,7 @@ use std::process::Abort;
 use std::sync::Arc;
 use test_values::counted::NEVER;
 use test_values::tallied::{Tallied, TalliedValues};
-use test_values::tally::{Tally, new_tally};
+use test_values::tally::Tally;
 
 mod core_page;
 mod held_and_kept;
@@ -98,11 +99,11 @@ fn command_of(what: Do) -> Command<u32> {
 
 /// What a player replies to a table of commands, in one run.
 fn replies_of<P: SequentialPool<u32>>(
-    rt: &impl Abort,
-    alloc: Global,
+    rt: &(impl Abort + AllocGlobal),
     player: &mut Player<u32, P>,
     table: &[Do],
 ) -> Vec<Reply<u32>> {
+    let alloc = rt.alloc();
     let mut commands = Vec::new(alloc);
     for what in table {
         commands
@@ -119,21 +120,21 @@ fn replies_of<P: SequentialPool<u32>>(
 type Zeros = LinearCore<u32, Copied<u32, AnyValue>, Keep, AnyValue>;
 
 /// Creates such a core, with no limit.
-fn zeros(rt: &impl Abort, alloc: Global) -> Zeros {
-    LinearCore::new(alloc, Copied::new(0), Keep).expect(rt, "a pool is made")
+fn zeros(rt: &(impl Abort + AllocGlobal)) -> Zeros {
+    LinearCore::new(rt.alloc(), Copied::new(0), Keep).expect(rt, "a pool is made")
 }
 
 /// Creates such a core of at most so many pages.
-fn limited_zeros(rt: &impl Abort, alloc: Global, pages: usize) -> Zeros
+fn limited_zeros(rt: &(impl Abort + AllocGlobal), pages: usize) -> Zeros
     requires { 1 ≤ pages }
 {
-    LinearCore::with_limit(alloc, Copied::new(0), Keep, pages).expect(rt, "a pool is made")
+    LinearCore::with_limit(rt.alloc(), Copied::new(0), Keep, pages).expect(rt, "a pool is made")
 }
 
 /// Returns what a player of a new such core replies to a table of commands.
-fn replies_of_linear(rt: &impl Abort, alloc: Global, table: &[Do]) -> Vec<Reply<u32>> {
-    let mut player = Player::new(alloc, zeros(rt, alloc));
-    replies_of(rt, alloc, &mut player, table)
+fn replies_of_linear(rt: &(impl Abort + AllocGlobal), table: &[Do]) -> Vec<Reply<u32>> {
+    let mut player = Player::new(rt.alloc(), zeros(rt));
+    replies_of(rt, &mut player, table)
 }
 
 /// Gives an item back, where it is the pool's own, and returns whether it is.
@@ -143,6 +144,22 @@ fn give_back<T: Drop, P: SequentialPool<T>>(pool: &mut P, item: Item<T>) -> bool
         pool.give(item);
     }
     is_mine
+}
+
+/// Pulls an item, and returns its number. The item stays out.
+fn pulled_number<T: Drop, P: SequentialPool<T>>(rt: &impl Abort, pool: &mut P) -> Option<u128> {
+    pool.pull().expect(rt, "an item is free").number()
+}
+
+/// Pulls an item, and returns its value. The item stays out.
+fn pulled_value<P: SequentialPool<u32>>(rt: &impl Abort, pool: &mut P) -> u32 {
+    *pool.pull().expect(rt, "an item is free")
+}
+
+/// Attaches a value, and gives its item back.
+fn attach_and_give<P: SequentialPool<u32>>(rt: &impl Abort, pool: &mut P, value: u32) {
+    let item = pool.attach(value).expect(rt, "nothing is refused");
+    give_back(pool, item);
 }
 
 /// 1 and 2 are written to two items, which come back, and two are pulled again.
@@ -169,7 +186,7 @@ fn values_that_reset_keeps_come_again_with_their_numbers(rt: HostRuntime) {
         Reply::Pulled(2, Some(0)),
         Reply::Pulled(3, Some(1)),
     ];
-    let replies = replies_of_linear(&rt, rt.alloc(), &WRITTEN_AND_PULLED);
+    let replies = replies_of_linear(&rt, &WRITTEN_AND_PULLED);
     assert_equal(&rt, replies.as_slice(), EXPECTED.as_slice());
 }
 
@@ -185,7 +202,7 @@ fn the_least_number_comes_first(rt: HostRuntime) {
         Do::Pull,
     ];
     const LAST: [Reply<u32>; 2] = [Reply::Pulled(3, Some(0)), Reply::Pulled(4, Some(2))];
-    let replies = replies_of_linear(&rt, rt.alloc(), &TABLE);
+    let replies = replies_of_linear(&rt, &TABLE);
     assert_equal(&rt, replies.as_slice().get(5..), Some(LAST.as_slice()));
 }
 
@@ -209,7 +226,7 @@ fn a_forgotten_number_stays_out(rt: HostRuntime) {
         Reply::NoSuchHolder,
         Reply::AttachRefused(AttachError::NotOffered(9)),
     ];
-    let replies = replies_of_linear(&rt, rt.alloc(), &TABLE);
+    let replies = replies_of_linear(&rt, &TABLE);
     assert_equal(&rt, replies.as_slice(), EXPECTED.as_slice());
 }
 
@@ -223,14 +240,14 @@ fn a_limit_of_one_page_holds(rt: HostRuntime) {
     ];
     let mut table = [Do::Pull; 35];
     table[33] = Do::Return(7);
-    let mut player = Player::new(rt.alloc(), limited_zeros(&rt, rt.alloc(), 1));
-    let replies = replies_of(&rt, rt.alloc(), &mut player, &table);
+    let mut player = Player::new(rt.alloc(), limited_zeros(&rt, 1));
+    let replies = replies_of(&rt, &mut player, &table);
     assert_equal(&rt, replies.as_slice().get(31..), Some(LAST.as_slice()));
 }
 
 #[test]
 fn a_page_is_made_where_none_is_free(rt: HostRuntime) {
-    let tally = new_tally(rt.alloc()).expect(&rt, "memory is left");
+    let tally = made_tally(&rt);
     let mut core = tracked(rt.alloc(), &tally, NEVER, None).expect(&rt, "a pool is made");
     let made = (tally.calls(), core.pages(), core.limit());
     assert_equal(&rt, made, (32, 1, None));
@@ -243,8 +260,9 @@ fn a_page_is_made_where_none_is_free(rt: HostRuntime) {
 /// With a page held, the pull that is refused by this call of `init` for the next page, counted
 /// from 0, drops what it made, and changes nothing else: the next pull makes that page. How many
 /// values were made, and how many are dropped once all ended.
-fn second_page_refused(rt: &impl Abort, alloc: Global, made: usize) -> (usize, usize) {
-    let tally = new_tally(alloc).expect(rt, "memory is left");
+fn second_page_refused(rt: &(impl Abort + AllocGlobal), made: usize) -> (usize, usize) {
+    let alloc = rt.alloc();
+    let tally = made_tally(rt);
     let calls = made.saturating_add(33);
     let mut core = tracked(alloc, &tally, calls - 1, None).expect(rt, "a pool is made");
     let held = hold(alloc, &mut core, 32).expect(rt, "items are free");
@@ -267,13 +285,13 @@ fn second_page_refused(rt: &impl Abort, alloc: Global, made: usize) -> (usize, u
 
 #[test]
 fn a_refusal_by_init_drops_what_was_made_and_changes_nothing(rt: HostRuntime) {
-    assert_equal(&rt, second_page_refused(&rt, rt.alloc(), 7), (71, 71));
+    assert_equal(&rt, second_page_refused(&rt, 7), (71, 71));
 }
 
 #[test]
 fn each_call_of_init_may_refuse_the_first_page(rt: HostRuntime) {
     for made in 0..32usize {
-        let tally = new_tally(rt.alloc()).expect(&rt, "memory is left");
+        let tally = made_tally(&rt);
         let refusal = tracked(rt.alloc(), &tally, made, None).err();
         assert_equal(
             &rt,
@@ -285,10 +303,9 @@ fn each_call_of_init_may_refuse_the_first_page(rt: HostRuntime) {
 
 #[test]
 fn an_item_is_its_own_pools_until_it_returns(rt: HostRuntime) {
-    let mut core = limited_zeros(&rt, rt.alloc(), 3);
+    let mut core = limited_zeros(&rt, 3);
     let item = core.pull().expect(&rt, "an item is free");
     assert_equal(&rt, (core.limit(), *item), (Some(3), 0));
     assert!(rt; give_back(&mut core, item));
-    let again = core.pull().expect(&rt, "an item is free");
-    assert_equal(&rt, again.number(), Some(0));
+    assert_equal(&rt, pulled_number(&rt, &mut core), Some(0));
 }

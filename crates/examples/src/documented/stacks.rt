@@ -1,7 +1,7 @@
 //! The pools over a lock, and their reusables.
 use crate::assert_equal::assert_equal;
 use lockfree_object_pool::clean::AnyValue;
-use lockfree_object_pool::closures::{Copied, Keep};
+use lockfree_object_pool::closures::{Copied, Init, Keep, Reset};
 use lockfree_object_pool::free_list::FreeList;
 use lockfree_object_pool::made_or_reset::MadeOrReset;
 use lockfree_object_pool::stack_object_pool::StackObjectPool;
@@ -45,7 +45,10 @@ fn keep_five<W: Abort + Wait + Copy, F: FreeList<u32, MadeOrReset<Zeros, Keep, A
 type MutexZeros = MutexObjectPool<u32, Zeros, Keep>;
 
 /// Attaches 6 to a pool by an owner of it.
-fn attach_by_owner<W: Wait + Copy>(rt: W, pool: &Arc<MutexZeros>) -> Result<(), Fail> {
+fn attach_by_owner<W: Wait + Copy, I: Init<u32, AnyValue>, R: Reset<u32, AnyValue>>(
+    rt: W,
+    pool: &Arc<MutexObjectPool<u32, I, R>>,
+) -> Result<(), Fail> {
     let owner = Arc::try_clone(&pool)?;
     let item = MutexOwnedReusable::new(&rt, owner, 6)?;
     drop(item);
@@ -67,14 +70,11 @@ fn a_value_is_attached(rt: HostRuntime) -> Result<(), Fail> {
     Ok(())
 }
 
-/// A spin lock pool of zeros that keeps what was written last.
-type SpinLockZeros = SpinLockObjectPool<u32, Zeros, Keep>;
-
 /// Returns what an owned item of a pool shows.
-fn owned_value<W: Wait + Copy>(
+fn owned_value<W: Wait + Copy, F: FreeList<u32, MadeOrReset<Zeros, Keep, AnyValue>>>(
     rt: W,
     alloc: Global,
-    pool: SpinLockZeros,
+    pool: StackObjectPool<u32, Zeros, Keep, AnyValue, F>,
 ) -> Result<u32, PullError> {
     let pool = Arc::new(alloc, pool)?;
     let item = pool.pull_owned(&rt)?; // may go to any thread

@@ -34,19 +34,30 @@ fn answers_alone(alloc: Global, texts: &[Vec<u8>]) -> Result<Vec<Option<bool>>, 
     Ok(answers)
 }
 
+/// Has threads look at texts, a number of times. Each time their answers are those expected.
+fn answer_often<R: Abort + Threads + Sync>(
+    rt: &R,
+    alloc: Global,
+    pool: &ScratchPool,
+    texts: &[Vec<u8>],
+    expected: &[Option<bool>],
+    times: usize,
+) {
+    for _ in 0..times {
+        let answers = palindromes(rt, alloc, pool, texts).expect(rt, "nothing is refused");
+        assert_equal(rt, answers.as_slice(), expected);
+    }
+}
+
 #[test]
 fn threads_answer_as_one_thread_does(rt: HostRuntime) {
-    let pool = pool_of(&rt, rt.alloc(), 2);
     let words: [&[u8]; 5] = [b"level", b"pool", b"", b"noon", b"lever"];
     let texts = texts_of(rt.alloc(), &words).expect(&rt, "memory is left");
     let alone = answers_alone(rt.alloc(), &texts).expect(&rt, "nothing is refused");
     let expected = [Some(true), Some(false), Some(true), Some(true), Some(false)];
     assert_equal(&rt, alone.as_slice(), expected.as_slice());
-    for _ in 0..20 {
-        let answers = palindromes(&rt, rt.alloc(), &pool, &texts);
-        let answers = answers.expect(&rt, "nothing is refused");
-        assert_equal(&rt, answers.as_slice(), expected.as_slice());
-    }
+    let pool = pool_of(&rt, rt.alloc(), 2);
+    answer_often(&rt, rt.alloc(), &pool, &texts, &expected, 20);
 }
 
 #[test]
@@ -54,16 +65,14 @@ fn each_of_forty_long_texts_has_an_answer(rt: HostRuntime) {
     let pool = pool_of(&rt, rt.alloc(), 2);
     let words = [[7; 1000].as_slice(); 40];
     let texts = texts_of(rt.alloc(), &words).expect(&rt, "memory is left");
-    let answers = palindromes(&rt, rt.alloc(), &pool, &texts).expect(&rt, "nothing is refused");
-    assert_equal(&rt, answers.as_slice(), [Some(true); 40].as_slice());
+    answer_often(&rt, rt.alloc(), &pool, &texts, &[Some(true); 40], 1);
 }
 
 #[test]
 fn each_text_of_one_byte_is_a_palindrome(rt: HostRuntime) {
     let pool = pool_of(&rt, rt.alloc(), 2);
     let texts = texts_of(rt.alloc(), &[b"a", b"\0"]).expect(&rt, "memory is left");
-    let answers = palindromes(&rt, rt.alloc(), &pool, &texts).expect(&rt, "nothing is refused");
-    assert_equal(&rt, answers.as_slice(), [Some(true), Some(true)].as_slice());
+    answer_often(&rt, rt.alloc(), &pool, &texts, &[Some(true); 2], 1);
 }
 
 /// Of each length a text of one letter, and the same with another letter behind it.
@@ -85,11 +94,7 @@ fn long_texts_have_answers_and_their_scratches_come_home(rt: HostRuntime) {
     let texts = even_and_odd(rt.alloc()).expect(&rt, "nothing is refused");
     let (yes, no) = (Some(true), Some(false));
     let expected = [yes, no, yes, no, yes, no, yes, no];
-    for _ in 0..40 {
-        let answers = palindromes(&rt, rt.alloc(), &pool, &texts);
-        let answers = answers.expect(&rt, "nothing is refused");
-        assert_equal(&rt, answers.as_slice(), expected.as_slice());
-    }
+    answer_often(&rt, rt.alloc(), &pool, &texts, &expected, 40);
 }
 
 /// Whichever request is refused, an answer is right or missing, and each scratch comes home.

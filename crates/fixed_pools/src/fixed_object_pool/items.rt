@@ -1,6 +1,5 @@
 //! The items of a fixed pool: a word for each page, and what a pull and a return do there.
 ghost use Rattle.std.specs.Prelude.{◌≡◌, ◌+◌, ◌-◌, ◌*◌, ◌/◌, ◌^◌, ◌<◌, ◌≤◌, ℕ, [], ◌∷◌, Option, None, Some, IfOk, IfErr, MatchOption, false, vec_len};
-ghost use Rattle.std.specs.Int.{bit_at};
 ghost use Rattle.pool_parts.specs.Inside.Items.{items_identity, items_raise};
 ghost use Rattle.pool_parts.specs.Inside.Word.{IsAllFree};
 
@@ -69,12 +68,11 @@ impl<T, K: Clean<T>> FixedItems<T, K> {
     ghost use Rattle.pool_parts.specs.FullSeen.{IsAllOut, IsAllOutAfter};
     ghost use Rattle.fixed_pools.specs.Inside.FixedItem.{fixed_identity, fixed_opening};
     ghost use Rattle.fixed_pools.specs.Inside.FixedItem.{pulled_item, pulled_view};
-    ghost use Rattle.pool_parts.specs.Inside.Taking.{MissesAll, TakesOne};
-    ghost use Rattle.fixed_pools.specs.StepCount.{IsWithin, no_steps, steps_of, passes_to_take, passes_to_refuse};
+    ghost use Rattle.fixed_pools.specs.StepCount.{IsWithin, IsWithinSince, passes_to_take, passes_to_refuse};
     ghost use Rattle.pool_parts.specs.Holding.{holding_page, holding_view};
     ghost use Rattle.pool_parts.specs.Items.{IsFilled};
     ghost use Rattle.pool_parts.specs.Note.{note_page, note_view};
-    ghost use Rattle.pool_parts.specs.Inside.PageRule.{GoesOn, IsOutNow, IsSound, item_of};
+    ghost use Rattle.pool_parts.specs.Inside.PageRule.{GoesOn};
     ghost use Rattle.pool_parts.specs.Refusal.{RefusesMaking};
     ghost use Rattle.pool_parts.specs.declared.page.history.Operation.TheVariants.{Return};
 
@@ -174,12 +172,11 @@ impl<T, K: Clean<T>> FixedItems<T, K> {
             (pulled_item pulled)) }
         ensures meets { IfOk result (λ pulled. K.meets pulled.value) }
         ensures brief { IfOk result
-            (λ pulled. IsWithin (fixed_identity self.now).words no_steps
-            (steps_of (pulled_view pulled))) }
+            (λ pulled. IsWithin (fixed_identity self.now).words (pulled_view pulled)) }
         ensures busy { IfErr result (IsAllOut (fixed_identity self.now).slots
             (fixed_identity self.now) (fixed_opening self.now)) }
         ensures busy_brief { IfErr result
-            (λ busy. IsWithin (fixed_identity self.now).words no_steps (steps_of (full_view busy))) }
+            (λ busy. IsWithin (fixed_identity self.now).words (full_view busy)) }
     {
         let page = self.hinted();
         let (word, mut seat) = self.shared.look(page);
@@ -208,13 +205,13 @@ impl<T, K: Clean<T>> FixedItems<T, K> {
         ensures brief { IfOk result
             (λ pulled. IsWithin
             ((fixed_identity self.now).words * passes_to_take (returns_since (pulled_view pulled)))
-            no_steps (steps_of (pulled_view pulled))) }
+            (pulled_view pulled)) }
         ensures full { IfErr result
             (IsFullNote (fixed_identity self.now) (fixed_opening self.now)) }
         ensures full_brief { IfErr result
             (λ note. IsWithin
             ((fixed_identity self.now).words * passes_to_refuse (returns_since (note_view note)))
-            no_steps (steps_of (note_view note))) }
+            (note_view note)) }
     {
         self.pull_in_order(self.hinted(), None)
     }
@@ -230,13 +227,13 @@ impl<T, K: Clean<T>> FixedItems<T, K> {
         ensures brief { IfOk result
             (λ pulled. IsWithin
             ((fixed_identity self.now).words * passes_to_take (returns_since (pulled_view pulled)))
-            no_steps (steps_of (pulled_view pulled))) }
+            (pulled_view pulled)) }
         ensures full { IfErr result
             (IsFullNote (fixed_identity self.now) (fixed_opening self.now)) }
         ensures full_brief { IfErr result
             (λ note. IsWithin
             ((fixed_identity self.now).words * passes_to_refuse (returns_since (note_view note)))
-            no_steps (steps_of (note_view note))) }
+            (note_view note)) }
     {
         self.pull_in_order(start, Some(Order::Hinted))
     }
@@ -256,13 +253,13 @@ impl<T, K: Clean<T>> FixedItems<T, K> {
         ensures brief { IfOk result
             (λ pulled. IsWithin
             ((fixed_identity self.now).words * passes_to_take (returns_since (pulled_view pulled)))
-            no_steps (steps_of (pulled_view pulled))) }
+            (pulled_view pulled)) }
         ensures full { IfErr result
             (IsFullNote (fixed_identity self.now) (fixed_opening self.now)) }
         ensures full_brief { IfErr result
             (λ note. IsWithin
             ((fixed_identity self.now).words * passes_to_refuse (returns_since (note_view note)))
-            no_steps (steps_of (note_view note))) }
+            (note_view note)) }
     {
         let (word, mut seat) = self.shared.look(start);
         match self.take_or_full(&mut seat, start, word, order) {
@@ -289,12 +286,12 @@ impl<T, K: Clean<T>> FixedItems<T, K> {
             (λ pulled. IsPulledWith (fixed_identity self.now) note (pulled_item pulled)) }
         ensures meets { IfOk result (λ pulled. K.meets pulled.value) }
         ensures brief { IfOk result
-            (λ pulled. IsWithin (fixed_identity self.now).words (steps_of (note_view note))
-            (steps_of (pulled_view pulled))) }
+            (λ pulled. IsWithinSince (fixed_identity self.now).words (note_view note)
+            (pulled_view pulled)) }
         ensures busy { IfErr result
             (IsAllOutAfter (fixed_identity self.now).slots (fixed_identity self.now) note) }
         ensures busy_brief { IfErr result
-            (λ busy. IsWithin (fixed_identity self.now).words (steps_of (note_view note)) (steps_of (full_view busy))) }
+            (λ busy. IsWithinSince (fixed_identity self.now).words (note_view note) (full_view busy)) }
     {
         let PageNote { mut seat } = note;
         let start = self.hinted();
@@ -325,14 +322,14 @@ impl<T, K: Clean<T>> FixedItems<T, K> {
             (λ pulled. IsPulledWith (fixed_identity self.now) note (pulled_item pulled)) }
         ensures meets { IfOk result (λ pulled. K.meets pulled.value) }
         ensures brief { IfOk result
-            (λ pulled. IsWithin
+            (λ pulled. IsWithinSince
             ((fixed_identity self.now).words * passes_to_take (returns_since (pulled_view pulled)))
-            (steps_of (note_view note)) (steps_of (pulled_view pulled))) }
+            (note_view note) (pulled_view pulled)) }
         ensures full { IfErr result (IsFullNoteAfter (fixed_identity self.now) note) }
         ensures full_brief { IfErr result
-            (λ later. IsWithin
+            (λ later. IsWithinSince
             ((fixed_identity self.now).words * passes_to_refuse (returns_since (note_view later)))
-            (steps_of (note_view note)) (steps_of (note_view later))) }
+            (note_view note) (note_view later)) }
     {
         let PageNote { mut seat } = note;
         let word = self.shared.look_again(&mut seat, page);

@@ -27,14 +27,11 @@ pub struct Near<'p, T, I: Init<T, K>, R: Reset<T, K>, K: Clean<T> = AnyValue> {
 }
 
 impl<'p, T: Drop, I: Init<T, K>, R: Reset<T, K>, K: Clean<T>> Near<'p, T, I, R, K> {
-    ghost use Rattle.pool_parts.specs.Answers.{IsMadeOrReset};
-    ghost use Rattle.fixed_pools.specs.FixedAnswer.{IsPulledFrom};
-    ghost use Rattle.fixed_pools.specs.FixedPool.{pool_identity, pool_pages, pool_opening};
+    ghost use Rattle.fixed_pools.specs.FixedPool.{pool_pages};
     ghost use Rattle.fixed_pools.specs.FixedReusable.{reusable_pool, reusable_item, reusable_view};
-    ghost use Rattle.fixed_pools.specs.StepCount.{steps_of};
-    ghost use Rattle.fixed_pools.specs.FixedAnswer.{returns_since};
+    ghost use Rattle.fixed_pools.specs.StepCount.{IsWithin, passes_to_take};
+    ghost use Rattle.fixed_pools.specs.FixedAnswer.{PullsFixed, returns_since};
     ghost use Rattle.fixed_pools.specs.Near.{near_pool};
-    ghost use Rattle.fixed_pools.specs.StepCount.{IsWithin, no_steps, passes_to_take};
 
     pub(super) fn new(pool: &'p FixedObjectPool<T, I, R, K>, page: usize) -> Near<'p, T, I, R, K>
         ensures { near_pool result ≡ pool.now }
@@ -50,14 +47,11 @@ impl<'p, T: Drop, I: Init<T, K>, R: Reset<T, K>, K: Clean<T>> Near<'p, T, I, R, 
     pub fn pull(&self) -> Result<FixedReusable<'p, T, I, R, K>, PullError>
         ensures pool { IfOk result (λ item. (reusable_pool item).now ≡ near_pool self.now) }
         ensures pulled { IfOk result (λ item.
-            IsPulledFrom (pool_identity (near_pool self.now)) (pool_opening (near_pool self.now))
-            (reusable_item item)) }
-        ensures meets { IfOk result (λ item. K.meets (reusable_item item).value) }
-        ensures made_or_reset { IfOk result (λ item.
-            IsMadeOrReset I.answers R.leaves (reusable_item item).value) }
+            PullsFixed K.meets I.answers R.leaves (near_pool self.now) (reusable_item item)) }
         ensures brief { IfOk result (λ item.
-            IsWithin (pool_pages (near_pool self.now) * passes_to_take (returns_since (reusable_view item)))
-            no_steps (steps_of (reusable_view item))) }
+            IsWithin
+            (pool_pages (near_pool self.now) * passes_to_take (returns_since (reusable_view item)))
+            (reusable_view item)) }
         ensures refused { IfErr result (λ error. error ≡ Limit) }
     {
         self.pool.pull_near(self.page)

@@ -29,11 +29,10 @@ pub struct Near<'p, T, I: Init<T, K>, R: Reset<T, K>, K: Clean<T> = AnyValue> {
 
 impl<'p, T: Drop, I: Init<T, K>, R: Reset<T, K>, K: Clean<T>> Near<'p, T, I, R, K> {
     ghost use Rattle.pool_parts.specs.Answers.{IsMadeOrReset};
-    ghost use Rattle.fixed_pools.specs.StepCount.{IsWithin, no_steps, passes_to_take};
+    ghost use Rattle.fixed_pools.specs.StepCount.{IsWithin, passes_to_take};
     ghost use Rattle.lazy_pools.specs.LazyAnswer.{IsPulledLazily, RefusesLazily};
     ghost use Rattle.lazy_pools.specs.LazyPool.{lazy_identity, lazy_pages, lazy_opening, lazy_init};
     ghost use Rattle.lazy_pools.specs.LazyReusable.{lazy_pool, lazy_place, lazy_value, lazy_view};
-    ghost use Rattle.fixed_pools.specs.StepCount.{steps_of};
     ghost use Rattle.fixed_pools.specs.FixedAnswer.{returns_since};
     ghost use Rattle.lazy_pools.specs.LazyNear.{lazy_near_pool};
 
@@ -60,7 +59,7 @@ impl<'p, T: Drop, I: Init<T, K>, R: Reset<T, K>, K: Clean<T>> Near<'p, T, I, R, 
             IsMadeOrReset I.answers R.leaves (lazy_value item)) }
         ensures brief { IfOk result (λ item.
             IsWithin (lazy_pages (lazy_near_pool self.now) * passes_to_take (returns_since (lazy_view item)))
-            no_steps (steps_of (lazy_view item))) }
+            (lazy_view item)) }
         ensures refused { IfErr result
             (RefusesLazily (I.answers (lazy_init (lazy_near_pool self.now)) None)) }
     {

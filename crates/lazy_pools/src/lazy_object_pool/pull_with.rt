@@ -18,11 +18,10 @@ impl<T: Drop, I: Init<T, K>, R: Reset<T, K>, K: Clean<T>> LazyObjectPool<T, I, R
     ghost use Rattle.lazy_pools.specs.LazyPool.{lazy_identity, lazy_opening, lazy_pages};
     ghost use Rattle.lazy_pools.specs.LazyReusable.{lazy_pool, lazy_place, lazy_value, lazy_view};
     ghost use Rattle.lazy_pools.specs.Inside.LazyItem.{lazy_item_place};
-    ghost use Rattle.fixed_pools.specs.StepCount.{steps_of};
+    ghost use Rattle.fixed_pools.specs.StepCount.{IsWithin, passes_to_take};
     ghost use Rattle.fixed_pools.specs.FixedAnswer.{returns_since};
     ghost use Rattle.fixed_pools.specs.FixedAnswer.{IsPulledFrom};
     ghost use Rattle.fixed_pools.specs.Inside.FixedItem.{pulled_item};
-    ghost use Rattle.fixed_pools.specs.StepCount.{IsWithin, no_steps, passes_to_take};
 
     /// Pulls a free item as `pull` does. If its place is empty, `make` makes the value in place of
     /// the pool's `init`. It runs under no lock, and the item is in use meanwhile.
@@ -44,8 +43,8 @@ impl<T: Drop, I: Init<T, K>, R: Reset<T, K>, K: Clean<T>> LazyObjectPool<T, I, R
             (MakesValue (F.post make)) (lazy_place item) (lazy_value item)) }
         ensures meets { IfOk result (λ item. K.meets (lazy_value item)) }
         ensures brief { IfOk result (λ item.
-            IsWithin (lazy_pages self.now * passes_to_take (returns_since (lazy_view item))) no_steps
-            (steps_of (lazy_view item))) }
+            IsWithin (lazy_pages self.now * passes_to_take (returns_since (lazy_view item)))
+            (lazy_view item)) }
         ensures refused { IfErr result
             (RefusesWith (lazy_identity self.now) (lazy_opening self.now) ⊥
             (λ cause. F.post make (Err cause))) }
@@ -77,8 +76,9 @@ impl<T: Drop, I: Init<T, K>, R: Reset<T, K>, K: Clean<T>> LazyObjectPool<T, I, R
             (MakesValue (F.post make)) (lazy_place item) (lazy_value item)) }
         ensures meets { IfOk result (λ item. K.meets (lazy_value item)) }
         ensures brief { IfOk result (λ item.
-            IsWithin (lazy_pages (arc_value self.now) * passes_to_take (returns_since (lazy_view item))) no_steps
-            (steps_of (lazy_view item))) }
+            IsWithin
+            (lazy_pages (arc_value self.now) * passes_to_take (returns_since (lazy_view item)))
+            (lazy_view item)) }
         ensures refused { IfErr result
             (RefusesWith (lazy_identity (arc_value self.now)) (lazy_opening (arc_value self.now)) ⊤
             (λ cause. F.post make (Err cause))) }

@@ -1,4 +1,4 @@
--- What an engine wrote for the bytes behind the last line feed.
+-- What an engine wrote for the bytes after the last line feed.
 use Rattle.std.specs.Prelude.{ℕ, Option, List, [], Result}
 use Rattle.pool_parts.specs.declared.pull_error.PullError.{PullError}
 use Rattle.object_pool_cores.specs.declared.sequential.item.Item.{Item}

@@ -4,7 +4,7 @@ use Rattle.std.specs.Prelude.{All, [], ◌∷◌, ◌++◌}
 use Rattle.pool_world.specs.Pool.{Pool, IsSame, AllowsPages, IsGrowth, place_of, after_growth}
 use Rattle.object_pool_cores.specs.LeastChoice.{IsExhausted, TakesLeast}
 use Rattle.object_pool_cores.specs.PageProbes.{ProbesEach}
-use Rattle.pool_parts.specs.declared.page.TheConstants.{PAGE_ITEMS}
+use Rattle.pool_parts.specs.declared.page.word.TheConstants.{PAGE_ITEMS}
 
 -- at each number the value of a free item, or none where it is out; how many pages there
 -- may be; the page at which the next pull starts, and how many pages were probed
@@ -20,7 +20,7 @@ module _ {T : Type 0} where
   listed_pool items =
       record { pages = length items.places / PAGE_ITEMS; at = λ n. place_of (slice_get items.places n) }
 
-  -- the places of the pages, one page behind another
+  -- the places of the pages, one page after another
   abbrev pub laid_out : List (List (Option T)) → List (Option T)
   laid_out [] = []
   laid_out (page ∷ pages) = page ++ laid_out pages
@@ -47,7 +47,7 @@ module _ {T : Type 0} where
     pub takes : TakesLeast (listed_pool old) n v (listed_pool new)
     pub starts : new.start ≡ n / PAGE_ITEMS
 
-  -- no number is free, and the next pull starts behind the pages
+  -- no number is free, and the next pull starts after the pages
   pub record FindsNone (old new : Numbered T) : Type 0 where
     pub exhausted : IsExhausted (listed_pool old)
     pub places : new.places ≡ old.places

@@ -3,7 +3,7 @@
 use Rattle.std.specs.Prelude.{◌≡◌, ℕ, Option, List, length}
 use Rattle.std.specs.Int.{bit_at}
 use Rattle.object_pool_cores.specs.OnePage.{IsFreeId, IsOutId}
-use Rattle.pool_parts.specs.declared.page.TheConstants.{PAGE_ITEMS}
+use Rattle.pool_parts.specs.declared.page.word.TheConstants.{PAGE_ITEMS}
 
 -- there are 32 ids; the bit of a free id is set and its value
 -- meets the condition, the bit of one that is out is clear

@@ -26,7 +26,7 @@ pub struct Buffer<'p, I: Init<T, K>, R: Reset<T, K>, T: Drop = Vec<u8>, K: Clean
 }
 
 impl<'p, I: Init<Vec<u8>, Empty>, R: Reset<Vec<u8>, Empty>> Buffer<'p, I, R> {
-    ghost use Rattle.pool_parts.specs.declared.page.TheConstants.{PAGE_ITEMS};
+    ghost use Rattle.pool_parts.specs.declared.page.word.TheConstants.{PAGE_ITEMS};
     ghost use Rattle.pool_parts.specs.declared.pull_error.PullError.TheVariants.{Memory};
     ghost use Rattle.object_pool_cores.specs.Buffers.{bytes_of, capacity_of, page_of, buffer_id};
 

@@ -13,7 +13,7 @@ use Rattle.page_chain.specs.declared.linear_page.link_note.LinkNote.{LinkNote}
 use Rattle.page_chain.specs.declared.linear_page.walk.KnownFull.{KnownFull}
 use Rattle.pool_parts.specs.declared.page.full_seen.Allocated.{Allocated}
 use Rattle.pool_parts.specs.declared.page.full_seen.Allocated.TheVariants.{Slot, Full}
-use Rattle.pool_parts.specs.declared.page.TheConstants.{PAGE_ITEMS}
+use Rattle.pool_parts.specs.declared.page.word.TheConstants.{PAGE_ITEMS}
 
 module _ {T K : Type 0} where
   -- what a page of a chain answers to a pull: an item of this page, which opened with 32 values of

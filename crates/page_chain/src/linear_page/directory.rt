@@ -97,10 +97,10 @@ impl<T, K: Clean<T>, O: Clean<T>> Model for Directory<T, K, O> {
 
 impl<T: Drop, K: Clean<T>, O: Clean<T>> Directory<T, K, O> {
     ghost use Rattle.std.specs.Arc.{arc_value};
+    ghost use Rattle.page_chain.specs.LinkNote.{known_link};
     ghost use Rattle.page_chain.specs.LinkRow.{IsLinkTo, link_at};
     ghost use Rattle.pool_parts.specs.Page.{page_identity};
     ghost use Rattle.pool_parts.specs.Holding.{holding_page};
-    ghost use Rattle.page_chain.specs.Inside.Walk.{IsKnownAt};
     ghost use Rattle.page_chain.specs.Walk.{IsLinkedAt};
 
     /// Creates a directory of no links.
@@ -123,19 +123,6 @@ impl<T: Drop, K: Clean<T>, O: Clean<T>> Directory<T, K, O> {
         self.alloc
     }
 
-    /// Returns the page with this number, if it is linked, and a note of its link.
-    pub(super) fn linked(&self, number: usize) -> Option<(&OpenedPage<T, K, O>, LinkNote<T, K, O>)>
-        requires { 0 < number }
-        ensures { IfSome result
-            (λ linked. IsKnownAt self.now number linked.1
-            (page_identity (arc_value linked.0.now))) }
-    {
-        let place = self.place(number);
-        let mut note = place.known_row()?;
-        let page = place.get_as(&mut note)?;
-        Some((page, note))
-    }
-
     /// Returns the page of an item, to which the notes of the page's number lead.
     pub(super) fn linked_page(
         &self,
@@ -153,15 +140,15 @@ impl<T: Drop, K: Clean<T>, O: Clean<T>> Directory<T, K, O> {
         page
     }
 
-    /// Returns the number of the first page that a hint names.
-    pub(super) fn hinted(&self) -> Option<usize>
-        ensures { IfSome result (λ number. 0 < number) }
+    /// Returns the link to the first page that a hint names.
+    pub(super) fn hinted(&self) -> Option<HintedLink<'_, T, K, O>>
+        ensures { IfSome result (λ hinted. IsLinkTo self.now hinted.number (known_link hinted.note)) }
     {
         let mut from = 0;
         while from < u64::BITS {
             let row = self.hinted_rows.first_from(from)?;
-            if let Some(number) = self.hinted_in(row) {
-                return Some(number);
+            if let Some(hinted) = self.hinted_in(row) {
+                return Some(hinted);
             }
             self.hinted_rows.clear(row);
             if self.hinted_in(row).is_some() {
@@ -172,13 +159,30 @@ impl<T: Drop, K: Clean<T>, O: Clean<T>> Directory<T, K, O> {
         None
     }
 
-    /// Returns the number of the first page of a row that a hint names.
-    fn hinted_in(&self, row: u32) -> Option<usize>
-        requires { row < 64 }
-        ensures { IfSome result (λ number. 0 < number) }
+    /// Returns the link to the first page of a row that a hint names.
+    fn hinted_in(&self, row_number: u32) -> Option<HintedLink<'_, T, K, O>>
+        requires { row_number < 64 }
+        ensures { IfSome result (λ hinted. IsLinkTo self.now hinted.number (known_link hinted.note)) }
     {
-        let offset = self.rows[row as usize].get()?.first_hint()?;
-        (1usize << row).checked_add(offset)
+        let cell = &self.rows[row_number as usize];
+        let first = 1usize << row_number;
+        let mut row = cell.note();
+        let known = cell.get_as(&mut row)?;
+        let offset = known.first_hint()?;
+        if first <= offset {
+            return None;
+        }
+        let link = known.links.get(offset)?;
+        let note = LinkNote {
+            row,
+            link: link.note(),
+            offset: Snapshot::of(&offset),
+        };
+        Some(HintedLink {
+            number: first + offset,
+            note,
+            link,
+        })
     }
 
     /// Sets the hint of a page that may have a free item. It has to be called once the item is
@@ -216,6 +220,16 @@ impl<T: Drop, K: Clean<T>, O: Clean<T>> Directory<T, K, O> {
             offset: number - (1 << row_number),
         }
     }
+}
+
+/// A link to a page that a hint names, the page's number, and a note of the link.
+#[derive(Drop)]
+pub(super) struct HintedLink<'c, T, K: Clean<T>, O: Clean<T>> {
+    pub(super) number: usize,
+    pub(super) note: LinkNote<T, K, O>,
+    pub(super) link: &'c OnceBox<OpenedPage<T, K, O>>,
+    ghost past_first: { 0 < number },
+    ghost of_note: { cell_name link.now ≡ note.link.cell },
 }
 
 /// Where one link lies.

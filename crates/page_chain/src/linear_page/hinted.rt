@@ -24,6 +24,7 @@ ghost use Rattle.pool_parts.specs.Slot.{slot_item};
 ghost use Rattle.page_chain.specs.Walk.{start_of, number_of, IsTaken, IsRefusedBy, cause_of};
 ghost use Rattle.page_chain.specs.Inside.Walk.{IsAnsweredBy, IsOpenedWith, IsKnownAt};
 
+use super::directory::HintedLink;
 use super::opened_page::OpenedPage;
 use super::walk::{KnownFull, WalkEnd, WalkRefusal};
 use super::{Chain, LinkNote, PageNumber};
@@ -123,14 +124,18 @@ impl<T: Drop, K: Clean<T>, O: Clean<T>> Chain<T, K, O> {
         ensures past_first { IfSome result (λ hinted. 0 < hinted.0) }
         ensures within { IfSome result (λ hinted. IfSome limit (λ pages. hinted.0 < pages)) }
     {
-        let number = self.directory.hinted()?;
+        let HintedLink {
+            number,
+            mut note,
+            link,
+        } = self.directory.hinted()?;
         if let Some(pages) = limit
             && pages <= number
         {
             return None;
         }
-        let (linked, note) = self.directory.linked(number)?;
-        Some((number, linked, note))
+        let page = link.get_as(&mut note.link)?;
+        Some((number, page, note))
     }
 
     /// Clears the hint of a page that was left full, and sets it again if an item came back

@@ -5,7 +5,7 @@ ghost use Rattle.pool_parts.specs.Holding.{holding_page, held_item};
 ghost use Rattle.pool_parts.specs.Note.{IsReturned};
 ghost use Rattle.pool_parts.specs.Page.{page_identity};
 ghost use Rattle.page_chain.specs.Walk.{start_of, IsWalkedTo};
-ghost use Rattle.pool_parts.specs.declared.page.TheConstants.{PAGE_ITEMS};
+ghost use Rattle.pool_parts.specs.declared.page.word.TheConstants.{PAGE_ITEMS};
 
 use super::{Chain, PageNumber};
 use pool_parts::clean::Clean;

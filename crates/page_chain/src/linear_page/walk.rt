@@ -13,7 +13,7 @@ ghost use Rattle.pool_parts.specs.Slot.{slot_item};
 ghost use Rattle.page_chain.specs.Walk.{start_at, number_of, IsTaken, IsRefusedBy, cause_of};
 ghost use Rattle.page_chain.specs.Inside.Walk.{IsAnsweredBy, IsFullAt, IsKnownAt};
 ghost use Rattle.page_chain.specs.declared.linear_page.walk.WalkRefusal.TheVariants.{Making};
-ghost use Rattle.pool_parts.specs.declared.page.TheConstants.{PAGE_ITEMS};
+ghost use Rattle.pool_parts.specs.declared.page.word.TheConstants.{PAGE_ITEMS};
 
 use super::opened_page::OpenedPage;
 use super::{LinearPage, LinkNote, PageNumber};
@@ -57,7 +57,8 @@ pub(super) struct KnownFull<'p, T, K: Clean<T>, O: Clean<T>> {
     pub(super) seen: FullSeen<'p, T>,
 }
 
-/// Not derived: so a caller's proof has one call here, not one for each field.
+/// Not derived: the proof of a caller that drops it has one call here, and a derived drop has that
+/// of each field there.
 impl<T, K: Clean<T>, O: Clean<T>> Drop for KnownFull<'_, T, K, O> {
     fn drop(self) {
         let KnownFull {
@@ -306,7 +307,7 @@ impl<'c, T: Drop, K: Clean<T>, O: Clean<T>> LinearPage<'c, T, K, O> {
         }
     }
 
-    /// Returns the page behind the one with this number, and a note of the link to it. If there is
+    /// Returns the page after the one with this number, and a note of the link to it. If there is
     /// none yet, it makes the page and links it.
     fn behind<I: Fn() -> Option<T>>(
         &self,

@@ -3,15 +3,15 @@ use Rattle.std.specs.Prelude.{Option, None, Some, List, [], ◌∷◌, Box, box_
 use Rattle.std.specs.declared.alloc.Global.{Global}
 use Rattle.pool_parts.specs.declared.stack.node.Node.{Node, Node', Held-Node-next, None', Some'}
 
--- the values of a place and of those behind it; an empty place has none
+-- the values of a place and of those after it; an empty place has none
 abbrev mutual
   pub values_from : {T : Type 0} → Node T → List T
-  values_from (Node' None next) = values_behind next
-  values_from (Node' (Some value) next) = value ∷ values_behind next
+  values_from (Node' None next) = values_after next
+  values_from (Node' (Some value) next) = value ∷ values_after next
 
-  pub values_behind : {T : Type 0} → Held-Node-next T → List T
-  values_behind None' = []
-  values_behind (Some' place rest) = values_from rest
+  pub values_after : {T : Type 0} → Held-Node-next T → List T
+  values_after None' = []
+  values_after (Some' place rest) = values_from rest
 
 -- a place and each behind it has a value
 abbrev mutual

@@ -9,7 +9,7 @@ use Rattle.pool_parts.specs.declared.page.full_seen.Allocated.{Allocated}
 use Rattle.pool_parts.specs.declared.page.full_seen.Allocated.TheVariants.{Slot, Full}
 use Rattle.pool_parts.specs.Item.{IsItemOf}
 use Rattle.pool_parts.specs.Slot.{slot_item, slot_view}
-use Rattle.pool_parts.specs.declared.page.TheConstants.{PAGE_ITEMS}
+use Rattle.pool_parts.specs.declared.page.word.TheConstants.{PAGE_ITEMS}
 use Rattle.pool_parts.specs.FullSeen.{full_page, full_view}
 
 module _ {T : Type 0} where

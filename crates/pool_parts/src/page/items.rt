@@ -4,9 +4,10 @@ ghost use Rattle.std.specs.Prelude.{◌≡◌, ◌+◌, ◌*◌, ◌/◌, ◌^�
 ghost use Rattle.pool_parts.specs.declared.pull_error.PullError.TheVariants.{Memory};
 ghost use Rattle.std.specs.Int.{bit_at};
 
+use super::note::{PageNote, Witness};
 use super::rule::{Opening, PageRule, Tells, Witnesses};
 use super::user_view::{UserSeat, UserView};
-use super::{PAGE_ITEMS, PageNote, Witness, take_least};
+use super::word::{PAGE_ITEMS, take_least};
 use crate::PullError;
 use crate::clean::Clean;
 use atomic_table::Table;
@@ -72,7 +73,11 @@ impl<T, K: Clean<T>> Items<T, K> {
         Items::open(alloc, words, raise, items)
     }
 
-    /// Shares items that were made, as the words say.
+    /// Returns items that were made as threads share them. All are free, as the words say.
+    ///
+    /// # Errors
+    ///
+    /// `Memory`. The items that were made are dropped.
     fn open(
         alloc: Global,
         words: &[u64],

@@ -4,10 +4,11 @@ ghost use Rattle.std.specs.Arc.{arc_value};
 ghost use Rattle.pool_parts.specs.Inside.OneProof.{same_page};
 ghost use Rattle.pool_parts.specs.Holding.{holding_page};
 ghost use Rattle.pool_parts.specs.Page.{page_identity};
-ghost use Rattle.pool_parts.specs.declared.page.TheConstants.{PAGE_ITEMS};
+ghost use Rattle.pool_parts.specs.declared.page.word.TheConstants.{PAGE_ITEMS};
 
 use super::holding::Holding;
-use super::{Page, PageId, PageNote};
+use super::word::PageId;
+use super::{Page, PageNote};
 use crate::clean::Clean;
 use std::ops::{Deref, DerefMut};
 use std::sync::Arc;

@@ -4,11 +4,12 @@ ghost use Rattle.std.specs.Arc.{arc_value};
 ghost use Rattle.pool_parts.specs.Inside.OneProof.{same_page};
 ghost use Rattle.pool_parts.specs.Holding.{holding_page};
 ghost use Rattle.pool_parts.specs.Page.{page_identity};
-ghost use Rattle.pool_parts.specs.declared.page.TheConstants.{PAGE_ITEMS};
+ghost use Rattle.pool_parts.specs.declared.page.word.TheConstants.{PAGE_ITEMS};
 
 use super::holding::Holding;
 use super::owned_slot::OwnedTakenId;
-use super::{OwnedSlot, Page, PageId, PageNote, Returned, Witness};
+use super::word::PageId;
+use super::{OwnedSlot, Page, PageNote, Returned, Witness};
 use crate::clean::Clean;
 use crate::lender::Lender;
 use std::ops::{Deref, DerefMut};

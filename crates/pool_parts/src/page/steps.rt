@@ -6,7 +6,9 @@ use super::holding::Holding;
 use super::items::Items;
 use super::rule::{ClearBit, Count, Look, LookAgain, LookOn, SetBit};
 use super::user_view::UserSeat;
-use super::{PAGE_ITEMS, PageId, all_but, count_of, is_bit_set, low_half, with_bit, without_bit};
+use super::word::{
+    PAGE_ITEMS, PageId, all_but, count_of, is_bit_set, low_half, with_bit, without_bit,
+};
 use crate::clean::Clean;
 
 impl<T, K: Clean<T>> Items<T, K> {

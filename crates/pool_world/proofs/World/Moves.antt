@@ -7,7 +7,7 @@ use Rattle.std.proofs.Common.{subst, arith}
 use Rattle.std.proofs.lemmas.Bool.{eq-eqb, lt-ltb, eqb-true, eqb-false, ltb-true, ltb-false, false≢true}
 use Rattle.std.specs.Option.{option_eq}
 use Rattle.std.specs.Int.{w32, trailing_zeros}
-use Rattle.pool_parts.specs.declared.page.TheConstants.{PAGE_ITEMS}
+use Rattle.pool_parts.specs.declared.page.word.TheConstants.{PAGE_ITEMS}
 use Rattle.pool_parts.specs.declared.pull_error.PullError.{PullError}
 use Rattle.pool_parts.specs.declared.pull_error.PullError.TheVariants.{Memory, Init, Limit}
 use Rattle.pool_world.specs.declared.interleave.event.Event.{Event}

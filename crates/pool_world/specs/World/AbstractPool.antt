@@ -4,7 +4,7 @@ use Rattle.std.specs.Option.{option_flatten}
 use Rattle.pool_world.specs.Pool.{Place, Out, Absent, Pool, free_with}
 use Rattle.pool_world.specs.World.State.{WorldPageState, WorldState}
 use Rattle.pool_world.specs.World.Machine.{has_bit}
-use Rattle.pool_parts.specs.declared.page.TheConstants.{PAGE_ITEMS}
+use Rattle.pool_parts.specs.declared.page.word.TheConstants.{PAGE_ITEMS}
 
 module _ {T : Type 0} where
   -- what lies at an id of a page, if there is such a page: free with its value where the bit is set,

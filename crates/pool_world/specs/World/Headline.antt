@@ -15,7 +15,7 @@ use Rattle.pool_world.specs.World.Machine.{Steps, number_out, opening_world}
 use Rattle.pool_world.specs.World.Enabled.{IsExact}
 use Rattle.pool_world.specs.World.AbstractPool.{abstract_pool}
 use Rattle.pool_world.specs.World.Trace.{Log, IsTraceOf}
-use Rattle.pool_parts.specs.declared.page.TheConstants.{PAGE_ITEMS}
+use Rattle.pool_parts.specs.declared.page.word.TheConstants.{PAGE_ITEMS}
 use Rattle.pool_parts.specs.Ledger.{IsLegal}
 
 -- what the events did, from a world of these first values in which no agent had begun, is a run of

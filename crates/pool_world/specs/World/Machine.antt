@@ -16,7 +16,7 @@ use Rattle.pool_world.specs.declared.interleave.point.Point.TheVariants.{Clearin
 use Rattle.pool_world.specs.declared.interleave.point.Point.TheVariants.{Holding, Home, Ended}
 use Rattle.pool_world.specs.Pool.{number}
 use Rattle.pool_world.specs.World.State.{WorldPageState, WorldState}
-use Rattle.pool_parts.specs.declared.page.TheConstants.{PAGE_ITEMS}
+use Rattle.pool_parts.specs.declared.page.word.TheConstants.{PAGE_ITEMS}
 
 -- the bit of an id is set in the word
 abbrev pub has_bit : ℕ → ℕ → Bool

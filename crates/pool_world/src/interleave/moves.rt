@@ -2,7 +2,7 @@
 ghost use Rattle.std.specs.Prelude.{◌≡◌, ◌<◌, ◌==◌, ◌+◌, ◌-◌, Some, nat_eq, bit_and};
 ghost use Rattle.std.specs.Int.{w32, trailing_zeros};
 ghost use Rattle.std.specs.Option.{option_eq};
-ghost use Rattle.pool_parts.specs.declared.page.TheConstants.{PAGE_ITEMS};
+ghost use Rattle.pool_parts.specs.declared.page.word.TheConstants.{PAGE_ITEMS};
 ghost use Rattle.pool_world.specs.World.Machine.{tries, tries_hinted};
 ghost use Rattle.pool_world.specs.World.Machine.{comes_to};
 ghost use Rattle.pool_world.specs.World.Inside.LinkCapacity.{LinksNoPage};

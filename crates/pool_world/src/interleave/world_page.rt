@@ -1,5 +1,5 @@
 //! A page of a world: a word, and 32 places.
-ghost use Rattle.pool_parts.specs.declared.page.TheConstants.{PAGE_ITEMS};
+ghost use Rattle.pool_parts.specs.declared.page.word.TheConstants.{PAGE_ITEMS};
 ghost use Rattle.std.specs.Prelude.{length, ◌≡◌, Some, None, option_copied, option_and_then};
 ghost use Rattle.std.specs.Prelude.{slice_get, slice_set};
 ghost use Rattle.pool_world.specs.World.State.{WorldPageState};

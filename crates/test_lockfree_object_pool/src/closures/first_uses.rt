@@ -3,10 +3,12 @@
 ghost use Rattle.std.specs.Prelude.{◌≡◌, [], IfOk};
 
 use super::*;
-use crate::assert_equal::assert_equal;
+use crate::assert_equal::{assert_equal, assert_shown};
 use lockfree_object_pool::{
     LinearObjectPool, MutexObjectPool, MutexReusable, PullError, SpinLockObjectPool,
 };
+use std::fmt::Debug;
+use std::process::Abort;
 use std::sync::Wait;
 
 /// A pool of buffers, and what a pulled one holds.
@@ -55,22 +57,20 @@ fn a_buffer_pool_is_one_line(rt: HostRuntime) {
     );
 }
 
+/// A pulled 7 is shown as the number that it is.
+fn item_is_shown<T: Debug + Drop>(rt: &impl Abort, alloc: Global, pulled: Result<T, PullError>) {
+    let item = pulled.expect(rt, "an item is free");
+    assert_shown(rt, alloc, &item, "7");
+}
+
 #[test]
 fn a_struct_that_keeps_pools_and_items_is_shown(rt: HostRuntime) {
     let server = new_server(rt.alloc()).expect(&rt, "nothing is refused");
-    let shown = format!(in rt.alloc(); "{server:?}").expect(&rt, "memory is left");
     let expected = "Server { sessions: LinearObjectPool { limit: Some(2), .. }, \
                     jobs: MutexObjectPool { .. }, names: SpinLockObjectPool { .. } }";
-    assert_equal(&rt, shown.as_str(), expected);
-    let job = Job {
-        item: server.jobs.pull(&rt).expect(&rt, "an item is free"),
-    };
-    let shown = format!(in rt.alloc(); "{job:?}").expect(&rt, "memory is left");
-    assert_equal(&rt, shown.as_str(), "Job { item: 7 }");
-    let (session, name) = (
-        server.sessions.pull().expect(&rt, "an item is free"),
-        server.names.pull(&rt).expect(&rt, "an item is free"),
-    );
-    let shown = format!(in rt.alloc(); "{session:?} {name:?}").expect(&rt, "memory is left");
-    assert_equal(&rt, shown.as_str(), "7 7");
+    assert_shown(&rt, rt.alloc(), &server, expected);
+    item_is_shown(&rt, rt.alloc(), server.sessions.pull());
+    item_is_shown(&rt, rt.alloc(), server.names.pull(&rt));
+    let item = server.jobs.pull(&rt).expect(&rt, "an item is free");
+    assert_shown(&rt, rt.alloc(), &Job { item }, "Job { item: 7 }");
 }

@@ -47,11 +47,15 @@ type Cells<I, R> = LinearObjectPool<
     Resets<Cell<u32>, R, AnyValue>,
 >;
 
-/// What a cell of the pool holds once 1 was added to it.
-fn added<I: InitBy<Cell<u32>>, R: ResetBy<Cell<u32>>>(pool: &Cells<I, R>) -> Option<u32> {
-    let cell = pool.pull().ok()?;
+/// What a cell holds once 1 was added to it.
+fn one_more(cell: &Cell<u32>) -> u32 {
     cell.set(cell.get().saturating_add(1));
-    Some(cell.get())
+    cell.get()
+}
+
+/// The same of a cell of the pool.
+fn added<I: InitBy<Cell<u32>>, R: ResetBy<Cell<u32>>>(pool: &Cells<I, R>) -> Option<u32> {
+    Some(one_more(&*pool.pull().ok()?))
 }
 
 /// What two threads come to that share a pool.

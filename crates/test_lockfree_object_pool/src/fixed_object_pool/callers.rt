@@ -14,6 +14,7 @@ use super::numbers::{NumberItem, NumberPool, hold, opened, opened_shared};
 use crate::assert_equal::assert_equal;
 use lockfree_object_pool::PullError;
 use lockfree_object_pool::fixed_object_pool::{BusySeen, PoolNote};
+use lockfree_object_pool::fixed_reusable::{FixedReusableOf, SharedFixedPool};
 use lockfree_object_pool::page::PullPass;
 use std::sync::Arc;
 use std::thread;
@@ -212,15 +213,25 @@ fn work_meets_no_refusal_but_the_limit(rt: HostRuntime) {
     assert_equal(&rt, work(&pool, 0), Ok(0));
 }
 
+/// Two holders tell what they know, and the first returns its item with an 11. The numbers of both
+/// items.
+fn told_by_two<P: SharedFixedPool<usize>, Q: SharedFixedPool<usize>>(
+    mut first: FixedReusableOf<usize, P>,
+    second: &mut FixedReusableOf<usize, Q>,
+) -> (usize, usize) {
+    let numbers = (first.number(), second.number());
+    drop(first.witness());
+    drop(second.witness());
+    *first = 11;
+    drop(first.give_back());
+    numbers
+}
+
 #[test]
 fn a_holder_tells_what_it_knows(rt: HostRuntime) {
     let pool = opened_shared(&rt, rt.alloc(), 33);
-    let mut owned = pool.pull_owned().expect(&rt, "an item is free");
+    let owned = pool.pull_owned().expect(&rt, "an item is free");
     let mut item = pool.pull().expect(&rt, "an item is free");
-    assert_equal(&rt, (owned.number(), item.number()), (0, 1));
-    let (one, other) = (owned.witness(), item.witness());
-    drop((one, other));
-    *owned = 11;
-    drop(owned.give_back());
+    assert_equal(&rt, told_by_two(owned, &mut item), (0, 1));
     assert_equal(&rt, *pool.pull().expect(&rt, "an item is free"), 11);
 }

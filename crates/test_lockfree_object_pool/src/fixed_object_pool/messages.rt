@@ -12,8 +12,11 @@ use crate::assert_equal::assert_equal;
 use crate::channels::receive;
 use crossbeam_channel::{Receiver, Sender, unbounded};
 use lockfree_object_pool::fixed_object_pool::PoolNote;
+use std::alloc::Global;
+use std::process::Abort;
 use std::sync::{Arc, Wait};
 use std::thread;
+use std::thread::Threads;
 
 /// What the sender knows of its pool's history, after a return of its own.
 #[derive(Drop)]
@@ -50,25 +53,33 @@ fn answer_once<W: Wait>(rt: &W, from: &Receiver<Message>, to: &Sender<Message>) 
     }
 }
 
+/// What another thread answers to a message.
+fn answer_to<R: Abort + Threads + Wait + Copy + Send + 'static>(
+    rt: &R,
+    alloc: Global,
+    message: Message,
+) -> Message {
+    let (to_other, from_main) = unbounded(alloc).expect(rt, "a channel is made");
+    let (to_main, from_other) = unbounded(alloc).expect(rt, "a channel is made");
+    let there = *rt;
+    let other = thread::spawn(rt, move || answer_once(&there, &from_main, &to_main)).expect(
+        rt,
+        "a thread is made",
+    );
+    to_other.send(rt, message).expect(rt, "the channel is open");
+    let answer = receive(rt, &from_other).expect(rt, "an answer comes");
+    assert!(rt; other.join(rt));
+    answer
+}
+
 #[test]
 fn a_pull_stands_after_what_messages_told(rt: HostRuntime) {
     let pool = opened_shared(&rt, rt.alloc(), 70);
-    let (to_other, from_main) = unbounded(rt.alloc()).expect(&rt, "a channel is made");
-    let (to_main, from_other) = unbounded(rt.alloc()).expect(&rt, "a channel is made");
-    let other = thread::spawn(&rt, move || answer_once(&rt, &from_main, &to_main)).expect(
-        &rt,
-        "a thread is made",
-    );
     let Some(note) = returned_near(&pool, 2, 5) else {
         panic!(rt; "an item is free")
     };
     let pool = Arc::try_clone(&pool).expect(&rt, "memory is left");
-    to_other
-        .send(&rt, Message { pool, note })
-        .expect(&rt, "the channel is open");
-    let answer = receive(&rt, &from_other).expect(&rt, "an answer comes");
-    assert!(rt; other.join(&rt));
-    let Message { pool, note } = answer;
+    let Message { pool, note } = answer_to(&rt, rt.alloc(), Message { pool, note });
     let Some(item) = pulled_after(&pool, note) else {
         panic!(rt; "an item is free")
     };

@@ -2,7 +2,7 @@
 ghost use Rattle.std.specs.Prelude.{◌≤◌};
 
 use super::callers::pulled_after;
-use super::numbers::{NumberPool, hold, opened, opened_shared};
+use super::numbers::{NumberPool, Pulls, hold, keep_out, opened, opened_shared};
 use crate::assert_equal::assert_equal;
 use lockfree_object_pool::PullError;
 use std::alloc::Global;
@@ -46,14 +46,14 @@ fn a_pull_near_a_page_finds_the_last_item(rt: HostRuntime) {
 
 /// With the first two pages held but item 63, which came back: the numbers of two pulls that are
 /// held together, and of one once the first of these came back.
-fn numbers_at_a_full_page(rt: &impl Abort, alloc: Global, pool: &NumberPool) -> [usize; 3] {
+fn numbers_at_a_full_page<P: Pulls>(rt: &impl Abort, alloc: Global, pool: P) -> [usize; 3] {
     let mut first_pages = hold(rt, alloc, pool, 64);
     drop(first_pages.pop());
-    let item = pool.pull().expect(rt, "an item is free");
-    let next = pool.pull().expect(rt, "an item is free");
+    let item = pool.pull_one().expect(rt, "an item is free");
+    let next = pool.pull_one().expect(rt, "an item is free");
     let numbers = (item.number(), next.number());
     drop(item);
-    let again = pool.pull().expect(rt, "an item is free");
+    let again = pool.pull_one().expect(rt, "an item is free");
     [numbers.0, numbers.1, again.number()]
 }
 
@@ -151,14 +151,19 @@ fn a_pull_looks_behind_its_page_before_it_goes_round(rt: HostRuntime) {
     assert_equal(&rt, next_number(&pool), Some(96));
 }
 
+/// The page at which a new place begins.
+fn next_page(pool: &NumberPool) -> usize {
+    pool.near().page_number()
+}
+
 /// The pages at which so many places begin, one after the other.
 fn page_numbers(pool: &NumberPool) -> [usize; 5] {
     [
-        pool.near().page_number(),
-        pool.near().page_number(),
-        pool.near().page_number(),
-        pool.near().page_number(),
-        pool.near().page_number(),
+        next_page(pool),
+        next_page(pool),
+        next_page(pool),
+        next_page(pool),
+        next_page(pool),
     ]
 }
 
@@ -179,26 +184,19 @@ fn a_place_pulls_at_its_page(rt: HostRuntime) {
     assert_equal(&rt, (one.number(), other.number()), (32, 0));
 }
 
-/// Takes so many items out for good.
-fn keep_out(rt: &impl Abort, pool: &NumberPool, items: usize) {
-    for _ in 0..items {
-        mem::forget(pool.pull().expect(rt, "an item is free"));
-    }
-}
-
 /// The numbers of two items, which come back in turn. So many are taken out for good before the
 /// first, between them, and behind the second.
-fn two_came_back(
+fn two_came_back<P: Pulls>(
     rt: &impl Abort,
-    pool: &NumberPool,
+    pool: P,
     before: usize,
     between: usize,
     behind: usize,
 ) -> (usize, usize) {
     keep_out(rt, pool, before);
-    let lower = pool.pull().expect(rt, "an item is free");
+    let lower = pool.pull_one().expect(rt, "an item is free");
     keep_out(rt, pool, between);
-    let higher = pool.pull().expect(rt, "an item is free");
+    let higher = pool.pull_one().expect(rt, "an item is free");
     keep_out(rt, pool, behind);
     let numbers = (lower.number(), higher.number());
     drop(lower);

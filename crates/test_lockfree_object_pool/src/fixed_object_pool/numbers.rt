@@ -6,8 +6,10 @@ use crate::made::count_of_calls;
 use lockfree_object_pool::clean::AnyValue;
 use lockfree_object_pool::closures::{Init, Keep};
 use lockfree_object_pool::fixed_object_pool::near::Near;
-use lockfree_object_pool::{FixedObjectPool, FixedOwnedReusable, FixedReusable};
+use lockfree_object_pool::fixed_reusable::{FixedReusableOf, SharedFixedPool};
+use lockfree_object_pool::{FixedObjectPool, FixedOwnedReusable, FixedReusable, PullError};
 use std::alloc::Global;
+use std::mem;
 use std::process::Abort;
 use std::sync::Arc;
 use std::sync::atomic::AtomicUsize;
@@ -66,18 +68,37 @@ pub fn opened_shared(rt: &impl Abort, alloc: Global, items: usize) -> Arc<Number
     Arc::new(alloc, opened(rt, alloc, items)).expect(rt, "memory is left")
 }
 
+/// A borrow of a pool of numbers.
+pub trait Pulls: SharedFixedPool<usize> + Copy {
+    /// Pulls a number.
+    fn pull_one(self) -> Result<FixedReusableOf<usize, Self>, PullError>;
+}
+
+impl<'p> Pulls for &'p NumberPool {
+    fn pull_one(self) -> Result<NumberItem<'p>, PullError> {
+        self.pull()
+    }
+}
+
 /// Pulls so many items, and returns them in the order of their pulls. The test ends if one is
 /// refused.
-pub fn hold<'p>(
+pub fn hold<P: Pulls>(
     rt: &impl Abort,
     alloc: Global,
-    pool: &'p NumberPool,
+    pool: P,
     items: usize,
-) -> Vec<NumberItem<'p>> {
+) -> Vec<FixedReusableOf<usize, P>> {
     let mut held = Vec::with_capacity(alloc, items).expect(rt, "memory is left");
     for _ in 0..items {
-        let item = pool.pull().expect(rt, "an item is free");
+        let item = pool.pull_one().expect(rt, "an item is free");
         held.push(item).expect(rt, "memory is left");
     }
     held
+}
+
+/// Takes so many items out for good.
+pub fn keep_out<P: Pulls>(rt: &impl Abort, pool: P, items: usize) {
+    for _ in 0..items {
+        mem::forget(pool.pull_one().expect(rt, "an item is free"));
+    }
 }

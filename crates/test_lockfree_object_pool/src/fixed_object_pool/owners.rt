@@ -20,18 +20,20 @@ fn pulled_by(
     owner.pull_by_owner(page, note)
 }
 
+/// The number of an item that an owner pulls near a page, by a note.
+fn number_by_note(owner: Arc<NumberPool>, page: usize, note: PoolNote<usize>) -> Option<usize>
+    requires { note_page note ≡ pool_identity (arc_value owner) }
+{
+    Some(owner.pull_by_owner(page, note).ok()?.number())
+}
+
 /// The number of an item that an owner pulls near a page and returns, twice: the second pull is by
 /// the note of the first return.
 fn pulled_twice(owner: Arc<NumberPool>, page: usize) -> Option<(usize, usize)> {
-    let Ok(first) = pulled_by(owner, page) else {
-        return None;
-    };
+    let first = pulled_by(owner, page).ok()?;
     let before = first.number();
     let (owner, note) = first.give_back_with_owner();
-    let Ok(second) = owner.pull_by_owner(page, note) else {
-        return None;
-    };
-    Some((before, second.number()))
+    Some((before, number_by_note(owner, page, note)?))
 }
 
 #[test]
@@ -48,11 +50,10 @@ fn an_owner_goes_into_its_item_and_comes_back(rt: HostRuntime) {
 fn a_refused_owner_comes_back_with_its_note(rt: HostRuntime) {
     let pool = opened_shared(&rt, rt.alloc(), 33);
     let owner = Arc::try_clone(&pool).expect(&rt, "memory is left");
-    let mut all = hold(&rt, rt.alloc(), &pool, 33);
+    let mut all = hold(&rt, rt.alloc(), &*pool, 33);
     let Err((owner, note)) = pulled_by(owner, 1) else {
         panic!(rt; "an item was free");
     };
     drop(all.pop());
-    let item = owner.pull_by_owner(0, note).ok();
-    assert_equal(&rt, item.expect(&rt, "an item came back").number(), 32);
+    assert_equal(&rt, number_by_note(owner, 0, note), Some(32));
 }

@@ -132,8 +132,8 @@ fn start_pullers<R: Abort + Threads + Sync>(
     threads
 }
 
-/// How many of them were refused.
-fn refused<R: Abort + Threads + Sync>(rt: &R, alloc: Global, count: usize, rounds: usize) -> usize
+/// None of them is refused.
+fn none_is_refused<R: Abort + Threads + Sync>(rt: &R, alloc: Global, count: usize, rounds: usize)
     requires { 1 ≤ count }
 {
     let mut refused = 0usize;
@@ -142,42 +142,42 @@ fn refused<R: Abort + Threads + Sync>(rt: &R, alloc: Global, count: usize, round
             refused = refused.saturating_add(1);
         }
     }
-    refused
+    assert_equal(rt, refused, 0);
 }
 
 #[test]
 fn two_threads_are_never_refused_of_two_items(rt: HostRuntime) {
-    assert_equal(&rt, refused(&rt, rt.alloc(), 2, 50_000), 0);
+    none_is_refused(&rt, rt.alloc(), 2, 50_000);
 }
 
 #[test]
 fn three_threads_are_never_refused_of_three_items(rt: HostRuntime) {
-    assert_equal(&rt, refused(&rt, rt.alloc(), 3, 50_000), 0);
+    none_is_refused(&rt, rt.alloc(), 3, 50_000);
 }
 
 #[test]
 fn four_threads_are_never_refused_of_four_items(rt: HostRuntime) {
-    assert_equal(&rt, refused(&rt, rt.alloc(), 4, 50_000), 0);
+    none_is_refused(&rt, rt.alloc(), 4, 50_000);
 }
 
 #[test]
 fn eight_threads_are_never_refused_of_eight_items(rt: HostRuntime) {
-    assert_equal(&rt, refused(&rt, rt.alloc(), 8, 20_000), 0);
+    none_is_refused(&rt, rt.alloc(), 8, 20_000);
 }
 
 #[test]
 fn thirty_two_threads_are_never_refused_of_a_full_word(rt: HostRuntime) {
-    assert_equal(&rt, refused(&rt, rt.alloc(), 32, 5_000), 0);
+    none_is_refused(&rt, rt.alloc(), 32, 5_000);
 }
 
 #[test]
 fn thirty_three_threads_are_never_refused_of_two_words(rt: HostRuntime) {
-    assert_equal(&rt, refused(&rt, rt.alloc(), 33, 5_000), 0);
+    none_is_refused(&rt, rt.alloc(), 33, 5_000);
 }
 
 #[test]
 fn sixty_four_threads_are_never_refused_of_two_full_words(rt: HostRuntime) {
-    assert_equal(&rt, refused(&rt, rt.alloc(), 64, 2_000), 0);
+    none_is_refused(&rt, rt.alloc(), 64, 2_000);
 }
 
 /// Eight threads take turns at three permits.

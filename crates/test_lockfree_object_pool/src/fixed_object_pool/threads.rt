@@ -101,23 +101,22 @@ fn write_often(pool: &NumberPool, own: usize) -> Option<usize> {
     Some(own)
 }
 
-/// How many of eight threads had their items alone, where all items came back, in a pool of so
-/// many.
-fn writers_meet<R: Abort + Threads>(rt: &R, alloc: Global, items: usize) -> usize
+/// Eight threads have their items alone, in a pool of so many, and all items come back.
+fn writers_meet<R: Abort + Threads>(rt: &R, alloc: Global, items: usize)
     requires { 1 ≤ items }
 {
     let shared = new_shared(rt, alloc, items, Turn::WritesOften);
     let alone = told_by(rt, alloc, &shared, 8).expect(rt, "each has its item alone");
     hold(rt, alloc, &shared.pool, items);
-    alone.len()
+    assert_equal(rt, alone.len(), 8);
 }
 
 #[test]
 fn eight_threads_share_two_items(rt: HostRuntime) {
-    assert_equal(&rt, writers_meet(&rt, rt.alloc(), 2), 8);
+    writers_meet(&rt, rt.alloc(), 2);
 }
 
 #[test]
 fn eight_threads_share_seventy_items(rt: HostRuntime) {
-    assert_equal(&rt, writers_meet(&rt, rt.alloc(), 70), 8);
+    writers_meet(&rt, rt.alloc(), 70);
 }

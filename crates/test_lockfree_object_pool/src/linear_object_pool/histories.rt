@@ -93,8 +93,10 @@ fn holders_tell_what_they_know(rt: HostRuntime) {
     let pool = Arc::new(rt.alloc(), pool).expect(&rt, "memory is left");
     let mut owned = pool.pull_owned().expect(&rt, "an item is free");
     let mut item = pool.pull().expect(&rt, "an item is free");
-    drop((owned.witness(), item.witness()));
-    drop((owned.note(), item.note()));
+    drop(owned.witness());
+    drop(item.witness());
+    drop(owned.note());
+    drop(item.note());
     *owned = 11;
     drop(owned.give_back());
     assert_equal(&rt, *pool.pull().expect(&rt, "an item is free"), 11);

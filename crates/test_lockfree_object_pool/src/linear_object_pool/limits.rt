@@ -3,19 +3,21 @@ ghost use Rattle.std.specs.Prelude.{◌≡◌, ℕ, ◌+◌, ◌≤◌, Some, If
 ghost use Rattle.lockfree_object_pool.specs.LinearPool.{pool_limit, pool_start};
 ghost use Rattle.lockfree_object_pool.specs.Walk.{WasFull};
 ghost use Rattle.pool_parts.specs.declared.made_or_reset.MadeOrReset.{MadeOrReset};
-ghost use Rattle.linear_pools.specs.declared.linear_object_pool.answer_of.AnswerOf.{AnswerOf};
+ghost use Rattle.linear_pools.specs.declared.linear_object_pool.AnswerOf.{AnswerOf};
 ghost use Rattle.test_values.specs.declared.zeros.CountedZeros.{CountedZeros};
 ghost use Rattle.test_values.specs.declared.zeros.ToZero.{ToZero};
 ghost use Rattle.test_values.specs.declared.zeros.Zero.{Zero};
 
 use super::*;
-use crate::assert_equal::assert_equal;
+use crate::assert_equal::{assert_equal, assert_shown};
+use crate::made::count_of_calls;
 use lockfree_object_pool::linear_page::WalkRefusal;
 use lockfree_object_pool::page::PullPass;
+use std::process::Abort;
 
 #[test]
 fn a_limit_is_told(rt: HostRuntime) {
-    let calls = new_calls(rt.alloc()).expect(&rt, "memory is left");
+    let calls = count_of_calls(&rt, rt.alloc());
     let unlimited = cleared(rt.alloc(), &calls)
         .expect(&rt, "a pool is made")
         .limit();
@@ -42,7 +44,7 @@ fn last_full_page(pool: &ClearedPool) -> Option<usize>
 
 #[test]
 fn a_refused_pull_saw_each_page_full(rt: HostRuntime) {
-    let calls = new_calls(rt.alloc()).expect(&rt, "memory is left");
+    let calls = count_of_calls(&rt, rt.alloc());
     let pool = bounded(rt.alloc(), &calls, 3).expect(&rt, "a pool is made");
     keep_out(&pool, 95).expect(&rt, "95 items are free");
     let item = pool.pull().expect(&rt, "an item is free");
@@ -51,27 +53,19 @@ fn a_refused_pull_saw_each_page_full(rt: HostRuntime) {
     assert_equal(&rt, last_full_page(&pool), None);
 }
 
-/// The text of a pool with this limit.
-fn shown(alloc: Global, calls: &Arc<AtomicUsize>, pages: usize) -> Option<String>
+/// The limit of a pool is shown by this text.
+fn limit_is_shown(rt: &impl Abort, alloc: Global, pages: usize, text: &str)
     requires { 1 ≤ pages }
 {
-    let pool = bounded(alloc, calls, pages).ok()?;
-    format!(in alloc; "{pool:?}").ok()
+    let calls = count_of_calls(rt, alloc);
+    let pool = bounded(alloc, &calls, pages).expect(rt, "a pool is made");
+    assert_shown(rt, alloc, &pool, text);
 }
 
 #[test]
 fn each_limit_is_shown(rt: HostRuntime) {
-    let calls = new_calls(rt.alloc()).expect(&rt, "calls are counted");
-    let text = shown(rt.alloc(), &calls, 1).expect(&rt, "a pool is shown");
-    assert_equal(
-        &rt,
-        text.as_str(),
-        "LinearObjectPool { limit: Some(1), .. }",
-    );
-    let text = shown(rt.alloc(), &calls, usize::MAX).expect(&rt, "a pool is shown");
-    assert_equal(
-        &rt,
-        text.as_str(),
-        "LinearObjectPool { limit: Some(18446744073709551615), .. }",
-    );
+    let one = "LinearObjectPool { limit: Some(1), .. }";
+    limit_is_shown(&rt, rt.alloc(), 1, one);
+    let most = "LinearObjectPool { limit: Some(18446744073709551615), .. }";
+    limit_is_shown(&rt, rt.alloc(), usize::MAX, most);
 }

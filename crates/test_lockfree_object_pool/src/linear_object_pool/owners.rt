@@ -5,15 +5,20 @@ use crate::assert_equal::assert_equal;
 use crate::made::empty_tally;
 use std::process::Abort;
 
+/// Pulls a page of items.
+fn hold_page<A: Drop, P: Gives<A>>(rt: &impl Abort, alloc: Global, pool: P) -> Vec<A> {
+    let mut items = Vec::with_capacity(alloc, 32).expect(rt, "memory is left");
+    for _ in 0..32 {
+        let item = pool.pull_one().expect(rt, "an item is free");
+        items.push(item).expect(rt, "memory is left");
+    }
+    items
+}
+
 /// The refusal of an owned pull while a page of items is held. The pool's last owner but these lets
 /// it go.
 fn refusal_past_a_page(rt: &impl Abort, alloc: Global, pool: Arc<Tracked>) -> Option<PullError> {
-    let mut items = Vec::with_capacity(alloc, 32).expect(rt, "memory is left");
-    for _ in 0..32 {
-        items
-            .push(pool.pull().expect(rt, "an item is free"))
-            .expect(rt, "memory is left");
-    }
+    let _items = hold_page(rt, alloc, &*pool);
     pool.pull_owned().err()
 }
 

@@ -11,41 +11,30 @@ type Seen = ((usize, u8), usize, usize);
 
 /// A reference to a pool, which pulls borrowed items, or an owner of one, which pulls owned items.
 trait Pulls {
-    /// Why a pull is refused. An item that it gives comes back at once.
-    fn refusal(&self) -> Option<PullError>;
-
-    fn seen(&self, tally: &Tally) -> Option<Seen>;
+    /// What is seen of an item, which comes back at once, or why there is none.
+    fn seen(&self, tally: &Tally) -> Result<Seen, PullError>;
 }
 
 impl Pulls for &Tracked {
-    fn refusal(&self) -> Option<PullError> {
-        self.pull().err()
-    }
-
-    fn seen(&self, tally: &Tally) -> Option<Seen> {
-        let item = self.pull().ok()?;
+    fn seen(&self, tally: &Tally) -> Result<Seen, PullError> {
+        let item = self.pull()?;
         let place = (item.page_number(), item.page_id());
-        Some((place, item.number, tally.living()))
+        Ok((place, item.number, tally.living()))
     }
 }
 
 impl Pulls for Arc<Tracked> {
-    fn refusal(&self) -> Option<PullError> {
-        self.pull_owned().err()
-    }
-
-    fn seen(&self, tally: &Tally) -> Option<Seen> {
-        let item = self.pull_owned().ok()?;
+    fn seen(&self, tally: &Tally) -> Result<Seen, PullError> {
+        let item = self.pull_owned()?;
         let place = (item.page_number(), item.page_id());
-        Some((place, item.number, tally.living()))
+        Ok((place, item.number, tally.living()))
     }
 }
 
 /// Past a page of items that stay out, a pull is met or refused for memory. Behind it the second
 /// page's first item is there, twice the same.
 fn goes_on<P: Pulls>(rt: &impl Abort, pool: &P, tally: &Tally) {
-    let refusal = pool.refusal();
-    let expected = match refusal {
+    let expected = match pool.seen(tally).err() {
         None => 64,
         Some(error) => {
             assert_equal(rt, error, PullError::Memory);
@@ -55,7 +44,7 @@ fn goes_on<P: Pulls>(rt: &impl Abort, pool: &P, tally: &Tally) {
     assert_equal(rt, tally.living(), expected);
     let first = pool.seen(tally).expect(rt, "an item is free");
     assert_equal(rt, (first.0, first.2), ((1, 0), 64));
-    assert_equal(rt, pool.seen(tally), Some(first));
+    assert_equal(rt, pool.seen(tally), Ok(first));
 }
 
 /// A tally. Where memory was refused, it comes by a second try.

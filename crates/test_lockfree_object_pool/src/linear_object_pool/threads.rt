@@ -3,6 +3,7 @@ use super::*;
 use crate::assert_equal::assert_equal;
 use crate::made::count_of_calls;
 use crate::threads::{Meeting, Work, told_by};
+use std::ops::{Deref, DerefMut};
 use std::thread;
 
 /// What each of the threads does.
@@ -26,13 +27,24 @@ struct Shared {
 
 impl Work for Shared {
     fn work(&self, index: usize) -> Option<usize> {
-        match self.turn {
-            Turn::HoldsOne => hold_one(self),
-            Turn::HoldsEight => hold_eight(self),
-            Turn::HoldsForty => hold_forty(self),
-            Turn::PullsOften => pull_often(&self.pool),
-            Turn::MarksOften => mark_often(&self.pool, u32::try_from(index).ok()?.wrapping_add(1)),
-        }
+        take_turn(self.turn, self.alloc, &self.pool, &self.holding, index)
+    }
+}
+
+/// What the thread with this index has to tell of its turn at the pool.
+fn take_turn<A: DerefMut<Target = u32> + Drop, P: Gives<A>>(
+    turn: Turn,
+    alloc: Global,
+    pool: P,
+    holding: &Meeting,
+    index: usize,
+) -> Option<usize> {
+    match turn {
+        Turn::HoldsOne => hold_one(pool, holding),
+        Turn::HoldsEight => hold_eight(alloc, pool, holding),
+        Turn::HoldsForty => hold_forty(alloc, pool, holding),
+        Turn::PullsOften => pull_often(pool),
+        Turn::MarksOften => mark_often(pool, u32::try_from(index).ok()?.wrapping_add(1)),
     }
 }
 
@@ -47,10 +59,11 @@ fn shared_by_threads(rt: &impl Abort, alloc: Global, pool: Cleared, turn: Turn) 
 }
 
 /// The id of an item of the first page that is held together with those of four other threads.
-fn hold_one(shared: &Shared) -> Option<usize> {
-    let item = shared.pool.pull().ok()?;
-    if shared.holding.wait_for(5) && item.page_number() == 0 {
-        Some(item.page_id() as usize)
+fn hold_one<A: Drop, P: Gives<A>>(pool: P, holding: &Meeting) -> Option<usize> {
+    let item = pool.pull_one().ok()?;
+    let (page, id) = P::place(&item);
+    if holding.wait_for(5) && page == 0 {
+        Some(id as usize)
     } else {
         None
     }
@@ -70,9 +83,9 @@ fn five_threads_hold_the_first_five_items(rt: HostRuntime) {
 
 /// Pulls and drops, and writes to each item. How many items had the value of a reset, where each
 /// had it.
-fn pull_often(pool: &ClearedPool) -> Option<usize> {
+fn pull_often<A: DerefMut<Target = u32> + Drop, P: Gives<A>>(pool: P) -> Option<usize> {
     for _ in 0..10_000 {
-        let mut item = pool.pull().ok()?;
+        let mut item = pool.pull_one().ok()?;
         if *item != 0 {
             return None;
         }
@@ -96,9 +109,9 @@ fn eight_threads_see_reset_values(rt: HostRuntime) {
 
 /// Pulls, writes its own mark and drops, many times. How many items had the value of a reset, and
 /// then the mark alone, where each had.
-fn mark_often(pool: &ClearedPool, mark: u32) -> Option<usize> {
+fn mark_often<A: DerefMut<Target = u32> + Drop, P: Gives<A>>(pool: P, mark: u32) -> Option<usize> {
     for _ in 0..10_000 {
-        let mut item = pool.pull().ok()?;
+        let mut item = pool.pull_one().ok()?;
         if *item != 0 {
             return None;
         }
@@ -112,15 +125,11 @@ fn mark_often(pool: &ClearedPool, mark: u32) -> Option<usize> {
 }
 
 /// The items of ten pages, all of which were out. Eight came back.
-fn all_but_eight<'s>(
-    rt: &impl Abort,
-    alloc: Global,
-    pool: &'s ClearedPool,
-) -> Vec<LinearReusable<'s, u32, CountedZeros, ToZero, Zero>> {
+fn all_but_eight<A: Drop, P: Gives<A>>(rt: &impl Abort, alloc: Global, pool: P) -> Vec<A> {
     let mut kept = Vec::with_capacity(alloc, 312).expect(rt, "memory is left");
     let mut returned = Vec::with_capacity(alloc, 8).expect(rt, "memory is left");
     for index in 0..320 {
-        let item = pool.pull().expect(rt, "an item is free");
+        let item = pool.pull_one().expect(rt, "an item is free");
         if index % 40 == 0 {
             returned.push(item).expect(rt, "memory is left");
         } else {
@@ -131,7 +140,7 @@ fn all_but_eight<'s>(
 }
 
 /// Whether each item has the value of a reset.
-fn are_zero(items: &[LinearReusable<'_, u32, CountedZeros, ToZero, Zero>]) -> bool {
+fn are_zero<A: Deref<Target = u32>>(items: &[A]) -> bool {
     for item in items {
         if **item != 0 {
             return false;
@@ -156,16 +165,16 @@ fn eight_threads_share_what_ten_full_pages_got_back(rt: HostRuntime) {
 
 /// How many of eight pulls gave an item, where the others were refused by the limit. The items are
 /// held until five threads hold theirs.
-fn hold_eight(shared: &Shared) -> Option<usize> {
-    let mut items = Vec::with_capacity(shared.alloc, 8).ok()?;
+fn hold_eight<A: Drop, P: Gives<A>>(alloc: Global, pool: P, holding: &Meeting) -> Option<usize> {
+    let mut items = Vec::with_capacity(alloc, 8).ok()?;
     for _ in 0..8 {
-        match shared.pool.pull() {
+        match pool.pull_one() {
             Ok(item) => items.push(item).ok()?,
             Err(PullError::Limit) => {}
             Err(_) => return None,
         }
     }
-    if shared.holding.wait_for(5) {
+    if holding.wait_for(5) {
         Some(items.len())
     } else {
         None
@@ -191,13 +200,13 @@ fn five_threads_share_one_page(rt: HostRuntime) {
 
 /// Waits until four threads are here, and then holds more items than a page has. How many, where
 /// none was refused.
-fn hold_forty(shared: &Shared) -> Option<usize> {
-    let mut items = Vec::with_capacity(shared.alloc, 40).ok()?;
-    if !shared.holding.wait_for(4) {
+fn hold_forty<A: Drop, P: Gives<A>>(alloc: Global, pool: P, holding: &Meeting) -> Option<usize> {
+    let mut items = Vec::with_capacity(alloc, 40).ok()?;
+    if !holding.wait_for(4) {
         return None;
     }
     for _ in 0..40 {
-        items.push(shared.pool.pull().ok()?).ok()?;
+        items.push(pool.pull_one().ok()?).ok()?;
     }
     Some(items.len())
 }

@@ -12,21 +12,21 @@ fn the_greatest_limit_needs_no_memory_beforehand(rt: HostRuntime) {
         &rt,
         "a pool is made",
     );
-    let buffer = pool.pull().expect(&rt, "an item is free");
+    let buffer = pulled(&rt, &pool);
     assert_equal(&rt, (buffer.page_number(), buffer.page_id()), (0, 0));
 }
 
 #[test]
 fn a_buffer_takes_long_texts_again_and_again(rt: HostRuntime) {
-    let pool = one_page(rt.alloc()).expect(&rt, "a pool is made");
-    let mut buffer = pool.pull().expect(&rt, "an item is free");
+    let pool = made_pool(&rt);
+    let mut buffer = pulled(&rt, &pool);
     let text = [7u8; 5000];
     for _ in 0..20 {
         buffer.append(&text).expect(&rt, "memory is left");
     }
     buffer.append(b"").expect(&rt, "memory is left");
-    assert_equal(&rt, buffer.as_slice().len(), 100_000);
-    assert!(rt; buffer.as_slice().iter().all(|byte| *byte == 7));
+    let expected = vec![in rt.alloc(); 7u8; 100_000].expect(&rt, "memory is left");
+    assert!(rt; buffer.as_slice() == expected.as_slice());
 }
 
 #[test]
@@ -77,10 +77,10 @@ fn three_mebibytes_are_appended_at_once(rt: HostRuntime) {
 
 #[test]
 fn a_buffer_of_hundreds_of_bytes_is_shown_whole(rt: HostRuntime) {
-    let pool = one_page(rt.alloc()).expect(&rt, "a pool is made");
-    let mut buffer = pool.pull().expect(&rt, "an item is free");
+    let pool = made_pool(&rt);
+    let mut buffer = pulled(&rt, &pool);
     buffer.append(&[7; 600]).expect(&rt, "memory is left");
-    let text = format!(in rt.alloc(); "{buffer:?}").expect(&rt, "memory is left");
-    let bytes = format!(in rt.alloc(); "{:?}", [7u8; 600].as_slice()).expect(&rt, "memory is left");
-    assert_equal(&rt, (text.len(), text.as_str()), (1800, bytes.as_str()));
+    let text = format!(in rt.alloc(); "{:?}", [7u8; 600].as_slice()).expect(&rt, "memory is left");
+    assert_equal(&rt, text.len(), 1800);
+    shows(&rt, &buffer, text.as_str());
 }

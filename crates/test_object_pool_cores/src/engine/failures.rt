@@ -65,42 +65,42 @@ fn first_lines(text: &'static [u8], count: usize) -> &'static [u8] {
 
 /// A reader of at most so many bytes a call, and fails after
 /// each count of bytes, also where the input would end.
-fn reads_that_fail(rt: &(impl Wait + Abort), alloc: Global, session: Session, most: usize) {
+fn reads_that_fail(rt: &(impl Wait + Abort + AllocGlobal), session: Session, most: usize) {
     for good in 0..=session.input.len() {
         let read = &session.input[..good];
         let whole = first_lines(session.replies, lines_in(read));
         let mut input = Source::new(read, most);
         let output = Device::new(1024, 1024);
         let expected = (Err(EngineError::Read), whole);
-        plays(rt, alloc, session.kind, &mut input, output, expected);
+        plays(rt, session.kind, &mut input, output, expected);
     }
 }
 
 #[test]
 fn a_reader_that_fails_leaves_the_replies_to_whole_lines(rt: HostRuntime) {
     for session in sessions() {
-        reads_that_fail(&rt, rt.alloc(), session, 1);
-        reads_that_fail(&rt, rt.alloc(), session, 7);
-        reads_that_fail(&rt, rt.alloc(), session, 1024);
+        reads_that_fail(&rt, session, 1);
+        reads_that_fail(&rt, session, 7);
+        reads_that_fail(&rt, session, 1024);
     }
 }
 
 /// A writer that takes at most so many bytes a call, and fails after each count of bytes.
-fn writes_that_fail(rt: &(impl Wait + Abort), alloc: Global, session: Session, most: usize) {
+fn writes_that_fail(rt: &(impl Wait + Abort + AllocGlobal), session: Session, most: usize) {
     for room in 0..session.replies.len() {
         let mut input = session.input;
         let output = Device::new(room, most);
         let expected = (Err(EngineError::Write), &session.replies[..room]);
-        plays(rt, alloc, session.kind, &mut input, output, expected);
+        plays(rt, session.kind, &mut input, output, expected);
     }
 }
 
 #[test]
 fn a_writer_that_fails_has_a_beginning_of_the_replies(rt: HostRuntime) {
     for session in sessions() {
-        writes_that_fail(&rt, rt.alloc(), session, 1);
-        writes_that_fail(&rt, rt.alloc(), session, 7);
-        writes_that_fail(&rt, rt.alloc(), session, 1024);
+        writes_that_fail(&rt, session, 1);
+        writes_that_fail(&rt, session, 7);
+        writes_that_fail(&rt, session, 1024);
     }
 }
 
@@ -112,11 +112,11 @@ fn a_device_fails_within_a_line(rt: HostRuntime) {
         Err(EngineError::Read),
         b"pulled 0 number 0 value 0\n".as_slice(),
     );
-    plays(&rt, rt.alloc(), Kind::Linear, &mut input, output, expected);
+    plays(&rt, Kind::Linear, &mut input, output, expected);
     let mut input = b"pull\n".as_slice();
     let output = Device::new(10, 1024);
     let expected = (Err(EngineError::Write), b"pulled 0 n".as_slice());
-    plays(&rt, rt.alloc(), Kind::Linear, &mut input, output, expected);
+    plays(&rt, Kind::Linear, &mut input, output, expected);
 }
 
 #[test]
@@ -125,11 +125,11 @@ fn a_writer_may_take_one_byte_a_call_or_none(rt: HostRuntime) {
         let mut input = session.input;
         let output = Device::new(1024, 1);
         let expected = (Ok(()), session.replies);
-        plays(&rt, rt.alloc(), session.kind, &mut input, output, expected);
+        plays(&rt, session.kind, &mut input, output, expected);
         let mut input = session.input;
         let output = Device::new(1024, 0);
         let expected = (Err(EngineError::Write), b"".as_slice());
-        let writes = plays(&rt, rt.alloc(), session.kind, &mut input, output, expected);
+        let writes = plays(&rt, session.kind, &mut input, output, expected);
         assert_equal(&rt, writes, 1);
     }
 }
@@ -143,7 +143,7 @@ const PASSING: [ErrorKind; 4] = [
 ];
 
 /// Reads that fail once for a cause, at first or behind other reads, and would then do well.
-fn reads_that_fail_once(rt: &(impl Wait + Abort), alloc: Global, cause: ErrorKind) {
+fn reads_that_fail_once(rt: &(impl Wait + Abort + AllocGlobal), cause: ErrorKind) {
     let rows: [(&[&[u8]], &[u8]); 3] = [
         (&[], b""),
         (&[b"pull\n"], b"pulled 0 value 0\n"),
@@ -153,7 +153,7 @@ fn reads_that_fail_once(rt: &(impl Wait + Abort), alloc: Global, cause: ErrorKin
         let mut input = Parts::new(parts, Some(cause));
         let output = Device::new(1024, 1024);
         let expected = (Err(EngineError::Read), replies);
-        plays(rt, alloc, Kind::Stack, &mut input, output, expected);
+        plays(rt, Kind::Stack, &mut input, output, expected);
         let reads = parts.len().saturating_add(1);
         assert_equal(rt, (cause, input.reads()), (cause, reads));
     }
@@ -162,7 +162,7 @@ fn reads_that_fail_once(rt: &(impl Wait + Abort), alloc: Global, cause: ErrorKin
 #[test]
 fn a_read_that_fails_is_never_asked_again(rt: HostRuntime) {
     for cause in PASSING {
-        reads_that_fail_once(&rt, rt.alloc(), cause);
+        reads_that_fail_once(&rt, cause);
     }
 }
 
@@ -227,10 +227,10 @@ fn tells_of_one_refusal(kind: Kind, text: &[u8]) -> bool {
 }
 
 /// Plays pulls alone by devices that never fail. Whether the output is that of ample memory.
-fn plays_all_pulls(rt: &(impl Wait + Abort), alloc: Global, kind: Kind) -> bool {
+fn plays_all_pulls(rt: &(impl Wait + Abort + AllocGlobal), kind: Kind) -> bool {
     let mut input = Lines::new(b"pull\n", PULLS);
     let mut output = Device::new(4096, 4096);
-    let result = play(rt, alloc, kind, Reset::Keep, &mut input, &mut output);
+    let result = play(rt, kind, Reset::Keep, &mut input, &mut output);
     let text = output.bytes();
     let replies = replies_to_pulls(kind, NOWHERE);
     let whole = replies.as_str().as_bytes();
@@ -255,7 +255,7 @@ fn plays_all_pulls(rt: &(impl Wait + Abort), alloc: Global, kind: Kind) -> bool 
 #[test]
 fn pulls_past_the_first_pages_are_answered(rt: HostRuntime) {
     for kind in [Kind::Linear, Kind::Bounded(2), Kind::Stack, Kind::None] {
-        assert!(rt; plays_all_pulls(&rt, rt.alloc(), kind), "{kind:?}");
+        assert!(rt; plays_all_pulls(&rt, kind), "{kind:?}");
     }
 }
 
@@ -263,7 +263,7 @@ fn pulls_past_the_first_pages_are_answered(rt: HostRuntime) {
 #[test]
 fn devices_that_never_fail_end_well_or_in_want_of_memory(rt: HostRuntime) {
     for kind in [Kind::Linear, Kind::Bounded(2), Kind::Stack, Kind::None] {
-        let _ = plays_all_pulls(&rt, rt.alloc(), kind);
+        let _ = plays_all_pulls(&rt, kind);
     }
 }
 
@@ -277,14 +277,7 @@ fn want_of_memory_is_answered_as_such(rt: HostRuntime) {
     for session in sessions() {
         let mut input = session.input;
         let mut output = Device::new(1024, 1024);
-        let result = play(
-            &rt,
-            rt.alloc(),
-            session.kind,
-            Reset::Keep,
-            &mut input,
-            &mut output,
-        );
+        let result = play(&rt, session.kind, Reset::Keep, &mut input, &mut output);
         let text = output.bytes();
         match result {
             Ok(()) if session.kind == Kind::Stack && text.starts_with(b"refused memory\n") => {

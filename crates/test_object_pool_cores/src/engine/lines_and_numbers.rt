@@ -8,21 +8,21 @@ const LENGTHS: [usize; 9] = [1, 63, 64, 65, 1023, 1024, 1025, 2048, 100_000];
 
 /// What is answered to a line of so many letters and a pull behind it, and to such a line that the
 /// input ends in.
-fn answers_to_letters<H: Abort + Wait>(rt: &H, alloc: Global, length: usize) -> (Vec<u8>, Vec<u8>) {
-    let mut input = String::new(alloc);
+fn answers_to_letters<H: Abort + Wait + AllocGlobal>(rt: &H, length: usize) -> (Vec<u8>, Vec<u8>) {
+    let mut input = String::new(rt.alloc());
     for _ in 0..length {
         input.push_str("p").expect(rt, "memory is left");
     }
-    let last = output_of(rt, alloc, Kind::None, Reset::Keep, input.as_str());
+    let last = output_of(rt, Kind::None, Reset::Keep, input.as_str());
     input.push_str("\npull\n").expect(rt, "memory is left");
-    let first = output_of(rt, alloc, Kind::None, Reset::Keep, input.as_str());
+    let first = output_of(rt, Kind::None, Reset::Keep, input.as_str());
     (first, last)
 }
 
 #[test]
 fn a_line_of_any_length_is_answered_with_a_line_feed_or_without(rt: HostRuntime) {
     for length in LENGTHS {
-        let (first, last) = answers_to_letters(&rt, rt.alloc(), length);
+        let (first, last) = answers_to_letters(&rt, length);
         let both = b"bad line\npulled 0 value 0\n".as_slice();
         assert_equal(&rt, (length, first.as_slice()), (length, both));
         let alone = b"bad line\n".as_slice();
@@ -41,14 +41,7 @@ fn each_byte_alone_is_a_bad_line(rt: HostRuntime) {
             b"bad line\n"
         };
         let output = Device::new(64, 64);
-        plays(
-            &rt,
-            rt.alloc(),
-            Kind::Stack,
-            &mut input,
-            output,
-            (Ok(()), replies),
-        );
+        plays(&rt, Kind::Stack, &mut input, output, (Ok(()), replies));
     }
 }
 
@@ -69,7 +62,7 @@ fn the_greatest_numbers_are_answered_in_each_command(rt: HostRuntime) {
         ),
     ];
     for (kind, expected) in &ROWS {
-        answers(&rt, rt.alloc(), *kind, Reset::Keep, GREATEST, expected);
+        answers(&rt, *kind, Reset::Keep, GREATEST, expected);
     }
 }
 
@@ -88,6 +81,6 @@ fn each_kind_of_pool_is_reset_to_zero(rt: HostRuntime) {
         (Kind::None, PLAIN),
     ];
     for (kind, expected) in &ROWS {
-        answers(&rt, rt.alloc(), *kind, Reset::Zero, INPUT, expected);
+        answers(&rt, *kind, Reset::Zero, INPUT, expected);
     }
 }

@@ -8,10 +8,17 @@ const EMPTY_LINES: [u8; 1024] = [b'\n'; 1024];
 
 /// Whether the replies to one read of empty lines were all
 /// written, by so many writes to a device that takes at most so many bytes a call.
-fn answers_empty_lines(rt: &(impl Wait + Abort), alloc: Global, most: usize, writes: usize) {
+fn answers_empty_lines(rt: &(impl Wait + Abort + AllocGlobal), most: usize, writes: usize) {
     let mut input = EMPTY_LINES.as_slice();
     let mut output = Device::new(usize::MAX, most);
-    let result = run(rt, alloc, Kind::None, Reset::Keep, &mut input, &mut output);
+    let result = run(
+        rt,
+        rt.alloc(),
+        Kind::None,
+        Reset::Keep,
+        &mut input,
+        &mut output,
+    );
     let is_whole = is_repeated(output.bytes(), b"bad line\n", EMPTY_LINES.len());
     assert_equal(
         rt,
@@ -22,19 +29,19 @@ fn answers_empty_lines(rt: &(impl Wait + Abort), alloc: Global, most: usize, wri
 
 #[test]
 fn replies_of_thousands_of_bytes_are_one_write(rt: HostRuntime) {
-    answers_empty_lines(&rt, rt.alloc(), usize::MAX, 1);
+    answers_empty_lines(&rt, usize::MAX, 1);
 }
 
 #[test]
 fn a_device_may_take_thousands_of_bytes_a_call(rt: HostRuntime) {
     for (most, writes) in [(4096, 3), (4097, 3), (5000, 2), (8193, 2), (9215, 2)] {
-        answers_empty_lines(&rt, rt.alloc(), most, writes);
+        answers_empty_lines(&rt, most, writes);
     }
 }
 
 #[test]
 fn a_device_may_take_a_few_bytes_of_thousands_a_call(rt: HostRuntime) {
     for (most, writes) in [(1, 9216), (7, 1317)] {
-        answers_empty_lines(&rt, rt.alloc(), most, writes);
+        answers_empty_lines(&rt, most, writes);
     }
 }

@@ -1,20 +1,19 @@
 //! Agents that go by a hint: to a page with a free number, to a full one, and where they may not.
 use super::*;
 use crate::assert_equal::assert_equal;
-use std::alloc::Global;
 
 /// Creates a world in which so many agents hold the item of their own number each.
-fn all_held(rt: &impl Abort, alloc: Global, agents: usize) -> World<u32, Keep> {
-    let mut world = unbounded(rt, alloc);
-    take_all(rt, alloc, &mut world, agents);
+fn all_held(rt: &(impl Abort + AllocGlobal), agents: usize) -> World<u32, Keep> {
+    let mut world = unbounded(rt);
+    take_all(rt, &mut world, agents);
     world
 }
 
 /// Lets so many agents take the item of their own number each.
-fn take_all(rt: &impl Abort, alloc: Global, world: &mut World<u32, Keep>, agents: usize) {
+fn take_all(rt: &(impl Abort + AllocGlobal), world: &mut World<u32, Keep>, agents: usize) {
     for agent in 0..agents {
         let _ = world.step(Event::Begin);
-        pass(rt, alloc, world, agent);
+        pass(rt, world, agent);
         let _ = world.step(Event::ReadMask(agent));
         let _ = world.step(Event::ClearBit(agent));
         let _ = world.step(Event::MoveOut(agent));
@@ -23,13 +22,13 @@ fn take_all(rt: &impl Abort, alloc: Global, world: &mut World<u32, Keep>, agents
 
 /// Lets an agent pass the full pages, as many as there are where as many items are out as its
 /// number says, and link a page behind them where it has to.
-fn pass(rt: &impl Abort, alloc: Global, world: &mut World<u32, Keep>, agent: usize) {
+fn pass(rt: &(impl Abort + AllocGlobal), world: &mut World<u32, Keep>, agent: usize) {
     for _ in 0..agent / 32 {
         let _ = world.step(Event::ReadMask(agent));
         let _ = world.step(Event::ReadNext(agent));
     }
     if agent > 0 && agent % 32 == 0 {
-        let page = zeros(alloc).expect(rt, "values are made");
+        let page = zeros(rt.alloc()).expect(rt, "values are made");
         let _ = world.step(Event::MakePage(agent, Ok(page)));
         let _ = world.step(Event::ExchangeNext(agent));
     }
@@ -37,7 +36,7 @@ fn pass(rt: &impl Abort, alloc: Global, world: &mut World<u32, Keep>, agent: usi
 
 #[test]
 fn a_hint_leads_past_full_pages_to_a_free_number(rt: HostRuntime) {
-    let mut world = all_held(&rt, rt.alloc(), 128);
+    let mut world = all_held(&rt, 128);
     give_back(&mut world, 101);
     const STEPS: [(Act, Seen); 5] = [
         (Act::Begin, Seen::Began(128)),
@@ -46,13 +45,13 @@ fn a_hint_leads_past_full_pages_to_a_free_number(rt: HostRuntime) {
         (Act::ClearBit(128), Seen::Pulled(128, 101)),
         (Act::MoveOut(128), Seen::MovedOut(128)),
     ];
-    play(&rt, rt.alloc(), &ZeroPages, &mut world, &STEPS);
+    play(&rt, &ZeroPages, &mut world, &STEPS);
     assert_equal(&rt, (world.word(3), world.held(128)), (Some(0), Some(&0)));
 }
 
 #[test]
 fn a_page_that_a_hint_found_full_is_not_asked_again(rt: HostRuntime) {
-    let mut world = all_held(&rt, rt.alloc(), 128);
+    let mut world = all_held(&rt, 128);
     const STEPS: [(Act, Seen); 10] = [
         (Act::Begin, Seen::Began(128)),
         (Act::ReadMask(128), Seen::Word(128, 0)),
@@ -65,12 +64,12 @@ fn a_page_that_a_hint_found_full_is_not_asked_again(rt: HostRuntime) {
         (Act::ReadMask(128), Seen::Word(128, 0)),
         (Act::ReadNext(128), Seen::Next(128, false)),
     ];
-    play(&rt, rt.alloc(), &ZeroPages, &mut world, &STEPS);
+    play(&rt, &ZeroPages, &mut world, &STEPS);
 }
 
 #[test]
 fn a_number_that_comes_home_behind_a_hint_is_passed(rt: HostRuntime) {
-    let mut world = all_held(&rt, rt.alloc(), 64);
+    let mut world = all_held(&rt, 64);
     const STEPS: [(Act, Seen); 11] = [
         (Act::Begin, Seen::Began(64)),
         (Act::ReadMask(64), Seen::Word(64, 0)),
@@ -84,13 +83,13 @@ fn a_number_that_comes_home_behind_a_hint_is_passed(rt: HostRuntime) {
         (Act::ReadMask(64), Seen::Word(64, FULL)),
         (Act::ClearBit(64), Seen::Pulled(64, 64)),
     ];
-    play(&rt, rt.alloc(), &ZeroPages, &mut world, &STEPS);
+    play(&rt, &ZeroPages, &mut world, &STEPS);
     assert_equal(&rt, (world.pages(), world.word(1)), (3, Some(256)));
 }
 
 #[test]
 fn a_hint_may_name_any_linked_page_but_the_first(rt: HostRuntime) {
-    let mut world = all_held(&rt, rt.alloc(), 64);
+    let mut world = all_held(&rt, 64);
     const STEPS: [(Act, Seen); 8] = [
         (Act::ReadHinted(64, 1), Seen::NotEnabled),
         (Act::Begin, Seen::Began(64)),
@@ -101,12 +100,12 @@ fn a_hint_may_name_any_linked_page_but_the_first(rt: HostRuntime) {
         (Act::ReadHinted(64, usize::MAX), Seen::NotEnabled),
         (Act::ReadHinted(64, 1), Seen::Word(64, 0)),
     ];
-    play(&rt, rt.alloc(), &ZeroPages, &mut world, &STEPS);
+    play(&rt, &ZeroPages, &mut world, &STEPS);
 }
 
 #[test]
 fn an_agent_goes_by_one_hint_from_the_first_link(rt: HostRuntime) {
-    let mut world = all_held(&rt, rt.alloc(), 128);
+    let mut world = all_held(&rt, 128);
     const STEPS: [(Act, Seen); 12] = [
         (Act::Begin, Seen::Began(128)),
         (Act::ReadMask(128), Seen::Word(128, 0)),
@@ -121,12 +120,12 @@ fn an_agent_goes_by_one_hint_from_the_first_link(rt: HostRuntime) {
         (Act::ReadNext(129), Seen::Next(129, true)),
         (Act::ReadHinted(129, 3), Seen::NotEnabled),
     ];
-    play(&rt, rt.alloc(), &ZeroPages, &mut world, &STEPS);
+    play(&rt, &ZeroPages, &mut world, &STEPS);
 }
 
 #[test]
 fn a_clearing_that_is_lost_behind_a_hint_tries_the_next_bit(rt: HostRuntime) {
-    let mut world = all_held(&rt, rt.alloc(), 64);
+    let mut world = all_held(&rt, 64);
     give_back(&mut world, 32);
     give_back(&mut world, 34);
     const STEPS: [(Act, Seen); 10] = [
@@ -141,13 +140,13 @@ fn a_clearing_that_is_lost_behind_a_hint_tries_the_next_bit(rt: HostRuntime) {
         (Act::ReadHinted(64, 1), Seen::NotEnabled),
         (Act::ClearBit(64), Seen::Pulled(64, 34)),
     ];
-    play(&rt, rt.alloc(), &ZeroPages, &mut world, &STEPS);
+    play(&rt, &ZeroPages, &mut world, &STEPS);
     assert_equal(&rt, world.word(1), Some(0));
 }
 
 #[test]
 fn clearings_that_are_all_lost_behind_a_hint_lead_to_the_first_link(rt: HostRuntime) {
-    let mut world = all_held(&rt, rt.alloc(), 64);
+    let mut world = all_held(&rt, 64);
     give_back(&mut world, 33);
     give_back(&mut world, 63);
     const STEPS: [(Act, Seen); 18] = [
@@ -170,13 +169,13 @@ fn clearings_that_are_all_lost_behind_a_hint_lead_to_the_first_link(rt: HostRunt
         (Act::ReadMask(64), Seen::NotEnabled),
         (Act::ReadNext(64), Seen::Next(64, false)),
     ];
-    play(&rt, rt.alloc(), &ZeroPages, &mut world, &STEPS);
+    play(&rt, &ZeroPages, &mut world, &STEPS);
 }
 
 #[test]
 fn a_limit_is_told_past_a_hint(rt: HostRuntime) {
-    let mut world = limited(&rt, rt.alloc(), 2);
-    take_all(&rt, rt.alloc(), &mut world, 64);
+    let mut world = limited(&rt, 2);
+    take_all(&rt, &mut world, 64);
     const STEPS: [(Act, Seen); 5] = [
         (Act::Begin, Seen::Began(64)),
         (Act::ReadMask(64), Seen::Word(64, 0)),
@@ -184,7 +183,7 @@ fn a_limit_is_told_past_a_hint(rt: HostRuntime) {
         (Act::ReadNext(64), Seen::Next(64, true)),
         (Act::ReadNext(64), Seen::Refused(64, PullError::Limit)),
     ];
-    play(&rt, rt.alloc(), &ZeroPages, &mut world, &STEPS);
+    play(&rt, &ZeroPages, &mut world, &STEPS);
 }
 
 /// Lets an agent ask each of forty full pages once, first the one that a hint names.
@@ -209,7 +208,7 @@ fn ask_each(rt: &impl Abort, world: &mut World<u32, Keep>, agent: usize, hint: u
 
 #[test]
 fn each_of_forty_pages_is_asked_once_whichever_a_hint_names(rt: HostRuntime) {
-    let mut world = all_held(&rt, rt.alloc(), 1280);
+    let mut world = all_held(&rt, 1280);
     for hint in 1..40 {
         ask_each(&rt, &mut world, 1279 + hint, hint);
     }
@@ -217,7 +216,7 @@ fn each_of_forty_pages_is_asked_once_whichever_a_hint_names(rt: HostRuntime) {
 
 #[test]
 fn a_hint_in_vain_costs_an_agent_alone_one_step_at_most(rt: HostRuntime) {
-    let mut world = all_held(&rt, rt.alloc(), 128);
+    let mut world = all_held(&rt, 128);
     give_back(&mut world, 70);
     give_back(&mut world, 71);
     const STEPS: [(Act, Seen); 17] = [
@@ -239,5 +238,5 @@ fn a_hint_in_vain_costs_an_agent_alone_one_step_at_most(rt: HostRuntime) {
         (Act::ClearBit(129), Seen::Pulled(129, 71)),
         (Act::MoveOut(129), Seen::MovedOut(129)),
     ];
-    play(&rt, rt.alloc(), &ZeroPages, &mut world, &STEPS);
+    play(&rt, &ZeroPages, &mut world, &STEPS);
 }

@@ -31,7 +31,7 @@ fn pull_alone(
 
 #[test]
 fn agents_alone_pull_each_number_of_three_hundred_pages(rt: HostRuntime) {
-    let mut world = unbounded(&rt, rt.alloc());
+    let mut world = unbounded(&rt);
     for agent in 0..PAGES * 32 {
         let seen = pull_alone(rt.alloc(), &mut world, agent).expect(&rt, "memory is left");
         assert_equal(&rt, seen, Seen::Pulled(agent, agent as u128));
@@ -41,7 +41,7 @@ fn agents_alone_pull_each_number_of_three_hundred_pages(rt: HostRuntime) {
 
 #[test]
 fn seventy_thousand_agents_begin_in_one_run(rt: HostRuntime) {
-    let mut world = unbounded(&rt, rt.alloc());
+    let mut world = unbounded(&rt);
     let mut events = Vec::new(rt.alloc());
     for _ in 0..AGENTS {
         events.push(Event::Begin).expect(&rt, "memory is left");
@@ -58,7 +58,7 @@ fn seventy_thousand_agents_begin_in_one_run(rt: HostRuntime) {
 
 #[test]
 fn the_greatest_limit_needs_no_memory_beforehand(rt: HostRuntime) {
-    let mut world = limited(&rt, rt.alloc(), usize::MAX);
+    let mut world = limited(&rt, usize::MAX);
     assert_equal(&rt, (world.limit(), world.pages()), (Some(usize::MAX), 1));
     hold(&mut world, 1);
     assert_equal(&rt, world.held(0), Some(&0));
@@ -83,13 +83,12 @@ fn crowd_events(alloc: Global, begins: bool) -> Result<Vec<Event<u32>>, AllocErr
 
 /// Puts a world's answers to the events of a crowd behind those that are there.
 fn run_crowd(
-    rt: &impl Abort,
-    alloc: Global,
+    rt: &(impl Abort + AllocGlobal),
     world: &mut World<u32, Keep>,
     begins: bool,
     seen: &mut Vec<Seen>,
 ) {
-    let events = crowd_events(alloc, begins).expect(rt, "memory is left");
+    let events = crowd_events(rt.alloc(), begins).expect(rt, "memory is left");
     world.run(events, seen).expect(rt, "memory is left");
 }
 
@@ -97,10 +96,10 @@ fn run_crowd(
 /// there are agents.
 #[test]
 fn a_world_of_one_page_takes_three_hundred_agents_in_two_runs(rt: HostRuntime) {
-    let mut world = limited(&rt, rt.alloc(), 1);
+    let mut world = limited(&rt, 1);
     let mut seen = Vec::new(rt.alloc());
-    run_crowd(&rt, rt.alloc(), &mut world, true, &mut seen);
-    run_crowd(&rt, rt.alloc(), &mut world, false, &mut seen);
+    run_crowd(&rt, &mut world, true, &mut seen);
+    run_crowd(&rt, &mut world, false, &mut seen);
     assert_equal(&rt, seen.len(), 2 * CROWD);
     for agent in 0..CROWD {
         assert_equal(

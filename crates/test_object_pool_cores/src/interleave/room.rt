@@ -18,8 +18,7 @@ fn make_two(world: &mut World<u32, Keep>, first: Prepared<u32>, second: Prepared
 
 #[test]
 fn a_second_page_is_made_in_the_room_of_the_first(rt: HostRuntime) {
-    let mut world = unbounded(&rt, rt.alloc());
-    hold(&mut world, 32);
+    let mut world = first_page_held(&rt);
     for agent in 32..34 {
         let _ = world.step(Event::Begin);
         let _ = world.step(Event::ReadMask(agent));
@@ -38,7 +37,7 @@ fn a_second_page_is_made_in_the_room_of_the_first(rt: HostRuntime) {
 
 #[test]
 fn a_run_with_room_for_its_answers_is_done(rt: HostRuntime) {
-    let mut world = unbounded(&rt, rt.alloc());
+    let mut world = unbounded(&rt);
     let events = [Event::Begin, Event::ReadMask(0)];
     let events = Vec::from_array(rt.alloc(), events).expect(&rt, "memory is left");
     let mut seen = Vec::with_capacity(rt.alloc(), 2).expect(&rt, "memory is left");

@@ -49,13 +49,13 @@ fn takes_its_number(
 }
 
 /// Links forty pages, all of whose items are held, and answers what one more agent sees at last.
-fn links_forty(rt: &impl Abort, alloc: Global, world: &mut World<u32, Keep>) -> Option<Seen> {
+fn links_forty(rt: &(impl Abort + AllocGlobal), world: &mut World<u32, Keep>) -> Option<Seen> {
     for agent in 0..PAGES * PAGE_ITEMS {
-        assert_equal(rt, takes_its_number(alloc, world, agent), Ok(true));
+        assert_equal(rt, takes_its_number(rt.alloc(), world, agent), Ok(true));
     }
     assert_equal(rt, (world.pages(), world.word(PAGES - 1)), (PAGES, Some(0)));
-    let mut seen = Vec::new(alloc);
-    let events = passes(alloc, PAGES * PAGE_ITEMS, PAGES).expect(rt, "memory is left");
+    let mut seen = Vec::new(rt.alloc());
+    let events = passes(rt.alloc(), PAGES * PAGE_ITEMS, PAGES).expect(rt, "memory is left");
     world.run(events, &mut seen).expect(rt, "memory is left");
     seen.last().copied()
 }
@@ -63,17 +63,17 @@ fn links_forty(rt: &impl Abort, alloc: Global, world: &mut World<u32, Keep>) -> 
 #[test]
 fn agents_alone_link_forty_pages_and_hold_each_number(rt: HostRuntime) {
     let last = PAGES * PAGE_ITEMS;
-    let mut world = unbounded(&rt, rt.alloc());
-    let seen = links_forty(&rt, rt.alloc(), &mut world);
+    let mut world = unbounded(&rt);
+    let seen = links_forty(&rt, &mut world);
     assert_equal(&rt, seen, Some(Seen::Next(last, false)));
-    let mut world = limited(&rt, rt.alloc(), PAGES);
-    let seen = links_forty(&rt, rt.alloc(), &mut world);
+    let mut world = limited(&rt, PAGES);
+    let seen = links_forty(&rt, &mut world);
     assert_equal(&rt, seen, Some(Seen::Refused(last, PullError::Limit)));
 }
 
 #[test]
 fn three_hundred_agents_read_one_word_in_one_run(rt: HostRuntime) {
-    let mut world = unbounded(&rt, rt.alloc());
+    let mut world = unbounded(&rt);
     let mut seen = Vec::new(rt.alloc());
     let mut events = Vec::new(rt.alloc());
     for _ in 0..300 {
@@ -92,7 +92,7 @@ fn three_hundred_agents_read_one_word_in_one_run(rt: HostRuntime) {
 
 #[test]
 fn a_run_goes_on_past_events_that_are_not_enabled(rt: HostRuntime) {
-    let mut world = unbounded(&rt, rt.alloc());
+    let mut world = unbounded(&rt);
     let mut seen = Vec::from_array(rt.alloc(), [Seen::Began(7)]).expect(&rt, "memory is left");
     let events = Vec::from_array(
         rt.alloc(),
@@ -129,7 +129,7 @@ fn a_run_goes_on_past_events_that_are_not_enabled(rt: HostRuntime) {
 
 #[test]
 fn a_run_of_no_events_changes_nothing(rt: HostRuntime) {
-    let mut world = unbounded(&rt, rt.alloc());
+    let mut world = unbounded(&rt);
     let mut seen = Vec::new(rt.alloc());
     let first = world.run(Vec::new(rt.alloc()), &mut seen);
     hold(&mut world, 1);

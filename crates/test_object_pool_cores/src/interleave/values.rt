@@ -1,6 +1,7 @@
 //! Which value lies where, and when a value is dropped.
 use super::*;
 use crate::assert_equal::assert_equal;
+use crate::tallies::made_tally;
 
 /// Pages whose values count the calls before them.
 #[derive(Drop)]
@@ -27,7 +28,7 @@ fn each_place_has_the_answer_that_init_gave_at_its_turn(rt: HostRuntime) {
         calls: Cell::new(0),
     };
     let first = pages.page(rt.alloc()).expect(&rt, "memory is left");
-    let mut world = world_of(&rt, rt.alloc(), first);
+    let mut world = world_of(&rt, first);
     hold(&mut world, 32);
     for agent in 0..32usize {
         assert_equal(&rt, world.held(agent).copied(), Some(agent as u32));
@@ -39,7 +40,7 @@ fn each_place_has_the_answer_that_init_gave_at_its_turn(rt: HostRuntime) {
         (Act::MakePage(32), Seen::Made(32)),
         (Act::ExchangeNext(32), Seen::Linked(32)),
     ];
-    play(&rt, rt.alloc(), &pages, &mut world, &STEPS);
+    play(&rt, &pages, &mut world, &STEPS);
     assert_equal(&rt, pages.calls.get(), 64);
     for id in 0..32u8 {
         assert_equal(&rt, world.place(1, id).copied(), Some(32 + u32::from(id)));
@@ -54,8 +55,8 @@ fn write_one(rt: &impl Abort, world: &mut TalliedWorld, tally: &Arc<Tally>) -> S
 
 #[test]
 fn a_write_drops_the_value_before_at_once(rt: HostRuntime) {
-    let tally = new_tally(rt.alloc()).expect(&rt, "memory is left");
-    let mut world = tallied_world(&rt, rt.alloc(), &tally);
+    let tally = made_tally(&rt);
+    let mut world = tallied_world(&rt, &tally);
     hold(&mut world, 1);
     assert_equal(&rt, tally.now(), (32, 0));
     for writes in 1..4usize {
@@ -72,22 +73,22 @@ fn a_write_drops_the_value_before_at_once(rt: HostRuntime) {
 }
 
 /// Makes three events, of which the first alone is enabled.
-fn write_and_page(rt: &impl Abort, alloc: Global, tally: &Arc<Tally>) -> Vec<Event<Tallied>> {
+fn write_and_page(rt: &(impl Abort + AllocGlobal), tally: &Arc<Tally>) -> Vec<Event<Tallied>> {
     let value = Tallied::new(tally).expect(rt, "a value is made");
-    let page = make_tallied(alloc, tally, NEVER);
+    let page = make_tallied(rt.alloc(), tally, NEVER);
     let events = [
         Event::Begin,
         Event::Write(0, value),
         Event::MakePage(0, page),
     ];
-    Vec::from_array(alloc, events).expect(rt, "memory is left")
+    Vec::from_array(rt.alloc(), events).expect(rt, "memory is left")
 }
 
 #[test]
 fn a_run_drops_the_values_of_events_that_are_not_enabled(rt: HostRuntime) {
-    let tally = new_tally(rt.alloc()).expect(&rt, "memory is left");
-    let mut world = tallied_world(&rt, rt.alloc(), &tally);
-    let events = write_and_page(&rt, rt.alloc(), &tally);
+    let tally = made_tally(&rt);
+    let mut world = tallied_world(&rt, &tally);
+    let events = write_and_page(&rt, &tally);
     assert_equal(&rt, tally.now(), (65, 0));
     let mut seen = Vec::new(rt.alloc());
     world.run(events, &mut seen).expect(&rt, "memory is left");
@@ -113,7 +114,7 @@ fn write_and_make(
 fn what_cannot_be_written_or_linked_is_dropped_at_once(rt: HostRuntime) {
     let shared = Rc::new(rt.alloc(), 7u32).expect(&rt, "memory is left");
     let first = owners(rt.alloc(), &shared).expect(&rt, "nothing is refused");
-    let mut world = world_of(&rt, rt.alloc(), first);
+    let mut world = world_of(&rt, first);
     // What a write is answered in front of each event of an agent's life, which begins with the
     // first.
     let not = Seen::NotEnabled;

@@ -1,5 +1,6 @@
 //! Worked cases of a page of one owner.
 use crate::assert_equal::assert_equal;
+use crate::tallies::made_tally;
 use object_pool_cores::sequential::CorePage;
 use pool_parts::PullError;
 use pool_parts::clean::AnyValue;
@@ -8,7 +9,7 @@ use std::alloc::Global;
 use std::cell::Cell;
 use std::sync::Arc;
 use test_values::tallied::Tallied;
-use test_values::tally::{Tally, new_tally};
+use test_values::tally::Tally;
 
 /// A page of the values 100 to 131.
 fn numbered_page(alloc: Global) -> Result<CorePage<u32, AnyValue>, PullError> {
@@ -81,7 +82,7 @@ fn tallied_page(
 #[test]
 fn a_page_that_init_refuses_isnt_made(rt: HostRuntime) {
     for made in 0..32usize {
-        let tally = new_tally(rt.alloc()).expect(&rt, "memory is left");
+        let tally = made_tally(&rt);
         let refusal = tallied_page(rt.alloc(), &tally, made).err();
         assert_equal(
             &rt,

@@ -1,6 +1,7 @@
 //! Stack cores that keep many items, and players that hold many and let many go.
 use super::{give_back, hold, tracked_stack};
 use crate::assert_equal::assert_equal;
+use crate::tallies::made_tally;
 use object_pool_cores::sequential::*;
 use pool_parts::PullError;
 use pool_parts::clean::AnyValue;
@@ -8,7 +9,6 @@ use pool_parts::closures::{Copied, Keep};
 use std::alloc::{AllocError, Global};
 use test_values::counted::NEVER;
 use test_values::tallied::Tallied;
-use test_values::tally::new_tally;
 
 /// How many items are kept.
 const KEPT: usize = 100;
@@ -29,9 +29,9 @@ fn pull_and_give<T: Drop, P: SequentialPool<T>>(
 /// are kept.
 #[test]
 fn a_hundred_kept_items_are_pulled_before_init_is_asked(rt: HostRuntime) {
-    let tally = new_tally(rt.alloc()).expect(&rt, "memory is left");
+    let tally = made_tally(&rt);
     let mut core = tracked_stack(rt.alloc(), &tally, NEVER).expect(&rt, "memory is left");
-    let more = new_tally(rt.alloc()).expect(&rt, "memory is left");
+    let more = made_tally(&rt);
     for _ in 0..3 {
         pull_and_give(rt.alloc(), &mut core, KEPT).expect(&rt, "nothing is refused");
         let value = Tallied::new(&more).expect(&rt, "a value is made");
@@ -44,7 +44,7 @@ fn a_hundred_kept_items_are_pulled_before_init_is_asked(rt: HostRuntime) {
 
 #[test]
 fn a_stack_core_that_ends_drops_each_value_that_it_keeps(rt: HostRuntime) {
-    let tally = new_tally(rt.alloc()).expect(&rt, "memory is left");
+    let tally = made_tally(&rt);
     let mut core = tracked_stack(rt.alloc(), &tally, NEVER).expect(&rt, "memory is left");
     pull_and_give(rt.alloc(), &mut core, KEPT).expect(&rt, "nothing is refused");
     assert_equal(&rt, tally.now(), (100, 0));

@@ -1,6 +1,10 @@
 //! Worked cases of the stack core and the none core, by values.
-use super::{Tracked, WRITTEN_AND_PULLED, give_back, replies_of, tracked, tracked_stack};
+use super::{
+    Tracked, WRITTEN_AND_PULLED, attach_and_give, give_back, pulled_value, replies_of, tracked,
+    tracked_stack,
+};
 use crate::assert_equal::assert_equal;
+use crate::tallies::made_tally;
 use object_pool_cores::sequential::*;
 use pool_parts::PullError;
 use pool_parts::clean::AnyValue;
@@ -9,7 +13,7 @@ use std::sync::Arc;
 use std::sync::atomic::Ordering::SeqCst;
 use test_values::counted::NEVER;
 use test_values::tallied::{Tallied, TalliedValues};
-use test_values::tally::{Tally, new_tally};
+use test_values::tally::Tally;
 use test_values::zeros::{CountedZeros, new_calls};
 
 #[test]
@@ -20,7 +24,7 @@ fn the_value_that_was_returned_last_comes_first(rt: HostRuntime) {
     };
     let core = StackCore::<u32, _, _, AnyValue>::new(rt.alloc(), init, Keep);
     let mut player = Player::new(rt.alloc(), core);
-    let replies = replies_of(&rt, rt.alloc(), &mut player, &WRITTEN_AND_PULLED);
+    let replies = replies_of(&rt, &mut player, &WRITTEN_AND_PULLED);
     const LAST: [Reply<u32>; 2] = [Reply::Pulled(2, None), Reply::Pulled(3, None)];
     assert_equal(&rt, replies.as_slice().get(6..), Some(LAST.as_slice()));
     assert_equal(&rt, (player.held(2), player.held(3)), (Some(&2), Some(&1)));
@@ -42,8 +46,8 @@ fn an_attached_value_is_kept_when_it_returns(rt: HostRuntime) {
         (9, None, true),
     );
     give_back(&mut core, item);
-    assert_equal(&rt, *core.pull().expect(&rt, "an item is free"), 9);
-    assert_equal(&rt, *core.pull().expect(&rt, "an item is free"), 3);
+    assert_equal(&rt, pulled_value(&rt, &mut core), 9);
+    assert_equal(&rt, pulled_value(&rt, &mut core), 3);
 }
 
 #[test]
@@ -51,14 +55,13 @@ fn an_attached_value_is_reset_when_it_returns(rt: HostRuntime) {
     let seven = Copied::<u32, AnyValue>::new(7);
     let zero = Copied::<u32, AnyValue>::new(0);
     let mut core = StackCore::<u32, _, _, AnyValue>::new(rt.alloc(), seven, zero);
-    let item = core.attach(9).expect(&rt, "nothing is refused");
-    give_back(&mut core, item);
-    assert_equal(&rt, *core.pull().expect(&rt, "an item is free"), 0);
+    attach_and_give(&rt, &mut core, 9);
+    assert_equal(&rt, pulled_value(&rt, &mut core), 0);
 }
 
 #[test]
 fn a_fresh_item_is_dropped_at_its_return(rt: HostRuntime) {
-    let tally = new_tally(rt.alloc()).expect(&rt, "memory is left");
+    let tally = made_tally(&rt);
     let init = TalliedValues::new_but(&tally, 1).expect(&rt, "memory is left");
     let mut core = NoneCore::new(init);
     let item = core.pull().expect(&rt, "an item is free");
@@ -75,7 +78,7 @@ fn a_fresh_item_is_dropped_at_its_return(rt: HostRuntime) {
 
 #[test]
 fn a_stack_that_init_refuses_once_gives_an_item_then(rt: HostRuntime) {
-    let tally = new_tally(rt.alloc()).expect(&rt, "memory is left");
+    let tally = made_tally(&rt);
     let mut core = tracked_stack(rt.alloc(), &tally, 0).expect(&rt, "memory is left");
     let refusal = core.pull().err();
     let number = core.pull().expect(&rt, "an item is free").number;
@@ -109,8 +112,8 @@ fn drops_after_write(
 
 #[test]
 fn what_is_forgotten_or_replaced_is_dropped_at_once(rt: HostRuntime) {
-    let tally = new_tally(rt.alloc()).expect(&rt, "memory is left");
-    let more = new_tally(rt.alloc()).expect(&rt, "memory is left");
+    let tally = made_tally(&rt);
+    let more = made_tally(&rt);
     let core = tracked(rt.alloc(), &tally, NEVER, None).expect(&rt, "a pool is made");
     let mut player = Player::new(rt.alloc(), core);
     for (command, drops) in [

@@ -1,7 +1,8 @@
 //! What a linear core makes at its opening, how many pages it looks at, and what it holds past the
 //! first few pages.
-use super::{Zeros, give_back, hold, tracked, zeros};
+use super::{Zeros, give_back, hold, pulled_number, tracked, zeros};
 use crate::assert_equal::assert_equal;
+use crate::tallies::made_tally;
 use object_pool_cores::sequential::{Item, SequentialPool};
 use pool_parts::PullError;
 use std::alloc::Global;
@@ -16,9 +17,9 @@ struct Held {
     items: Vec<Item<u32>>,
 }
 
-fn pulled(rt: &impl Abort, alloc: Global, count: usize) -> Held {
-    let mut core = zeros(rt, alloc);
-    let items = hold(alloc, &mut core, count).expect(rt, "nothing is refused");
+fn pulled(rt: &(impl Abort + AllocGlobal), count: usize) -> Held {
+    let mut core = zeros(rt);
+    let items = hold(rt.alloc(), &mut core, count).expect(rt, "nothing is refused");
     Held { core, items }
 }
 
@@ -33,26 +34,24 @@ fn given(held: &mut Held, index: usize) -> bool {
 
 #[test]
 fn a_pull_looks_on_from_the_last_page(rt: HostRuntime) {
-    let mut held = pulled(&rt, rt.alloc(), 64);
+    let mut held = pulled(&rt, 64);
     let before = held.core.pages_looked();
     assert_equal(&rt, before, 65);
-    let next = held.core.pull().expect(&rt, "an item is free");
-    assert_equal(&rt, next.number(), Some(64));
+    assert_equal(&rt, pulled_number(&rt, &mut held.core), Some(64));
     assert!(rt; held.core.pages_looked() <= before.saturating_add(3));
 }
 
 #[test]
 fn a_pull_looks_first_at_a_lower_page_that_got_an_item_back(rt: HostRuntime) {
-    let mut held = pulled(&rt, rt.alloc(), 64);
+    let mut held = pulled(&rt, 64);
     assert!(rt; given(&mut held, 5));
-    let again = held.core.pull().expect(&rt, "an item is free");
-    assert_equal(&rt, again.number(), Some(5));
+    assert_equal(&rt, pulled_number(&rt, &mut held.core), Some(5));
     assert_equal(&rt, held.core.pages_looked(), 66);
 }
 
 #[test]
 fn many_pulls_look_at_each_page_once_more_than_they_take(rt: HostRuntime) {
-    let mut held = pulled(&rt, rt.alloc(), 6400);
+    let mut held = pulled(&rt, 6400);
     let looked = (held.core.pages_looked(), held.core.pages());
     assert_equal(&rt, looked, (6599, 200));
     let last = held.items.pop().expect(&rt, "6400 items are held");
@@ -61,7 +60,7 @@ fn many_pulls_look_at_each_page_once_more_than_they_take(rt: HostRuntime) {
 
 #[test]
 fn items_of_many_pages_come_back_with_their_values(rt: HostRuntime) {
-    let mut held = pulled(&rt, rt.alloc(), 8225);
+    let mut held = pulled(&rt, 8225);
     assert_equal(&rt, (held.core.pages(), held.items.len()), (258, 8225));
     for (index, value) in [(8224usize, 1u32), (4100, 2), (33, 3)] {
         if let Some(item) = held.items.get_mut(index) {
@@ -85,7 +84,7 @@ fn number_and_looks(held: &mut Held) -> Result<(Option<u128>, u64), PullError> {
 
 #[test]
 fn a_pull_counts_each_page_that_it_looks_at(rt: HostRuntime) {
-    let mut held = pulled(&rt, rt.alloc(), 12 * 32);
+    let mut held = pulled(&rt, 12 * 32);
     // An item of page 0, 1, 9 or 11 comes back. One pull takes it, and the next one passes all full
     // pages from there on.
     for (number, looks, further) in [
@@ -107,7 +106,7 @@ fn a_pull_counts_each_page_that_it_looks_at(rt: HostRuntime) {
 
 #[test]
 fn a_core_with_a_limit_makes_one_page_at_its_opening(rt: HostRuntime) {
-    let tally = new_tally(rt.alloc()).expect(&rt, "memory is left");
+    let tally = made_tally(&rt);
     let core = tracked(rt.alloc(), &tally, NEVER, Some(3)).expect(&rt, "a pool is made");
     assert_equal(&rt, (tally.calls(), core.pages()), (32, 1));
 }

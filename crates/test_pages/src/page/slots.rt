@@ -4,7 +4,7 @@ ghost use Rattle.page_chain.specs.FullSeen.{IsAllOut};
 ghost use Rattle.page_chain.specs.OwnedSlot.{owned_slot_with};
 ghost use Rattle.page_chain.specs.Page.{page_identity, page_opening};
 ghost use Rattle.page_chain.specs.Slot.{slot_item, slot_with};
-ghost use Rattle.pool_parts.specs.declared.page.TheConstants.{PAGE_ITEMS};
+ghost use Rattle.pool_parts.specs.declared.page.word.TheConstants.{PAGE_ITEMS};
 
 use super::{item, owned_item};
 use crate::assert_equal::assert_equal;

@@ -87,7 +87,7 @@ impl Handles {
         self.idle.lock().expect("no panic")
     }
 
-    /// A page whose word is on another cache line.
+    /// Names another page, whose word lies on another cache line.
     fn apart(&self, page: usize) -> usize {
         (page + APART) % (self.cells.len() / PAGE)
     }

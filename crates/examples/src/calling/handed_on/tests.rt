@@ -1,5 +1,6 @@
 use super::*;
 use crate::assert_equal::assert_equal;
+use crate::home::next_place;
 use std::alloc::Global;
 use std::process::Abort;
 
@@ -21,6 +22,5 @@ fn a_greeting_has_five_letters(rt: HostRuntime) {
 fn a_letter_with_a_greeting_comes_back(rt: HostRuntime) {
     let letters = pool_of_letters(&rt, rt.alloc());
     assert_equal(&rt, greeted(&letters), Ok(5));
-    let home = letters.pull().expect(&rt, "a letter is home");
-    assert_equal(&rt, (home.page_number(), home.page_id()), (0, 0));
+    assert_equal(&rt, next_place(&rt, &letters), (0, 0));
 }

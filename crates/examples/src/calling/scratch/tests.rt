@@ -1,6 +1,7 @@
 //! A worker that uses its scratch again.
 use super::*;
 use crate::assert_equal::assert_equal;
+use crate::home::next_place;
 use std::process::Abort;
 
 /// Creates a worker with a pool of its own.
@@ -21,6 +22,5 @@ fn each_use_finds_the_scratch_clean(rt: HostRuntime) {
 fn a_used_scratch_comes_back(rt: HostRuntime) {
     let worker = new_worker(&rt, rt.alloc());
     assert_equal(&rt, worker.use_once(), Some((0, 0)));
-    let home = worker.pool.pull().expect(&rt, "a scratch is home");
-    assert_equal(&rt, (home.page_number(), home.page_id()), (0, 0));
+    assert_equal(&rt, next_place(&rt, &worker.pool), (0, 0));
 }

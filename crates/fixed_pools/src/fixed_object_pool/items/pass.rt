@@ -13,7 +13,7 @@ use pool_parts::page::user_view::UserSeat;
 impl<T, K: Clean<T>> FixedItems<T, K> {
     ghost use Rattle.fixed_pools.specs.Inside.FixedCount.{PassesOver, Tallies, is_beside};
     ghost use Rattle.fixed_pools.specs.Inside.FixedItem.{fixed_identity};
-    ghost use Rattle.fixed_pools.specs.StepCount.{IsWithin, steps_of};
+    ghost use Rattle.fixed_pools.specs.StepCount.{IsWithinSince};
     ghost use Rattle.pool_parts.specs.Inside.PageRule.{IsOutNow, IsSound, item_of};
     ghost use Rattle.pool_parts.specs.Inside.Taking.{MissesAll, TakesOne};
 
@@ -79,8 +79,8 @@ impl<T, K: Clean<T>> FixedItems<T, K> {
         requires here { seat.old.me.0.gone ≡ false }
         requires sound { IsSound seat.old.me.0 }
         ensures pool { seat.new.table_id ≡ seat.old.table_id }
-        ensures steps { IsWithin ((fixed_identity self.now).words - 1) (steps_of seat.old.me.0)
-            (steps_of seat.new.me.0) }
+        ensures steps { IsWithinSince ((fixed_identity self.now).words - 1) seat.old.me.0
+            seat.new.me.0 }
         ensures taken { IfOk result (λ taken.
             TakesOne K.meets (fixed_identity self.now).slots taken.number taken.value seat.old.me
             seat.new.me) }
@@ -119,8 +119,8 @@ impl<T, K: Clean<T>> FixedItems<T, K> {
         requires here { seat.old.me.0.gone ≡ false }
         requires sound { IsSound seat.old.me.0 }
         ensures pool { seat.new.table_id ≡ seat.old.table_id }
-        ensures steps { IsWithin ((fixed_identity self.now).words - 1) (steps_of seat.old.me.0)
-            (steps_of seat.new.me.0) }
+        ensures steps { IsWithinSince ((fixed_identity self.now).words - 1) seat.old.me.0
+            seat.new.me.0 }
         ensures taken { IfOk result (λ taken.
             TakesOne K.meets (fixed_identity self.now).slots taken.number taken.value seat.old.me
             seat.new.me) }
@@ -160,9 +160,9 @@ impl<T, K: Clean<T>> FixedItems<T, K> {
         requires here { seat.old.me.0.gone ≡ false }
         requires sound { IsSound seat.old.me.0 }
         ensures pool { seat.new.table_id ≡ seat.old.table_id }
-        ensures steps { IsWithin (to - from) (steps_of seat.old.me.0) (steps_of seat.new.me.0) }
+        ensures steps { IsWithinSince (to - from) seat.old.me.0 seat.new.me.0 }
         ensures fewer_steps { from ≤ skipped → skipped < to
-            → IsWithin (to - from - 1) (steps_of seat.old.me.0) (steps_of seat.new.me.0) }
+            → IsWithinSince (to - from - 1) seat.old.me.0 seat.new.me.0 }
         ensures taken { IfOk result (λ taken.
             TakesOne K.meets (fixed_identity self.now).slots taken.number taken.value seat.old.me
             seat.new.me) }

@@ -12,7 +12,7 @@ use Rattle.pool_world.specs.World.State.{WorldPageState, WorldState}
 use Rattle.pool_world.specs.World.Machine.{has_bit, page_value}
 use Rattle.pool_world.specs.World.AbstractPool.{abstract_pool}
 use Rattle.pool_world.specs.World.Trace.{Log, last_made, IsTraceOf}
-use Rattle.pool_parts.specs.declared.page.TheConstants.{PAGE_ITEMS}
+use Rattle.pool_parts.specs.declared.page.word.TheConstants.{PAGE_ITEMS}
 
 module _ {T : Type 0} (first : List T) where
   -- an agent saw each number of a page taken, which is one of so many that are linked

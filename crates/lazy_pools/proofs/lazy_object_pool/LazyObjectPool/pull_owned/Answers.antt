@@ -1,7 +1,7 @@
 use Rattle.std.proofs.Common.{◌*◌, subst, sym}
 use Rattle.std.specs.Prelude.{Option}
 use Rattle.fixed_pools.specs.FixedAnswer.{returns_since}
-use Rattle.fixed_pools.specs.StepCount.{IsWithin, no_steps, passes_to_take, steps_of}
+use Rattle.fixed_pools.specs.StepCount.{IsWithin, passes_to_take}
 use Rattle.lazy_pools.specs.LazyAnswer.{IsPulledLazily}
 use Rattle.lazy_pools.specs.LazyPool.{lazy_identity, lazy_init, lazy_opening, lazy_pages}
 use Rattle.lazy_pools.specs.LazyReusable.{lazy_place, lazy_value, lazy_view}
@@ -36,9 +36,9 @@ pub returns-in_ok-item-in-Ok-clause-brief : goal.returns-in_ok-item-in-Ok-clause
 returns-in_ok-item-in-Ok-clause-brief g c =
     let pages = lazy_pages c.deref.result.now in
     let brief = λ (known : UserView (Option g.row.T.Denot)).
-    IsWithin (pages * passes_to_take (returns_since known)) no_steps (steps_of known) in
+    IsWithin (pages * passes_to_take (returns_since known)) known in
     let view = lazy_view c.new.result in
-    subst (λ pool. IsWithin (lazy_pages pool * passes_to_take (returns_since view)) no_steps (steps_of view))
+    subst (λ pool. IsWithin (lazy_pages pool * passes_to_take (returns_since view)) view)
     c.deref.ensures
     (subst brief (sym c.new.ensures.view)
     (subst (λ held. brief (holding_view held)) (sym c.in_ok-item-in-Ok.ensures.same) c.in-Ok.ensures.brief))

@@ -1,6 +1,6 @@
 use Rattle.std.proofs.Common.{subst, sym}
 use Rattle.std.specs.Prelude.{Option}
-use Rattle.fixed_pools.specs.StepCount.{IsWithin, no_steps, steps_of}
+use Rattle.fixed_pools.specs.StepCount.{IsWithin}
 use Rattle.lazy_pools.specs.LazyAnswer.{IsPulledLazily}
 use Rattle.lazy_pools.specs.LazyPool.{lazy_identity, lazy_init, lazy_opening, lazy_pages}
 use Rattle.lazy_pools.specs.LazyReusable.{lazy_place}
@@ -32,6 +32,6 @@ pub returns-in-Ok-item-clause-brief : goal.returns-in-Ok-item-clause-brief
 returns-in-Ok-item-clause-brief g c =
     let pages = lazy_pages c.args.self.now in
     let brief = λ (known : UserView (Option g.row.T.Denot)).
-    IsWithin pages no_steps (steps_of known) in
+    IsWithin pages known in
     subst brief (sym c.new.ensures.view)
     (subst (λ held. brief (holding_view held)) (sym c.in-Ok-item.ensures.same) c.in-Ok.ensures.brief)

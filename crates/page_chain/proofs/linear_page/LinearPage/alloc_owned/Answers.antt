@@ -1,7 +1,7 @@
 use Rattle.std.proofs.Common.{◌-◌, ◌∙◌, ap, subst, sym}
 use Rattle.pool_parts.specs.Item.{IsPulled}
 use Rattle.pool_parts.specs.Items.{IsFilled}
-use Rattle.pool_parts.specs.declared.page.TheConstants.{PAGE_ITEMS}
+use Rattle.pool_parts.specs.declared.page.word.TheConstants.{PAGE_ITEMS}
 use Rattle.page_chain.specs.LinearPage.{shown_page, IsItemFrom}
 use Rattle.page_chain.specs.Walk.{number_of}
 use Rattle.page_chain.proofs.TakenItems.{item_from}

@@ -1,5 +1,5 @@
 use Rattle.std.proofs.Common.{◌∙◌}
-use Rattle.fixed_pools.specs.StepCount.{passes_to_take, passes_to_refuse, no_steps}
+use Rattle.fixed_pools.specs.StepCount.{passes_to_take, passes_to_refuse}
 use Rattle.fixed_pools.proofs.FixedAnswers.{found_full, within_passes}
 use Rattle.pool_parts.proofs.PageAnswers.{pulled}
 use Rattle.fixed_pools.proofs.fixed_object_pool.items.FixedItems.pull_in_order.Goals as goal
@@ -18,7 +18,7 @@ returns-in-Some-clause-pulled g c =
 pub returns-in-Some-clause-brief : goal.returns-in-Some-clause-brief
 returns-in-Some-clause-brief g c =
     let looked = c.look-word.ensures.found in
-    within_passes passes_to_take _ no_steps c.look-word.result.1.me.0 c.take_or_full.new.seat.me.0 (c.in-Some.ensures.outcome.goes_on.same_since ∙ looked.from_now)
+    within_passes passes_to_take _ c.look-word.result.1.me.0 c.take_or_full.new.seat.me.0 (c.in-Some.ensures.outcome.goes_on.same_since ∙ looked.from_now)
     looked.loads looked.tries c.in-Some.ensures.loads c.in-Some.ensures.tries
 
 pub returns-in-None-clause-full : goal.returns-in-None-clause-full
@@ -32,6 +32,6 @@ returns-in-None-clause-full g c =
 pub returns-in-None-clause-full_brief : goal.returns-in-None-clause-full_brief
 returns-in-None-clause-full_brief g c =
     let looked = c.look-word.ensures.found in
-    within_passes passes_to_refuse _ no_steps c.look-word.result.1.me.0 c.take_or_full.new.seat.me.0
+    within_passes passes_to_refuse _ c.look-word.result.1.me.0 c.take_or_full.new.seat.me.0
     (c.in-None.ensures.outcome.reads_on.goes_on.same_since ∙ looked.from_now)
     looked.loads looked.tries c.in-None.ensures.loads c.in-None.ensures.tries

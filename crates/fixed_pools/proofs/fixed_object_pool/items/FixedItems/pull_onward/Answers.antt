@@ -1,8 +1,7 @@
 use Rattle.std.proofs.Common.{◌∙◌, sym}
-use Rattle.fixed_pools.specs.StepCount.{steps_of}
 use Rattle.pool_parts.specs.Note.{note_view}
 use Rattle.fixed_pools.specs.StepCount.{passes_to_take, passes_to_refuse}
-use Rattle.fixed_pools.proofs.FixedAnswers.{item_pulled_with, found_full, within_passes}
+use Rattle.fixed_pools.proofs.FixedAnswers.{item_pulled_with, found_full, within_passes_since}
 use Rattle.pool_parts.proofs.PageAnswers.{after_known}
 use Rattle.fixed_pools.proofs.fixed_object_pool.items.FixedItems.pull_onward.Goals as goal
 
@@ -14,7 +13,7 @@ returns-in-Some-clause-pulled g c =
 pub returns-in-Some-clause-brief : goal.returns-in-Some-clause-brief
 returns-in-Some-clause-brief g c =
     let looked = c.look_again-word.ensures.found in
-    within_passes passes_to_take _ (steps_of (note_view c.args.note)) c.look_again-word.new.seat.me.0 c.take_or_full.new.seat.me.0
+    within_passes_since passes_to_take _ (note_view c.args.note) c.look_again-word.new.seat.me.0 c.take_or_full.new.seat.me.0
     (c.in-Some.ensures.outcome.goes_on.same_since ∙ looked.starts.from_now)
     looked.loads looked.tries c.in-Some.ensures.loads c.in-Some.ensures.tries
 
@@ -36,6 +35,6 @@ returns-in-None-clause-full g c =
 pub returns-in-None-clause-full_brief : goal.returns-in-None-clause-full_brief
 returns-in-None-clause-full_brief g c =
     let looked = c.look_again-word.ensures.found in
-    within_passes passes_to_refuse _ (steps_of (note_view c.args.note)) c.look_again-word.new.seat.me.0 c.take_or_full.new.seat.me.0
+    within_passes_since passes_to_refuse _ (note_view c.args.note) c.look_again-word.new.seat.me.0 c.take_or_full.new.seat.me.0
     (c.in-None.ensures.outcome.reads_on.goes_on.same_since ∙ looked.starts.from_now)
     looked.loads looked.tries c.in-None.ensures.loads c.in-None.ensures.tries

@@ -2,7 +2,7 @@ use Rattle.std.proofs.Common.{arith, ◌*◌, ◌^◌, ◌%◌}
 use Rattle.std.specs.Int.{w64, bit_not}
 use Rattle.std.proofs.lemmas.Nat.Bits.{bit_at_above, bit_at_and, bit_at_clear_same, bit_at_clear_other}
 use Rattle.pool_parts.specs.Inside.Word.{whole_word}
-use Rattle.pool_parts.proofs.page.all_but.Goals as goal
+use Rattle.pool_parts.proofs.page.word.all_but.Goals as goal
 
 pub returns : goal.returns
 returns c = record {

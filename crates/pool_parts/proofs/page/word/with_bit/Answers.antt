@@ -1,6 +1,6 @@
 use Rattle.std.specs.Int.{w32}
 use Rattle.std.proofs.lemmas.Nat.Bits.{bit_at_set_same, bit_at_set_other}
-use Rattle.pool_parts.proofs.page.with_bit.Goals as goal
+use Rattle.pool_parts.proofs.page.word.with_bit.Goals as goal
 
 pub returns-clause-bits : goal.returns-clause-bits
 returns-clause-bits c =

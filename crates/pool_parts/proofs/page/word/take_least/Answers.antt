@@ -2,7 +2,7 @@ use Rattle.std.specs.Int.{w32}
 use Rattle.std.proofs.Common.{arith}
 use Rattle.std.proofs.lemmas.Nat.Bits.{bit_at-trailing_zeros}
 use Rattle.pool_parts.proofs.WordBits.{clears_least}
-use Rattle.pool_parts.proofs.page.take_least.Goals as goal
+use Rattle.pool_parts.proofs.page.word.take_least.Goals as goal
 
 pub returns-clause-least : goal.returns-clause-least
 returns-clause-least c =
