@@ -127,12 +127,33 @@ static void take_none_between(void) {
     check(held == 0, "a pool left memory behind");
 }
 
+/* Nor do places by themselves ask for any, and they keep none: they may be out when the last handle ends. */
+static void take_none_by_places(void) {
+    kdr_handle one = KDR_HANDLE_EMPTY;
+    kdr_place all[ITEMS], more = KDR_PLACE_EMPTY;
+    check(kdr_pool_new(ITEMS, &one) == KDR_DONE, "no pool");
+    asked = 0;
+    for (int turn = 0; turn < 3; turn++) {
+        for (size_t at = 0; at < ITEMS; at++) {
+            all[at] = (kdr_place)KDR_PLACE_EMPTY;
+            check(kdr_place_pull(&one, at, &all[at]) == KDR_DONE, "no place by itself");
+        }
+        check(kdr_place_pull(&one, 0, &more) == KDR_ALL_OUT, "a place by itself too many");
+        for (size_t at = 0; turn < 2 && at < ITEMS; at++) {
+            check(kdr_place_return(&one, &all[at]) == KDR_DONE, "no return of a place by itself");
+        }
+    }
+    check(asked == 0, "a place by itself asked for memory");
+    check(kdr_pool_drop(&one) == KDR_DONE && held == 0, "a pool of places that are out left memory behind");
+}
+
 int main(void) {
     long requests = requests_of_new();
     refuse_new(requests);
     make_once();
     refuse_share();
     take_none_between();
+    take_none_by_places();
     printf("%d faults\n", faults);
     return faults != 0;
 }

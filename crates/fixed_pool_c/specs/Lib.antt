@@ -1,3 +1,6 @@
 pub mod HandleOwns
 pub mod Shows
 pub mod Answers
+pub mod Number
+pub mod RightOwns
+pub mod Places

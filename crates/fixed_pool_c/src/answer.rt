@@ -23,3 +23,6 @@ pub const NO_PLACES: u32 = 6;
 
 /// Memory was refused, or the pool can have no more handles.
 pub const NO_MEMORY: u32 = 7;
+
+/// The number of a place that holds none.
+pub const NO_PLACE: usize = usize::MAX;

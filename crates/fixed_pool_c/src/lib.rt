@@ -1,7 +1,8 @@
 //! A fixed pool of places for C: a place is a number, and threads take and return places without a
 //! lock.
 //!
-//! The exported calls are in `exports`, and `outside/c/kundratu_pool.h` declares them for C.
+//! The exported calls are in `exports` and `places`, and `outside/c/kundratu_pool.h` declares them
+//! for C.
 #![tactic(auto)]
 
 pub mod answer;
@@ -10,3 +11,5 @@ mod handle;
 mod held;
 mod loose;
 mod open;
+mod place;
+mod places;

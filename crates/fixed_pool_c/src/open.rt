@@ -92,7 +92,8 @@ impl Held {
     }
 
     /// Returns the pool's owner.
-    fn pool(&self) -> Option<&Arc<PlacePool>>
+    #[inline(always)]
+    pub(crate) fn pool(&self) -> Option<&Arc<PlacePool>>
         ensures { MatchOption result (self.now.hand ≡ None) (λ pool. (hand : HandShown)
             × (self.now.hand ≡ Some hand) × (arc_value pool.now ≡ hand_pool hand)) }
     {

@@ -61,7 +61,7 @@ module _ {T : Type 0} where
         (note_view old).operations
 
 module _ {T I R K : Type 0} where
-  -- a pull of this pool gave this item: its value meets the pool's condition, and was made or reset as the pool's are
+  -- a pull of this pool gave this item: its value meets the pool's condition, and was made by init or left by reset
   pub record PullsFixed (meets : T → Type 0) (answers : I → Option T → Type 0) (leaves : R → T → T → Type 0)
       (pool : FixedObjectPool T I R K) (item : Item T) : Type 0 where
     pub from_pool : IsPulledFrom (pool_identity pool) (pool_opening pool) item

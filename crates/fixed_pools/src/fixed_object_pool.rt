@@ -89,13 +89,13 @@ impl<T: Drop, I: Init<T, K>, R: Reset<T, K>, K: Clean<T>> Drop for FixedObjectPo
 }
 
 impl<T: Drop, I: Init<T, K>, R: Reset<T, K>, K: Clean<T>> FixedObjectPool<T, I, R, K> {
-    ghost use Rattle.fixed_pools.specs.FixedAnswer.{PullsFixed, PullsFixedAfter, IsFullNoteAfter, returns_since};
+    ghost use Rattle.fixed_pools.specs.FixedAnswer.{PullsFixed, PullsFixedAfter, IsFullNote, IsFullNoteAfter, returns_since};
     ghost use Rattle.fixed_pools.specs.StepCount.{IsWithin, IsWithinSince, passes_to_take, passes_to_refuse};
     ghost use Rattle.pool_parts.specs.FullSeen.{full_view};
     ghost use Rattle.pool_parts.specs.Note.{IsGivenBack};
     ghost use Rattle.pool_parts.specs.FullSeen.{IsAllOut, IsAllOutAfter};
     ghost use Rattle.fixed_pools.specs.FixedPool.{pool_identity, pool_items, pool_pages, pool_opening, pool_reset};
-    ghost use Rattle.pool_parts.specs.Holding.{holding_page, held_item};
+    ghost use Rattle.pool_parts.specs.Holding.{holding_page, holding_view, held_item};
     ghost use Rattle.fixed_pools.specs.Near.{near_pool};
     ghost use Rattle.pool_parts.specs.Items.{IsFilled};
     ghost use Rattle.fixed_pools.specs.FixedReusable.{reusable_pool, reusable_item, reusable_view};
@@ -342,8 +342,35 @@ impl<T: Drop, I: Init<T, K>, R: Reset<T, K>, K: Clean<T>> FixedObjectPool<T, I, 
         }
     }
 
-    /// Resets the value of an item and returns it.
-    pub(crate) fn give(&self, holding: Holding<T>, value: T) -> PoolNote<T>
+    /// Pulls as `pull_near` does, and returns the item apart from the pool: what its holder has, and
+    /// its value. Only [`FixedObjectPool::give`] returns it to the pool.
+    ///
+    /// # Errors
+    ///
+    /// The note of a user that found the pool full at one moment of this call (or that so many
+    /// returns came within it as `pull` says).
+    #[inline(always)]
+    pub fn pull_apart(&self, page: usize) -> Result<(Holding<T>, T), PoolNote<T>>
+        ensures pulled { IfOk result (λ apart.
+            PullsFixed K.meets I.answers R.leaves self.now (held_item apart.0 apart.1)) }
+        ensures brief { IfOk result (λ apart.
+            IsWithin (pool_pages self.now * passes_to_take (returns_since (holding_view apart.0)))
+            (holding_view apart.0)) }
+        ensures full { IfErr result (IsFullNote (pool_identity self.now) (pool_opening self.now)) }
+        ensures full_brief { IfErr result (λ note.
+            IsWithin (pool_pages self.now * passes_to_refuse (returns_since (note_view note)))
+            (note_view note)) }
+    {
+        let start = self.items.page_round(page);
+        match self.items.pull_near(start) {
+            Ok(pulled) => Ok((pulled.holding, pulled.value)),
+            Err(note) => Err(note),
+        }
+    }
+
+    /// Resets the value of an item that was pulled apart and returns it. The note knows the pool's
+    /// history up to this return.
+    pub fn give(&self, holding: Holding<T>, value: T) -> PoolNote<T>
         requires of_pool { holding_page holding ≡ pool_identity self.now }
         requires in_pool { holding.number < pool_items self.now }
         ensures { IsGivenBack (R.leaves (pool_reset self.now)) (held_item holding value) result }

@@ -1,2 +1,3 @@
+pub mod NotedPulls
 pub mod PullAnswers
 pub mod ReusableShared

@@ -5,7 +5,6 @@ use Rattle.std.specs.Option.{option_map}
 use Rattle.pool_parts.specs.Answers.{IsAnswer, IsMadeOrReset}
 use Rattle.pool_parts.specs.Item.{Item, IsItemOf, IsPulled}
 use Rattle.pool_parts.specs.Items.{IsFilled}
-use Rattle.pool_parts.specs.Note.{IsPulledAfter}
 use Rattle.page_chain.specs.Walk.{Start, number_of, IsTaken, IsRefusedBy, cause_of}
 use Rattle.page_chain.specs.declared.linear_page.page_number.PageNumber.{PageNumber}
 use Rattle.page_chain.specs.declared.linear_page.walk.WalkEnd.{WalkEnd}
@@ -17,13 +16,11 @@ use Rattle.pool_parts.specs.declared.pull_error.PullError.{PullError}
 use Rattle.pool_parts.specs.declared.pull_error.PullError.TheVariants.{Memory, Init, Limit as LimitCause}
 use Rattle.pool_parts.specs.declared.made_or_reset.MadeOrReset.{MadeOrReset}
 use Rattle.pool_parts.specs.declared.page.word.TheConstants.{PAGE_ITEMS}
-use Rattle.pool_parts.specs.declared.page.note.PageNote.{PageNote}
 use Rattle.linear_pools.specs.LinearPool.{pool_limit, pool_start, pool_first_page, pool_first_opening}
-use Rattle.linear_pools.specs.LinearPool.{reusable_page, reusable_item, Pulls, PullsAfter}
+use Rattle.linear_pools.specs.LinearPool.{Pulls}
 use Rattle.linear_pools.specs.declared.linear_object_pool.LinearObjectPool.{LinearObjectPool}
 use Rattle.linear_pools.specs.declared.linear_object_pool.AnswerOf.{AnswerOf}
 use Rattle.linear_pools.specs.declared.linear_object_pool.PageLimit.{PageLimit}
-use Rattle.linear_pools.specs.declared.linear_reusable.LinearReusable.{LinearReusable}
 
 within_first : (limit : Option PageLimit) (number : ℕ) → number ≡ 0
     → IfSome (option_map (λ limit. limit.pages) limit) (λ pages. number < pages)
@@ -92,33 +89,3 @@ module _ {T I R K : Type 0} (meets : T → Type 0) (answers : I → Option T →
   same_pulls number other held item same_number same pulls =
       subst (λ item. Pulls meets answers leaves pool number item) (sym same)
       (subst (λ number. Pulls meets answers leaves pool number item) (sym same_number) pulls)
-
-  -- an item that the first page answered after a note of it is what a pull by the note gives
-  pub first_after : (note : PageNote T) (number : PageNumber T (MadeOrReset I R K) (AnswerOf I K)) (held item : Item T)
-      → held ≡ item → number_of number ≡ 0
-      → IsItemOf (λ value. meets value × IsMadeOrReset answers leaves value) (pool_first_page pool) item
-      → IsPulledAfter note item → PullsAfter meets answers leaves pool note number held
-  first_after note number held item same first is_item after =
-      subst (λ item. PullsAfter meets answers leaves pool note number item) (sym same) (record {
-        in_page = is_item.in_page;
-        meets_condition = is_item.meets_condition.0;
-        made_or_reset = is_item.meets_condition.1;
-        of_first = λ _. is_item.of_page;
-        after_note = λ _. after;
-        further = λ past. absurd (omega (arith, past, first));
-      })
-
-  -- a note of the first page says nothing of an item of a later one
-  pub further_after : {E : Type 0} (note : PageNote T) (result : Result (LinearReusable T I R K) E)
-      → IfOk result (λ item. Pulls meets answers leaves pool (reusable_page item) (reusable_item item))
-      → IfOk result (λ item. 0 < number_of (reusable_page item))
-      → IfOk result (λ item. PullsAfter meets answers leaves pool note (reusable_page item) (reusable_item item))
-  further_after note (Ok item) pulls past = record {
-    in_page = pulls.in_page;
-    meets_condition = pulls.meets_condition;
-    made_or_reset = pulls.made_or_reset;
-    of_first = λ zero. absurd (omega (arith, past, zero));
-    after_note = λ zero. absurd (omega (arith, past, zero));
-    further = λ _. pulls;
-  }
-  further_after note (Err refusal) pulls past = tt

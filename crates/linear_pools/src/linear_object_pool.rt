@@ -10,7 +10,7 @@ ghost use Rattle.pool_parts.specs.Answers.{IsAnswer};
 
 use crate::linear_owned_reusable::LinearOwnedReusable;
 use crate::linear_reusable::LinearReusable;
-use page_chain::linear_page::{Chain, WalkEnd, WalkRefusal};
+use page_chain::linear_page::{Chain, PageNumber, WalkEnd, WalkRefusal};
 use pool_parts::PullError;
 use pool_parts::clean::{AnyValue, Clean};
 use pool_parts::closures::{Init, Reset};
@@ -51,6 +51,15 @@ pub type LinearRefusal<'p, T, I, R, K = AnyValue> = WalkRefusal<
 /// ```
 pub type LinearPulled<'s, 'p, T, I, R, K = AnyValue> = Result<
     LinearReusable<'s, T, I, R, K>,
+    LinearRefusal<'p, T, I, R, K>,
+>;
+
+/// The slot of an item that was taken, with its page's number, or why none was.
+type LinearTaken<'s, 'p, T, I, R, K> = Result<
+    (
+        PageSlot<'s, T, MadeOrReset<I, R, K>>,
+        PageNumber<T, MadeOrReset<I, R, K>, AnswerOf<I, K>>,
+    ),
     LinearRefusal<'p, T, I, R, K>,
 >;
 
@@ -213,9 +222,12 @@ impl<T: Drop, I: Init<T, K>, R: Reset<T, K>, K: Clean<T>> LinearObjectPool<T, I,
     {
         let pass = PullPass::new();
         match self.chain.ask_first(&pass) {
-            Allocated::Slot(slot) => Ok(self.of_first(slot)),
-            Allocated::Full(seen) => match self.pull_on(seen) {
-                Ok(item) => Ok(item),
+            Allocated::Slot(slot) => {
+                let number = self.chain.first_number();
+                Ok(LinearReusable::new(self, slot, number))
+            }
+            Allocated::Full(seen) => match self.pull_further(seen) {
+                Ok(reached) => Ok(LinearReusable::new(self, reached.slot, reached.number)),
                 Err(refusal) => Err(refusal.cause()),
             },
         }
@@ -234,8 +246,14 @@ impl<T: Drop, I: Init<T, K>, R: Reset<T, K>, K: Clean<T>> LinearObjectPool<T, I,
         ensures refused { IfErr result (IsLinearRefusal I.answers self.now) }
     {
         match self.chain.ask_first(pass) {
-            Allocated::Slot(slot) => Ok(self.of_first(slot)),
-            Allocated::Full(seen) => self.pull_on(seen),
+            Allocated::Slot(slot) => {
+                let number = self.chain.first_number();
+                Ok(LinearReusable::new(self, slot, number))
+            }
+            Allocated::Full(seen) => match self.pull_further(seen) {
+                Ok(reached) => Ok(LinearReusable::new(self, reached.slot, reached.number)),
+                Err(refusal) => Err(refusal),
+            },
         }
     }
 
@@ -257,8 +275,14 @@ impl<T: Drop, I: Init<T, K>, R: Reset<T, K>, K: Clean<T>> LinearObjectPool<T, I,
         ensures refused { IfErr result (IsLinearRefusal I.answers self.now) }
     {
         match self.chain.ask_first_from(pass, note) {
-            Allocated::Slot(slot) => Ok(self.of_first(slot)),
-            Allocated::Full(seen) => self.pull_on(seen),
+            Allocated::Slot(slot) => {
+                let number = self.chain.first_number();
+                Ok(LinearReusable::new(self, slot, number))
+            }
+            Allocated::Full(seen) => match self.pull_further(seen) {
+                Ok(reached) => Ok(LinearReusable::new(self, reached.slot, reached.number)),
+                Err(refusal) => Err(refusal),
+            },
         }
     }
 
@@ -276,47 +300,29 @@ impl<T: Drop, I: Init<T, K>, R: Reset<T, K>, K: Clean<T>> LinearObjectPool<T, I,
             (I.answers (pool_init (arc_value self.now)) None)) }
     {
         let owner = Arc::try_clone(self)?;
-        let pool: &Self = self;
         let pass = PullPass::new();
-        match pool.chain.ask_first(&pass) {
-            Allocated::Slot(slot) => {
-                let number = pool.chain.first_number();
-                Ok(LinearOwnedReusable::new(owner, slot, number))
-            }
-            Allocated::Full(seen) => match pool.pull_further(seen) {
-                Ok(reached) => Ok(LinearOwnedReusable::new(owner, reached.slot, reached.number)),
-                Err(refusal) => Err(refusal.cause()),
-            },
+        match self.take(&pass) {
+            Ok((slot, number)) => Ok(LinearOwnedReusable::new(owner, slot, number)),
+            Err(refusal) => Err(refusal.cause()),
         }
     }
 
-    /// Returns an item of the first page as its user holds it.
-    #[inline]
-    fn of_first<'s>(
-        &'s self,
-        slot: PageSlot<'s, T, MadeOrReset<I, R, K>>,
-    ) -> LinearReusable<'s, T, I, R, K>
-        ensures pool { reusable_pool result ≡ self.now }
-        ensures item { reusable_item result ≡ slot_item slot.entry }
-        ensures number { number_of (reusable_page result) ≡ 0 }
-    {
-        LinearReusable::new(self, slot, self.chain.first_number())
-    }
-
-    /// Pulls from a later page, once the first one was found full, and returns the item as its user
-    /// holds it.
-    #[inline]
-    fn pull_on<'s, 'p>(&'s self, seen: FullSeen<'p, T>) -> LinearPulled<'s, 'p, T, I, R, K>
-        requires { full_page seen ≡ pool_first_page self.now }
-        ensures pool { IfOk result (λ item. reusable_pool item ≡ self.now) }
-        ensures pulled { IfOk result (λ item.
-            Pulls K.meets I.answers R.leaves self.now (reusable_page item) (reusable_item item)) }
-        ensures past_first { IfOk result (λ item. 0 < number_of (reusable_page item)) }
+    /// Takes an item of the first page, or of a later one if that was found full. It returns the
+    /// item's slot with its page's number.
+    ///
+    /// A borrowed pull doesn't go through it: the pair would be handed on through memory.
+    #[inline(always)]
+    fn take<'s, 'p>(&'s self, pass: &'p PullPass) -> LinearTaken<'s, 'p, T, I, R, K>
+        ensures pulled { IfOk result (λ taken.
+            Pulls K.meets I.answers R.leaves self.now taken.1 (slot_item taken.0)) }
         ensures refused { IfErr result (IsLinearRefusal I.answers self.now) }
     {
-        match self.pull_further(seen) {
-            Ok(reached) => Ok(LinearReusable::new(self, reached.slot, reached.number)),
-            Err(refusal) => Err(refusal),
+        match self.chain.ask_first(pass) {
+            Allocated::Slot(slot) => Ok((slot, self.chain.first_number())),
+            Allocated::Full(seen) => match self.pull_further(seen) {
+                Ok(reached) => Ok((reached.slot, reached.number)),
+                Err(refusal) => Err(refusal),
+            },
         }
     }
 

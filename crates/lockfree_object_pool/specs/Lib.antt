@@ -3,12 +3,12 @@ pub mod GuardLends
 pub mod Inside
 pub mod StackLends
 pub mod StackPool
+pub use Rattle.kept_values.specs.LastIn
 pub use Rattle.nonblocking_pools.specs.Answers
 pub use Rattle.nonblocking_pools.specs.FullSeen
 pub use Rattle.nonblocking_pools.specs.Holding
 pub use Rattle.nonblocking_pools.specs.Item
 pub use Rattle.nonblocking_pools.specs.Items
-pub use Rattle.nonblocking_pools.specs.LastIn
 pub use Rattle.nonblocking_pools.specs.Ledger
 pub use Rattle.nonblocking_pools.specs.Lends
 pub use Rattle.nonblocking_pools.specs.Note

@@ -2,8 +2,8 @@
 ghost use Rattle.std.specs.Prelude.{IfSome};
 
 use crate::spin_lock::SpinLock;
+use kept_values::stack::{Room, Stack};
 use pool_parts::clean::Clean;
-use pool_parts::stack::{Room, Stack};
 use std::mem;
 use std::sync::{Mutex, Wait};
 

@@ -17,6 +17,7 @@ pub mod spin_lock_reusable;
 pub mod stack_object_pool;
 pub mod stack_reusable;
 
+pub use kept_values::stack;
 pub use lazy_pools::{
     LazyObjectPool, LazyOwnedReusable, LazyReusable, lazy_object_pool, lazy_owned_reusable,
     lazy_reusable,
@@ -28,7 +29,7 @@ pub use nonblocking_pools::{
     FixedObjectPool, FixedOwnedReusable, FixedReusable, LinearObjectPool, LinearOwnedReusable,
     LinearReusable, NoneObjectPool, NoneReusable, PullError, clean, closures, fixed_object_pool,
     fixed_owned_reusable, fixed_reusable, linear_object_pool, linear_owned_reusable, linear_page,
-    linear_reusable, made_or_reset, none_object_pool, none_reusable, page, stack,
+    linear_reusable, made_or_reset, none_object_pool, none_reusable, page,
 };
 pub use spin_lock_object_pool::SpinLockObjectPool;
 pub use spin_lock_owned_reusable::SpinLockOwnedReusable;

@@ -2,10 +2,10 @@
 ghost use Rattle.std.specs.Prelude.{◌≡◌};
 
 use crate::stack_object_pool::StackObjectPool;
+use kept_values::stack::Stack;
 use pool_parts::clean::{AnyValue, Clean};
 use pool_parts::closures::{Init, Reset};
 use pool_parts::made_or_reset::MadeOrReset;
-use pool_parts::stack::Stack;
 use std::alloc::Global;
 use std::fmt::{self, Debug, Formatter, Write};
 use std::sync::Mutex;

@@ -5,11 +5,11 @@ ghost use Rattle.std.specs.Prelude.{◌≡◌, IfOk, IfErr};
 
 use crate::spin_lock::SpinLock;
 use crate::stack_object_pool::StackObjectPool;
+use kept_values::stack::Stack;
 use pool_parts::PullError;
 use pool_parts::clean::{AnyValue, Clean};
 use pool_parts::closures::{Init, Reset};
 use pool_parts::made_or_reset::MadeOrReset;
-use pool_parts::stack::Stack;
 use std::alloc::Global;
 use std::fmt::{self, Debug, Formatter, Write};
 

@@ -7,11 +7,11 @@ ghost use Rattle.std.specs.Arc.{arc_value};
 
 use crate::free_list::FreeList;
 use crate::stack_reusable::StackReusable;
+use kept_values::stack::Room;
 use pool_parts::PullError;
 use pool_parts::clean::Clean;
 use pool_parts::closures::{Init, Reset};
 use pool_parts::made_or_reset::MadeOrReset;
-use pool_parts::stack::Room;
 use std::alloc::Global;
 use std::marker::PhantomData;
 use std::sync::{Arc, Mutex, Wait};

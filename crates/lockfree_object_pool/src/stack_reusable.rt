@@ -4,12 +4,12 @@ ghost use Rattle.std.specs.Prelude.{◌≡◌, IfOk, IfErr};
 
 use crate::free_list::FreeList;
 use crate::stack_object_pool::StackObjectPool;
+use kept_values::stack::Room;
 use pool_parts::PullError;
 use pool_parts::clean::Clean;
 use pool_parts::closures::{Init, Reset};
 use pool_parts::lender::Lender;
 use pool_parts::made_or_reset::MadeOrReset;
-use pool_parts::stack::Room;
 use std::fmt::{self, Debug, Formatter, Write};
 use std::ops::{Deref, DerefMut};
 use std::sync::{Arc, Wait};

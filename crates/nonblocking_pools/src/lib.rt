@@ -19,4 +19,4 @@ pub use linear_pools::{
 };
 pub use none_object_pool::NoneObjectPool;
 pub use none_reusable::NoneReusable;
-pub use pool_parts::{PullError, clean, closures, made_or_reset, page, stack};
+pub use pool_parts::{PullError, clean, closures, made_or_reset, page};

@@ -1,7 +1,7 @@
 -- A stack: a list of kept values, last returned first.
 use Rattle.std.specs.Prelude.{◌≡◌, Option, Some, None, List, Result, Ok, Err, ◌⊎◌}
 use Rattle.pool_parts.specs.declared.pull_error.PullError.{PullError}
-use Rattle.pool_parts.specs.LastIn.{TakesFirst, StaysEmpty, PutsInFront}
+use Rattle.kept_values.specs.LastIn.{TakesFirst, StaysEmpty, PutsInFront}
 use Rattle.pool_parts.specs.Refusal.{RefusesMaking}
 use Rattle.object_pool_cores.specs.declared.sequential.item.Item.{Item}
 use Rattle.object_pool_cores.specs.declared.sequential.attach_error.AttachError.{AttachError}

@@ -9,7 +9,6 @@ pub use Rattle.pool_parts.specs.FullSeen
 pub use Rattle.pool_parts.specs.Holding
 pub use Rattle.pool_parts.specs.Item
 pub use Rattle.pool_parts.specs.Items
-pub use Rattle.pool_parts.specs.LastIn
 pub use Rattle.pool_parts.specs.Ledger
 pub use Rattle.pool_parts.specs.Lends
 pub use Rattle.pool_parts.specs.Note

@@ -1,5 +1,4 @@
 pub mod FilledItems
-pub mod KeptPlaces
 pub mod Ledger
 pub mod LedgerHolders
 pub mod Meetings

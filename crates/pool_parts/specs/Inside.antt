@@ -1,7 +1,6 @@
 -- What the types of the code show and keep, and what its steps do. What a contract of a pool says stands
 -- in the files beside this folder.
 pub mod Items
-pub mod Kept
 pub mod Meeting
 pub mod OneProof
 pub mod PageRule

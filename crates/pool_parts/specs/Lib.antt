@@ -4,7 +4,6 @@ pub mod Holding
 pub mod Inside
 pub mod Item
 pub mod Items
-pub mod LastIn
 pub mod Ledger
 pub mod Lends
 pub mod Note

@@ -1,8 +1,8 @@
 //! The parts of object pools.
 //!
 //! They are: the condition of a pool's values, their initializers and resets, types that define
-//! these for themselves, why a pull is refused, pages of items that threads share without a lock,
-//! and the list of values that a stack pool keeps.
+//! these for themselves, why a pull is refused, and pages of items that threads share without a
+//! lock.
 //!
 //! No call waits for another thread.
 #![tactic(auto)]
@@ -14,6 +14,5 @@ pub mod made_or_reset;
 pub mod page;
 pub mod pull_error;
 pub mod recycling;
-pub mod stack;
 
 pub use pull_error::PullError;

@@ -34,6 +34,8 @@ fn pull_fixed(pool: &Fixed) -> Option<(usize, usize, PageId)> {
     drop(pool.pull_near(1).ok()?);
     drop(pool.near().pull().ok()?);
     drop(pool.try_pull(&pass).ok()?);
+    let (holding, value) = pool.pull_apart(1).ok()?;
+    pool.give(holding, value);
     let item = pool.pull().ok()?;
     Some((item.number(), item.page_number(), item.page_id()))
 }

@@ -5,6 +5,5 @@ mod stack;
 
 pub use linear::{LinearObjectPool, LinearOwnedReusable, LinearReusable};
 pub use none::{NoneObjectPool, NoneReusable};
-pub use stack::{MutexObjectPool, MutexOwnedReusable, MutexReusable};
-pub use stack::{SpinLock, StackGuard, StackObjectPool};
-pub use stack::{SpinLockObjectPool, SpinLockOwnedReusable, SpinLockReusable};
+pub use stack::{MutexObjectPool, MutexOwnedReusable, MutexReusable, SpinLock, StackGuard};
+pub use stack::{SpinLockObjectPool, SpinLockOwnedReusable, SpinLockReusable, StackObjectPool};

@@ -1,38 +1,68 @@
-//! Items, the handles by which they are pulled, and an item that is out.
+//! Items, the handles of them that no thread has, and an item that is out.
 use crate::lanes::{Cells, Lane, Lanes, Out};
-use crate::sys::Handle;
+use crate::sys::{kdr_pool_new, kdr_pool_share, Handle};
 use std::fmt::{self, Debug, Formatter};
 use std::ops::{Deref, DerefMut};
+use std::sync::atomic::{AtomicBool, Ordering::Relaxed};
 use std::sync::{Mutex, MutexGuard, PoisonError};
 
-/// Some items, all made at first, and their handles that no thread has, on cache lines of its own.
+/// Some items, all made at first, on cache lines of their own.
 #[repr(align(128))]
 pub struct Part<T> {
     pub(crate) cells: Cells<T>,
-    idle: Mutex<Idle>,
-}
-
-/// Idle handles, with room for all that were made, and the first one, of which these are made.
-#[derive(Default)]
-pub(crate) struct Idle {
-    pub(crate) first: Option<Handle>,
-    pub(crate) made: usize,
-    pub(crate) handles: Vec<Handle>,
-    pub(crate) spare: Vec<Handle>, // room for a lane that has none
+    /// The first handle, of which all others are made, and one to spare.
+    handles: Mutex<[Option<Handle>; 2]>,
+    /// Whether a return needs a handle to spare.
+    lacks: AtomicBool,
 }
 
 impl<T> Part<T> {
     /// Creates a part of so many items, with no handle. `None` if memory is refused.
     pub(crate) fn new(items: usize, mut init: impl FnMut() -> T) -> Option<Part<T>> {
-        let (cells, idle) = (Cells::new((0..items).map(|_| init()))?, Mutex::default());
-        Some(Part { cells, idle })
+        Some(Part {
+            cells: Cells::new((0..items).map(|_| init()))?,
+            handles: Mutex::default(),
+            lacks: AtomicBool::new(false),
+        })
     }
 
-    /// Locks the idle handles. Nothing panics under the lock, so it isn't poisoned.
-    pub(crate) fn idle(&self) -> MutexGuard<'_, Idle> {
+    /// Locks the handles. Nothing panics under the lock, so it isn't poisoned.
+    pub(crate) fn handles(&self) -> MutexGuard<'_, [Option<Handle>; 2]> {
         #[cfg(test)]
         crate::tests::step();
-        self.idle.lock().unwrap_or_else(PoisonError::into_inner)
+        self.handles.lock().unwrap_or_else(PoisonError::into_inner)
+    }
+
+    /// Makes a lane's handle if there is none, and the one to spare if a return needs it. `None` if
+    /// memory is refused.
+    ///
+    /// A part's first thread makes the first one, so that the library's small blocks share no cache
+    /// line with those of another thread's part. Those that it freed before may, so it takes some.
+    pub(crate) fn open(&self, own: &mut Option<Handle>) -> Option<()> {
+        if own.is_none() || self.lacks.load(Relaxed) {
+            let [first, spare] = &mut *self.handles();
+            if first.is_none() {
+                let mut freed: [Vec<usize>; 16] = Default::default();
+                let mut blocks = freed.iter_mut();
+                blocks.try_for_each(|block| block.try_reserve_exact(2).ok())?;
+                kdr_pool_new(self.cells.0.len(), first);
+                drop(std::hint::black_box(freed));
+            }
+            self.lacks.store(false, Relaxed);
+            for handle in [&mut *own, spare] {
+                kdr_pool_share(first, handle); // it is left alone if it has a pool
+            }
+        }
+        own.is_some().then_some(())
+    }
+
+    /// Calls for a lane without a handle: by the one to spare, which it keeps, or by the first one.
+    #[cold]
+    pub(crate) fn lend(&self, own: &mut Option<Handle>, call: impl Fn(&mut Option<Handle>) -> u32) {
+        let [first, spare] = &mut *self.handles();
+        *own = spare.take();
+        self.lacks.store(true, Relaxed);
+        call(if own.is_some() { own } else { first });
     }
 }
 
@@ -47,8 +77,13 @@ pub trait Source: Sized {
     /// Returns a place's part, the lanes and the reset. It calls nothing of the user's.
     fn at(&self, at: usize) -> (&Part<Self::Item>, &Lanes, &Self::Reset);
 
-    /// Keeps a handle of this part, where the lane isn't. If this is dropped, it is closed.
-    fn keep_elsewhere(&self, _lane: &mut Lane, _part: usize, _own: Option<Handle>) {}
+    /// Brings a lane to another part, where others don't return what it pulled just now.
+    fn go_further(&self, _lane: &mut Lane) {}
+
+    /// Returns where a lane keeps its handle of this part, where it isn't.
+    fn other<'l>(&'l self, lane: &'l mut Lane, _part: usize) -> &'l mut Option<Handle> {
+        &mut lane.own
+    }
 }
 
 /// An item that is out, of a pool that is held by a borrow or by an owner. Its end resets the item

@@ -1,29 +1,46 @@
-//! A pool's handles. A thread has some idle ones in a lane, which no other thread reaches while it
-//! runs: it takes and keeps them by plain reads and writes. The others lie behind a lock. A lane is
-//! at one part of its pool, of which its handles are, and knows the page where pulls begin. So
-//! threads keep to parts and pages of their own, whichever handles they have.
+//! What each thread has of a pool: a lane, which no other thread reaches while it runs, by plain
+//! reads and writes. A lane has a handle of one part, and a page where its next pull begins.
 use crate::guard::Source;
-use crate::sys::{kdr_pool_pull_near, kdr_pool_return, kdr_pool_share, Handle, DONE, PAGE};
+use crate::sys::{kdr_place_pull, kdr_place_return, Handle, Place, DONE, PAGE};
 use crate::threads::{self, KNOWN, NUMBERS};
 use std::sync::{Mutex, PoisonError};
-use std::{cell::UnsafeCell, marker::PhantomData, mem};
+use std::{cell::UnsafeCell, marker::PhantomData};
 
-/// How many idle handles a lane keeps if it has no room for more, and gets if it has none.
-const SOME: usize = 32;
+/// How many places a lane pulls at one page, if others return them: as many as numbers on a line.
+const TOGETHER: isize = 8;
 
-/// A place that is out, `place * PARTS + part`, by the handle that holds it. It goes to threads, or
-/// is shared by them, as the item may. If it is dropped, the place stays out.
+/// A right to the value of a number, which nobody else has at the time.
+pub(crate) trait Key {
+    fn number(&self) -> usize;
+}
+
+/// A place that is out, `place * PARTS + part`. It goes to threads, or is shared by them, as the
+/// item may. If it is dropped, the place stays out.
 pub(crate) struct Out<S: Source> {
-    by: mem::ManuallyDrop<Option<Handle>>,
     pub(crate) at: usize,
     item: PhantomData<S::Item>,
 }
 
-/// Values by their places.
+impl<S: Source> Key for Out<S> {
+    fn number(&self) -> usize {
+        self.at / S::PARTS
+    }
+}
+
+/// The number of a thread, by which it reaches what is its own.
+pub(crate) struct Number(usize);
+
+impl Key for Number {
+    fn number(&self) -> usize {
+        self.0
+    }
+}
+
+/// Values by their numbers.
 pub(crate) struct Cells<T>(pub(crate) Vec<UnsafeCell<T>>);
 
-// SAFETY: a value is reached only by the holder of its place, of whom there is one at a time. So to
-// share the cells is to send values from holder to holder.
+// SAFETY: a value is reached only by its key, which one thread has at a time. So to share the cells
+// is to send values from one to another.
 unsafe impl<T: Send> Sync for Cells<T> {}
 
 impl<T> Cells<T> {
@@ -37,33 +54,43 @@ impl<T> Cells<T> {
         Some(Cells(cells))
     }
 
-    /// Borrows the value at a place, which is of this very pool.
-    pub(crate) fn item<'c, S: Source>(&'c self, out: &'c Out<S>) -> &'c T {
-        // SAFETY: `out` holds the place, and who writes there borrows it to write.
-        unsafe { &*self.0[out.at / S::PARTS].get() }
+    fn cell(&self, key: &impl Key) -> &UnsafeCell<T> {
+        self.0.get(key.number()).unwrap_or_else(|| refuse())
     }
 
-    /// Borrows the value at a place, which is of this very pool, to write.
-    pub(crate) fn item_mut<'c, S: Source>(&'c self, out: &'c mut Out<S>) -> &'c mut T {
-        // SAFETY: `out` holds the place, and nobody else borrows `out`.
-        unsafe { &mut *self.0[out.at / S::PARTS].get() }
+    /// Borrows the value of a key, which is of this very pool.
+    pub(crate) fn item<'c>(&'c self, key: &'c impl Key) -> &'c T {
+        // SAFETY: nobody else has the key, and who writes there borrows it to write.
+        unsafe { &*self.cell(key).get() }
+    }
+
+    /// Borrows the value of a key, which is of this very pool, to write.
+    pub(crate) fn item_mut<'c>(&'c self, key: &'c mut impl Key) -> &'c mut T {
+        // SAFETY: nobody else has the key, or borrows it.
+        unsafe { &mut *self.cell(key).get() }
     }
 }
 
-/// The idle handles of one thread, on cache lines of their own.
-#[derive(Default)]
+/// Ends the process: a key is of another pool. It doesn't unwind, so a guard's end needs one way.
+#[cold]
+pub(crate) extern "C" fn refuse() -> ! {
+    panic!("a place of another pool")
+}
+
+/// What a thread has, on cache lines of its own.
 #[repr(align(128))]
 pub struct Lane {
-    /// The handle of the next pull, if that isn't one of the idle ones.
-    pub(crate) next: Option<Handle>,
-    last_place: usize,
+    pub(crate) number: Number,
+    /// A handle of the lane's part, if there is one.
+    pub(crate) own: Option<Handle>,
     pub(crate) part: usize,
-    /// At which page the next pull begins. Numbers of pages are counted round and round.
-    pub(crate) page: usize,
-    apart: [isize; 3],
-    pub(crate) idle: Vec<Handle>,
-    /// Handles that are on their way to another part, which is this one.
-    pub(crate) away: (usize, Vec<Handle>),
+    /// At which page the next pull begins.
+    page: usize,
+    /// Where the lane began, and how often it moved.
+    begin: usize,
+    moves: usize,
+    /// How many more places are pulled than returned until the next move.
+    left: isize,
 }
 
 /// The lanes of a pool, and one of all threads that have no number.
@@ -75,29 +102,28 @@ impl Lanes {
         // Threads begin so far apart that the words of their pages lie on cache lines of their own.
         let far = if pages % 17 == 0 { 1 } else { 17 };
         let lane = |number: usize| {
-            let (begin, mut lane) = ((number + 1) * far, Lane::default());
-            lane.apart = [begin as isize, -(begin as isize), 0];
-            (lane.part, lane.page) = (number % homes, begin % pages);
-            lane
+            let begin = (number + 1) * far;
+            Lane {
+                number: Number(number),
+                own: None,
+                part: number % homes,
+                page: begin % pages,
+                begin,
+                moves: 0,
+                left: TOGETHER,
+            }
         };
-        Cells::new((0..NUMBERS).map(lane)).map(|each| Lanes(each, Mutex::new(lane(0))))
+        Cells::new((0..NUMBERS).map(lane)).map(|each| Lanes(each, Mutex::new(lane(NUMBERS))))
     }
 
     /// Makes this call with the thread's lane. The call doesn't come here again.
-    #[inline]
-    pub(crate) fn own<A>(&self, call: impl FnOnce(&mut Lane) -> A) -> A {
-        match self.known() {
-            Some(lane) => call(lane),
-            None => self.rest(call),
-        }
-    }
-
     #[inline(always)]
-    #[allow(clippy::mut_from_ref)] // the lane is this thread's alone
-    fn known(&self) -> Option<&mut Lane> {
-        let lane = self.0 .0.get(KNOWN.get());
-        // SAFETY: no other thread has this number, and no call of this one is within another.
-        lane.map(|lane| unsafe { &mut *lane.get() })
+    pub(crate) fn own<A>(&self, call: impl FnOnce(&mut Lane) -> A) -> A {
+        // No other thread has this number, and no call of this one is within another.
+        match KNOWN.get() {
+            number if number < self.0 .0.len() => call(self.0.item_mut(&mut Number(number))),
+            _ => self.rest(call),
+        }
     }
 
     #[inline(never)]
@@ -111,78 +137,66 @@ impl Lanes {
     /// Pulls a place at the thread's part. `None` if all were out at one moment, or memory lacks.
     #[inline(always)]
     pub(crate) fn pull<S: Source>(&self, pool: &S) -> Option<Out<S>> {
-        let (by, at) = self.own(|lane| {
+        self.own(|lane| {
             #[cfg(test)]
             crate::tests::step();
-            while kdr_pool_pull_near(&mut lane.next, lane.page, &mut lane.last_place) != DONE {
-                lane.find_next(pool)?;
+            let (mut place, part) = (Place::EMPTY, lane.part);
+            kdr_place_pull(&mut lane.own, lane.page, &mut place);
+            lane.left -= 1;
+            if place.number / PAGE != lane.page || lane.left <= 0 {
+                lane.go_on(&mut place, pool)?;
             }
-            let page = lane.last_place / PAGE;
-            if page != lane.page {
-                // Others come there too, so the next pull begins apart from them, behind that page
-                // or before it. If it finds nothing there, the lane keeps to the page of its place.
-                lane.page = page.wrapping_add_signed(lane.apart[0]);
-                lane.apart.rotate_left(1);
-            }
-            // Both go in registers. In memory one load would wait for two stores.
-            Some((lane.next.take()?, lane.last_place * S::PARTS + lane.part))
-        })?;
-        let (by, item) = (mem::ManuallyDrop::new(Some(by)), PhantomData);
-        Some(Out { by, at, item })
+            let (at, item) = (place.number * S::PARTS + part % S::PARTS, PhantomData);
+            Some(Out { at, item })
+        })
     }
 
-    /// Returns a place, and keeps its handle.
+    /// Returns a place. It asks for no memory, but for the thread's number at its first call.
     #[inline(always)]
     pub(crate) fn give_back<S: Source>(&self, out: &mut Out<S>, pool: &S) {
         #[cfg(test)]
         crate::tests::step();
-        kdr_pool_return(&mut out.by);
-        let (handle, part) = (out.by.take(), out.at % S::PARTS);
-        match self.known() {
-            Some(it) if it.next.is_none() && (S::PARTS == 1 || it.part == part) => it.next = handle,
-            _ => self.keep(part, handle, pool),
-        }
-    }
-
-    /// Keeps a handle of this part. It asks for no memory.
-    #[inline(never)]
-    fn keep<S: Source>(&self, part: usize, own: Option<Handle>, pool: &S) {
-        self.own(|lane| {
-            if lane.part != part {
-                pool.keep_elsewhere(lane, part, own);
-            } else if lane.idle.len() < lane.idle.capacity() {
-                lane.idle.extend(own);
-            } else {
-                let here = &mut *pool.at(part).0.idle();
-                here.handles
-                    .extend(lane.idle.drain(lane.idle.len() / 2..).chain(own));
-                if lane.idle.capacity() == 0 {
-                    mem::swap(&mut lane.idle, &mut here.spare);
-                }
+        let (number, part) = (out.number(), out.at % S::PARTS);
+        let give = move |handle: &mut Option<Handle>| {
+            // SAFETY: the handle is of the place's part, and the place's guard ends.
+            unsafe { kdr_place_return(handle, &mut Place { number }) }
+        };
+        self.own(move |lane| {
+            lane.left += 1;
+            let own = match S::PARTS == 1 || lane.part == part {
+                true => &mut lane.own,
+                false => pool.other(lane, part),
+            };
+            if give(own) != DONE {
+                pool.at(part).0.lend(own, give);
             }
         });
     }
 }
 
 impl Lane {
-    /// Finds the handle of the next pull. `None` if there is one, or memory for one is refused.
+    /// Finds where the next pull begins, and pulls if there was no handle. `None` as of `pull`.
     #[inline(never)]
-    pub(crate) fn find_next(&mut self, pool: &impl Source) -> Option<()> {
-        let None = self.next else { return None };
-        if self.idle.is_empty() {
-            let here = &mut *pool.at(self.part).0.idle();
-            self.idle.try_reserve_exact(2 * SOME).ok()?;
-            here.spare.try_reserve_exact(2 * SOME).ok()?;
-            if here.handles.is_empty() {
-                here.handles.try_reserve(here.made + 1).ok()?;
-                here.made += 1;
-                return (kdr_pool_share(&mut here.first, &mut self.next) == DONE).then_some(());
-            }
-            let left = here.handles.len().saturating_sub(SOME);
-            self.idle.extend(here.handles.drain(left..));
-            self.page = self.page.wrapping_add(1071); // others return items where it was
+    fn go_on(&mut self, place: &mut Place, pool: &impl Source) -> Option<()> {
+        let (part, had_handle) = (pool.at(self.part).0, self.own.is_some());
+        part.open(&mut self.own)?;
+        if !had_handle {
+            kdr_place_pull(&mut self.own, self.page, place);
         }
-        self.next = self.idle.pop();
+        let (page, pages) = (place.number / PAGE, part.cells.0.len().div_ceil(PAGE));
+        (page < pages).then_some(())?; // it isn't, if there is no place
+        if page != self.page {
+            // Others come there too, so the next pull begins apart from them, behind that page or
+            // before it. If it finds nothing there, the lane keeps to the page of its place.
+            let apart = [self.begin, self.begin.wrapping_neg(), 0][self.moves % 3];
+            self.page = page.wrapping_add(apart) % pages;
+            self.moves += 1;
+        } else if self.left <= 0 {
+            // Others return what this thread pulls, so it goes round some pages, apart from them.
+            (self.left, self.moves) = (TOGETHER, self.moves + 1);
+            self.page = (self.begin + self.moves % 64 * 17) % pages;
+            pool.go_further(self);
+        }
         Some(())
     }
 }

@@ -1,7 +1,7 @@
 //! The pool of a fixed number of items.
 use crate::guard::{Guard, Part, Source};
 use crate::lanes::Lanes;
-use crate::sys::{kdr_pool_new, DONE, PAGE};
+use crate::sys::PAGE;
 use std::fmt::{self, Debug, Display, Formatter};
 use std::{error::Error, ops::Deref, sync::Arc};
 
@@ -53,15 +53,14 @@ impl<T, R: Fn(&mut T)> Pool<T, R> {
             return Err(NewError::NoItems);
         }
         let part = Part::new(items, init);
-        let part = part.filter(|part| kdr_pool_new(items, &mut part.idle().first) == DONE);
+        let part = part.filter(|part| part.open(&mut None).is_some());
         let lanes = Lanes::new(1, items.div_ceil(PAGE));
         let (part, lanes) = part.zip(lanes).ok_or(NewError::Memory)?;
         Ok(Pool { part, lanes, reset })
     }
 
     /// Returns an item that was free. `None` if all were out at one moment of the call, or memory
-    /// for one more guard is refused, which is asked for only if more items are out than ever
-    /// before.
+    /// for the thread's handle is refused, which its first pull asks for.
     #[inline(always)]
     pub fn pull(&self) -> Option<Reusable<'_, T, R>> {
         self.lanes.pull(self).map(|out| Guard { pool: self, out })

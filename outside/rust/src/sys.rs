@@ -13,8 +13,6 @@ pub struct Handle(NonNull<c_void>);
 
 // SAFETY: it is proved of the library: its handle, in `crates/fixed_pool_c`, is `Send`.
 unsafe impl Send for Handle {}
-// SAFETY: no call takes a shared handle.
-unsafe impl Sync for Handle {}
 
 impl Drop for Handle {
     fn drop(&mut self) {
@@ -23,9 +21,21 @@ impl Drop for Handle {
     }
 }
 
+/// A place by itself. If it is dropped, the place stays out.
+#[repr(C)]
+pub struct Place {
+    /// The place's number, or `usize::MAX` if there is none.
+    pub number: usize,
+}
+
+impl Place {
+    /// No place.
+    pub const EMPTY: Place = Place { number: usize::MAX };
+}
+
 // SAFETY: the calls are proved for each pointer that is valid, and for each handle that is empty or
 // was left by a call: only the calls make a handle, and it can't be copied. A mutable borrow is the
-// only one of its handle.
+// only one of its handle. The last call isn't safe: the place has to be out of the handle's pool.
 #[allow(missing_docs)]
 unsafe extern "C" {
     pub safe fn kdr_pool_new(items: usize, out: &mut Option<Handle>) -> u32;
@@ -34,4 +44,6 @@ unsafe extern "C" {
     pub safe fn kdr_pool_pull_near(own: &mut Option<Handle>, page: usize, out: &mut usize) -> u32;
     pub safe fn kdr_pool_return(handle: &mut Option<Handle>) -> u32;
     pub safe fn kdr_pool_drop(handle: &mut Option<Handle>) -> u32;
+    pub safe fn kdr_place_pull(handle: &mut Option<Handle>, page: usize, out: &mut Place) -> u32;
+    pub fn kdr_place_return(handle: &mut Option<Handle>, place: &mut Place) -> u32;
 }

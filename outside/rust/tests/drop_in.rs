@@ -1,6 +1,6 @@
 //! The pools by the names of lockfree-object-pool 0.1.6: what its own tests show, in other words,
-//! and what a program meets that changes to this crate. But for its first line, this file passes
-//! with that crate too.
+//! and what a program meets that changes to this crate. But for its first line and the tests of
+//! `init_may_pull`, this file passes with that crate too.
 use kundratu_pool as pools;
 
 use pools::{
@@ -12,8 +12,9 @@ use std::collections::HashSet;
 use std::mem::ManuallyDrop;
 use std::panic::{catch_unwind, AssertUnwindSafe};
 use std::sync::atomic::{AtomicUsize, Ordering::SeqCst};
-use std::sync::{mpsc, Arc};
+use std::sync::{mpsc, Arc, OnceLock};
 use std::thread;
+use std::time::Duration;
 
 /// What holds of each pool that keeps its items.
 macro_rules! keeping_pool {
@@ -330,3 +331,32 @@ fn a_stack_pool_keeps_all_that_comes_back() {
     let many = || drop((0..MANY).map(|_| spin_lock.pull()).collect::<Vec<_>>());
     assert_eq!([made(many), made(many)], [MANY, 0]);
 }
+
+/// An `init` that pulls from its own pool and returns there, once. Under the pool's lock it would
+/// wait for itself.
+macro_rules! init_may_pull {
+    ($($name:ident: $pool:ident),*) => { $(
+        #[test]
+        fn $name() {
+            static POOL: OnceLock<Arc<$pool<usize>>> = OnceLock::new();
+            static CALLS: AtomicUsize = AtomicUsize::new(0);
+            let init = || {
+                let call = CALLS.fetch_add(1, SeqCst);
+                if call == 0 {
+                    assert_eq!(*POOL.get().unwrap().pull(), 1);
+                }
+                call
+            };
+            let pool = POOL.get_or_init(|| Arc::new($pool::new(init, |_| {})));
+            let (sender, receiver) = mpsc::channel();
+            thread::spawn(move || sender.send([*pool.pull(), *pool.pull()]));
+            let pulled = receiver.recv_timeout(Duration::from_secs(10));
+            assert_eq!(pulled, Ok([0, 1]), "`init` was called under the lock");
+        }
+    )* };
+}
+
+init_may_pull!(
+    init_of_a_mutex_pool_may_pull: MutexObjectPool,
+    init_of_a_spin_lock_pool_may_pull: SpinLockObjectPool
+);

@@ -8,7 +8,7 @@ use std::fs::read_to_string;
 use std::process::Command;
 use std::ptr::null_mut;
 use std::sync::{mpsc, Arc, Barrier, Mutex, PoisonError};
-use std::{env, iter, thread};
+use std::{env, iter, mem, thread};
 
 thread_local! {
     /// How often this thread asked for memory, for the crate or for the library under it.
@@ -111,7 +111,8 @@ fn a_pull_that_is_refused_memory_answers_none_and_leaves_nothing() {
             assert_eq!(iter::from_fn(|| pool.pull()).collect::<Vec<_>>().len(), 20);
             done.then_some(())
         });
-        assert!(1 <= count, "{count} requests with {held} held");
+        // A thread that has its handle asks for nothing.
+        assert_eq!(1 <= count, held == 0, "{count} requests with {held} held");
     }
 }
 
@@ -184,31 +185,45 @@ fn turns_ask_for_no_memory() {
     assert_eq!(ASKED.get(), before);
 }
 
+/// The threads that return what this one pulled have no handle, and then one that was to spare.
 #[test]
 fn returns_ask_for_no_memory_whoever_makes_them() {
     let _alone = MEASURED.lock().unwrap_or_else(PoisonError::into_inner);
     let pool = zeros(200);
-    drop(pool.pull());
-    let held: Vec<_> = iter::from_fn(|| pool.pull()).collect();
     let ask = |held: Vec<_>| {
         let before = ASKED.get();
         held.into_iter().for_each(drop);
         ASKED.get() - before
     };
-    assert_eq!(ask(held), 0);
-    let held: Vec<_> = iter::from_fn(|| pool.pull()).collect();
-    let other = thread::scope(|scope| {
-        let other = scope.spawn(|| {
-            drop(zeros(1).pull()); // the thread has its number
-            ask(held)
+    assert_eq!(ask(iter::from_fn(|| pool.pull()).collect()), 0);
+    for _ in 0..3 {
+        let held: Vec<_> = iter::from_fn(|| pool.pull()).collect();
+        assert_eq!(held.len(), 200);
+        let other = thread::scope(|scope| {
+            let other = scope.spawn(|| {
+                drop(zeros(1).pull()); // the thread has its number
+                ask(held)
+            });
+            other.join().expect("it ends")
         });
-        other.join().expect("it ends")
-    });
-    assert_eq!(other, 0);
+        assert_eq!(other, 0);
+    }
 }
 
-/// A thread opens a handle at its first pull, unless another one left some in its lane. 64 threads
-/// have a lane each, and all others one.
+#[test]
+fn forgotten_items_keep_their_places_and_no_memory() {
+    let _alone = MEASURED.lock().unwrap_or_else(PoisonError::into_inner);
+    drop(zeros(1).pull()); // the thread has its number
+    let held = HELD.get();
+    let (pool, grows) = (zeros(64), LinearObjectPool::<u32>::new(|| 0, |_| ()));
+    (0..40).for_each(|_| mem::forget((pool.pull(), grows.pull())));
+    assert_eq!(iter::from_fn(|| pool.pull()).collect::<Vec<_>>().len(), 24);
+    drop((pool, grows));
+    assert_eq!(HELD.get(), held);
+}
+
+/// A thread opens a handle at its first pull, unless another one left its own in its lane. 64
+/// threads have a lane each, and all others one.
 #[test]
 fn threads_have_handles_of_their_own() {
     let _alone = MEASURED.lock().unwrap_or_else(PoisonError::into_inner);
@@ -350,6 +365,13 @@ fn refuse_memory() {
     assert_eq!(setrlimit(ADDRESSES, &limit), 0);
 }
 
+/// A block of memory, if it isn't refused.
+fn block(bytes: usize) -> Option<Vec<u8>> {
+    let mut block = Vec::new();
+    block.try_reserve_exact(bytes).ok()?;
+    Some(block)
+}
+
 /// It runs itself once more in a process whose memory is refused.
 #[test]
 fn where_memory_is_refused_a_pull_and_a_pool_are() {
@@ -369,21 +391,22 @@ fn where_memory_is_refused_a_pull_and_a_pool_are() {
         );
         return;
     }
-    let pool = zeros(ITEMS);
+    let (pool, other) = (zeros(ITEMS), zeros(1));
+    drop(pool.pull()); // the thread has a handle of this one
     let mut held = Vec::with_capacity(ITEMS);
+    let mut blocks = Vec::with_capacity(1 << 20);
     let for_the_harness = vec![0_u8; 1 << 20];
     refuse_memory();
-    held.extend(iter::from_fn(|| pool.pull()));
-    let most = held.len();
-    let refused = Pool::new(1 << 18, || [0_u64; 512], |_| ()).err();
-    held.clear();
-    held.extend(iter::from_fn(|| pool.pull()));
-    drop(for_the_harness);
-    assert!(0 < most && most < ITEMS, "{most} items");
-    assert!(
-        most <= held.len(),
-        "{} items, and {most} before",
-        held.len()
+    for bytes in [1 << 16, 1 << 12, 256, 64, 48, 32, 16] {
+        blocks.extend(iter::from_fn(|| block(bytes)));
+    }
+    let refused = (
+        Pool::new(1 << 18, || [0_u64; 512], |_| ()).err(),
+        other.pull().is_none(),
     );
-    assert_eq!(refused, Some(NewError::Memory));
+    held.extend(iter::from_fn(|| pool.pull()));
+    drop((blocks, for_the_harness));
+    assert_eq!(refused, (Some(NewError::Memory), true));
+    assert_eq!(held.len(), ITEMS);
+    assert!(other.pull().is_some());
 }

@@ -46,6 +46,13 @@ fn what_was_written_is_read_through_the_guard() {
 }
 
 #[test]
+fn a_guard_is_a_pool_and_a_number() {
+    let words = |bytes| bytes / size_of::<usize>();
+    assert_eq!(words(size_of::<Option<Reusable<'_, u32>>>()), 2);
+    assert_eq!(words(size_of::<Option<OwnedReusable<u32>>>()), 2);
+}
+
+#[test]
 fn one_at_a_time_is_one_place() {
     let pool = zeros(64);
     let addresses: HashSet<_> = (0..10)

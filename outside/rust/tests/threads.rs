@@ -201,3 +201,27 @@ fn threads_whose_pages_are_full_come_to_pages_of_their_own() {
     let pages = pages_of_threads(&pool);
     assert_eq!(pages[2].len(), THREADS_WITH_PAGES);
 }
+
+/// How many different items a thread pulls if it pulls 40 at a time, and this is their end.
+fn count_different(end: fn(Vec<Reusable<'_, u32>>)) -> usize {
+    let (pool, mut different) = (zeros(131_072), HashSet::new());
+    for _ in 0..1_000 {
+        let items: Vec<_> = (0..40).filter_map(|_| pool.pull()).collect();
+        different.extend(items.iter().map(Reusable::number));
+        end(items);
+    }
+    different.len()
+}
+
+/// A thread that returns its items itself pulls them again. If another one returns them, it goes
+/// round some pages.
+#[test]
+fn a_thread_keeps_to_some_items() {
+    let _alone = NUMBERS.lock().unwrap_or_else(PoisonError::into_inner);
+    let own = count_different(|items| drop(items));
+    assert!(own <= 200, "{own} items");
+    let others = count_different(|items| {
+        thread::scope(|scope| scope.spawn(|| drop(items)).join()).expect("it ends");
+    });
+    assert!((400..=600).contains(&others), "{others} items");
+}

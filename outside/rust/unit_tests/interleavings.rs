@@ -2,10 +2,10 @@
 //! and of the parts of this crate that are under a lock. What a thread does between has no effect
 //! on others.
 use crate::guard::Source;
-use crate::{threads, LinearObjectPool, OwnedReusable, Pool};
+use crate::{threads, LinearObjectPool, OwnedReusable, Pool, Reusable};
 use std::cell::{Cell, RefCell};
 use std::sync::atomic::{AtomicUsize, Ordering::SeqCst};
-use std::sync::mpsc::channel;
+use std::sync::mpsc::{channel, Receiver, Sender};
 use std::sync::{Arc, Condvar, Mutex, MutexGuard, PoisonError};
 use std::time::Duration;
 use std::{iter, mem, thread};
@@ -211,31 +211,58 @@ fn an_item_that_moves_is_found() {
     }
 }
 
-/// A thread at home returns an item of a third part while another thread has the lock of a part
-/// whose handles it kept. It waits, and they are kept there.
+/// A thread returns an item of a part of which it has no handle, while another one has the lock of
+/// that part's handles. It waits, and the item comes back.
 #[test]
 fn a_return_waits_for_the_lock_of_a_part() {
     let _alone = TESTED.lock().unwrap_or_else(PoisonError::into_inner);
     let pool = Arc::new(LinearObjectPool::<u32>::new(|| 0, |_| ()));
-    let at_home: Vec<_> = (0..4).map(|_| pool.pull_owned()).collect();
-    let others: Vec<_> = (0..4).map(|_| pool.pull_owned()).collect();
-    let third = pool.pull_owned();
-    drop(at_home);
-    let part = others[0].out.at % LinearObjectPool::<u32>::PARTS;
-    drop(others);
-    let kept = || pool.at(part).0.idle().handles.len();
-    let (before, locking) = (kept(), Arc::clone(&pool));
+    drop(pool.pull());
+    let other = Arc::clone(&pool);
+    let item = thread::spawn(move || other.pull_owned())
+        .join()
+        .expect("it ends");
+    let (at, locking) = (item.out.at, Arc::clone(&pool));
     let lock = move || {
         let (locked, is_locked) = channel();
         thread::spawn(move || {
-            let _idle = locking.at(part).0.idle();
+            let _handles = locking.at(at).0.handles();
             locked.send(()).expect("it is read");
             thread::sleep(Duration::from_millis(20));
         });
         is_locked.recv().expect("it is locked");
     };
     MOVE.set(Some((1, Box::new(lock))));
-    drop(third);
+    drop(item);
     assert!(MOVE.take().is_none(), "no lock was taken");
-    assert_eq!(kept(), before + 3);
+    let items: Vec<_> = (0..32).map(|_| pool.pull()).collect();
+    assert!(items.iter().any(|item| item.out.at == at));
+}
+
+/// Of two threads that only return what another one pulls, the first one takes the handle to spare,
+/// and the second one that which is made after it.
+#[test]
+fn lanes_that_only_return_come_to_have_handles() {
+    let _alone = TESTED.lock().unwrap_or_else(PoisonError::into_inner);
+    let pool = Pool::<u32>::new(100, || 0, |_| ()).expect("there is memory");
+    let has_handle = || pool.at(0).1.own(|lane| lane.own.is_some());
+    let returns = |items: Receiver<Reusable<'_, u32>>, told: Sender<bool>| {
+        for item in items {
+            drop(item);
+            told.send(has_handle()).expect("it is read");
+        }
+    };
+    thread::scope(|scope| {
+        let [(first, _it_runs), (second, _)] = [3, 20].map(|items| {
+            let ((sender, receiver), (told, tells)) = (channel(), channel());
+            scope.spawn(move || returns(receiver, told));
+            let one = |_| {
+                let item = pool.pull().expect("one is free");
+                sender.send(item).expect("it is read");
+                tells.recv().expect("it is told")
+            };
+            ((0..items).map(one).collect::<Vec<bool>>(), sender)
+        });
+        assert!(first[0] && !second[0] && second[19]);
+    });
 }

@@ -4,7 +4,7 @@ ghost use Rattle.std.specs.Borrow.{Lends, sem};
 ghost use Rattle.object_pool_cores.specs.Item.{item_value, item_number, has_room};
 ghost use Rattle.object_pool_cores.specs.Item.{with_value};
 
-use pool_parts::stack::Room;
+use kept_values::stack::Room;
 use std::ops::{Deref, DerefMut};
 
 /// An item that was pulled from a sequential pool.

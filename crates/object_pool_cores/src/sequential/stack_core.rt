@@ -5,10 +5,10 @@ ghost use Rattle.object_pool_cores.specs.Stack.{kept_of, stack_init, stack_reset
 ghost use Rattle.object_pool_cores.specs.Stack.{StackGives, StackAttaches, HoldRooms};
 
 use crate::sequential::{AttachError, Item, SequentialPool};
+use kept_values::stack::{Room, Stack};
 use pool_parts::PullError;
 use pool_parts::clean::Clean;
 use pool_parts::closures::{Init, Reset};
-use pool_parts::stack::{Room, Stack};
 use std::alloc::Global;
 
 /// A pool that keeps what was returned. An item brings its own room, so a return takes no memory.

@@ -1,4 +1,5 @@
 //! Pulls by an owner of the pool that keeps a note: both go into the item, and come back from it.
+//! Pulls of an item apart from its pool.
 ghost use Rattle.std.specs.Prelude.{◌≡◌, IfErr};
 ghost use Rattle.std.specs.Arc.{arc_value};
 ghost use Rattle.lockfree_object_pool.specs.FixedPool.{pool_identity};
@@ -56,4 +57,29 @@ fn a_refused_owner_comes_back_with_its_note(rt: HostRuntime) {
     };
     drop(all.pop());
     assert_equal(&rt, number_by_note(owner, 0, note), Some(32));
+}
+
+/// The number of an item that is pulled apart near a page, whether the pool has another one there
+/// meanwhile, and the number and value of a pull there, once this value went back.
+fn apart_and_back(
+    pool: &NumberPool,
+    page: usize,
+    value: usize,
+) -> Option<(usize, bool, usize, usize)> {
+    let (holding, _) = pool.pull_apart(page).ok()?;
+    let number = holding.number;
+    let another = pool.pull_near(page).is_ok();
+    pool.give(holding, value);
+    let next = pool.pull_near(page).ok()?;
+    Some((number, another, next.number(), *next))
+}
+
+#[test]
+fn an_item_that_is_pulled_apart_goes_back_with_its_value(rt: HostRuntime) {
+    let pool = opened_shared(&rt, rt.alloc(), 33);
+    assert_equal(&rt, apart_and_back(&pool, 1, 7), Some((32, true, 32, 7)));
+    let mut all = hold(&rt, rt.alloc(), &*pool, 33);
+    assert!(rt; pool.pull_apart(1).is_err());
+    drop(all.pop());
+    assert_equal(&rt, apart_and_back(&pool, 0, 8), Some((31, false, 31, 8)));
 }

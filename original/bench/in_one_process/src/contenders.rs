@@ -1,14 +1,14 @@
 //! The pools that are measured.
 use crate::{reset_item, use_item, write_item};
 use crossbeam_queue::ArrayQueue;
-use kundratu_pool::sys::{kdr_pool_new, kdr_pool_pull, kdr_pool_pull_near, kdr_pool_return};
-use kundratu_pool::sys::{kdr_pool_share, Handle};
+use kundratu_pool::sys::{kdr_place_pull, kdr_place_return, Handle, Place};
+use kundratu_pool::sys::{kdr_pool_new, kdr_pool_share};
 use kundratu_pool::{LinearObjectPool as Growing, LinearReusable as GrowingReusable};
 use kundratu_pool::{Pool, Reusable};
 use lockfree_object_pool::{LinearObjectPool, LinearReusable};
 use sharded_slab::{Clear, Pool as Slab};
 use std::sync::atomic::{AtomicU64, AtomicUsize, Ordering};
-use std::sync::{Mutex, MutexGuard};
+use std::sync::Mutex;
 
 /// A pool that threads share.
 pub trait Contender: Sync {
@@ -35,115 +35,97 @@ pub trait Contender: Sync {
     fn take_back(&self, user: &mut Self::User, sent: Self::Sent<'_>);
 }
 
-/// A handle of the C library, as a C program has it.
-type OwnHandle = Option<Handle>;
-
-/// How many handles go to the list together, or come from it.
-const TOGETHER: usize = 32;
-
 /// How many places a page has.
 const PAGE: usize = 32;
 
-/// How many pages a thread's pulls go on where they begin elsewhere: the words of pages so far
-/// apart share no cache line.
+/// How many pages apart threads begin, and go on: the words of pages so far apart share no cache
+/// line.
 const APART: usize = 17;
 
-/// The C calls, with a handle a thread. Items that go to another thread go with further ones, of
-/// which a thread has some idle and the others lie in a list. It pulls them at a page of its own.
-pub struct Handles {
-    first: Mutex<OwnHandle>,
-    idle: Mutex<Vec<OwnHandle>>,
+/// How many items a thread lends from a page, before it goes on to another one. Others return them
+/// there meanwhile.
+const TOGETHER: usize = 8;
+
+/// The C calls, with a handle a thread, and places by themselves.
+pub struct Places {
+    first: Mutex<Option<Handle>>,
     users: AtomicUsize,
     cells: Box<[AtomicU64]>,
 }
 
-/// A thread's handle, idle ones for what it sends, and the page where it pulls for those.
-pub struct OwnHandles {
-    own: OwnHandle,
-    idle: Vec<OwnHandle>,
+/// A thread's handle, the page where its next pull begins, and how many items it lent from there.
+pub struct OwnHandle {
+    handle: Option<Handle>,
     page: usize,
+    lent: usize,
 }
 
-impl Handles {
-    pub fn new(items: usize, cells: Box<[AtomicU64]>) -> Handles {
+impl Places {
+    pub fn new(items: usize, cells: Box<[AtomicU64]>) -> Places {
         let mut first = None;
         assert_eq!(kdr_pool_new(items, &mut first), 0);
-        Handles {
+        Places {
             first: Mutex::new(first),
-            idle: Mutex::default(),
             users: AtomicUsize::new(0),
             cells,
         }
     }
 
-    fn open(&self) -> OwnHandle {
-        let mut first = self.first.lock().expect("no panic");
-        let mut own = None;
-        assert_eq!(kdr_pool_share(&mut first, &mut own), 0);
-        own
+    /// Names a page by its number, counted round and round.
+    fn page(&self, number: usize) -> usize {
+        number % (self.cells.len() / PAGE)
     }
 
-    fn idle(&self) -> MutexGuard<'_, Vec<OwnHandle>> {
-        self.idle.lock().expect("no panic")
+    fn pull(&self, user: &mut OwnHandle) -> Place {
+        let mut place = Place::EMPTY;
+        let answer = kdr_place_pull(&mut user.handle, user.page, &mut place);
+        assert_eq!(answer, 0);
+        place
     }
 
-    /// Names another page, whose word lies on another cache line.
-    fn apart(&self, page: usize) -> usize {
-        (page + APART) % (self.cells.len() / PAGE)
+    fn give_back(&self, user: &mut OwnHandle, mut place: Place) {
+        // SAFETY: all handles and places here are of this pool, and a place comes here once.
+        unsafe { kdr_place_return(&mut user.handle, &mut place) };
     }
 }
 
-impl Contender for Handles {
-    type User = OwnHandles;
-    type Held<'p> = OwnHandle;
-    type Sent<'p> = (OwnHandle, usize);
+impl Contender for Places {
+    type User = OwnHandle;
+    type Held<'p> = Place;
+    type Sent<'p> = Place;
 
-    fn user(&self) -> OwnHandles {
-        OwnHandles {
-            own: self.open(),
-            idle: Vec::with_capacity(2 * TOGETHER),
-            page: APART * self.users.fetch_add(1, Ordering::Relaxed),
-        }
+    fn user(&self) -> OwnHandle {
+        let mut handle = None;
+        let mut first = self.first.lock().expect("no panic");
+        assert_eq!(kdr_pool_share(&mut first, &mut handle), 0);
+        let page = self.page(APART * self.users.fetch_add(1, Ordering::Relaxed));
+        let lent = 0;
+        OwnHandle { handle, page, lent }
     }
 
-    fn turn(&self, user: &mut OwnHandles) {
-        let mut place = 0;
-        assert_eq!(kdr_pool_pull(&mut user.own, &mut place), 0);
-        use_item(&self.cells, place);
-        kdr_pool_return(&mut user.own);
+    fn turn(&self, user: &mut OwnHandle) {
+        let place = self.pull(user);
+        use_item(&self.cells, place.number);
+        self.give_back(user, place);
     }
 
-    fn hold(&self) -> OwnHandle {
-        let mut own = self.open();
-        assert_eq!(kdr_pool_pull(&mut own, &mut 0), 0);
-        own
+    fn hold(&self) -> Place {
+        self.pull(&mut self.user())
     }
 
-    fn lend(&self, user: &mut OwnHandles) -> (OwnHandle, usize) {
-        if user.idle.is_empty() {
-            let mut idle = self.idle();
-            let left = idle.len().saturating_sub(TOGETHER);
-            user.idle.extend(idle.drain(left..));
-            user.page = self.apart(user.page); // others return items where it was
+    fn lend(&self, user: &mut OwnHandle) -> Place {
+        let place = self.pull(user);
+        user.lent += 1;
+        if user.lent == TOGETHER {
+            (user.lent, user.page) = (0, self.page(user.page + APART));
         }
-        let mut handle = user.idle.pop().unwrap_or_else(|| self.open());
-        let mut place = 0;
-        let answer = kdr_pool_pull_near(&mut handle, user.page, &mut place);
-        assert_eq!(answer, 0);
-        if place / PAGE != user.page {
-            user.page = self.apart(place / PAGE); // others come to that page too
-        }
-        write_item(&self.cells, place);
-        (handle, place)
+        write_item(&self.cells, place.number);
+        place
     }
 
-    fn take_back(&self, user: &mut OwnHandles, (mut handle, place): (OwnHandle, usize)) {
-        reset_item(&self.cells, place);
-        kdr_pool_return(&mut handle);
-        user.idle.push(handle);
-        if user.idle.len() == 2 * TOGETHER {
-            self.idle().extend(user.idle.drain(TOGETHER..));
-        }
+    fn take_back(&self, user: &mut OwnHandle, place: Place) {
+        reset_item(&self.cells, place.number);
+        self.give_back(user, place);
     }
 }
 

@@ -5,13 +5,15 @@ use std::env;
 use std::hint::black_box;
 use std::iter;
 use std::sync::atomic::{AtomicU64, Ordering};
-use std::sync::{mpsc, Barrier};
+use std::sync::Barrier;
 use std::thread;
 use std::time::Instant;
 
+mod channels;
 mod contenders;
 
-use contenders::{Contender, Grows, Handles, Indices, Original, Queue, Sharded, Stack, Wrapped};
+use channels::{Kind, Sleeping, Yielding};
+use contenders::{Contender, Grows, Indices, Original, Places, Queue, Sharded, Stack, Wrapped};
 
 /// How many items each pool has.
 const ITEMS: usize = 65_536;
@@ -102,8 +104,8 @@ struct Crossing {
 
 /// Nanoseconds an item that one thread pulls and another one returns. Each receiver has a channel,
 /// and a sender sends to each in turn.
-fn one_crossing<C: Contender>(pool: &C, crossing: Crossing, turns: u64) -> f64 {
-    let channels = (0..crossing.receivers).map(|_| mpsc::sync_channel(UNDER_WAY));
+fn one_crossing<K: Kind, C: Contender>(pool: &C, crossing: Crossing, turns: u64) -> f64 {
+    let channels = (0..crossing.receivers).map(|_| K::channel(UNDER_WAY));
     let (channels, receivers): (Vec<_>, Vec<_>) = channels.unzip();
     let turns = turns / crossing.senders as u64;
     let begun = Instant::now();
@@ -121,7 +123,7 @@ fn one_crossing<C: Contender>(pool: &C, crossing: Crossing, turns: u64) -> f64 {
             scope.spawn(move || {
                 let mut user = pool.user();
                 for channel in channels.iter().cycle().take(turns as usize) {
-                    channel.send(pool.lend(&mut user)).expect("somebody reads");
+                    K::send(channel, pool.lend(&mut user));
                 }
             });
         }
@@ -159,33 +161,55 @@ fn measure<C: Contender>(pool: &C, task: Task, turns: u64) -> Times {
     times
 }
 
-/// A pool's name, and its times at each task, the crossings last.
+fn cross<K: Kind, C: Contender>(pool: &C, crossing: Crossing, turns: u64) -> Times {
+    rounds(|| one_crossing::<K, C>(pool, crossing, turns))
+}
+
+/// A pool's name, and its times at each task and at each crossing: by channels whose threads sleep,
+/// and then by those whose threads yield.
 struct Row {
     name: &'static str,
-    times: Vec<Times>,
+    turns: Vec<Times>,
+    crossings: Vec<Times>,
 }
 
 /// Each task has a new pool.
 fn row<C: Contender>(name: &'static str, make: impl Fn() -> C, turns: u64) -> Row {
-    let mut times: Vec<Times> = TASKS.map(|task| measure(&make(), task, turns)).into();
-    times.extend(CROSSINGS.map(|crossing| {
-        let pool = make();
-        rounds(|| one_crossing(&pool, crossing, turns))
-    }));
-    Row { name, times }
+    let sleeping = CROSSINGS.map(|crossing| cross::<Sleeping, C>(&make(), crossing, turns));
+    let yielding = CROSSINGS.map(|crossing| cross::<Yielding, C>(&make(), crossing, turns));
+    Row {
+        name,
+        turns: TASKS.map(|task| measure(&make(), task, turns)).into(),
+        crossings: [sleeping, yielding].concat(),
+    }
 }
 
-fn print(title: &str, rows: &[Row], time: impl Fn(&Times) -> f64) {
-    println!("| {title} | 0 held | 32 | 1,024 | 32,768 | 2 threads | 4 threads | 1 to 1 | 5 to 1 | 1 to 5 | 5 to 5 |");
-    println!("|---|---:|---:|---:|---:|---:|---:|---:|---:|---:|---:|");
+/// Prints a table, with a row for each pool.
+fn print(title: &str, columns: &[&str], rows: &[Row], times: impl Fn(&Row) -> Vec<f64>) {
+    println!("| {title} | {} |", columns.join(" | "));
+    println!("|---|{}", "---:|".repeat(columns.len()));
     for row in rows {
-        let times: Vec<String> = row
-            .times
-            .iter()
-            .map(|one| format!("{:.0}", time(one)))
-            .collect();
-        println!("| {} | {} |", row.name, times.join(" | "));
+        let cells = times(row).into_iter().map(|time| format!("{time:.0}"));
+        println!(
+            "| {} | {} |",
+            row.name,
+            cells.collect::<Vec<_>>().join(" | ")
+        );
     }
+    println!();
+}
+
+/// Prints the tables of the middle times, or of the least ones.
+fn print_times(which: &str, rows: &[Row], time: fn(&Times) -> f64) {
+    let held = ["0 held", "32", "1,024", "32,768", "2 threads", "4 threads"];
+    let of_turns = |row: &Row| row.turns.iter().map(time).collect();
+    print(&format!("Nanoseconds, {which}"), &held, rows, of_turns);
+    let sleeping = ["1 to 1", "5 to 1", "1 to 5", "5 to 5"];
+    let yielding = ["yielding, 1 to 1", "5 to 1", "1 to 5", "5 to 5"];
+    let columns = [sleeping, yielding].concat();
+    let of_crossings = |row: &Row| row.crossings.iter().map(time).collect();
+    let title = format!("An item that crosses threads, {which}");
+    print(&title, &columns, rows, of_crossings);
 }
 
 /// The items of the contenders that pull indices.
@@ -215,9 +239,9 @@ fn main() {
     });
     let queue = || Indices::new(Queue::new(ITEMS), cells());
     let stack = || Indices::new(Stack::new(ITEMS), cells());
-    let handles = || Handles::new(ITEMS, cells());
+    let places = || Places::new(ITEMS, cells());
     let rows = [
-        row("the proved pool, by its C calls", handles, turns),
+        row("the proved pool, by its C calls", places, turns),
         row("the Rust crate's `Pool`", || Wrapped::new(ITEMS), turns),
         row("its `LinearObjectPool`", Grows::new, turns),
         row("the original's `LinearObjectPool`", Original::new, turns),
@@ -225,7 +249,6 @@ fn main() {
         row("crossbeam's `ArrayQueue` of indices", queue, turns),
         row("a mutex round a vector of indices", stack, turns),
     ];
-    print("Nanoseconds, the middle one", &rows, |times| times.middle);
-    println!();
-    print("Nanoseconds, the least", &rows, |times| times.least);
+    print_times("the middle one", &rows, |times| times.middle);
+    print_times("the least", &rows, |times| times.least);
 }

@@ -1,13 +1,9 @@
 //! A pool that grows, by the names of lockfree-object-pool 0.1.6.
 use crate::guard::{Guard, Part, Source};
-use crate::lanes::{Lane, Lanes};
+use crate::lanes::{refuse, Cells, Key, Lane, Lanes, Out};
 use crate::pool::Reset;
-use crate::sys::{kdr_pool_new, Handle, DONE, PAGE};
-use crate::threads;
+use crate::sys::{Handle, PAGE};
 use std::alloc::{handle_alloc_error, Layout};
-use std::hint::black_box;
-use std::mem::swap;
-use std::ops::Deref;
 use std::sync::{Arc, OnceLock};
 
 /// How many chunks a pool may have. The last would have 2^36 items, past the memory of any machine.
@@ -20,7 +16,6 @@ const TIMES: usize = 32;
 
 /// An item that was pulled under a borrow of its [`LinearObjectPool`].
 pub type LinearReusable<'a, T> = Guard<&'a LinearObjectPool<T>>;
-
 /// An item that was pulled with an owner of its [`LinearObjectPool`].
 pub type LinearOwnedReusable<T> = Guard<Arc<LinearObjectPool<T>>>;
 
@@ -40,11 +35,19 @@ pub type LinearOwnedReusable<T> = Guard<Arc<LinearObjectPool<T>>>;
 /// assert_eq!(*pool.pull(), 0);
 /// ```
 pub struct LinearObjectPool<T> {
-    chunks: [OnceLock<Box<[Part<T>]>>; CHUNKS],
+    chunks: [OnceLock<Chunk<T>>; CHUNKS],
     lanes: Lanes,
     init: Box<dyn Fn() -> T + Send + Sync>,
     reset: Reset<T>,
 }
+
+/// Some parts, and each lane's handles of those where it isn't.
+type Chunk<T> = (Box<[Part<T>; PARTS]>, Cells<Row>);
+
+/// A lane's handles, on a cache line of their own.
+#[derive(Default)]
+#[repr(align(64))]
+struct Row([Option<Handle>; PARTS]);
 
 impl<T> LinearObjectPool<T> {
     /// Creates a pool of items that `init` makes, and `reset` resets as they come back.
@@ -67,51 +70,36 @@ impl<T> LinearObjectPool<T> {
     /// earlier chunk had a free item, though each was asked many times.
     #[inline(always)]
     pub fn pull(&self) -> LinearReusable<'_, T> {
-        match self.lanes.pull(self) {
-            Some(out) => Guard { pool: self, out },
-            None => self.find(self),
-        }
+        let out = self.lanes.pull(self).unwrap_or_else(|| self.find());
+        Guard { pool: self, out }
     }
 
     /// As [`pull`](LinearObjectPool::pull), with a guard that keeps the pool.
     #[inline(always)]
     pub fn pull_owned(self: &Arc<Self>) -> LinearOwnedReusable<T> {
-        let pulled = self.lanes.pull(&**self);
+        let out = self.lanes.pull(&**self).unwrap_or_else(|| self.find());
         let pool = Arc::clone(self);
-        match pulled {
-            Some(out) => Guard { pool, out },
-            None => self.find(pool),
-        }
+        Guard { pool, out }
     }
 
     /// Asks each part, from the thread's home on, and first those of the greatest chunk, which have
     /// most items. If all items are out, it creates the next chunk.
     #[cold]
-    fn find<P: Deref<Target = Self>>(&self, pool: P) -> Guard<P> {
-        let is_made = |chunk: &&OnceLock<_>| chunk.get().is_some();
-        let made = self.chunks.iter().take_while(is_made).count();
-        let home = threads::own() % PARTS;
-        let at = self.lanes.own(|lane| lane.part);
-        if self.open(at) {
-            if let Some(out) = self.lanes.pull(self) {
-                return Guard { pool, out };
-            }
-        }
+    fn find(&self) -> Out<Self> {
+        let made = self.chunks.partition_point(|chunk| chunk.get().is_some());
+        let (at, home) = self.lanes.own(|lane| (lane.part, lane.number.number()));
         for made in made..=CHUNKS {
             self.make(made - 1);
             let first = if at / PARTS == made - 1 { at + 1 } else { home };
             for step in 0..made * PARTS * TIMES {
-                let chunk = made - 1 - step % made;
-                let part = chunk * PARTS + (first + step / made) % PARTS;
-                self.open(part);
+                let part = (made - 1 - step % made) * PARTS + (first + step / made) % PARTS;
                 self.lanes.own(|lane| {
                     self.go_to(lane, part);
-                    if lane.next.is_none() {
-                        lane.find_next(self).unwrap_or_else(Self::refused);
-                    }
+                    let opened = self.at(part).0.open(&mut lane.own);
+                    opened.unwrap_or_else(Self::refused);
                 });
                 if let Some(out) = self.lanes.pull(self) {
-                    return Guard { pool, out };
+                    return out;
                 }
             }
         }
@@ -122,38 +110,27 @@ impl<T> LinearObjectPool<T> {
     fn make(&self, number: usize) {
         self.chunks[number].get_or_init(|| {
             let parts = (0..PARTS).map(|_| Part::new((PAGE / PARTS) << number, &self.init));
-            let parts: Option<_> = parts.collect();
-            parts.unwrap_or_else(Self::refused)
+            let parts = parts.collect::<Option<Vec<_>>>();
+            let handles = Cells::new((0..crate::threads::NUMBERS + 1).map(|_| Row::default()));
+            let chunk = parts.and_then(|parts| parts.try_into().ok()).zip(handles);
+            chunk.unwrap_or_else(Self::refused)
         });
     }
 
-    /// Makes the first handle of a part, if it isn't there. Whether it is made.
-    ///
-    /// A part's first thread makes it: the library's small blocks come from that thread's memory,
-    /// and share no cache line with those of a part that another thread made. Small blocks that the
-    /// thread freed before may lie among others', so it takes some of these first.
-    fn open(&self, part: usize) -> bool {
-        let part = self.at(part).0;
-        let mut here = part.idle();
-        if here.first.is_some() {
-            return false;
-        }
-        let mut freed: [Vec<usize>; 16] = Default::default();
-        for block in &mut freed {
-            let _refused = block.try_reserve_exact(2);
-        }
-        let answer = kdr_pool_new(part.cells.0.len(), &mut here.first);
-        drop(black_box(freed));
-        answer == DONE
+    fn chunk(&self, part: usize) -> &Chunk<T> {
+        self.chunks[part / PARTS].get().unwrap_or_else(|| refuse()) // it was made before a pull
     }
 
-    /// Brings a lane to this part. It leaves its handles where it was.
+    /// Brings a lane to this part.
     fn go_to(&self, lane: &mut Lane, part: usize) {
-        if lane.part != part {
-            let left = lane.idle.drain(..).chain(lane.next.take());
-            self.at(lane.part).0.idle().handles.extend(left);
-            lane.part = part;
-        }
+        let own = lane.own.take();
+        *self.kept(lane, lane.part) = own;
+        (lane.own, lane.part) = (self.kept(lane, part).take(), part);
+    }
+
+    /// Returns where a lane keeps its handle of this part while it is at another one.
+    fn kept<'l>(&'l self, lane: &'l mut Lane, part: usize) -> &'l mut Option<Handle> {
+        &mut self.chunk(part).1.item_mut(&mut lane.number).0[part % PARTS]
     }
 
     fn refused<A>() -> A {
@@ -167,34 +144,23 @@ impl<T> Source for LinearObjectPool<T> {
     const PARTS: usize = CHUNKS * PARTS;
 
     fn at(&self, at: usize) -> (&Part<T>, &Lanes, &Reset<T>) {
-        let part = at % Self::PARTS;
-        let chunk = self.chunks[part / PARTS].get();
-        let parts = chunk.expect("it was made before a pull");
-        (&parts[part % PARTS], &self.lanes, &self.reset)
+        let part = &self.chunk(at % Self::PARTS).0[at % PARTS];
+        (part, &self.lanes, &self.reset)
     }
 
-    /// A lane comes home with a handle of a home. It sends others on their way, so that it takes a
-    /// lock for some of the same part, and not for each.
-    fn keep_elsewhere(&self, lane: &mut Lane, part: usize, own: Option<Handle>) {
-        let home = threads::own() % PARTS;
-        if part % PARTS == home && lane.part % PARTS != home {
-            self.go_to(lane, part);
-            lane.next = own;
-            return;
+    fn go_further(&self, lane: &mut Lane) {
+        let next = lane.part / PARTS * PARTS + (lane.part + 1) % PARTS;
+        self.go_to(lane, next);
+    }
+
+    /// A lane comes home with a place of a home.
+    #[inline(never)]
+    fn other<'l>(&'l self, lane: &'l mut Lane, part: usize) -> &'l mut Option<Handle> {
+        let home = lane.number.number() % PARTS;
+        if part % PARTS != home || lane.part % PARTS == home {
+            return self.kept(lane, part);
         }
-        let (to, away) = &mut lane.away;
-        if *to != part || away.len() == away.capacity() {
-            if !away.is_empty() {
-                self.at(*to).0.idle().handles.append(away);
-            }
-            *to = part;
-        }
-        if away.capacity() == 0 {
-            let here = &mut *self.at(part).0.idle();
-            here.handles.extend(own);
-            swap(away, &mut here.spare);
-        } else {
-            away.extend(own);
-        }
+        self.go_to(lane, part);
+        &mut lane.own
     }
 }

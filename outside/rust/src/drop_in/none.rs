@@ -11,30 +11,23 @@ use std::sync::Arc;
 /// *pool.pull() += 5;
 /// assert_eq!(*pool.pull(), 0);
 /// ```
-pub struct NoneObjectPool<T> {
-    init: Box<dyn Fn() -> T + Send + Sync>,
-}
+pub struct NoneObjectPool<T>(Box<dyn Fn() -> T + Send + Sync>);
 
 /// An item of a [`NoneObjectPool`], which is dropped with it.
-pub struct NoneReusable<T> {
-    data: T,
-}
+pub struct NoneReusable<T>(T);
 
 impl<T> NoneObjectPool<T> {
     /// Creates a pool of items that `init` makes.
     pub fn new<I: Fn() -> T + Send + Sync + 'static>(init: I) -> Self {
-        let init = Box::new(init);
-        NoneObjectPool { init }
+        NoneObjectPool(Box::new(init))
     }
 
     /// Returns a new item.
-    #[inline]
     pub fn pull(&self) -> NoneReusable<T> {
-        NoneReusable::new((self.init)())
+        NoneReusable::new(self.0())
     }
 
     /// Returns a new item.
-    #[inline]
     pub fn pull_owned(self: &Arc<Self>) -> NoneReusable<T> {
         self.pull()
     }
@@ -42,24 +35,21 @@ impl<T> NoneObjectPool<T> {
 
 impl<T> NoneReusable<T> {
     /// Creates the item of this value.
-    #[inline]
     pub fn new(data: T) -> Self {
-        NoneReusable { data }
+        NoneReusable(data)
     }
 }
 
 impl<T> Deref for NoneReusable<T> {
     type Target = T;
 
-    #[inline]
     fn deref(&self) -> &T {
-        &self.data
+        &self.0
     }
 }
 
 impl<T> DerefMut for NoneReusable<T> {
-    #[inline]
     fn deref_mut(&mut self) -> &mut T {
-        &mut self.data
+        &mut self.0
     }
 }

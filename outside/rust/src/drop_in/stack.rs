@@ -1,13 +1,10 @@
 //! The pools that keep what comes back in a list behind a lock, by the names of
-//! lockfree-object-pool 0.1.6.
-//!
-//! Nothing here is proved. It is safe Rust, and tested. In Rattle these pools are proved
-//! (`crates/lockfree_object_pool` of this repository).
+//! lockfree-object-pool 0.1.6. Nothing here is proved. It is safe Rust, and tested. In Rattle these
+//! pools are proved (`crates/lockfree_object_pool` of this repository).
 use crate::pool::Reset;
-use std::hint::spin_loop;
-use std::mem::ManuallyDrop;
 use std::ops::{Deref, DerefMut};
 use std::sync::{Arc, Mutex, PoisonError, TryLockError};
+use std::{hint::spin_loop, mem::ManuallyDrop};
 
 /// A list of values behind a lock.
 pub trait Stack<T> {
@@ -17,7 +14,6 @@ pub trait Stack<T> {
 }
 
 impl<T> Stack<T> for Mutex<Vec<T>> {
-    #[inline]
     fn with<A>(&self, call: impl FnOnce(&mut Vec<T>) -> A) -> A {
         call(&mut self.lock().unwrap_or_else(PoisonError::into_inner))
     }
@@ -28,7 +24,6 @@ impl<T> Stack<T> for Mutex<Vec<T>> {
 pub struct SpinLock<T>(Mutex<Vec<T>>);
 
 impl<T> Stack<T> for SpinLock<T> {
-    #[inline]
     fn with<A>(&self, call: impl FnOnce(&mut Vec<T>) -> A) -> A {
         loop {
             match self.0.try_lock() {
@@ -92,18 +87,15 @@ impl<T, S: Stack<T> + Default> StackObjectPool<T, S> {
 
 impl<T, S: Stack<T>> StackObjectPool<T, S> {
     /// Returns the item that came back last, or a new one if none is kept.
-    #[inline]
     pub fn pull(&self) -> StackGuard<T, S, &Self> {
         StackGuard::new(self, self.item())
     }
 
     /// As [`pull`](StackObjectPool::pull), with a guard that keeps the pool.
-    #[inline]
     pub fn pull_owned(self: &Arc<Self>) -> StackGuard<T, S, Arc<Self>> {
         StackGuard::new(Arc::clone(self), self.item())
     }
 
-    #[inline]
     fn item(&self) -> ManuallyDrop<T> {
         let kept = self.kept.with(Vec::pop);
         ManuallyDrop::new(kept.unwrap_or_else(&self.init))
@@ -112,7 +104,6 @@ impl<T, S: Stack<T>> StackObjectPool<T, S> {
 
 impl<T, S: Stack<T>, P: Deref<Target = StackObjectPool<T, S>>> StackGuard<T, S, P> {
     /// Creates the guard of a value, which goes to the pool at the guard's end.
-    #[inline]
     pub fn new(pool: P, data: ManuallyDrop<T>) -> Self {
         let data = Some(ManuallyDrop::into_inner(data));
         StackGuard { pool, data }
@@ -122,21 +113,18 @@ impl<T, S: Stack<T>, P: Deref<Target = StackObjectPool<T, S>>> StackGuard<T, S, 
 impl<T, S: Stack<T>, P: Deref<Target = StackObjectPool<T, S>>> Deref for StackGuard<T, S, P> {
     type Target = T;
 
-    #[inline]
     fn deref(&self) -> &T {
         self.data.as_ref().expect("it is there until the end")
     }
 }
 
 impl<T, S: Stack<T>, P: Deref<Target = StackObjectPool<T, S>>> DerefMut for StackGuard<T, S, P> {
-    #[inline]
     fn deref_mut(&mut self) -> &mut T {
         self.data.as_mut().expect("it is there until the end")
     }
 }
 
 impl<T, S: Stack<T>, P: Deref<Target = StackObjectPool<T, S>>> Drop for StackGuard<T, S, P> {
-    #[inline]
     fn drop(&mut self) {
         if let Some(mut data) = self.data.take() {
             (self.pool.reset)(&mut data);

@@ -1,8 +1,12 @@
-use Rattle.linear_pools.proofs.PullAnswers.{first_pulls}
+use Rattle.linear_pools.proofs.PullAnswers.{first_pulls, same_pulls}
 use Rattle.linear_pools.proofs.linear_object_pool.LinearObjectPool.try_pull.Goals as goal
 
 pub returns-in-Slot-clause-pulled : goal.returns-in-Slot-clause-pulled
 returns-in-Slot-clause-pulled g c =
     let answer = c.in-Slot.ensures.answer in
-    first_pulls _ _ _ _ _ _ _ c.of_first.ensures.item c.of_first.ensures.number answer.0 answer.1 answer.2
-    c.in-Slot.ensures.opening
+    first_pulls _ _ _ _ _ _ _ c.new.ensures.item (rw c.new.ensures.page c.first_number-number.ensures) answer.0 answer.1
+    answer.2 c.in-Slot.ensures.opening
+
+pub returns-in-Ok-clause-pulled : goal.returns-in-Ok-clause-pulled
+returns-in-Ok-clause-pulled g c =
+    same_pulls _ _ _ _ _ _ _ _ c.new-in-Ok.ensures.page c.new-in-Ok.ensures.item c.in-Ok.ensures.pulled

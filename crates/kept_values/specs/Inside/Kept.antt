@@ -1,7 +1,7 @@
 -- The places of a stack's chain: what they keep, first place first.
 use Rattle.std.specs.Prelude.{Option, None, Some, List, [], ◌∷◌, Box, box_value}
 use Rattle.std.specs.declared.alloc.Global.{Global}
-use Rattle.pool_parts.specs.declared.stack.node.Node.{Node, Node', Held-Node-next, None', Some'}
+use Rattle.kept_values.specs.declared.stack.node.Node.{Node, Node', Held-Node-next, None', Some'}
 
 -- the values of a place and of those after it; an empty place has none
 abbrev mutual

@@ -1,6 +1,6 @@
 use Rattle.std.proofs.Common.{sym, ◌∙◌}
-use Rattle.pool_parts.proofs.KeptPlaces.{rest_of_full_chain}
-use Rattle.pool_parts.proofs.stack.Stack.take.Goals as goal
+use Rattle.kept_values.proofs.KeptPlaces.{rest_of_full_chain}
+use Rattle.kept_values.proofs.stack.Stack.take.Goals as goal
 
 pub invariant_of-self-2 : goal.invariant_of-self-2
 invariant_of-self-2 g c =

@@ -1,6 +1,6 @@
 use Rattle.std.proofs.Common.{◌≡◌, length, min, ◌+◌, ◌≤◌}
-use Rattle.pool_parts.specs.Inside.Kept.{kept_values, IsFullChain}
-use Rattle.pool_parts.proofs.stack.Stack.kept.Given as goal
+use Rattle.kept_values.specs.Inside.Kept.{kept_values, IsFullChain}
+use Rattle.kept_values.proofs.stack.Stack.kept.Given as goal
 
 -- the counted places and those to come are all, up to the count's end
 abbrev pub invariant-loop-next : goal.invariant-loop-next

@@ -3,12 +3,12 @@
 //! Each value lies in a boxed place that came with it, so keeping a value takes no memory.
 ghost use Rattle.std.specs.Prelude.{◌≡◌, [], length, min, IfErr, IfSome, MatchOption};
 ghost use Rattle.pool_parts.specs.declared.pull_error.PullError.TheVariants.{Memory};
-ghost use Rattle.pool_parts.specs.LastIn.{PutsInFront, StaysEmpty, TakesFirst};
+ghost use Rattle.kept_values.specs.LastIn.{PutsInFront, StaysEmpty, TakesFirst};
 
-use crate::clean::Clean;
-use crate::pull_error::PullError;
 use crate::stack::node::Node;
 use atomic_table::Badge;
+use pool_parts::PullError;
+use pool_parts::clean::Clean;
 use std::alloc::Global;
 use std::marker::{Model, PhantomData};
 use std::sync::Mutex;
@@ -30,7 +30,7 @@ pub struct Room<T> {
 
 impl<T> Model for Room<T> {
     ghost use Rattle.std.specs.Prelude.{⊤, box_value};
-    ghost use Rattle.pool_parts.specs.Inside.Kept.{IsVacant};
+    ghost use Rattle.kept_values.specs.Inside.Kept.{IsVacant};
 
     ghost Value = { ⊤ };
 
@@ -84,7 +84,7 @@ pub struct Stack<T, K: Clean<T>> {
 
 impl<T, K: Clean<T>> Model for Stack<T, K> {
     ghost use Rattle.std.specs.Prelude.{List, All};
-    ghost use Rattle.pool_parts.specs.Inside.Kept.{kept_values, IsFullChain};
+    ghost use Rattle.kept_values.specs.Inside.Kept.{kept_values, IsFullChain};
 
     ghost Value = { List T };
 

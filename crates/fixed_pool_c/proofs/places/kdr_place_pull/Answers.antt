@@ -1,0 +1,8 @@
+use Rattle.std.proofs.Common.{Some, sym, ap, ◌∙◌, subst}
+use Rattle.fixed_pool_c.specs.Places.{IsPlacePullAnswer}
+use Rattle.fixed_pool_c.proofs.places.kdr_place_pull.Goals as goal
+
+pub returns-clause-answer : goal.returns-clause-answer
+returns-clause-answer c =
+    subst (λ held. IsPlacePullAnswer c.pull_place-answer.result held c.args.place.now c.pull_place-answer.new.place)
+    (ap Some c.deref.ensures ∙ sym c.in-Some.ensures.taken) c.pull_place-answer.ensures

@@ -1,0 +1,78 @@
+-- What the exported calls on places by themselves answer, told by what a place shows before and
+-- after, and by the pool of the handle.
+use Rattle.std.specs.Prelude.{◌≡◌, ℕ, ◌*◌, ◌⊎◌, ⊤, Option, Some, None, IfSome}
+use Rattle.fixed_pools.specs.FixedAnswer.{IsPulledFrom, IsFullNote, returns_since}
+use Rattle.fixed_pools.specs.FixedPool.{pool_identity, pool_opening, pool_pages}
+use Rattle.fixed_pools.specs.StepCount.{IsWithin, passes_to_take, passes_to_refuse}
+use Rattle.pool_parts.specs.Holding.{held_item, holding_page, holding_view}
+use Rattle.pool_parts.specs.Note.{IsGivenBack, note_view}
+use Rattle.pool_parts.specs.declared.page.holding.Holding.{Holding}
+use Rattle.pool_parts.specs.declared.page.note.PageNote.{PageNote}
+use Rattle.fixed_pool_c.specs.Answers.{HasNoPool}
+use Rattle.fixed_pool_c.specs.Shows.{PlacePool, hand_pool, last_of}
+use Rattle.fixed_pool_c.specs.declared.answer.TheConstants.{DONE, ALL_OUT, HOLDS_ONE, HOLDS_NONE, NO_POOL, NO_PLACE}
+use Rattle.fixed_pool_c.specs.declared.held.Hand.{Hand}
+use Rattle.fixed_pool_c.specs.declared.held.Held.{Held}
+use Rattle.fixed_pool_c.specs.declared.place.Place.{Place}
+
+-- the place is empty, by its number and by its right
+abbrev pub IsEmpty : Place → Type 0
+IsEmpty place = (place.number ≡ NO_PLACE) × (place.right.held ≡ None)
+
+-- the place is empty, and keeps this note of its last operation
+abbrev pub IsLeftWith : PageNote ⊤ → Place → Type 0
+IsLeftWith note place = IsEmpty place × (place.right.last ≡ Some (last_of note))
+
+-- the handle has a pool, of which this holds
+abbrev pub HasPool : Option Held → (PlacePool → Type 0) → Type 0
+HasPool handle holds = (held : Held) × (hand : Hand) × (handle ≡ Some held) × (held.hand ≡ Some hand)
+    × holds (hand_pool hand)
+
+-- a place that holds one is of the handle's pool, if the handle has one
+abbrev pub IsOfPool : Option (Holding ⊤) → Option Held → Type 0
+IsOfPool right handle = IfSome right (λ holding. IfSome handle (λ held. IfSome held.hand (λ hand.
+    holding_page holding ≡ pool_identity (hand_pool hand))))
+
+-- the place holds one: the last operation of a legal sequential history of the whole pool is this
+-- pull of this number
+pub record PullsPlace (new : Place) (pool : PlacePool) : Type 0 where
+  pub holding : Holding ⊤
+  pub holds : new.right.held ≡ Some holding
+  pub pulled : IsPulledFrom (pool_identity pool) (pool_opening pool) (held_item holding tt)
+  pub number : new.number ≡ (held_item holding tt).id
+  -- the pull's user made so many loads and tries at most in the first pass, and in a further one
+  -- for each return meanwhile
+  pub brief : IsWithin (pool_pages pool * passes_to_take (returns_since (holding_view holding))) (holding_view holding)
+
+-- the place is empty, and its note shows that at one moment of the call all places were out (or 2^32
+-- returns and more came within it)
+pub record FindsNoPlace (new : Place) (pool : PlacePool) : Type 0 where
+  pub note : PageNote ⊤
+  pub left : IsLeftWith note new
+  pub full : IsFullNote (pool_identity pool) (pool_opening pool) note
+  pub brief : IsWithin (pool_pages pool * passes_to_refuse (returns_since (note_view note))) (note_view note)
+
+-- the place held one, which was returned to the pool; the place is empty, and its note's history
+-- ends with the return
+pub record ReturnsPlace (old new : Place) (pool : PlacePool) : Type 0 where
+  pub holding : Holding ⊤
+  pub held_one : old.right.held ≡ Some holding
+  pub of_pool : holding_page holding ≡ pool_identity pool
+  pub note : PageNote ⊤
+  pub left : IsLeftWith note new
+  pub given_back : IsGivenBack (λ old new. new ≡ old) (held_item holding tt) note
+
+-- what a pull of a place by itself answers, by its number
+abbrev pub IsPlacePullAnswer : ℕ → Option Held → Place → Place → Type 0
+IsPlacePullAnswer number handle old new =
+    ((number ≡ DONE) × IsEmpty old × HasPool handle (PullsPlace new))
+    ⊎ (((number ≡ ALL_OUT) × IsEmpty old × HasPool handle (FindsNoPlace new))
+    ⊎ (((number ≡ HOLDS_ONE) × (new ≡ old) × ((holding : Holding ⊤) × (old.right.held ≡ Some holding)))
+    ⊎ ((number ≡ NO_POOL) × (new ≡ old) × HasNoPool handle)))
+
+-- what a return of a place by itself answers, by its number
+abbrev pub IsPlaceReturnAnswer : ℕ → Option Held → Place → Place → Type 0
+IsPlaceReturnAnswer number handle old new =
+    ((number ≡ DONE) × HasPool handle (ReturnsPlace old new))
+    ⊎ (((number ≡ HOLDS_NONE) × (new ≡ old) × IsEmpty old)
+    ⊎ ((number ≡ NO_POOL) × (new ≡ old) × HasNoPool handle))

@@ -1,0 +1,2 @@
+-- What a stack keeps, as its places hold it.
+pub mod Kept
