@@ -2,27 +2,12 @@
    take places, hand them on as numbers, and return those that others took.
    usage: test_places [TURNS] */
 #include "kundratu_pool.h"
+#include "test_order.h"
 #include <pthread.h>
 #include <stdbool.h>
 #include <stdio.h>
 #include <stdlib.h>
 #include <unistd.h>
-
-#if defined(__has_feature)
-#if __has_feature(thread_sanitizer)
-#define __SANITIZE_THREAD__ 1
-#endif
-#endif
-
-/* As in test_threads.c: the order that the pool's own atomic steps give is told to the sanitizer. */
-#ifdef __SANITIZE_THREAD__
-#include <sanitizer/tsan_interface.h>
-#define COMES_AFTER_THE_RETURN(cell) __tsan_acquire(cell)
-#define COMES_BEFORE_THE_PULL(cell) __tsan_release(cell)
-#else
-#define COMES_AFTER_THE_RETURN(cell) ((void)(cell))
-#define COMES_BEFORE_THE_PULL(cell) ((void)(cell))
-#endif
 
 enum { ITEMS = 70, THREADS = 8, AT_ONCE = 12, HANDED = 24, SECONDS = 100 };
 

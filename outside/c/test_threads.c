@@ -2,27 +2,11 @@
    may be at a place meanwhile. The half of the handles of each thread is dropped by the thread that began it.
    usage: test_threads [TURNS] */
 #include "kundratu_pool.h"
+#include "test_order.h"
 #include <pthread.h>
 #include <stdio.h>
 #include <stdlib.h>
 #include <unistd.h>
-
-#if defined(__has_feature)
-#if __has_feature(thread_sanitizer)
-#define __SANITIZE_THREAD__ 1
-#endif
-#endif
-
-/* The library isn't built with the sanitizer, so it is told here which order the pool's own atomic steps give: what was done at a
-   place before its return comes before what is done there after its next pull. Two holders of one place at once are a race. */
-#ifdef __SANITIZE_THREAD__
-#include <sanitizer/tsan_interface.h>
-#define COMES_AFTER_THE_RETURN(cell) __tsan_acquire(cell)
-#define COMES_BEFORE_THE_PULL(cell) __tsan_release(cell)
-#else
-#define COMES_AFTER_THE_RETURN(cell) ((void)(cell))
-#define COMES_BEFORE_THE_PULL(cell) ((void)(cell))
-#endif
 
 enum { THREADS = 8, HANDLES = 6, ITEMS = 40, SECONDS = 100 };
 
