@@ -67,7 +67,7 @@ PICTURES = [
         4,
         3,
         "Time of a pull and return, in nanoseconds: lower is better",
-        "One thread of one Rust process, Intel Xeon of 2.5 GHz, 2026-11-27, the middle one of 7 runs",
+        "One thread of one Rust process, Intel Xeon of 2.5 GHz, 2026-11-28, the middle one of 7 rounds",
         "items held meanwhile",
     ),
 ]

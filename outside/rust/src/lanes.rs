@@ -6,8 +6,8 @@ use crate::threads::{self, KNOWN, NUMBERS};
 use std::sync::{Mutex, PoisonError};
 use std::{cell::UnsafeCell, marker::PhantomData};
 
-/// How many places a lane pulls at one page, if others return them: as many as numbers on a line.
-const TOGETHER: isize = 8;
+/// How many places a lane pulls at one page, if others return them.
+const TOGETHER: isize = 4;
 
 /// A right to the value of a number, which nobody else has at the time.
 pub(crate) trait Key {
@@ -162,7 +162,6 @@ impl Lanes {
             unsafe { kdr_place_return(handle, &mut Place { number }) }
         };
         self.own(move |lane| {
-            lane.left += 1;
             let own = match S::PARTS == 1 || lane.part == part {
                 true => &mut lane.own,
                 false => pool.other(lane, part),
@@ -170,6 +169,7 @@ impl Lanes {
             if give(own) != DONE {
                 pool.at(part).0.lend(own, give);
             }
+            lane.left += 1;
         });
     }
 }
@@ -194,7 +194,7 @@ impl Lane {
         } else if self.left <= 0 {
             // Others return what this thread pulls, so it goes round some pages, apart from them.
             (self.left, self.moves) = (TOGETHER, self.moves + 1);
-            self.page = (self.begin + self.moves % 64 * 17) % pages;
+            self.page = (self.begin + self.moves % 128 * 17) % pages;
             pool.go_further(self);
         }
         Some(())

@@ -253,7 +253,7 @@ fn lanes_that_only_return_come_to_have_handles() {
         }
     };
     thread::scope(|scope| {
-        let [(first, _it_runs), (second, _)] = [3, 20].map(|items| {
+        let [(first, _it_runs), (second, _)] = [1, 20].map(|items| {
             let ((sender, receiver), (told, tells)) = (channel(), channel());
             scope.spawn(move || returns(receiver, told));
             let one = |_| {

@@ -1,14 +1,16 @@
 //! The channels by which items go to other threads.
 use crossbeam_queue::ArrayQueue;
+use std::iter::repeat_with;
 use std::sync::{mpsc, Arc};
 use std::thread;
 
-/// A kind of channel that has room for some items.
+/// A kind of channel from some senders to one receiver.
 pub trait Kind {
-    type Sender<T: Send>: Clone + Send;
+    type Sender<T: Send>: Send;
     type Receiver<T: Send>: Iterator<Item = T> + Send;
 
-    fn channel<T: Send>(room: usize) -> (Self::Sender<T>, Self::Receiver<T>);
+    /// Creates a channel with room for some items, and an end for each sender.
+    fn channel<T: Send>(senders: usize, room: usize) -> (Vec<Self::Sender<T>>, Self::Receiver<T>);
     fn send<T: Send>(sender: &Self::Sender<T>, item: T);
 }
 
@@ -19,9 +21,12 @@ impl Kind for Sleeping {
     type Sender<T: Send> = mpsc::SyncSender<T>;
     type Receiver<T: Send> = mpsc::IntoIter<T>;
 
-    fn channel<T: Send>(room: usize) -> (mpsc::SyncSender<T>, mpsc::IntoIter<T>) {
+    fn channel<T: Send>(
+        senders: usize,
+        room: usize,
+    ) -> (Vec<mpsc::SyncSender<T>>, mpsc::IntoIter<T>) {
         let (sender, receiver) = mpsc::sync_channel(room);
-        (sender, receiver.into_iter())
+        (vec![sender; senders], receiver.into_iter())
     }
 
     fn send<T: Send>(sender: &mpsc::SyncSender<T>, item: T) {
@@ -29,20 +34,21 @@ impl Kind for Sleeping {
     }
 }
 
-/// A queue whose threads let others run while it is full or empty, and look again. So a pool's time
-/// isn't lost in that of waking threads.
+/// A queue for each sender, from which the receiver takes in turn. Threads let others run while it
+/// is full or empty, and look again. So a pool's time isn't lost in that of waking threads, or of
+/// senders that meet.
 pub struct Yielding;
 
-/// The senders' end of it, and the receiver's.
 type Queue<T> = Arc<ArrayQueue<T>>;
 
 impl Kind for Yielding {
     type Sender<T: Send> = Queue<T>;
     type Receiver<T: Send> = Received<T>;
 
-    fn channel<T: Send>(room: usize) -> (Queue<T>, Received<T>) {
-        let queue = Arc::new(ArrayQueue::new(room));
-        (Arc::clone(&queue), Received(queue))
+    fn channel<T: Send>(senders: usize, room: usize) -> (Vec<Queue<T>>, Received<T>) {
+        let queue = || Arc::new(ArrayQueue::new(room / senders));
+        let queues: Vec<_> = repeat_with(queue).take(senders).collect();
+        (queues.clone(), Received { queues, next: 0 })
     }
 
     fn send<T: Send>(queue: &Queue<T>, mut item: T) {
@@ -53,19 +59,27 @@ impl Kind for Yielding {
     }
 }
 
-/// What comes out of a queue, until all senders have ended and it is empty.
-pub struct Received<T>(Queue<T>);
+/// What comes out of some queues, until all senders have ended and they are empty.
+pub struct Received<T> {
+    queues: Vec<Queue<T>>,
+    next: usize,
+}
 
 impl<T> Iterator for Received<T> {
     type Item = T;
 
     fn next(&mut self) -> Option<T> {
         loop {
-            if let Some(item) = self.0.pop() {
-                return Some(item);
+            for _ in 0..self.queues.len() {
+                self.next = self.next.checked_sub(1).unwrap_or(self.queues.len() - 1);
+                if let Some(item) = self.queues[self.next].pop() {
+                    return Some(item);
+                }
             }
-            if Arc::get_mut(&mut self.0).is_some() {
-                return self.0.pop();
+            // A queue without a sender stays until it was found empty once more.
+            let ended = |queue: &mut Queue<T>| Arc::get_mut(queue).is_some();
+            if self.queues.iter_mut().all(ended) {
+                return self.queues.iter().find_map(|queue| queue.pop());
             }
             thread::yield_now();
         }

@@ -44,7 +44,7 @@ const APART: usize = 17;
 
 /// How many items a thread lends from a page, before it goes on to another one. Others return them
 /// there meanwhile.
-const TOGETHER: usize = 8;
+const TOGETHER: usize = 4;
 
 /// The C calls, with a handle a thread, and places by themselves.
 pub struct Places {

@@ -1,6 +1,7 @@
 //! How long a pull and its return take, of the proved pool by its C calls, of the two pools of the
 //! Rust crate over it, of the original, of sharded-slab's pool, of an `ArrayQueue` of indices, and
 //! of a mutex round a vector of indices: all in one process, and each with the same work between.
+use std::array;
 use std::env;
 use std::hint::black_box;
 use std::iter;
@@ -105,8 +106,10 @@ struct Crossing {
 /// Nanoseconds an item that one thread pulls and another one returns. Each receiver has a channel,
 /// and a sender sends to each in turn.
 fn one_crossing<K: Kind, C: Contender>(pool: &C, crossing: Crossing, turns: u64) -> f64 {
-    let channels = (0..crossing.receivers).map(|_| K::channel(UNDER_WAY));
-    let (channels, receivers): (Vec<_>, Vec<_>) = channels.unzip();
+    let channel = || K::channel(crossing.senders, UNDER_WAY);
+    let channels = iter::repeat_with(channel).take(crossing.receivers);
+    let (ends, receivers): (Vec<_>, Vec<_>) = channels.unzip();
+    let mut ends: Vec<_> = ends.into_iter().map(Vec::into_iter).collect();
     let turns = turns / crossing.senders as u64;
     let begun = Instant::now();
     thread::scope(|scope| {
@@ -119,97 +122,83 @@ fn one_crossing<K: Kind, C: Contender>(pool: &C, crossing: Crossing, turns: u64)
             });
         }
         for _ in 0..crossing.senders {
-            let channels = channels.clone();
+            let ends: Vec<_> = ends.iter_mut().filter_map(Iterator::next).collect();
             scope.spawn(move || {
                 let mut user = pool.user();
-                for channel in channels.iter().cycle().take(turns as usize) {
-                    K::send(channel, pool.lend(&mut user));
+                for end in ends.iter().cycle().take(turns as usize) {
+                    K::send(end, pool.lend(&mut user));
                 }
             });
         }
-        drop(channels);
     });
     begun.elapsed().as_nanos() as f64 / (turns * crossing.senders as u64) as f64
 }
 
-/// The middle one and the least of some rounds.
-#[derive(Clone, Copy)]
-struct Times {
-    middle: f64,
-    least: f64,
-}
-
-fn rounds(round: impl FnMut() -> f64) -> Times {
-    let mut times: Vec<f64> = iter::repeat_with(round).take(ROUNDS).collect();
-    times.sort_by(f64::total_cmp);
-    Times {
-        middle: times[ROUNDS / 2],
-        least: times[0],
-    }
-}
-
-fn measure<C: Contender>(pool: &C, task: Task, turns: u64) -> Times {
-    let held: Vec<C::Held<'_>> = (0..task.held).map(|_| pool.hold()).collect();
+/// Nanoseconds a turn, while other items are held.
+fn one_task<C: Contender>(pool: &C, task: Task, turns: u64) -> f64 {
+    let _held: Vec<C::Held<'_>> = (0..task.held).map(|_| pool.hold()).collect();
     // The original passes by each full page, so it has fewer turns where many items are held.
     let turns = if C::SCANS {
         turns / (1 + task.held as u64 / 256)
     } else {
         turns
     };
-    let times = rounds(|| one_round(pool, task.threads, turns.max(1)));
-    drop(held);
-    times
+    one_round(pool, task.threads, turns.max(1))
 }
 
-fn cross<K: Kind, C: Contender>(pool: &C, crossing: Crossing, turns: u64) -> Times {
-    rounds(|| one_crossing::<K, C>(pool, crossing, turns))
+/// Measures each task and each crossing once, by each kind of channel. Each has a new pool.
+fn measure<C: Contender>(make: impl Fn() -> C, turns: u64) -> Vec<f64> {
+    let tasks = TASKS.map(|task| one_task(&make(), task, turns));
+    let queues = CROSSINGS.map(|crossing| one_crossing::<Yielding, C>(&make(), crossing, turns));
+    let channels = CROSSINGS.map(|crossing| one_crossing::<Sleeping, C>(&make(), crossing, turns));
+    [tasks.as_slice(), &queues, &channels].concat()
 }
 
-/// A pool's name, and its times at each task and at each crossing: by channels whose threads sleep,
-/// and then by those whose threads yield.
+/// A pool's name, and the times of each column in their order, the least first.
 struct Row {
     name: &'static str,
-    turns: Vec<Times>,
-    crossings: Vec<Times>,
+    columns: Vec<[f64; ROUNDS]>,
 }
 
-/// Each task has a new pool.
-fn row<C: Contender>(name: &'static str, make: impl Fn() -> C, turns: u64) -> Row {
-    let sleeping = CROSSINGS.map(|crossing| cross::<Sleeping, C>(&make(), crossing, turns));
-    let yielding = CROSSINGS.map(|crossing| cross::<Yielding, C>(&make(), crossing, turns));
-    Row {
+/// The rounds go round the pools: what disturbs some seconds disturbs all pools alike.
+fn rows(pools: &[(&'static str, &dyn Fn() -> Vec<f64>)]) -> Vec<Row> {
+    let rounds: [Vec<_>; ROUNDS] =
+        array::from_fn(|_| pools.iter().map(|(_, measure)| measure()).collect());
+    let row = |(at, (name, _)): (usize, &(&'static str, _))| Row {
         name,
-        turns: TASKS.map(|task| measure(&make(), task, turns)).into(),
-        crossings: [sleeping, yielding].concat(),
-    }
+        columns: (0..rounds[0][at].len())
+            .map(|column| {
+                let mut times = rounds.each_ref().map(|round| round[at][column]);
+                times.sort_by(f64::total_cmp);
+                times
+            })
+            .collect(),
+    };
+    pools.iter().enumerate().map(row).collect()
 }
 
-/// Prints a table, with a row for each pool.
-fn print(title: &str, columns: &[&str], rows: &[Row], times: impl Fn(&Row) -> Vec<f64>) {
-    println!("| {title} | {} |", columns.join(" | "));
-    println!("|---|{}", "---:|".repeat(columns.len()));
+/// Prints a table of some columns, with a row for each pool.
+fn print(title: &str, names: &[&str], rows: &[Row], first: usize, place: usize) {
+    println!("| {title} | {} |", names.join(" | "));
+    println!("|---|{}", "---:|".repeat(names.len()));
     for row in rows {
-        let cells = times(row).into_iter().map(|time| format!("{time:.0}"));
-        println!(
-            "| {} | {} |",
-            row.name,
-            cells.collect::<Vec<_>>().join(" | ")
-        );
+        let columns = row.columns[first..].iter().take(names.len());
+        let times = columns.map(|times| format!("{:.0}", times[place]));
+        let cells: Vec<_> = times.collect();
+        println!("| {} | {} |", row.name, cells.join(" | "));
     }
     println!();
 }
 
 /// Prints the tables of the middle times, or of the least ones.
-fn print_times(which: &str, rows: &[Row], time: fn(&Times) -> f64) {
+fn print_times(which: &str, rows: &[Row], place: usize) {
     let held = ["0 held", "32", "1,024", "32,768", "2 threads", "4 threads"];
-    let of_turns = |row: &Row| row.turns.iter().map(time).collect();
-    print(&format!("Nanoseconds, {which}"), &held, rows, of_turns);
-    let sleeping = ["1 to 1", "5 to 1", "1 to 5", "5 to 5"];
-    let yielding = ["yielding, 1 to 1", "5 to 1", "1 to 5", "5 to 5"];
-    let columns = [sleeping, yielding].concat();
-    let of_crossings = |row: &Row| row.crossings.iter().map(time).collect();
-    let title = format!("An item that crosses threads, {which}");
-    print(&title, &columns, rows, of_crossings);
+    let ways = ["1 to 1", "5 to 1", "1 to 5", "5 to 5"];
+    let crossing = |by| format!("An item that crosses threads by {by}, {which}");
+    let (queues, channels) = (TASKS.len(), TASKS.len() + CROSSINGS.len());
+    print(&format!("Nanoseconds, {which}"), &held, rows, 0, place);
+    print(&crossing("queues"), &ways, rows, queues, place);
+    print(&crossing("channels"), &ways, rows, channels, place);
 }
 
 /// The items of the contenders that pull indices.
@@ -240,15 +229,25 @@ fn main() {
     let queue = || Indices::new(Queue::new(ITEMS), cells());
     let stack = || Indices::new(Stack::new(ITEMS), cells());
     let places = || Places::new(ITEMS, cells());
-    let rows = [
-        row("the proved pool, by its C calls", places, turns),
-        row("the Rust crate's `Pool`", || Wrapped::new(ITEMS), turns),
-        row("its `LinearObjectPool`", Grows::new, turns),
-        row("the original's `LinearObjectPool`", Original::new, turns),
-        row("sharded-slab's `Pool`", Sharded::new, turns),
-        row("crossbeam's `ArrayQueue` of indices", queue, turns),
-        row("a mutex round a vector of indices", stack, turns),
-    ];
-    print_times("the middle one", &rows, |times| times.middle);
-    print_times("the least", &rows, |times| times.least);
+    let rows = rows(&[
+        ("the proved pool, by its C calls", &|| {
+            measure(places, turns)
+        }),
+        ("the Rust crate's `Pool`", &|| {
+            measure(|| Wrapped::new(ITEMS), turns)
+        }),
+        ("its `LinearObjectPool`", &|| measure(Grows::new, turns)),
+        ("the original's `LinearObjectPool`", &|| {
+            measure(Original::new, turns)
+        }),
+        ("sharded-slab's `Pool`", &|| measure(Sharded::new, turns)),
+        ("crossbeam's `ArrayQueue` of indices", &|| {
+            measure(queue, turns)
+        }),
+        ("a mutex round a vector of indices", &|| {
+            measure(stack, turns)
+        }),
+    ]);
+    print_times("the middle one", &rows, ROUNDS / 2);
+    print_times("the least", &rows, 0);
 }
