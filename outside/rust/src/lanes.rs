@@ -140,13 +140,13 @@ impl Lanes {
         self.own(|lane| {
             #[cfg(test)]
             crate::tests::step();
-            let (mut place, part) = (Place::EMPTY, lane.part);
+            let (mut place, part) = (Place(usize::MAX), lane.part);
             kdr_place_pull(&mut lane.own, lane.page, &mut place);
             lane.left -= 1;
-            if place.number / PAGE != lane.page || lane.left <= 0 {
+            if place.0 / PAGE != lane.page || lane.left <= 0 {
                 lane.go_on(&mut place, pool)?;
             }
-            let (at, item) = (place.number * S::PARTS + part % S::PARTS, PhantomData);
+            let (at, item) = (place.0 * S::PARTS + part % S::PARTS, PhantomData);
             Some(Out { at, item })
         })
     }
@@ -159,7 +159,7 @@ impl Lanes {
         let (number, part) = (out.number(), out.at % S::PARTS);
         let give = move |handle: &mut Option<Handle>| {
             // SAFETY: the handle is of the place's part, and the place's guard ends.
-            unsafe { kdr_place_return(handle, &mut Place { number }) }
+            unsafe { kdr_place_return(handle, &mut Place(number)) }
         };
         self.own(move |lane| {
             let own = match S::PARTS == 1 || lane.part == part {
@@ -183,7 +183,7 @@ impl Lane {
         if !had_handle {
             kdr_place_pull(&mut self.own, self.page, place);
         }
-        let (page, pages) = (place.number / PAGE, part.cells.0.len().div_ceil(PAGE));
+        let (page, pages) = (place.0 / PAGE, part.cells.0.len().div_ceil(PAGE));
         (page < pages).then_some(())?; // it isn't, if there is no place
         if page != self.page {
             // Others come there too, so the next pull begins apart from them, behind that page or

@@ -21,17 +21,9 @@ impl Drop for Handle {
     }
 }
 
-/// A place by itself. If it is dropped, the place stays out.
-#[repr(C)]
-pub struct Place {
-    /// The place's number, or `usize::MAX` if there is none.
-    pub number: usize,
-}
-
-impl Place {
-    /// No place.
-    pub const EMPTY: Place = Place { number: usize::MAX };
-}
+/// A place's number, or `usize::MAX` if there is none. If it is dropped, the place stays out.
+#[repr(transparent)]
+pub struct Place(pub usize);
 
 // SAFETY: the calls are proved for each pointer that is valid, and for each handle that is empty or
 // was left by a call: only the calls make a handle, and it can't be copied. A mutable borrow is the
@@ -40,9 +32,7 @@ impl Place {
 unsafe extern "C" {
     pub safe fn kdr_pool_new(items: usize, out: &mut Option<Handle>) -> u32;
     pub safe fn kdr_pool_share(handle: &mut Option<Handle>, out: &mut Option<Handle>) -> u32;
-    pub safe fn kdr_pool_pull(handle: &mut Option<Handle>, place: &mut usize) -> u32;
     pub safe fn kdr_pool_pull_near(own: &mut Option<Handle>, page: usize, out: &mut usize) -> u32;
-    pub safe fn kdr_pool_return(handle: &mut Option<Handle>) -> u32;
     pub safe fn kdr_pool_drop(handle: &mut Option<Handle>) -> u32;
     pub safe fn kdr_place_pull(handle: &mut Option<Handle>, page: usize, out: &mut Place) -> u32;
     pub fn kdr_place_return(handle: &mut Option<Handle>, place: &mut Place) -> u32;

@@ -77,7 +77,7 @@ impl Places {
     }
 
     fn pull(&self, user: &mut OwnHandle) -> Place {
-        let mut place = Place::EMPTY;
+        let mut place = Place(usize::MAX);
         let answer = kdr_place_pull(&mut user.handle, user.page, &mut place);
         assert_eq!(answer, 0);
         place
@@ -105,7 +105,7 @@ impl Contender for Places {
 
     fn turn(&self, user: &mut OwnHandle) {
         let place = self.pull(user);
-        use_item(&self.cells, place.number);
+        use_item(&self.cells, place.0);
         self.give_back(user, place);
     }
 
@@ -119,12 +119,12 @@ impl Contender for Places {
         if user.lent == TOGETHER {
             (user.lent, user.page) = (0, self.page(user.page + APART));
         }
-        write_item(&self.cells, place.number);
+        write_item(&self.cells, place.0);
         place
     }
 
     fn take_back(&self, user: &mut OwnHandle, place: Place) {
-        reset_item(&self.cells, place.number);
+        reset_item(&self.cells, place.0);
         self.give_back(user, place);
     }
 }
