@@ -101,17 +101,14 @@ impl Lanes {
     pub(crate) fn new(homes: usize, pages: usize) -> Option<Lanes> {
         // Threads begin so far apart that the words of their pages lie on cache lines of their own.
         let far = if pages % 17 == 0 { 1 } else { 17 };
-        let lane = |number: usize| {
-            let begin = (number + 1) * far;
-            Lane {
-                number: Number(number),
-                own: None,
-                part: number % homes,
-                page: begin % pages,
-                begin,
-                moves: 0,
-                left: TOGETHER,
-            }
+        let lane = |number: usize| Lane {
+            number: Number(number),
+            own: None,
+            part: number % homes,
+            page: (number + 1) * far % pages,
+            begin: (number + 1) * far,
+            moves: 0,
+            left: TOGETHER,
         };
         Cells::new((0..NUMBERS).map(lane)).map(|each| Lanes(each, Mutex::new(lane(NUMBERS))))
     }
@@ -128,10 +125,10 @@ impl Lanes {
 
     #[inline(never)]
     fn rest<A>(&self, call: impl FnOnce(&mut Lane) -> A) -> A {
-        if KNOWN.get() != threads::own() {
-            return self.own(call);
+        match KNOWN.get() == threads::own() {
+            true => call(&mut self.1.lock().unwrap_or_else(PoisonError::into_inner)),
+            false => self.own(call),
         }
-        call(&mut self.1.lock().unwrap_or_else(PoisonError::into_inner))
     }
 
     /// Pulls a place at the thread's part. `None` if all were out at one moment, or memory lacks.
