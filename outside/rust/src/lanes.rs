@@ -1,7 +1,7 @@
 //! What each thread has of a pool: a lane, which no other thread reaches while it runs, by plain
 //! reads and writes. A lane has a handle of one part, and a page where its next pull begins.
 use crate::guard::Source;
-use crate::sys::{kdr_place_pull, kdr_place_return, Handle, Place, DONE, PAGE};
+use crate::sys::{kdr_place_pull, kdr_place_return, Handle, Place, DONE, NO_PLACE, PAGE};
 use crate::threads::{self, KNOWN, NUMBERS};
 use std::sync::{Mutex, PoisonError};
 use std::{cell::UnsafeCell, marker::PhantomData};
@@ -137,7 +137,7 @@ impl Lanes {
         self.own(|lane| {
             #[cfg(test)]
             crate::tests::step();
-            let (mut place, part) = (Place(usize::MAX), lane.part);
+            let (mut place, part) = (Place(NO_PLACE), lane.part);
             kdr_place_pull(&mut lane.own, lane.page, &mut place);
             lane.left -= 1;
             if place.0 / PAGE != lane.page || lane.left <= 0 {

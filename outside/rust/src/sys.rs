@@ -1,7 +1,6 @@
-//! The calls of the C library, as `kundratu_pool.h` declares and describes them. What is an empty
-//! handle to C is `None` here.
-use std::ffi::c_void;
-use std::ptr::NonNull;
+//! The calls of the C library that this crate makes, as `kundratu_pool.h` declares and describes
+//! them. What is an empty handle to C is `None` here.
+use std::{ffi::c_void, ptr::NonNull};
 
 pub(crate) const DONE: u32 = 0;
 /// How many places a page has.
@@ -21,7 +20,10 @@ impl Drop for Handle {
     }
 }
 
-/// A place's number, or `usize::MAX` if there is none. If it is dropped, the place stays out.
+/// The number of an empty place.
+pub const NO_PLACE: usize = usize::MAX;
+
+/// A place by itself, by its number. If it is dropped, the place stays out.
 #[repr(transparent)]
 pub struct Place(pub usize);
 

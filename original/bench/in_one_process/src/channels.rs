@@ -1,5 +1,5 @@
-//! The channels by which items go to other threads. A channel whose threads sleep would measure how
-//! long waking them takes, and one that several senders share how long these wait for each other.
+//! The channels by which items go to other threads. Neither does a thread sleep at them, nor do
+//! senders meet: both would take longer than what the pools do.
 use crossbeam_queue::ArrayQueue;
 use std::iter::repeat_with;
 use std::sync::Arc;

@@ -2,7 +2,7 @@
 use crate::{reset_item, use_item, write_item};
 use crossbeam_queue::ArrayQueue;
 use kundratu_pool::sys::{kdr_place_pull, kdr_place_return, Handle, Place};
-use kundratu_pool::sys::{kdr_pool_new, kdr_pool_share};
+use kundratu_pool::sys::{kdr_pool_new, kdr_pool_share, NO_PLACE};
 use kundratu_pool::{LinearObjectPool as Growing, LinearReusable as GrowingReusable};
 use kundratu_pool::{Pool, Reusable};
 use lockfree_object_pool::{LinearObjectPool, LinearReusable};
@@ -77,7 +77,7 @@ impl Places {
     }
 
     fn pull(&self, user: &mut OwnHandle) -> Place {
-        let mut place = Place(usize::MAX);
+        let mut place = Place(NO_PLACE);
         let answer = kdr_place_pull(&mut user.handle, user.page, &mut place);
         assert_eq!(answer, 0);
         place

@@ -122,6 +122,7 @@ fn one_crossing<C: Contender>(pool: &C, crossing: Crossing, turns: u64) -> f64 {
             });
         }
         for _ in 0..crossing.senders {
+            // It has an end of each channel.
             let ends: Vec<_> = ends.iter_mut().filter_map(Iterator::next).collect();
             scope.spawn(move || {
                 let mut user = pool.user();
@@ -176,13 +177,13 @@ fn rows(pools: &[(&'static str, &dyn Fn() -> Vec<f64>)]) -> Vec<Row> {
     pools.iter().enumerate().map(row).collect()
 }
 
-/// Prints a table of some columns, with a row for each pool.
-fn print(title: &str, names: &[&str], rows: &[Row], first: usize, place: usize) {
+/// Prints a table of some columns, with a row for each pool: of their times the one of this rank.
+fn print(title: &str, names: &[&str], rows: &[Row], first: usize, rank: usize) {
     println!("| {title} | {} |", names.join(" | "));
     println!("|---|{}", "---:|".repeat(names.len()));
     for row in rows {
         let columns = row.columns[first..].iter().take(names.len());
-        let times = columns.map(|times| format!("{:.0}", times[place]));
+        let times = columns.map(|times| format!("{:.0}", times[rank]));
         let cells: Vec<_> = times.collect();
         println!("| {} | {} |", row.name, cells.join(" | "));
     }
@@ -190,12 +191,12 @@ fn print(title: &str, names: &[&str], rows: &[Row], first: usize, place: usize) 
 }
 
 /// Prints the tables of the middle times, or of the least ones.
-fn print_times(which: &str, rows: &[Row], place: usize) {
+fn print_times(which: &str, rows: &[Row], rank: usize) {
     let held = ["0 held", "32", "1,024", "32,768", "2 threads", "4 threads"];
     let ways = ["1 to 1", "5 to 1", "1 to 5", "5 to 5"];
     let crossing = format!("An item that crosses threads, {which}");
-    print(&format!("Nanoseconds, {which}"), &held, rows, 0, place);
-    print(&crossing, &ways, rows, TASKS.len(), place);
+    print(&format!("Nanoseconds, {which}"), &held, rows, 0, rank);
+    print(&crossing, &ways, rows, TASKS.len(), rank);
 }
 
 /// The items of the contenders that pull indices.
