@@ -1,41 +1,71 @@
-//! The channels by which items go to other threads. Neither does a thread sleep at them, nor do
-//! senders meet: both would take longer than what the pools do.
+//! The channels by which items go to other threads.
 use crossbeam_queue::ArrayQueue;
 use std::iter::repeat_with;
-use std::sync::Arc;
+use std::sync::{mpsc, Arc};
 use std::thread;
 
-/// A queue for each sender, from which the receiver takes in turn. Threads let others run while it
-/// is full or empty, and look again.
-type Queue<T> = Arc<ArrayQueue<T>>;
+/// A kind of channel from some senders to one receiver.
+pub trait Kind {
+    type Sender<T: Send>: Send;
+    type Receiver<T: Send>: Iterator<Item = T> + Send;
 
-/// Creates a channel with room for some items, and an end for each sender.
-pub fn channel<T>(senders: usize, room: usize) -> (Vec<Sender<T>>, Receiver<T>) {
-    let queue = || Arc::new(ArrayQueue::new(room / senders));
-    let queues: Vec<_> = repeat_with(queue).take(senders).collect();
-    let ends = queues.iter().cloned().map(Sender).collect();
-    (ends, Receiver { queues, next: 0 })
+    /// Creates a channel with room for some items, and an end for each sender.
+    fn channel<T: Send>(senders: usize, room: usize) -> (Vec<Self::Sender<T>>, Self::Receiver<T>);
+    fn send<T: Send>(sender: &Self::Sender<T>, item: T);
 }
 
-/// A sender's end.
-pub struct Sender<T>(Queue<T>);
+/// The standard library's, whose threads sleep while it is full or empty.
+pub struct Sleeping;
 
-impl<T> Sender<T> {
-    pub fn send(&self, mut item: T) {
-        while let Err(back) = self.0.push(item) {
+impl Kind for Sleeping {
+    type Sender<T: Send> = mpsc::SyncSender<T>;
+    type Receiver<T: Send> = mpsc::IntoIter<T>;
+
+    fn channel<T: Send>(
+        senders: usize,
+        room: usize,
+    ) -> (Vec<mpsc::SyncSender<T>>, mpsc::IntoIter<T>) {
+        let (sender, receiver) = mpsc::sync_channel(room);
+        (vec![sender; senders], receiver.into_iter())
+    }
+
+    fn send<T: Send>(sender: &mpsc::SyncSender<T>, item: T) {
+        sender.send(item).expect("somebody reads");
+    }
+}
+
+/// A queue for each sender, from which the receiver takes in turn. Threads let others run while it
+/// is full or empty, and look again. So a pool's time isn't lost in that of waking threads, or of
+/// senders that meet.
+pub struct Yielding;
+
+type Queue<T> = Arc<ArrayQueue<T>>;
+
+impl Kind for Yielding {
+    type Sender<T: Send> = Queue<T>;
+    type Receiver<T: Send> = Received<T>;
+
+    fn channel<T: Send>(senders: usize, room: usize) -> (Vec<Queue<T>>, Received<T>) {
+        let queue = || Arc::new(ArrayQueue::new(room / senders));
+        let queues: Vec<_> = repeat_with(queue).take(senders).collect();
+        (queues.clone(), Received { queues, next: 0 })
+    }
+
+    fn send<T: Send>(queue: &Queue<T>, mut item: T) {
+        while let Err(back) = queue.push(item) {
             item = back;
             thread::yield_now();
         }
     }
 }
 
-/// What comes out of the queues, until all senders have ended and they are empty.
-pub struct Receiver<T> {
+/// What comes out of some queues, until all senders have ended and they are empty.
+pub struct Received<T> {
     queues: Vec<Queue<T>>,
     next: usize,
 }
 
-impl<T> Iterator for Receiver<T> {
+impl<T> Iterator for Received<T> {
     type Item = T;
 
     fn next(&mut self) -> Option<T> {

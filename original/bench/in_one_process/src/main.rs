@@ -13,7 +13,7 @@ use std::time::Instant;
 mod channels;
 mod contenders;
 
-use channels::channel;
+use channels::{Kind, Sleeping, Yielding};
 use contenders::{Contender, Grows, Indices, Original, Places, Queue, Sharded, Stack, Wrapped};
 
 /// How many items each pool has.
@@ -105,8 +105,8 @@ struct Crossing {
 
 /// Nanoseconds an item that one thread pulls and another one returns. Each receiver has a channel,
 /// and a sender sends to each in turn.
-fn one_crossing<C: Contender>(pool: &C, crossing: Crossing, turns: u64) -> f64 {
-    let channel = || channel(crossing.senders, UNDER_WAY);
+fn one_crossing<K: Kind, C: Contender>(pool: &C, crossing: Crossing, turns: u64) -> f64 {
+    let channel = || K::channel(crossing.senders, UNDER_WAY);
     let channels = iter::repeat_with(channel).take(crossing.receivers);
     let (ends, receivers): (Vec<_>, Vec<_>) = channels.unzip();
     let mut ends: Vec<_> = ends.into_iter().map(Vec::into_iter).collect();
@@ -127,7 +127,7 @@ fn one_crossing<C: Contender>(pool: &C, crossing: Crossing, turns: u64) -> f64 {
             scope.spawn(move || {
                 let mut user = pool.user();
                 for end in ends.iter().cycle().take(turns as usize) {
-                    end.send(pool.lend(&mut user));
+                    K::send(end, pool.lend(&mut user));
                 }
             });
         }
@@ -147,11 +147,12 @@ fn one_task<C: Contender>(pool: &C, task: Task, turns: u64) -> f64 {
     one_round(pool, task.threads, turns.max(1))
 }
 
-/// Measures each task and each crossing once, with a new pool each.
+/// Measures each task once, and each crossing by each kind of channel, with a new pool each.
 fn measure<C: Contender>(make: impl Fn() -> C, turns: u64) -> Vec<f64> {
     let tasks = TASKS.map(|task| one_task(&make(), task, turns));
-    let crossings = CROSSINGS.map(|crossing| one_crossing(&make(), crossing, turns));
-    [tasks.as_slice(), &crossings].concat()
+    let queues = CROSSINGS.map(|crossing| one_crossing::<Yielding, C>(&make(), crossing, turns));
+    let channels = CROSSINGS.map(|crossing| one_crossing::<Sleeping, C>(&make(), crossing, turns));
+    [tasks.as_slice(), &queues, &channels].concat()
 }
 
 /// A pool's name, and the times of each column in their order, the least first.
@@ -194,9 +195,11 @@ fn print(title: &str, names: &[&str], rows: &[Row], first: usize, rank: usize) {
 fn print_times(which: &str, rows: &[Row], rank: usize) {
     let held = ["0 held", "32", "1,024", "32,768", "2 threads", "4 threads"];
     let ways = ["1 to 1", "5 to 1", "1 to 5", "5 to 5"];
-    let crossing = format!("An item that crosses threads, {which}");
+    let crossing = |by| format!("An item that crosses threads by {by}, {which}");
+    let (queues, channels) = (TASKS.len(), TASKS.len() + CROSSINGS.len());
     print(&format!("Nanoseconds, {which}"), &held, rows, 0, rank);
-    print(&crossing, &ways, rows, TASKS.len(), rank);
+    print(&crossing("queues"), &ways, rows, queues, rank);
+    print(&crossing("channels"), &ways, rows, channels, rank);
 }
 
 /// The items of the contenders that pull indices.
