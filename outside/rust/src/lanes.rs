@@ -1,7 +1,7 @@
 //! What each thread has of a pool: a lane, which no other thread reaches while it runs, by plain
-//! reads and writes. A lane has a handle of one part, and a page where its next pull begins.
+//! reads and writes. A lane has a handle of each part, and a page where its next pull begins.
 use crate::guard::Source;
-use crate::sys::{kdr_place_pull, kdr_place_return, Handle, Place, DONE, NO_PLACE, PAGE};
+use crate::sys::{kdr_place_pull, kdr_place_return, Handle, Place, NO_PLACE, PAGE};
 use crate::threads::{self, KNOWN, NUMBERS};
 use std::sync::{Mutex, PoisonError};
 use std::{cell::UnsafeCell, marker::PhantomData};
@@ -37,7 +37,7 @@ impl Key for Number {
 }
 
 /// Values by their numbers.
-pub(crate) struct Cells<T>(pub(crate) Vec<UnsafeCell<T>>);
+pub struct Cells<T>(pub(crate) Vec<UnsafeCell<T>>);
 
 // SAFETY: a value is reached only by its key, which one thread has at a time. So to share the cells
 // is to send values from one to another.
@@ -81,10 +81,10 @@ pub(crate) extern "C" fn refuse() -> ! {
 #[repr(align(128))]
 pub struct Lane {
     pub(crate) number: Number,
-    /// A handle of the lane's part, if there is one.
+    /// Its handle, of a pool of one part.
     pub(crate) own: Option<Handle>,
+    /// At which part and page the next pull begins.
     pub(crate) part: usize,
-    /// At which page the next pull begins.
     page: usize,
     /// Where the lane began, and how often it moved.
     begin: usize,
@@ -113,6 +113,12 @@ impl Lanes {
         Cells::new((0..NUMBERS).map(lane)).map(|each| Lanes(each, Mutex::new(lane(NUMBERS))))
     }
 
+    /// Returns all lanes.
+    pub(crate) fn all(&mut self) -> impl Iterator<Item = &mut Lane> {
+        let rest = self.1.get_mut().unwrap_or_else(PoisonError::into_inner);
+        self.0 .0.iter_mut().map(UnsafeCell::get_mut).chain([rest])
+    }
+
     /// Makes this call with the thread's lane. The call doesn't come here again.
     #[inline(always)]
     pub(crate) fn own<A>(&self, call: impl FnOnce(&mut Lane) -> A) -> A {
@@ -125,63 +131,50 @@ impl Lanes {
 
     #[inline(never)]
     fn rest<A>(&self, call: impl FnOnce(&mut Lane) -> A) -> A {
-        match KNOWN.get() == threads::own() {
-            true => call(&mut self.1.lock().unwrap_or_else(PoisonError::into_inner)),
-            false => self.own(call),
+        if KNOWN.get() != threads::own() {
+            return self.own(call); // the thread has its number now
         }
+        call(&mut self.1.lock().unwrap_or_else(PoisonError::into_inner))
     }
 
-    /// Pulls a place at the thread's part. `None` if all were out at one moment, or memory lacks.
+    /// Pulls a place at the thread's part. `None` if all were out at one moment.
     #[inline(always)]
     pub(crate) fn pull<S: Source>(&self, pool: &S) -> Option<Out<S>> {
         self.own(|lane| {
             #[cfg(test)]
             crate::tests::step();
-            let (mut place, part) = (Place(NO_PLACE), lane.part);
-            kdr_place_pull(&mut lane.own, lane.page, &mut place);
+            let (mut place, part, page) = (Place(NO_PLACE), lane.part, lane.page);
+            kdr_place_pull(pool.handle(lane, part), page, &mut place);
             lane.left -= 1;
-            if place.0 / PAGE != lane.page || lane.left <= 0 {
-                lane.go_on(&mut place, pool)?;
+            if place.0 / PAGE != page || lane.left <= 0 {
+                lane.go_on(place.0 / PAGE, pool)?;
             }
             let (at, item) = (place.0 * S::PARTS + part % S::PARTS, PhantomData);
             Some(Out { at, item })
         })
     }
 
-    /// Returns a place. It asks for no memory, but for the thread's number at its first call.
+    /// Returns a place.
     #[inline(always)]
     pub(crate) fn give_back<S: Source>(&self, out: &mut Out<S>, pool: &S) {
         #[cfg(test)]
         crate::tests::step();
         let (number, part) = (out.number(), out.at % S::PARTS);
-        let give = move |handle: &mut Option<Handle>| {
-            // SAFETY: the handle is of the place's part, and the place's guard ends.
-            unsafe { kdr_place_return(handle, &mut Place(number)) }
-        };
         self.own(move |lane| {
-            let own = match S::PARTS == 1 || lane.part == part {
-                true => &mut lane.own,
-                false => pool.other(lane, part),
-            };
-            if give(own) != DONE {
-                pool.at(part).0.lend(own, give);
-            }
+            // SAFETY: the handle is of the place's part, and the place's guard ends.
+            unsafe { kdr_place_return(pool.handle(lane, part), &mut Place(number)) };
             lane.left += 1;
         });
     }
 }
 
 impl Lane {
-    /// Finds where the next pull begins, and pulls if there was no handle. `None` as of `pull`.
+    /// Finds where the next pull begins, after one of a place of this page. `None` if there is no
+    /// such page, since the pull was refused.
     #[inline(never)]
-    fn go_on(&mut self, place: &mut Place, pool: &impl Source) -> Option<()> {
-        let (part, had_handle) = (pool.at(self.part).0, self.own.is_some());
-        part.open(&mut self.own)?;
-        if !had_handle {
-            kdr_place_pull(&mut self.own, self.page, place);
-        }
-        let (page, pages) = (place.0 / PAGE, part.cells.0.len().div_ceil(PAGE));
-        (page < pages).then_some(())?; // it isn't, if there is no place
+    fn go_on(&mut self, page: usize, pool: &impl Source) -> Option<()> {
+        let pages = pool.at(self.part).0 .0.len().div_ceil(PAGE);
+        (page < pages).then_some(())?;
         if page != self.page {
             // Others come there too, so the next pull begins apart from them, behind that page or
             // before it. If it finds nothing there, the lane keeps to the page of its place.

@@ -1,9 +1,9 @@
 //! The pool of a fixed number of items.
-use crate::guard::{Guard, Part, Source};
-use crate::lanes::Lanes;
-use crate::sys::PAGE;
+use crate::guard::{Guard, Source};
+use crate::lanes::{Cells, Lane, Lanes};
+use crate::sys::{open, Handle, PAGE};
 use std::fmt::{self, Debug, Display, Formatter};
-use std::{error::Error, ops::Deref, sync::Arc};
+use std::{error::Error, iter, ops::Deref, sync::Arc};
 
 /// A reset of any closure.
 pub type Reset<T> = Box<dyn Fn(&mut T) + Send + Sync>;
@@ -14,9 +14,9 @@ pub type OwnedReusable<T, R = Reset<T>> = Guard<Arc<Pool<T, R>>>;
 
 /// A pool of a fixed number of items, all made at first.
 ///
-/// A pull waits for no other pull, but for a short lock at times: [what it costs](crate) says when.
+/// A pull waits for no other one, and asks for no memory, but where [what it costs](crate) says so.
 pub struct Pool<T, R = Reset<T>> {
-    part: Part<T>,
+    part: Cells<T>,
     lanes: Lanes,
     reset: R,
 }
@@ -52,15 +52,14 @@ impl<T, R: Fn(&mut T)> Pool<T, R> {
         if items == 0 {
             return Err(NewError::NoItems);
         }
-        let part = Part::new(items, init);
-        let part = part.filter(|part| part.open(&mut None).is_some());
+        let part = Cells::new(iter::repeat_with(init).take(items));
         let lanes = Lanes::new(1, items.div_ceil(PAGE));
-        let (part, lanes) = part.zip(lanes).ok_or(NewError::Memory)?;
+        let (part, mut lanes) = part.zip(lanes).ok_or(NewError::Memory)?;
+        open(items, lanes.all().map(|lane| &mut lane.own)).ok_or(NewError::Memory)?;
         Ok(Pool { part, lanes, reset })
     }
 
-    /// Returns an item that was free. `None` if all were out at one moment of the call, or memory
-    /// for the thread's handle is refused, which its first pull asks for.
+    /// Returns an item that was free. `None` if all were out at one moment of the call.
     #[inline(always)]
     pub fn pull(&self) -> Option<Reusable<'_, T, R>> {
         self.lanes.pull(self).map(|out| Guard { pool: self, out })
@@ -75,7 +74,7 @@ impl<T, R: Fn(&mut T)> Pool<T, R> {
 
     /// Returns the number of items.
     pub fn items(&self) -> usize {
-        self.part.cells.0.len()
+        self.part.0.len()
     }
 }
 
@@ -84,8 +83,12 @@ impl<T, R: Fn(&mut T)> Source for Pool<T, R> {
     type Reset = R;
     const PARTS: usize = 1;
 
-    fn at(&self, _: usize) -> (&Part<T>, &Lanes, &R) {
+    fn at(&self, _: usize) -> (&Cells<T>, &Lanes, &R) {
         (&self.part, &self.lanes, &self.reset)
+    }
+
+    fn handle<'l>(&'l self, lane: &'l mut Lane, _: usize) -> &'l mut Option<Handle> {
+        &mut lane.own
     }
 }
 

@@ -2,7 +2,6 @@
 //! them. What is an empty handle to C is `None` here.
 use std::{ffi::c_void, ptr::NonNull};
 
-pub(crate) const DONE: u32 = 0;
 /// How many places a page has.
 pub(crate) const PAGE: usize = 32;
 
@@ -38,4 +37,24 @@ unsafe extern "C" {
     pub safe fn kdr_pool_drop(handle: &mut Option<Handle>) -> u32;
     pub safe fn kdr_place_pull(handle: &mut Option<Handle>, page: usize, out: &mut Place) -> u32;
     pub fn kdr_place_return(handle: &mut Option<Handle>, place: &mut Place) -> u32;
+}
+
+/// Creates a pool of the library, of so many places, and opens these handles of it. `None` if
+/// memory is refused.
+pub(crate) fn open<'h>(
+    places: usize,
+    mut handles: impl Iterator<Item = &'h mut Option<Handle>>,
+) -> Option<()> {
+    // The pool's own small blocks lie in a row, and its handles behind them, so that they share no
+    // cache line with another pool's. Blocks that were freed before may, so some are taken first.
+    let mut freed: [Vec<usize>; 16] = Default::default();
+    let mut blocks = freed.iter_mut();
+    blocks.try_for_each(|block| block.try_reserve_exact(2).ok())?;
+    let mut first = None;
+    kdr_pool_new(places, &mut first);
+    drop(std::hint::black_box(freed));
+    handles.try_for_each(|handle| {
+        kdr_pool_share(&mut first, handle);
+        handle.is_some().then_some(())
+    })
 }

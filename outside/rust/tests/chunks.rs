@@ -2,8 +2,8 @@
 use kundratu_pool::LinearObjectPool;
 use std::panic::{catch_unwind, AssertUnwindSafe};
 use std::sync::atomic::{AtomicUsize, Ordering::SeqCst};
-use std::sync::Arc;
-use std::thread;
+use std::sync::{Arc, Mutex};
+use std::{mem, thread};
 
 /// A pool whose items are owners of one value, that value, and how often `init` was called.
 fn counting_pool() -> (LinearObjectPool<Arc<()>>, Arc<()>, Arc<AtomicUsize>) {
@@ -42,6 +42,30 @@ fn threads_that_hold_no_more_items_than_there_are_make_no_chunk() {
             });
         }
     });
+    assert_eq!(calls.load(SeqCst), 32);
+}
+
+/// Each thread returns what others pulled. At most 20 items are out at a time.
+#[test]
+fn items_that_other_threads_return_all_come_back() {
+    let (pool, _one, calls) = counting_pool();
+    let slots = [(); 4].map(|()| Mutex::new(None));
+    thread::scope(|scope| {
+        for thread in 0..8 {
+            let (pool, slots) = (&pool, &slots);
+            scope.spawn(move || {
+                for turn in thread..50_000 {
+                    let mine = Some(pool.pull());
+                    let mut slot = slots[turn % 4].lock().expect("no panic");
+                    let others = mem::replace(&mut *slot, mine);
+                    drop(slot);
+                    drop(others);
+                }
+            });
+        }
+    });
+    drop(slots);
+    let _items: Vec<_> = (0..32).map(|_| pool.pull()).collect();
     assert_eq!(calls.load(SeqCst), 32);
 }
 

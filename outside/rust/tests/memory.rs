@@ -90,29 +90,25 @@ fn an_opening_that_is_refused_memory_says_so_and_leaves_nothing() {
         assert!(pool.is_ok() || matches!(pool, Err(NewError::Memory)));
         pool.ok()
     };
-    assert!(5 <= refuse_each(open));
+    assert!(65 <= refuse_each(open), "each of 65 handles asks");
 }
 
+/// A thread asks for the memory of its number at its first call, and does without it.
 #[test]
-fn a_pull_that_is_refused_memory_answers_none_and_leaves_nothing() {
+fn a_pull_whose_thread_is_refused_memory_answers_an_item() {
     let _alone = MEASURED.lock().unwrap_or_else(PoisonError::into_inner);
-    drop(zeros(1).pull()); // the thread has its number from now on
-    for held in [0, 1, 8] {
-        let count = refuse_each(|| {
-            let refused = REFUSED.replace(usize::MAX);
-            let pool = zeros(20);
-            let items: Vec<_> = (0..held).map(|_| pool.pull()).collect();
+    let pool = zeros(20);
+    for request in 0..4 {
+        let run = || {
             ASKED.set(0);
-            REFUSED.set(refused);
-            let done = pool.pull().is_some();
+            REFUSED.set(request);
+            let items = [(); 20].map(|()| pool.pull());
+            let is_refused = pool.pull().is_none();
             REFUSED.set(usize::MAX);
-            assert!(items.iter().all(Option::is_some));
-            drop(items);
-            assert_eq!(iter::from_fn(|| pool.pull()).collect::<Vec<_>>().len(), 20);
-            done.then_some(())
-        });
-        // A thread that has its handle asks for nothing.
-        assert_eq!(1 <= count, held == 0, "{count} requests with {held} held");
+            assert!(items.iter().all(Option::is_some) && is_refused);
+        };
+        let ran = thread::scope(|scope| scope.spawn(run).join());
+        ran.expect("each pull answers");
     }
 }
 
@@ -185,7 +181,6 @@ fn turns_ask_for_no_memory() {
     assert_eq!(ASKED.get(), before);
 }
 
-/// The threads that return what this one pulled have no handle, and then one that was to spare.
 #[test]
 fn returns_ask_for_no_memory_whoever_makes_them() {
     let _alone = MEASURED.lock().unwrap_or_else(PoisonError::into_inner);
@@ -222,31 +217,27 @@ fn forgotten_items_keep_their_places_and_no_memory() {
     assert_eq!(HELD.get(), held);
 }
 
-/// A thread opens a handle at its first pull, unless another one left its own in its lane. 64
-/// threads have a lane each, and all others one.
+/// 64 threads have a lane each, and all others one.
 #[test]
-fn threads_have_handles_of_their_own() {
+fn the_first_pulls_of_threads_ask_for_no_memory() {
     let _alone = MEASURED.lock().unwrap_or_else(PoisonError::into_inner);
     const THREADS: usize = 70;
-    let (pool, all_ran) = (zeros(100), Barrier::new(THREADS + 1));
-    let (sender, receiver) = mpsc::channel();
-    let run = || {
+    let grows = LinearObjectPool::<u32>::new(|| 0, |_| ());
+    let (pool, all_hold) = (zeros(THREADS), Barrier::new(THREADS));
+    let run = |thread: usize| {
         drop(zeros(1).pull()); // the thread has its number
         let before = ASKED.get();
-        drop(pool.pull());
-        sender.send(before < ASKED.get()).expect("it is read");
-        all_ran.wait();
+        let (item, _other) = (pool.pull(), (thread < 8).then(|| grows.pull()));
+        assert_eq!(ASKED.get(), before);
+        all_hold.wait();
+        assert!(item.is_some());
     };
-    let opened = thread::scope(|scope| {
-        let opened = (0..THREADS).map(|_| {
-            scope.spawn(run);
-            receiver.recv().expect("one a thread")
-        });
-        let opened = opened.filter(|opened| *opened).count();
-        all_ran.wait();
-        opened
+    thread::scope(|scope| {
+        for thread in 0..THREADS {
+            let run = &run;
+            scope.spawn(move || run(thread));
+        }
     });
-    assert_eq!(opened, 64 + 1);
 }
 
 #[test]
@@ -266,26 +257,20 @@ fn turns_of_a_linear_pool_ask_for_no_memory() {
     assert_eq!(ASKED.get(), before);
 }
 
-/// The thread that is refused has a handle, or not.
 #[test]
 fn a_refused_pull_asks_for_no_memory_and_answers_at_once() {
     let _alone = MEASURED.lock().unwrap_or_else(PoisonError::into_inner);
-    for has_handle in [false, true] {
-        let pool = Arc::new(zeros(1));
-        if has_handle {
-            drop(pool.pull());
-        }
-        let other = thread::scope(|scope| scope.spawn(|| pool.pull_owned()).join());
-        let _item = other.expect("it ends");
-        assert!(pool.pull().is_none());
-        let before = ASKED.get();
-        let begun = std::time::Instant::now();
-        for _ in 0..1_000 {
-            assert!(pool.pull().is_none() && pool.pull_owned().is_none());
-        }
-        assert!(begun.elapsed().as_millis() < 1_000);
-        assert_eq!(ASKED.get(), before);
+    let pool = Arc::new(zeros(1));
+    let other = thread::scope(|scope| scope.spawn(|| pool.pull_owned()).join());
+    let _item = other.expect("it ends");
+    assert!(pool.pull().is_none());
+    let before = ASKED.get();
+    let begun = std::time::Instant::now();
+    for _ in 0..1_000 {
+        assert!(pool.pull().is_none() && pool.pull_owned().is_none());
     }
+    assert!(begun.elapsed().as_millis() < 1_000);
+    assert_eq!(ASKED.get(), before);
 }
 
 /// One thread pulls, another drops.
@@ -374,12 +359,12 @@ fn block(bytes: usize) -> Option<Vec<u8>> {
 
 /// It runs itself once more in a process whose memory is refused.
 #[test]
-fn where_memory_is_refused_a_pull_and_a_pool_are() {
+fn where_memory_is_refused_a_pool_is_and_no_pull() {
     let _alone = MEASURED.lock().unwrap_or_else(PoisonError::into_inner);
     const ITEMS: usize = 1_000_000;
     if env::var_os("KUNDRATU_REFUSE_MEMORY").is_none() {
         let mut again = Command::new(env::current_exe().expect("it has a name"));
-        again.args(["--exact", "where_memory_is_refused_a_pull_and_a_pool_are"]);
+        again.args(["--exact", "where_memory_is_refused_a_pool_is_and_no_pull"]);
         let ran = again
             .env("KUNDRATU_REFUSE_MEMORY", "1")
             .output()
@@ -392,7 +377,7 @@ fn where_memory_is_refused_a_pull_and_a_pool_are() {
         return;
     }
     let (pool, other) = (zeros(ITEMS), zeros(1));
-    drop(pool.pull()); // the thread has a handle of this one
+    drop(pool.pull()); // the thread has its number
     let mut held = Vec::with_capacity(ITEMS);
     let mut blocks = Vec::with_capacity(1 << 20);
     let for_the_harness = vec![0_u8; 1 << 20];
@@ -402,11 +387,10 @@ fn where_memory_is_refused_a_pull_and_a_pool_are() {
     }
     let refused = (
         Pool::new(1 << 18, || [0_u64; 512], |_| ()).err(),
-        other.pull().is_none(),
+        other.pull().is_some(),
     );
     held.extend(iter::from_fn(|| pool.pull()));
     drop((blocks, for_the_harness));
     assert_eq!(refused, (Some(NewError::Memory), true));
     assert_eq!(held.len(), ITEMS);
-    assert!(other.pull().is_some());
 }

@@ -1,9 +1,11 @@
 //! A pool that grows, by the names of lockfree-object-pool 0.1.6.
-use crate::guard::{Guard, Part, Source};
+use crate::guard::{Guard, Source};
 use crate::lanes::{refuse, Cells, Key, Lane, Lanes, Out};
 use crate::pool::Reset;
-use crate::sys::{Handle, PAGE};
+use crate::sys::{open, Handle, PAGE};
+use crate::threads::NUMBERS;
 use std::alloc::{handle_alloc_error, Layout};
+use std::iter;
 use std::sync::{Arc, OnceLock};
 
 /// How many chunks a pool may have. The last would have 2^36 items, past the memory of any machine.
@@ -41,8 +43,8 @@ pub struct LinearObjectPool<T> {
     reset: Reset<T>,
 }
 
-/// Some parts, and each lane's handles of those where it isn't.
-type Chunk<T> = (Box<[Part<T>; PARTS]>, Cells<Row>);
+/// Some parts, and each lane's handles of them.
+type Chunk<T> = (Box<[Cells<T>; PARTS]>, Cells<Row>);
 
 /// A lane's handles, on a cache line of their own.
 #[derive(Default)]
@@ -93,11 +95,7 @@ impl<T> LinearObjectPool<T> {
             let first = if at / PARTS == made - 1 { at + 1 } else { home };
             for step in 0..made * PARTS * TIMES {
                 let part = (made - 1 - step % made) * PARTS + (first + step / made) % PARTS;
-                self.lanes.own(|lane| {
-                    self.go_to(lane, part);
-                    let opened = self.at(part).0.open(&mut lane.own);
-                    opened.unwrap_or_else(Self::refused);
-                });
+                self.lanes.own(|lane| lane.part = part);
                 if let Some(out) = self.lanes.pull(self) {
                     return out;
                 }
@@ -106,31 +104,26 @@ impl<T> LinearObjectPool<T> {
         Self::refused()
     }
 
-    /// Creates the chunk of this number, if it isn't there.
+    /// Makes the chunk of this number, if it isn't there.
     fn make(&self, number: usize) {
-        self.chunks[number].get_or_init(|| {
-            let parts = (0..PARTS).map(|_| Part::new((PAGE / PARTS) << number, &self.init));
-            let parts = parts.collect::<Option<Vec<_>>>();
-            let handles = Cells::new((0..crate::threads::NUMBERS + 1).map(|_| Row::default()));
-            let chunk = parts.and_then(|parts| parts.try_into().ok()).zip(handles);
-            chunk.unwrap_or_else(Self::refused)
-        });
+        let chunk = || self.new_chunk((PAGE / PARTS) << number);
+        self.chunks[number].get_or_init(|| chunk().unwrap_or_else(Self::refused));
+    }
+
+    /// Creates a chunk of parts of so many items. `None` if memory is refused.
+    fn new_chunk(&self, items: usize) -> Option<Chunk<T>> {
+        let parts = (0..PARTS).map(|_| Cells::new(iter::repeat_with(&self.init).take(items)));
+        let parts = parts.collect::<Option<Vec<_>>>()?.try_into().ok()?;
+        let mut rows = Cells::new(iter::repeat_with(Row::default).take(NUMBERS + 1))?;
+        for part in 0..PARTS {
+            let handles = rows.0.iter_mut().map(|row| &mut row.get_mut().0[part]);
+            open(items, handles)?;
+        }
+        Some((parts, rows))
     }
 
     fn chunk(&self, part: usize) -> &Chunk<T> {
         self.chunks[part / PARTS].get().unwrap_or_else(|| refuse()) // it was made before a pull
-    }
-
-    /// Brings a lane to this part.
-    fn go_to(&self, lane: &mut Lane, part: usize) {
-        let own = lane.own.take();
-        *self.kept(lane, lane.part) = own;
-        (lane.own, lane.part) = (self.kept(lane, part).take(), part);
-    }
-
-    /// Returns where a lane keeps its handle of this part while it is at another one.
-    fn kept<'l>(&'l self, lane: &'l mut Lane, part: usize) -> &'l mut Option<Handle> {
-        &mut self.chunk(part).1.item_mut(&mut lane.number).0[part % PARTS]
     }
 
     fn refused<A>() -> A {
@@ -143,24 +136,21 @@ impl<T> Source for LinearObjectPool<T> {
     type Reset = Reset<T>;
     const PARTS: usize = CHUNKS * PARTS;
 
-    fn at(&self, at: usize) -> (&Part<T>, &Lanes, &Reset<T>) {
+    fn at(&self, at: usize) -> (&Cells<T>, &Lanes, &Reset<T>) {
         let part = &self.chunk(at % Self::PARTS).0[at % PARTS];
         (part, &self.lanes, &self.reset)
     }
 
-    fn go_further(&self, lane: &mut Lane) {
-        let next = lane.part / PARTS * PARTS + (lane.part + 1) % PARTS;
-        self.go_to(lane, next);
+    /// A lane comes home with a place of a home.
+    fn handle<'l>(&'l self, lane: &'l mut Lane, part: usize) -> &'l mut Option<Handle> {
+        let home = lane.number.number() % PARTS;
+        if part % PARTS == home && lane.part % PARTS != home {
+            lane.part = part;
+        }
+        &mut self.chunk(part).1.item_mut(&mut lane.number).0[part % PARTS]
     }
 
-    /// A lane comes home with a place of a home.
-    #[inline(never)]
-    fn other<'l>(&'l self, lane: &'l mut Lane, part: usize) -> &'l mut Option<Handle> {
-        let home = lane.number.number() % PARTS;
-        if part % PARTS != home || lane.part % PARTS == home {
-            return self.kept(lane, part);
-        }
-        self.go_to(lane, part);
-        &mut lane.own
+    fn go_further(&self, lane: &mut Lane) {
+        lane.part = lane.part / PARTS * PARTS + (lane.part + 1) % PARTS;
     }
 }
