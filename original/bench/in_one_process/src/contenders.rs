@@ -7,6 +7,7 @@ use kundratu_pool::{LinearObjectPool as Growing, LinearReusable as GrowingReusab
 use kundratu_pool::{Pool, Reusable};
 use lockfree_object_pool::{LinearObjectPool, LinearReusable};
 use sharded_slab::{Clear, Pool as Slab};
+use std::hint::black_box;
 use std::sync::atomic::{AtomicU64, AtomicUsize, Ordering};
 use std::sync::Mutex;
 
@@ -352,5 +353,62 @@ impl Contender for Sharded {
 
     fn take_back(&self, _: &mut (), held: HeldKey<'_>) {
         drop(held);
+    }
+}
+
+/// No pool: each thread goes round items of its own, and nobody asks whether they came back. So
+/// this tells what the rest takes. A receiver may do some more work with each item.
+pub struct Turns {
+    users: AtomicUsize,
+    cells: Box<[AtomicU64]>,
+    steps: u32,
+}
+
+impl Turns {
+    /// Creates what has these items, and so many steps of work at each receipt.
+    pub fn new(cells: Box<[AtomicU64]>, steps: u32) -> Turns {
+        Turns {
+            users: AtomicUsize::new(0),
+            cells,
+            steps,
+        }
+    }
+}
+
+/// How many items a thread goes round.
+const ROUND: usize = 2_048;
+
+/// A thread's first item, and how many it used.
+pub struct Own {
+    first: usize,
+    used: usize,
+}
+
+impl Contender for Turns {
+    type User = Own;
+    type Held<'p> = ();
+    type Sent<'p> = usize;
+
+    fn user(&self) -> Own {
+        let first = ROUND * self.users.fetch_add(1, Ordering::Relaxed) % self.cells.len();
+        Own { first, used: 0 }
+    }
+
+    fn turn(&self, own: &mut Own) {
+        use_item(&self.cells, own.first);
+    }
+
+    fn hold(&self) {}
+
+    fn lend(&self, own: &mut Own) -> usize {
+        own.used += 1;
+        let index = own.first + own.used % ROUND;
+        write_item(&self.cells, index);
+        index
+    }
+
+    fn take_back(&self, _: &mut Own, index: usize) {
+        (0..self.steps).map(black_box).for_each(drop);
+        reset_item(&self.cells, index);
     }
 }

@@ -1,6 +1,7 @@
 //! How long a pull and its return take, of the proved pool by its C calls, of the two pools of the
 //! Rust crate over it, of the original, of sharded-slab's pool, of an `ArrayQueue` of indices, and
 //! of a mutex round a vector of indices: all in one process, and each with the same work between.
+//! Two rows without a pool tell what that work and the threads' ways to each other take.
 use std::array;
 use std::env;
 use std::hint::black_box;
@@ -14,7 +15,8 @@ mod channels;
 mod contenders;
 
 use channels::{Kind, Sleeping, Yielding};
-use contenders::{Contender, Grows, Indices, Original, Places, Queue, Sharded, Stack, Wrapped};
+use contenders::{Contender, Grows, Indices, Original, Places, Queue, Sharded, Stack};
+use contenders::{Turns, Wrapped};
 
 /// How many items each pool has.
 const ITEMS: usize = 65_536;
@@ -23,6 +25,10 @@ const ITEMS: usize = 65_536;
 const ROUNDS: usize = 7;
 /// How many items may be under way between two threads.
 const UNDER_WAY: usize = 256;
+/// How many rows, the last ones, have no pool.
+const WITHOUT: usize = 2;
+/// How many steps of work more a slower receiver does with an item: some 80 ns.
+const STEPS: u32 = 200;
 
 /// How many items are held, and how many threads pull and return.
 #[derive(Clone, Copy)]
@@ -197,7 +203,8 @@ fn print_times(which: &str, rows: &[Row], rank: usize) {
     let ways = ["1 to 1", "5 to 1", "1 to 5", "5 to 5"];
     let crossing = |by| format!("An item that crosses threads by {by}, {which}");
     let (queues, channels) = (TASKS.len(), TASKS.len() + CROSSINGS.len());
-    print(&format!("Nanoseconds, {which}"), &held, rows, 0, rank);
+    let pools = &rows[..rows.len() - WITHOUT];
+    print(&format!("Nanoseconds, {which}"), &held, pools, 0, rank);
     print(&crossing("queues"), &ways, rows, queues, rank);
     print(&crossing("channels"), &ways, rows, channels, rank);
 }
@@ -247,6 +254,10 @@ fn main() {
         }),
         ("a mutex round a vector of indices", &|| {
             measure(stack, turns)
+        }),
+        ("no pool", &|| measure(|| Turns::new(cells(), 0), turns)),
+        ("no pool, and slower receivers", &|| {
+            measure(|| Turns::new(cells(), STEPS), turns)
         }),
     ]);
     print_times("the middle one", &rows, ROUNDS / 2);
