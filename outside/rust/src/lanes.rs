@@ -145,10 +145,10 @@ impl Lanes {
             crate::tests::step();
             let (mut place, part, page) = (Place(NO_PLACE), lane.part, lane.page);
             kdr_place_pull(pool.handle(lane, part), page, &mut place);
-            lane.left -= 1;
-            if place.0 / PAGE != page || lane.left <= 0 {
+            if place.0 / PAGE != page || lane.left <= 1 {
                 lane.go_on(place.0 / PAGE, pool)?;
             }
+            lane.left -= 1;
             let (at, item) = (place.0 * S::PARTS + part % S::PARTS, PhantomData);
             Some(Out { at, item })
         })
@@ -181,9 +181,9 @@ impl Lane {
             let apart = [self.begin, self.begin.wrapping_neg(), 0][self.moves % 3];
             self.page = page.wrapping_add(apart) % pages;
             self.moves += 1;
-        } else if self.left <= 0 {
+        } else if self.left <= 1 {
             // Others return what this thread pulls, so it goes round some pages, apart from them.
-            (self.left, self.moves) = (TOGETHER, self.moves + 1);
+            (self.left, self.moves) = (TOGETHER + 1, self.moves + 1);
             self.page = (self.begin + self.moves % 128 * 17) % pages;
             pool.go_further(self);
         }

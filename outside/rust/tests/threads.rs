@@ -202,6 +202,26 @@ fn threads_whose_pages_are_full_come_to_pages_of_their_own() {
     assert_eq!(pages[2].len(), THREADS_WITH_PAGES);
 }
 
+#[test]
+fn a_thread_that_was_refused_keeps_to_its_page() {
+    let pool = zeros(200);
+    let held: Vec<_> = std::iter::from_fn(|| pool.pull()).collect();
+    let (was_refused, are_free) = (Barrier::new(2), Barrier::new(2));
+    thread::scope(|scope| {
+        scope.spawn(|| {
+            assert!((0..100).all(|_| pool.pull().is_none()));
+            was_refused.wait();
+            are_free.wait();
+            let number = || pool.pull().expect("all are free").number();
+            let first = number();
+            assert!((0..10).all(|_| number() == first));
+        });
+        was_refused.wait();
+        drop(held);
+        are_free.wait();
+    });
+}
+
 /// How many different items a thread pulls if it pulls 40 at a time, and this is their end.
 fn count_different(end: fn(Vec<Reusable<'_, u32>>)) -> usize {
     let (pool, mut different) = (zeros(131_072), HashSet::new());
