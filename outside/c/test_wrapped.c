@@ -42,7 +42,8 @@ kdr_answer __real_kdr_place_return(kdr_handle *handle, kdr_place *place);
 
 static kdr_answer made(kdr_answer answer, const kdr_handle *handle, size_t pool) {
     if (answer == KDR_DONE) {
-        *known(handle) = (struct known){handle->at, pool, KDR_NO_PLACE};
+        known(handle)->pool = pool;
+        known(handle)->place = KDR_NO_PLACE;
     }
     return answer;
 }

@@ -98,18 +98,20 @@ fn an_opening_that_is_refused_memory_says_so_and_leaves_nothing() {
 fn a_pull_whose_thread_is_refused_memory_answers_an_item() {
     let _alone = MEASURED.lock().unwrap_or_else(PoisonError::into_inner);
     let pool = zeros(20);
-    for request in 0..4 {
+    let was_refused = [0, 1, 2, 3].map(|request| {
         let run = || {
             ASKED.set(0);
             REFUSED.set(request);
             let items = [(); 20].map(|()| pool.pull());
-            let is_refused = pool.pull().is_none();
+            let is_none = pool.pull().is_none();
             REFUSED.set(usize::MAX);
-            assert!(items.iter().all(Option::is_some) && is_refused);
+            assert!(items.iter().all(Option::is_some) && is_none);
+            request < ASKED.get()
         };
         let ran = thread::scope(|scope| scope.spawn(run).join());
-        ran.expect("each pull answers");
-    }
+        ran.expect("each pull answers")
+    });
+    assert!(was_refused[0] && !was_refused[3], "{was_refused:?}");
 }
 
 #[test]
