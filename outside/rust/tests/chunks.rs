@@ -3,7 +3,7 @@ use kundratu_pool::LinearObjectPool;
 use std::panic::{catch_unwind, AssertUnwindSafe};
 use std::sync::atomic::{AtomicUsize, Ordering::SeqCst};
 use std::sync::{Arc, Mutex};
-use std::{mem, thread};
+use std::thread;
 
 /// A pool whose items are owners of one value, that value, and how often `init` was called.
 fn counting_pool() -> (LinearObjectPool<Arc<()>>, Arc<()>, Arc<AtomicUsize>) {
@@ -55,10 +55,8 @@ fn items_that_other_threads_return_all_come_back() {
             let (pool, slots) = (&pool, &slots);
             scope.spawn(move || {
                 for turn in thread..50_000 {
-                    let mine = Some(pool.pull());
-                    let mut slot = slots[turn % 4].lock().expect("no panic");
-                    let others = mem::replace(&mut *slot, mine);
-                    drop(slot);
+                    let item = pool.pull();
+                    let others = slots[turn % 4].lock().expect("no panic").replace(item);
                     drop(others);
                 }
             });

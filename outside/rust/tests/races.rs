@@ -2,10 +2,10 @@
 //! the standard library's threads and locks, which aren't built with it. So these are C's, and this
 //! file has no harness.
 use kundratu_pool::{LinearObjectPool, LinearReusable, Pool, Reusable};
+use std::array;
 use std::cell::UnsafeCell;
 use std::ffi::c_void;
 use std::ptr::{null, null_mut};
-use std::{array, mem};
 
 const THREADS: usize = 8;
 const ROUNDS: u64 = 20_000;
@@ -62,7 +62,7 @@ fn hand_on<G: std::ops::DerefMut<Target = u64>>(mut item: G, round: u64, slots: 
     assert_eq!(*item, 0, "two have it, or it isn't reset");
     *item = round + 1;
     let slot = &slots[round as usize % slots.len()];
-    if let Some(mut other) = slot.with(|slot| mem::replace(slot, Some(item))) {
+    if let Some(mut other) = slot.with(|slot| slot.replace(item)) {
         assert_ne!(*other, 0, "it was returned already");
         *other += 1;
     }
@@ -105,5 +105,5 @@ fn main() {
         // SAFETY: it was created, and is joined once.
         assert_eq!(unsafe { pthread_join(thread, null_mut()) }, 0);
     }
-    println!("{THREADS} threads handed on {} items", 2 * ROUNDS);
+    println!("{THREADS} threads handed on {} items each", 2 * ROUNDS);
 }
