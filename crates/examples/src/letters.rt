@@ -2,7 +2,7 @@
 //! again.
 ghost use Rattle.std.specs.Prelude.{◌≡◌, Err, IsSome, IfOk, vec_len, length};
 ghost use Rattle.std.specs.Arc.{arc_value};
-ghost use Rattle.lockfree_object_pool.specs.LinearPool.{owned_item, pool_limit};
+ghost use Rattle.linear_pools.specs.LinearPool.{linear_owned_item, linear_view};
 
 use lockfree_object_pool::clean::Empty;
 use lockfree_object_pool::closures::{Clear, WithCapacity};
@@ -20,7 +20,7 @@ type Sheet = LinearOwnedReusable<Vec<u8>, WithCapacity, Clear, Empty>;
 pub struct Letter {
     sheet: Sheet,
     len: usize,
-    ghost whole: { vec_len (owned_item sheet).value ≡ len },
+    ghost whole: { vec_len (linear_owned_item sheet).item.value ≡ len },
 }
 
 impl Letter {
@@ -33,7 +33,8 @@ impl Letter {
     /// As the pool's `pull_owned`, and `Memory` too if the sheet can't grow.
     pub fn new(pool: &Arc<SheetPool>, text: &[u8]) -> Result<Letter, PullError>
         ensures text { IfOk result (λ letter. text_of letter ≡ text.now) }
-        ensures limited { result ≡ Err PullError.Limit → IsSome (pool_limit (arc_value pool.now)) }
+        ensures limited { result ≡ Err PullError.Limit → IsSome
+            (linear_view (arc_value pool.now)).limit }
     {
         let mut sheet = pool.pull_owned()?;
         sheet.extend_from_slice(text)?;

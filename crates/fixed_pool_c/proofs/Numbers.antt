@@ -2,8 +2,7 @@
 use Rattle.std.proofs.Common.{◌≡◌, ℕ, Option, Some, None, refl, subst, arith}
 use Rattle.std.specs.Prelude.{⊤, IfSome}
 use denote.Builtin.{unit}
-use Rattle.fixed_pools.specs.FixedPool.{pool_identity}
-use Rattle.pool_parts.specs.Holding.{holding_page}
+use Rattle.fixed_pools.specs.FixedPool.{fixed_view}
 use Rattle.pool_parts.specs.contracts.page.holding.Holding as holding
 use Rattle.pool_parts.specs.declared.page.holding.Holding.{Holding}
 use Rattle.fixed_pool_c.specs.Number.{IsNumberOf}
@@ -36,7 +35,7 @@ no_right (Some holding) number told none = absurd (omega (arith, told.1, none))
 -- what the caller owes, at the right and the hand that are there
 pub of_pool : (right : Option (Holding ⊤)) (held : Held) (holding : Holding ⊤) (hand : Hand)
     → IsOfPool right (Some held) → right ≡ Some holding → held.hand ≡ Some hand
-    → holding_page holding ≡ pool_identity (hand_pool hand)
+    → holding.seat.table_id ≡ (fixed_view (hand_pool hand)).identity
 of_pool right held holding hand owed has opened =
-    subst (λ had. IfSome had (λ hand. holding_page holding ≡ pool_identity (hand_pool hand))) opened
+    subst (λ had. IfSome had (λ hand. holding.seat.table_id ≡ (fixed_view (hand_pool hand)).identity)) opened
     (subst (λ had. IsOfPool had (Some held)) has owed)

@@ -2,13 +2,9 @@
 -- is empty, or its pool and its hand.
 use Rattle.std.specs.Prelude.{◌≡◌, ℕ, ◌+◌, ◌*◌, ◌/◌, ◌⊎◌, ⊤, Option, Some, None}
 use Rattle.std.specs.Arc.{arc_value}
-use Rattle.fixed_pools.specs.FixedAnswer.{IsPulledWith, IsFullNoteAfter, returns_since}
-use Rattle.fixed_pools.specs.StepCount.{IsWithinSince, passes_to_take, passes_to_refuse}
-use Rattle.pool_parts.specs.Note.{IsGivenBack}
-use Rattle.fixed_pools.specs.FixedPool.{pool_identity, pool_items, pool_opening, pool_pages}
-use Rattle.fixed_pools.specs.FixedReusable.{reusable_pool, reusable_item, reusable_view}
-use Rattle.pool_parts.specs.Items.{IsFilled}
-use Rattle.pool_parts.specs.Note.{IsNoteOf, note_view}
+use Rattle.fixed_pools.specs.FixedPool.{IsPulledWith, IsFullNoteAfter, returns_since, IsWithin, fixed_view, fixed_item}
+use Rattle.pool_parts.specs.Page.{IsGivenBack, IsNoteOf, view_of}
+use Rattle.pool_parts.specs.Item.{IsFilled}
 use Rattle.pool_parts.specs.declared.page.note.PageNote.{PageNote}
 use Rattle.fixed_pool_c.specs.Shows.{PlacePool, OutPlace, hand_pool, last_of}
 use Rattle.fixed_pool_c.specs.declared.answer.TheConstants.{DONE, ALL_OUT, HOLDS_ONE, HOLDS_NONE, NO_POOL, IN_USE}
@@ -26,13 +22,13 @@ pub record Pulls (old new : Held) (place : ℕ) : Type 0 where
   pub held_none : old.hand ≡ Some (Empty idle)
   pub out : OutPlace
   pub holds : new.hand ≡ Some (Full out)
-  pub same_pool : arc_value (reusable_pool out) ≡ arc_value idle.pool
-  pub pulled : IsPulledWith (pool_identity (arc_value idle.pool)) idle.note (reusable_item out)
-  pub number : place ≡ (reusable_item out).id
+  pub same_pool : arc_value (fixed_item out).pool ≡ arc_value idle.pool
+  pub pulled : IsPulledWith (fixed_view (arc_value idle.pool)).identity idle.note (fixed_item out).item
+  pub number : place ≡ (fixed_item out).item.id
   -- the pull's user made so many loads and tries at most in the first pass, and in a further one
   -- for each return meanwhile
-  pub brief : IsWithinSince (pool_pages (arc_value idle.pool) * passes_to_take (returns_since (reusable_view out)))
-      (note_view idle.note) (reusable_view out)
+  pub brief : IsWithin ((fixed_view (arc_value idle.pool)).pages * (returns_since (fixed_item out).known + 1))
+      (view_of idle.note.seat).loads (view_of idle.note.seat).tries (fixed_item out).known
 
 -- the handle held no place, and holds none: at one moment of the call all places were out (or 2^32
 -- returns and more came within it)
@@ -42,9 +38,9 @@ pub record FindsAllOut (old new : Held) : Type 0 where
   pub later : Idle
   pub holds_none : new.hand ≡ Some (Empty later)
   pub same_pool : arc_value later.pool ≡ arc_value idle.pool
-  pub full : IsFullNoteAfter (pool_identity (arc_value idle.pool)) idle.note later.note
-  pub brief : IsWithinSince (pool_pages (arc_value idle.pool) * passes_to_refuse (returns_since (note_view later.note)))
-      (note_view idle.note) (note_view later.note)
+  pub full : IsFullNoteAfter (fixed_view (arc_value idle.pool)).identity idle.note later.note
+  pub brief : IsWithin ((fixed_view (arc_value idle.pool)).pages * (returns_since (view_of later.note.seat) + 2))
+      (view_of idle.note.seat).loads (view_of idle.note.seat).tries (view_of later.note.seat)
 
 -- the handle held a place, and holds none: the place was returned, and the handle's history ends
 -- with its return
@@ -53,23 +49,23 @@ pub record Returns (old new : Held) : Type 0 where
   pub held_one : old.hand ≡ Some (Full out)
   pub idle : Idle
   pub holds_none : new.hand ≡ Some (Empty idle)
-  pub same_pool : arc_value idle.pool ≡ arc_value (reusable_pool out)
-  pub given_back : IsGivenBack (λ old new. new ≡ old) (reusable_item out) idle.note
+  pub same_pool : arc_value idle.pool ≡ arc_value (fixed_item out).pool
+  pub given_back : IsGivenBack (λ old new. new ≡ old) (fixed_item out).item idle.note
 
 -- a new handle of this pool: it holds no place, and knows some prefix of the pool's history
 pub record OpensOf (pool : PlacePool) (new : Held) : Type 0 where
   pub idle : Idle
   pub holds_none : new.hand ≡ Some (Empty idle)
   pub same_pool : arc_value idle.pool ≡ pool
-  pub note : IsNoteOf (pool_identity pool) (pool_opening pool) idle.note
+  pub note : IsNoteOf (fixed_view pool).identity (fixed_view pool).opening idle.note
 
 -- the first handle of a new pool of so many free places
 pub record OpensNew (items : ℕ) (new : Held) : Type 0 where
   pub pool : PlacePool
   pub opens : OpensOf pool new
-  pub count : pool_items pool ≡ items
-  pub pages : pool_pages pool ≡ (items + 31) / 32
-  pub free : IsFilled items (λ value. Some value ≡ Some tt) (pool_opening pool)
+  pub count : (fixed_view pool).items ≡ items
+  pub pages : (fixed_view pool).pages ≡ (items + 31) / 32
+  pub free : IsFilled items (λ value. Some value ≡ Some tt) (fixed_view pool).opening
 
 -- a further handle of the pool that the other has
 pub record Shares (held other : Held) : Type 0 where
@@ -141,7 +137,7 @@ IsShareAnswer number handle old new =
 -- how many places a handle's pool has, and 0 where it has none
 abbrev pub hand_items : Option Hand → ℕ
 hand_items None = 0
-hand_items (Some hand) = pool_items (hand_pool hand)
+hand_items (Some hand) = (fixed_view (hand_pool hand)).items
 
 abbrev pub handle_items : Option Held → ℕ
 handle_items None = 0
@@ -153,7 +149,7 @@ abbrev pub LeavesNone : Option Hand → Option Last → Type 0
 LeavesNone None last = ⊤
 LeavesNone (Some (Empty idle)) last = last ≡ Some (last_of idle.note)
 LeavesNone (Some (Full out)) last =
-    (note : PageNote ⊤) × (last ≡ Some (last_of note)) × IsGivenBack (λ old new. new ≡ old) (reusable_item out) note
+    (note : PageNote ⊤) × (last ≡ Some (last_of note)) × IsGivenBack (λ old new. new ≡ old) (fixed_item out).item note
 
 -- what the end of a handle answers
 abbrev pub IsDropAnswer : ℕ → Option Held → Option Held → Option Last → Type 0

@@ -1,6 +1,5 @@
 -- The number of a place.
 use Rattle.std.specs.Prelude.{◌≡◌, ℕ, ◌<◌, ⊤, Option, MatchOption}
-use Rattle.pool_parts.specs.Holding.{holding_page}
 use Rattle.pool_parts.specs.declared.page.holding.Holding.{Holding}
 use Rattle.fixed_pool_c.specs.declared.answer.TheConstants.{NO_PLACE}
 
@@ -8,4 +7,4 @@ use Rattle.fixed_pool_c.specs.declared.answer.TheConstants.{NO_PLACE}
 -- the number of no place
 abbrev pub IsNumberOf : Option (Holding ⊤) → ℕ → Type 0
 IsNumberOf held number = MatchOption held (number ≡ NO_PLACE) (λ holding.
-    (number ≡ holding.number) × (number < NO_PLACE) × (number < (holding_page holding).slots))
+    (number ≡ holding.number) × (number < NO_PLACE) × (number < holding.seat.table_id.slots))

@@ -1,11 +1,8 @@
 -- What the exported calls on places by themselves answer, told by what a place shows before and
 -- after, and by the pool of the handle.
-use Rattle.std.specs.Prelude.{◌≡◌, ℕ, ◌*◌, ◌⊎◌, ⊤, Option, Some, None, IfSome}
-use Rattle.fixed_pools.specs.FixedAnswer.{IsPulledFrom, IsFullNote, returns_since}
-use Rattle.fixed_pools.specs.FixedPool.{pool_identity, pool_opening, pool_pages}
-use Rattle.fixed_pools.specs.StepCount.{IsWithin, passes_to_take, passes_to_refuse}
-use Rattle.pool_parts.specs.Holding.{held_item, holding_page, holding_view}
-use Rattle.pool_parts.specs.Note.{IsGivenBack, note_view}
+use Rattle.std.specs.Prelude.{◌≡◌, ℕ, ◌*◌, ◌⊎◌, ⊤, Option, Some, None, IfSome, ◌+◌}
+use Rattle.fixed_pools.specs.FixedPool.{IsPulledFrom, IsFullNote, returns_since, fixed_view, IsWithin}
+use Rattle.pool_parts.specs.Page.{held_item, view_of, IsGivenBack}
 use Rattle.pool_parts.specs.declared.page.holding.Holding.{Holding}
 use Rattle.pool_parts.specs.declared.page.note.PageNote.{PageNote}
 use Rattle.fixed_pool_c.specs.Answers.{HasNoPool}
@@ -31,33 +28,33 @@ HasPool handle holds = (held : Held) × (hand : Hand) × (handle ≡ Some held) 
 -- a place that holds one is of the handle's pool, if the handle has one
 abbrev pub IsOfPool : Option (Holding ⊤) → Option Held → Type 0
 IsOfPool right handle = IfSome right (λ holding. IfSome handle (λ held. IfSome held.hand (λ hand.
-    holding_page holding ≡ pool_identity (hand_pool hand))))
+    holding.seat.table_id ≡ (fixed_view (hand_pool hand)).identity)))
 
 -- the place holds one: the last operation of a legal sequential history of the whole pool is this
 -- pull of this number
 pub record PullsPlace (new : Place) (pool : PlacePool) : Type 0 where
   pub holding : Holding ⊤
   pub holds : new.right.held ≡ Some holding
-  pub pulled : IsPulledFrom (pool_identity pool) (pool_opening pool) (held_item holding tt)
+  pub pulled : IsPulledFrom (fixed_view pool).identity (fixed_view pool).opening (held_item holding tt)
   pub number : new.number ≡ (held_item holding tt).id
   -- the pull's user made so many loads and tries at most in the first pass, and in a further one
   -- for each return meanwhile
-  pub brief : IsWithin (pool_pages pool * passes_to_take (returns_since (holding_view holding))) (holding_view holding)
+  pub brief : IsWithin ((fixed_view pool).pages * (returns_since (view_of holding.seat) + 1)) 0 0 (view_of holding.seat)
 
 -- the place is empty, and its note shows that at one moment of the call all places were out (or 2^32
 -- returns and more came within it)
 pub record FindsNoPlace (new : Place) (pool : PlacePool) : Type 0 where
   pub note : PageNote ⊤
   pub left : IsLeftWith note new
-  pub full : IsFullNote (pool_identity pool) (pool_opening pool) note
-  pub brief : IsWithin (pool_pages pool * passes_to_refuse (returns_since (note_view note))) (note_view note)
+  pub full : IsFullNote (fixed_view pool).identity (fixed_view pool).opening note
+  pub brief : IsWithin ((fixed_view pool).pages * (returns_since (view_of note.seat) + 2)) 0 0 (view_of note.seat)
 
 -- the place held one, which was returned to the pool; the place is empty, and its note's history
 -- ends with the return
 pub record ReturnsPlace (old new : Place) (pool : PlacePool) : Type 0 where
   pub holding : Holding ⊤
   pub held_one : old.right.held ≡ Some holding
-  pub of_pool : holding_page holding ≡ pool_identity pool
+  pub of_pool : holding.seat.table_id ≡ (fixed_view pool).identity
   pub note : PageNote ⊤
   pub left : IsLeftWith note new
   pub given_back : IsGivenBack (λ old new. new ≡ old) (held_item holding tt) note

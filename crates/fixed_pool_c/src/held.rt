@@ -1,9 +1,8 @@
 //! The parts of an open handle: its pool, and a place of it or none.
 ghost use Rattle.std.specs.Prelude.{◌≡◌};
 ghost use Rattle.std.specs.Arc.{arc_value};
-ghost use Rattle.fixed_pools.specs.FixedPool.{pool_identity};
-ghost use Rattle.pool_parts.specs.Note.{note_page};
-ghost use Rattle.pool_parts.specs.Inside.OneProof.{same_page};
+ghost use Rattle.fixed_pools.specs.FixedPool.{fixed_view};
+ghost use Rattle.pool_parts.specs.Item.{same_page};
 
 use fixed_pools::clean::AnyValue;
 use fixed_pools::closures::{Copied, Keep};
@@ -24,7 +23,7 @@ pub type OutPlace = FixedOwnedReusable<(), Copied<(), AnyValue>, Keep>;
 pub struct Idle {
     pub pool: Arc<PlacePool>,
     pub note: PoolNote<()>,
-    pub ghost of_pool: { note_page note ≡ pool_identity (arc_value pool) } by { same_page _ _ },
+    pub ghost of_pool: { note.seat.table_id ≡ (fixed_view (arc_value pool)).identity } by { same_page _ _ },
 }
 
 /// A place, or none.

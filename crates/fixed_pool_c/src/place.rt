@@ -1,7 +1,6 @@
 //! A place by itself, as C has it: a number, and the right to that place of its pool as a ghost.
 ghost use Rattle.std.specs.Prelude.{◌≡◌, ◌<◌, ⊤, Option, Some, None, MatchOption, IfSome};
 ghost use Rattle.std.proofs.Props.{props};
-ghost use Rattle.pool_parts.specs.Holding.{holding_page};
 ghost use Rattle.pool_parts.specs.declared.page.holding.Holding.{Holding as HoldingShown};
 ghost use Rattle.fixed_pool_c.specs.Number.{IsNumberOf};
 ghost use Rattle.fixed_pool_c.specs.RightOwns.{right_owns};
@@ -91,7 +90,7 @@ impl Place {
     /// Puts what a holder has into the place.
     #[inline(always)]
     pub(crate) fn hold(&mut self, holding: Holding<()>)
-        requires in_pool { holding.number < (holding_page holding).slots }
+        requires in_pool { holding.number < holding.seat.table_id.slots }
         requires fits { holding.number < NO_PLACE }
         ensures held { self.new.right.held ≡ Some holding }
         ensures number { self.new.number ≡ holding.number }
@@ -110,7 +109,7 @@ impl Place {
             (λ holding. self.old.right.held ≡ Some holding) }
         ensures none { MatchOption result (self.new ≡ self.old)
             (λ _. (self.new.right.held ≡ None) × (self.new.number ≡ NO_PLACE)) }
-        ensures in_pool { IfSome result (λ holding. holding.number < (holding_page holding).slots) }
+        ensures in_pool { IfSome result (λ holding. holding.number < holding.seat.table_id.slots) }
     {
         if self.number == NO_PLACE {
             return None;

@@ -1,16 +1,16 @@
 -- What a pool answers, told by what the answer shows and no longer by its user's view.
-use Rattle.std.proofs.Common.{◌≡◌, List, Option, ℕ, ◌+◌, ◌*◌, ◌<◌, ◌≤◌, ◌∙◌, sym, subst, arith}
+use Rattle.pool_parts.proofs.Views.{StartsFrom}
+use Rattle.std.proofs.Common.{◌≡◌, List, Option, ℕ, ◌+◌, ◌*◌, ◌<◌, ◌≤◌, ◌∙◌, sym, subst, arith, None}
 use Rattle.atomic_table.specs.Seated.{TableId}
 use Rattle.pool_parts.specs.declared.page.full_seen.FullSeen.{FullSeen}
 use Rattle.pool_parts.specs.declared.page.note.PageNote.{PageNote}
 use Rattle.pool_parts.specs.declared.page.user_view.UserView.{UserView}
-use Rattle.fixed_pools.specs.FixedAnswer.{IsPulledWith, IsFullSince, FoundFull, returns_between, returns_since}
-use Rattle.fixed_pools.specs.Inside.FixedCount.{FindsFull}
-use Rattle.fixed_pools.specs.StepCount.{IsWithin, IsWithinSince}
-use Rattle.pool_parts.specs.Note.{note_view}
-use Rattle.pool_parts.specs.FullSeen.{full_page, IsAllOut}
-use Rattle.pool_parts.specs.Inside.PageRule.{User, StartsFrom, IsSound, KnowsOut}
-use Rattle.pool_parts.specs.Inside.Taking.{MissesAll, TakesOne}
+use Rattle.fixed_pools.specs.FixedPool.{IsPulledWith, IsFullSince, returns_between, returns_since, IsWithin, IsFullNote}
+use Rattle.fixed_pools.specs.FixedCount.{ReadsOn}
+use Rattle.pool_parts.specs.Page.{view_of}
+use Rattle.pool_parts.specs.Slot.{IsAllOut}
+use Rattle.pool_parts.specs.PageRule.{User, IsSound, MissesAll, TakesOne}
+use Rattle.pool_parts.specs.Ledger.{WasOutBetween}
 use Rattle.pool_parts.proofs.Ledger.{legal_of}
 use Rattle.pool_parts.proofs.PageAnswers.{item_known, pulled_after, found_out, was_out_from, knows_out}
 
@@ -18,7 +18,7 @@ module _ {T : Type 0} where
   -- the item that a pull by a note took
   pub item_pulled_with : (meets : T → Type 0) (pool : TableId) (note : PageNote T) (start known : User T)
       (seated : TableId) (id : ℕ) (value : T)
-      → StartsFrom (note_view note) start.0 → TakesOne meets pool.slots id value start known → seated ≡ pool
+      → StartsFrom (view_of note.seat) start.0 → TakesOne meets pool.slots id value None start known → seated ≡ pool
       → IsPulledWith pool note (item_known seated known.0 id value)
   item_pulled_with meets pool note start known seated id value starts taken same = record {
     of_pool = same;
@@ -28,7 +28,7 @@ module _ {T : Type 0} where
 
   -- what a user has seen that observed each item taken
   pub found_all_out : (count : ℕ) (pool : TableId) (opening : List (Option T)) (start : User T) (seen : FullSeen T)
-      → full_page seen ≡ pool → start.0.opening ≡ opening → IsSound start.0 → MissesAll 0 count start seen.seat.me
+      → seen.seat.table_id ≡ pool → start.0.opening ≡ opening → IsSound start.0 → MissesAll 0 count start seen.seat.me
       → IsAllOut count pool opening seen
   found_all_out count pool opening start seen of_pool opened sound missed =
       let known = seen.seat.me.0 in
@@ -36,21 +36,25 @@ module _ {T : Type 0} where
       was_out_from start.0 known id missed.goes_on sound.since_load (missed.each_was_out id (omega arith) within))
 
   pub knows_all_out : (count : ℕ) (start known : User T) → IsSound start.0 → MissesAll 0 count start known → (id : ℕ)
-      → id < count → KnowsOut known.0 id
+      → id < count → WasOutBetween known.0.opening known.0.since known.0.operations id
   knows_all_out count start known sound missed id within =
       knows_out start.0 known.0 id missed.goes_on sound.since_load (missed.each_was_out id (omega arith) within)
 
   -- what a user has seen that found the pool full
-  pub found_full : (items : ℕ) (opening : List (Option T)) (start known : User T) → start.0.opening ≡ opening
-      → start.0.since ≡ start.0.operations → FindsFull items start known → FoundFull items opening known.0
-  found_full items opening start known opened from_now found =
-      let goes = found.reads_on.goes_on in
+  pub found_full : (pool : TableId) (opening : List (Option T)) (start : User T) (note : PageNote T)
+      → note.seat.table_id ≡ pool → start.0.opening ≡ opening → start.0.since ≡ start.0.operations
+      → ReadsOn start note.seat.me × IsFullSince pool.slots start.0.operations note.seat.me.0
+      → IsFullNote pool opening note
+  found_full pool opening start note of_pool opened from_now found =
+      let known = note.seat.me in
+      let goes = found.0.goes_on in
       let same = goes.same_opening ∙ opened in
       record {
+        of_pool = of_pool;
         same_opening = same;
         legal = legal_of opening known.0 same goes.sound;
         goes_on = goes.sound.since_load;
-        full = subst (λ since. IsFullSince items since known.0) (sym (goes.same_since ∙ from_now)) found.full;
+        full = subst (λ since. IsFullSince pool.slots since known.0) (sym (goes.same_since ∙ from_now)) found.1;
       }
 
   -- what a call has read and tried whose user had done nothing, by the returns since its first load
@@ -58,9 +62,9 @@ module _ {T : Type 0} where
       → known.since ≡ start.operations → start.loads ≡ 1 → start.tries ≡ 0
       → known.loads + 1 ≤ start.loads + words * passes (returns_between start.operations known.operations)
       → known.tries ≤ start.tries + 32 * (words * passes (returns_between start.operations known.operations))
-      → IsWithin (words * passes (returns_since known)) known
+      → IsWithin (words * passes (returns_since known)) 0 0 known
   within_passes passes words start known since loads tries fewer fewer_tries =
-      subst (λ from. IsWithin (words * passes (returns_between from known.operations)) known) (sym since)
+      subst (λ from. IsWithin (words * passes (returns_between from known.operations)) 0 0 known) (sym since)
       record { loads = omega arith; tries = omega arith }
 
   -- the same of a user that had done something before
@@ -68,7 +72,8 @@ module _ {T : Type 0} where
       → known.since ≡ start.operations → start.loads ≡ before.loads + 1 → start.tries ≡ before.tries
       → known.loads + 1 ≤ start.loads + words * passes (returns_between start.operations known.operations)
       → known.tries ≤ start.tries + 32 * (words * passes (returns_between start.operations known.operations))
-      → IsWithinSince (words * passes (returns_since known)) before known
+      → IsWithin (words * passes (returns_since known)) before.loads before.tries known
   within_passes_since passes words before start known since loads tries fewer fewer_tries =
-      subst (λ from. IsWithinSince (words * passes (returns_between from known.operations)) before known) (sym since)
+      subst (λ from. IsWithin (words * passes (returns_between from known.operations)) before.loads before.tries known)
+      (sym since)
       record { loads = omega arith; tries = omega arith }

@@ -7,12 +7,11 @@ use native.Mathlib.Decide.{ℕ_discrete}
 use mathlib.Core.Logic.{dite}
 use Rattle.pool_parts.specs.declared.page.history.Operation.TheVariants.{Pull, Return}
 use Rattle.pool_parts.specs.declared.page.user_view.UserView.{UserView}
-use Rattle.pool_parts.specs.Ledger.{History, value_at, returns_among, returns_of, returns_on, WasOutBetween}
-use Rattle.pool_parts.specs.Inside.PageRule.{User, GoesOn, IsOutNow, LoadsOn, Counts, IsSound}
-use Rattle.pool_parts.specs.Inside.Taking.{MissesAll, TakesOne}
+use Rattle.pool_parts.specs.Ledger.{History, value_at, returns_among, WasOutBetween}
+use Rattle.pool_parts.specs.PageRule.{User, GoesOn, IsOutNow, Counts, IsSound, MissesAll, TakesOne}
 use Rattle.pool_parts.proofs.Ledger.{goes_on_further, still_out, out_longer}
 use Rattle.pool_parts.proofs.Returns.{one_more, grows, grows_within, stays_out}
-use Rattle.fixed_pools.specs.Inside.FixedCount.{is_beside, ReadsOn, Tallies, PassesOver}
+use Rattle.fixed_pools.specs.FixedCount.{is_beside, ReadsOn, Tallies, PassesOver}
 use Rattle.fixed_pools.proofs.PoolWords.{Splits, inside, before, behind, same_beside}
 
 module _ {T : Type 0} where
@@ -30,14 +29,14 @@ module _ {T : Type 0} where
   grown passes old new goes = grown_by passes [] old new goes
 
   pub grown_within : (passes : ℕ → Bool) (made : History T) (old new : UserView T) → GoesOn made old new
-      → returns_among passes new.operations + returns_of old.operations
-      ≤ returns_of new.operations + returns_among passes old.operations
+      → returns_among passes new.operations + returns_among (λ id. true) old.operations
+      ≤ returns_among (λ id. true) new.operations + returns_among passes old.operations
   grown_within passes made old new goes =
       let others : History T = goes.operations.0 in
       let first = grows_within passes others old.operations in
       let second = grows_within passes made (others ++ old.operations) in
-      subst (λ operations. returns_among passes operations + returns_of old.operations
-      ≤ returns_of operations + returns_among passes old.operations)
+      subst (λ operations. returns_among passes operations + returns_among (λ id. true) old.operations
+      ≤ returns_among (λ id. true) operations + returns_among passes old.operations)
       (sym goes.operations.1) (omega arith)
 
   pub out_still : (passes : ℕ → Bool) (id : ℕ) (old new : UserView T) → GoesOn [] old new → passes id ≡ true
@@ -143,8 +142,9 @@ module _ {T : Type 0} where
     goes_on = missed.goes_on;
   }
 
-  pub loaded_reads : (place word : ℕ) (old new : User T) → LoadsOn place old word new → ReadsOn old new
-  loaded_reads place word old new loaded = record {
+  pub loaded_reads : (places place word count : ℕ) (old new : User T) → Counts places place old word count new
+      → ReadsOn old new
+  loaded_reads places place word count old new loaded = record {
     holds_same = loaded.holds_same;
     carries_same = loaded.carries_same;
     goes_on = loaded.goes_on;
@@ -223,7 +223,8 @@ module _ {T : Type 0} where
               before.operations (second.each_was_out id second_one.2)
           | inr (inr none) ↦ absurd (true≢false (sym own ∙ none.0))
         ];
-        tallies = tallies_join whole one other split sum more old.0 mid.0 new.0 first.tallies before second.tallies goes;
+        tallies = tallies_join whole one other split sum more old.0 mid.0 new.0 first.tallies before second.tallies
+            goes;
       }
 
   -- no word was read yet
@@ -273,7 +274,7 @@ module _ {T : Type 0} where
   pub passes_word : (places page word count : ℕ) (old mid new : User T) → Counts places page old word count mid
       → MissesAll (32 * page) (32 * page + 32) mid new → PassesOver (λ id. id / 32 == page) count old new
   passes_word places page word count old mid new counted missed =
-      let loaded = counted.loads_on.goes_on in
+      let loaded = counted.goes_on in
       let on_page : ℕ → Bool = λ id. id / 32 == page in
       let mid_grown = grown on_page old.0 mid.0 loaded in
       let new_grown = grown on_page mid.0 new.0 missed.goes_on in
@@ -282,12 +283,12 @@ module _ {T : Type 0} where
       let here : id / 32 ≡ page = eqb-true (id / 32) page own in
       missed.each_was_out id (omega arith) (omega arith) in
       record {
-        reads_on = reads_further old mid new (loaded_reads page word old mid counted.loads_on)
+        reads_on = reads_further old mid new (loaded_reads places page word count old mid counted)
             (missed_reads (32 * page) (32 * page + 32) mid new missed);
         each_was_out = λ id own. out_longer new.0.opening old.0.operations mid.0.operations new.0.operations id
             loaded.operations (out id own);
         tallies = record {
-          total = returns_on page mid.0.operations;
+          total = returns_among (λ id. id / 32 == page) mid.0.operations;
           is_total = counted.counts;
           from_first = omega arith;
           to_last = omega arith;
@@ -314,7 +315,7 @@ module _ {T : Type 0} where
 
   -- and then an item was taken
   pub takes_later : (meets : T → Type 0) (items id : ℕ) (value : T) (one two three : User T) → ReadsOn one two
-      → TakesOne meets items id value two three → TakesOne meets items id value one three
+      → TakesOne meets items id value None two three → TakesOne meets items id value None one three
   takes_later meets items id value one two three read taken = record {
     in_pool = taken.in_pool;
     meets_condition = taken.meets_condition;

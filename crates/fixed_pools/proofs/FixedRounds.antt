@@ -9,13 +9,12 @@ use Rattle.std.specs.Int.{w32, bit_at, trailing_zeros}
 use Rattle.std.proofs.lemmas.Nat.Bits.{bit_at-zero, bit_at-trailing_zeros}
 use Rattle.pool_parts.specs.declared.page.history.Operation.TheVariants.{Pull}
 use Rattle.pool_parts.specs.declared.page.user_view.UserView.{UserView}
-use Rattle.pool_parts.specs.Ledger.{History, IsLegal, value_at, returns_among, returns_on, WasOutBetween}
-use Rattle.pool_parts.specs.Inside.PageRule.{User, item_of, GoesOn, IsOutNow, IsFreeNow, LoadsOn, Counts}
-use Rattle.pool_parts.specs.Inside.Taking.{MissesAll, TakesOne}
+use Rattle.pool_parts.specs.Ledger.{History, IsLegal, value_at, returns_among, WasOutBetween}
+use Rattle.pool_parts.specs.PageRule.{User, GoesOn, IsOutNow, Counts, MissesAll, TakesOne}
 use Rattle.pool_parts.proofs.Ledger.{goes_on_further, still_out}
 use Rattle.pool_parts.proofs.Returns.{stays_out}
-use Rattle.fixed_pools.specs.FixedAnswer.{returns_between}
-use Rattle.fixed_pools.specs.Inside.FixedCount.{is_beside, ReadsOn, Tallies, FindsFull}
+use Rattle.fixed_pools.specs.FixedPool.{returns_between, IsFullSince}
+use Rattle.fixed_pools.specs.FixedCount.{is_beside, ReadsOn, Tallies}
 use Rattle.fixed_pools.proofs.PoolWords.{inside, with_first}
 use Rattle.fixed_pools.proofs.FixedCounts.{grown, grown_by, grown_within, out_still, adds_up, out_kept}
 use Rattle.fixed_pools.proofs.FixedCounts.{reads_further, missed_reads, loaded_reads, takes_later}
@@ -37,15 +36,15 @@ pub no_more_words : (words fewer more : ℕ) → fewer ≤ more → words * fewe
 no_more_words words fewer more within = mul-le-mul_left words within
 
 module _ {T : Type 0} where
-  -- where a call stands that has made some passes and taken nothing: its last pass, and that each pass but the first one
-  -- counted more returns than the one before
+  -- where a call stands that has made some passes and taken nothing: its last pass, and that each pass but the first
+  -- one counted more returns than the one before
   pub record HasPassed (start words slots sum round : ℕ) (first now : User T) : Type 0 where
     pub last : User T
     pub begun : ReadsOn first last
     pub missed : MissesAll 0 slots last now
     pub tallies : Tallies (is_beside 0 words start) sum last.0 now.0
     pub counted : returns_among (λ id. nat_lt (id / 32) words) first.0.operations + round
-        ≤ tallies.total + returns_on start last.0.operations
+        ≤ tallies.total + returns_among (λ id. id / 32 == start) last.0.operations
 
   -- after the first pass
   pub passed_once : (start words slots sum : ℕ) (first now : User T) → start < words → ReadsOn first first
@@ -59,7 +58,7 @@ module _ {T : Type 0} where
   -- what the last pass counted came by now
   counted_by : (start words slots sum round : ℕ) (first now : User T) → start < words
       → (passed : HasPassed start words slots sum round first now)
-      → passed.tallies.total + returns_on start passed.last.0.operations
+      → passed.tallies.total + returns_among (λ id. id / 32 == start) passed.last.0.operations
       ≤ returns_among (λ id. nat_lt (id / 32) words) now.0.operations
   counted_by start words slots sum round first now in_pool passed =
       let all = adds_up _ _ _ (with_first words start in_pool) now.0.operations in
@@ -67,7 +66,8 @@ module _ {T : Type 0} where
       let to = passed.tallies.to_last in
       omega arith
 
-  pub passed_reads : (start words slots sum round : ℕ) (first now : User T) → HasPassed start words slots sum round first now
+  pub passed_reads : (start words slots sum round : ℕ) (first now : User T) → HasPassed start words slots sum round
+      first now
       → ReadsOn first now
   passed_reads start words slots sum round first now passed =
       reads_further first passed.last now passed.begun (missed_reads 0 slots passed.last now passed.missed)
@@ -84,7 +84,7 @@ module _ {T : Type 0} where
   all_out : (start words slots sum round : ℕ) (first now : User T) → start < words → slots ≤ 32 * words
       → (passed : HasPassed start words slots sum round first now)
       → returns_among (λ id. nat_lt (id / 32) words) now.0.operations
-      ≤ passed.tallies.total + returns_on start passed.last.0.operations
+      ≤ passed.tallies.total + returns_among (λ id. id / 32 == start) passed.last.0.operations
       → (id : ℕ) → id < slots → IsOutNow now.0 id
   all_out start words slots sum round first now in_pool covered passed none id within =
       let all = adds_up _ _ _ (with_first words start in_pool) now.0.operations in
@@ -97,7 +97,7 @@ module _ {T : Type 0} where
 
   -- an item is taken only where it is free: none that was out, and didn't come back
   taken_free : (passes : ℕ → Bool) (meets : T → Type 0) (slots id : ℕ) (value : T) (old new : User T) → passes id ≡ true
-      → TakesOne meets slots id value old new
+      → TakesOne meets slots id value None old new
       → returns_among passes new.0.operations ≤ returns_among passes old.0.operations → IsOutNow old.0 id → ⊥
   taken_free passes meets slots id value old new own taken none out =
       let goes = taken.goes_on in
@@ -107,14 +107,15 @@ module _ {T : Type 0} where
       let opened : value_at new.0.opening old.0.operations id ≡ None =
       ap (λ opening. value_at opening old.0.operations id) goes.same_opening ∙ out in
       let still = stays_out new.0.opening passes id others old.0.operations own
-      (subst (λ operations. returns_among passes operations ≤ returns_among passes old.0.operations) made none) opened in
-      let free : value_at new.0.opening (others ++ old.0.operations) id ≡ Some value = legal.0.lies_there in
+      (subst (λ operations. returns_among passes operations ≤ returns_among passes old.0.operations) made none)
+      opened in
+      let free : value_at new.0.opening (others ++ old.0.operations) id ≡ Some value = legal.0.0 in
       cc
 
   -- who takes an item after a pass that found each taken knows of one return more
   pub taken_later : (meets : T → Type 0) (start words slots sum round id : ℕ) (value : T) (first now two three : User T)
       → start < words → slots ≤ 32 * words → HasPassed start words slots sum round first now → GoesOn [] now.0 two.0
-      → TakesOne meets slots id value two three
+      → TakesOne meets slots id value None two three
       → returns_among (λ id. nat_lt (id / 32) words) first.0.operations + round + 1
       ≤ returns_among (λ id. nat_lt (id / 32) words) three.0.operations
   taken_later meets start words slots sum round id value first now two three in_pool covered passed goes taken =
@@ -124,7 +125,7 @@ module _ {T : Type 0} where
       let by_now = counted_by start words slots sum round first now in_pool passed in
       let grew = grown in_words now.0 two.0 goes in
       let grew_on = grown_by in_words _ two.0 three.0 taken.goes_on in
-      elim (cases_lt (passed.tallies.total + returns_on start passed.last.0.operations)
+      elim (cases_lt (passed.tallies.total + returns_among (λ id. id / 32 == start) passed.last.0.operations)
       (returns_among in_words three.0.operations)) [
         | inl more ↦ omega arith
         | inr none ↦
@@ -135,7 +136,8 @@ module _ {T : Type 0} where
 
   -- an item that was out and is free came back
   came_back_to : (passes : ℕ → Bool) (id : ℕ) (old now : UserView T) → passes id ≡ true
-      → WasOutBetween now.opening old.operations now.operations id → IsFreeNow now id
+      → WasOutBetween now.opening old.operations now.operations id → (value : T)
+      × (value_at now.opening now.operations id ≡ Some value)
       → returns_among passes old.operations < returns_among passes now.operations
   came_back_to passes id old now own was free =
       elim (cases_lt (returns_among passes old.operations) (returns_among passes now.operations)) [
@@ -154,7 +156,7 @@ module _ {T : Type 0} where
   passed_again start words slots sum more word count round first now two three in_pool passed read fits missed tally
       changed =
       let on_start : ℕ → Bool = λ id. id / 32 == start in
-      let loaded = read.loads_on.goes_on in
+      let loaded = read.goes_on in
       let since = goes_on_further [] passed.last.0 now.0 two.0 passed.missed.goes_on loaded in
       let counted = passed.counted in
       let total_one = passed.tallies.is_total in
@@ -164,7 +166,7 @@ module _ {T : Type 0} where
       let grew = grown (is_beside 0 words start) now.0 two.0 loaded in
       let start_grew = grown on_start passed.last.0 two.0 since in
       let reads = reads_further first now two (passed_reads start words slots sum round first now passed)
-      (loaded_reads start word now two read.loads_on) in
+      (loaded_reads slots start word count now two read) in
       record {
         last = two;
         begun = reads;
@@ -180,25 +182,25 @@ module _ {T : Type 0} where
             (λ some.
             let set = some_bit word some fits in
             let free = read.set_are_free set.0 set.1 set.2 in
-            let was = still_out passed.last.0.operations now.0 two.0 (item_of start set.0) loaded
-            (passed.missed.each_was_out (item_of start set.0) (omega arith) free.0) in
+            let was = still_out passed.last.0.operations now.0 two.0 (32 * start + set.0) loaded
+            (passed.missed.each_was_out (32 * start + set.0) (omega arith) free.0) in
             let bit_in_word = set.1 in
-            let back = came_back_to on_start (item_of start set.0) passed.last.0 two.0
-            (eq-eqb (item_of start set.0 / 32) start (omega arith)) was free.1 in
+            let back = came_back_to on_start (32 * start + set.0) passed.last.0 two.0
+            (eq-eqb ((32 * start + set.0) / 32) start (omega arith)) was free.1 in
             omega arith);
       }
 
-  -- the first word was empty when it was read again, and the others count what they counted before: no item was free then;
-  -- or the counts came round
+  -- the first word was empty when it was read again, and the others count what they counted before: no item was free
+  -- then; or the counts came round
   pub found_full_again : (start words slots sum word count round : ℕ) (first now two three : User T) → start < words
       → slots ≤ 32 * words → HasPassed start words slots sum round first now → Counts slots start now word count two
       → word ≡ 0 → MissesAll 0 slots two three → Tallies (is_beside 0 words start) sum two.0 three.0
-      → FindsFull slots first three
+      → ReadsOn first three × IsFullSince slots first.0.operations three.0
   found_full_again start words slots sum word count round first now two three in_pool covered passed read empty missed
       tally =
       let in_words : ℕ → Bool = λ id. nat_lt (id / 32) words in
       let others : ℕ → Bool = is_beside 0 words start in
-      let loaded = read.loads_on.goes_on in
+      let loaded = read.goes_on in
       let total_one = passed.tallies.is_total in
       let to_one = passed.tallies.to_last in
       let total_two = tally.is_total in
@@ -206,11 +208,10 @@ module _ {T : Type 0} where
       let to_two = tally.to_last in
       let grew = grown others now.0 two.0 loaded in
       let reads_two = reads_further first now two (passed_reads start words slots sum round first now passed)
-      (loaded_reads start word now two read.loads_on) in
-      let reads = reads_further first two three reads_two (missed_reads 0 slots two three missed) in
-      record {
-        reads_on = reads;
-        full = elim (cases_lt passed.tallies.total tally.total) [
+      (loaded_reads slots start word count now two read) in
+      let reads = reads_further first two three reads_two (missed_reads 0 slots two three missed) in (
+        reads,
+        elim (cases_lt passed.tallies.total tally.total) [
           | inl more ↦
               let last_all = adds_up _ _ _ (with_first words start in_pool) three.0.operations in
               let first_all = adds_up _ _ _ (with_first words start in_pool) first.0.operations in
@@ -226,25 +227,26 @@ module _ {T : Type 0} where
             λ id inside_pool. ap (λ opening. value_at opening two.0.operations id) missed.goes_on.same_opening
                 ∙ dite (ℕ_discrete (id / 32) start)
                 (λ same.
-                let whole : item_of start (id - 32 * start) ≡ id = omega arith in
-                subst (IsOutNow two.0) whole (read.loads_on.clear_are_out (id - 32 * start) (omega arith)
+                let whole : 32 * start + (id - 32 * start) ≡ id = omega arith in
+                subst (IsOutNow two.0) whole (read.clear_are_out (id - 32 * start) (omega arith)
                 (ap (λ w. bit_at w (id - 32 * start)) empty ∙ bit_at-zero (id - 32 * start))))
                 (λ differ.
                 let own = inside 0 words start id (omega arith) (omega arith) differ in
                 out_still others id now.0 two.0 loaded own (omega arith)
                 (passed.tallies.full (omega arith) id own)),
           )
-        ];
-      }
+        ],
+      )
 
   -- so many rounds, each with a return
   pub counts_came_round : (start words slots sum round : ℕ) (first now : User T) → start < words
-      → HasPassed start words slots sum round first now → 2 ^ 32 ≤ round → FindsFull slots first now
+      → HasPassed start words slots sum round first now → 2 ^ 32 ≤ round → ReadsOn first now
+      × IsFullSince slots first.0.operations now.0
   counts_came_round start words slots sum round first now in_pool passed many =
       let by_now = passed_by start words slots sum round first now in_pool passed in
       let reads = passed_reads start words slots sum round first now passed in
       let within = grown_within (λ id. nat_lt (id / 32) words) [] first.0 now.0 reads.goes_on in
-      record { reads_on = reads; full = inr (omega arith) }
+      (reads, inr (omega arith))
 
   -- how many returns came since the call's first load
   pub returned_between : (words more : ℕ) (made : History T) (old new : UserView T) → GoesOn made old new
@@ -256,16 +258,16 @@ module _ {T : Type 0} where
       omega arith
 
   -- so many words are read by who takes an item, by the returns since its first load
-  pub taken_within : (meets : T → Type 0) (start words slots sum round id word : ℕ) (value : T)
+  pub taken_within : (meets : T → Type 0) (start words slots sum round id : ℕ) (value : T)
       (first now two three : User T) → start < words → slots ≤ 32 * words
-      → HasPassed start words slots sum round first now → LoadsOn start now word two
-      → TakesOne meets slots id value two three
+      → HasPassed start words slots sum round first now → ReadsOn now two
+      → TakesOne meets slots id value None two three
       → words * (round + 1) + words ≤ words * (returns_between first.0.operations three.0.operations + 1)
-  taken_within meets start words slots sum round id word value first now two three in_pool covered passed read taken =
+  taken_within meets start words slots sum round id value first now two three in_pool covered passed read taken =
       let later = taken_later meets start words slots sum round id value first now two three in_pool covered passed
       read.goes_on taken in
       let reads = reads_further first now two (passed_reads start words slots sum round first now passed)
-      (loaded_reads start word now two read) in
+      read in
       let goes = (takes_later meets slots id value first two three reads taken).goes_on in
       let returns = returned_between words (round + 1) _ first.0 three.0 goes (omega (arith, later)) in
       let pass = one_pass_more words (round + 1) in
@@ -274,14 +276,15 @@ module _ {T : Type 0} where
       omega (arith, pass, within)
 
   -- and by who is refused
-  pub refused_within : (start words slots sum round word : ℕ) (first now two three : User T) → start < words
-      → HasPassed start words slots sum round first now → LoadsOn start now word two → MissesAll 0 slots two three
+  pub refused_within : (start words slots sum round : ℕ) (first now two three : User T) → start < words
+      → HasPassed start words slots sum round first now → ReadsOn now two → MissesAll 0 slots two three
       → words * (round + 1) + words ≤ words * (returns_between first.0.operations three.0.operations + 2)
-  refused_within start words slots sum round word first now two three in_pool passed read missed =
+  refused_within start words slots sum round first now two three in_pool passed read missed =
       let by_now = passed_by start words slots sum round first now in_pool passed in
       let further = goes_on_further [] now.0 two.0 three.0 read.goes_on missed.goes_on in
       let grew = grown (λ id. nat_lt (id / 32) words) now.0 three.0 further in
-      let goes = goes_on_further [] first.0 now.0 three.0 (passed_reads start words slots sum round first now passed).goes_on
+      let goes = goes_on_further [] first.0 now.0 three.0 (passed_reads start words slots sum round first now
+      passed).goes_on
       further in
       let returns = returned_between words round [] first.0 three.0 goes (omega (arith, by_now, grew)) in
       let pass = one_pass_more words (round + 1) in

@@ -11,7 +11,7 @@ use Rattle.std.proofs.Crossing.{Arc-sync}
 use Rattle.std.specs.contracts.sync.Arc as Arc
 use Rattle.std.specs.contracts.alloc.Global as Global
 use Rattle.std.specs.contracts.impls.GlobalAllocator.TheImpl as GlobalAllocator
-use Rattle.fixed_pools.specs.FixedPool.{pool_identity, pool_reset}
+use Rattle.fixed_pools.specs.FixedPool.{fixed_view}
 use Rattle.pool_parts.specs.declared.clean.Clean as Clean
 use Rattle.pool_parts.specs.declared.closures.Init as Init
 use Rattle.pool_parts.specs.declared.closures.Reset as Reset
@@ -48,13 +48,17 @@ module _ (T I R K : RattleType) (answers : Init.Ghosts I.Denot T.Denot K.Denot)
   -- which pool it is of, and what that pool's reset may leave
   abbrev borrowed : (ℓ : Lifetime) (κ : Lft) → Ghosts (borrow ℓ κ).Denot T.Denot
   borrowed ℓ κ =
-      record { identity = λ pool. pool_identity pool.now; leaves = λ pool. leaves.leaves (pool_reset pool.now) }
+      record {
+        identity = λ pool. (fixed_view pool.now).identity;
+        leaves = λ pool. leaves.leaves
+            (fixed_view pool.now).reset;
+      }
 
   abbrev owned : Ghosts owner.Denot T.Denot
   owned =
       record {
-        identity = λ pool. pool_identity (arc_value pool);
-        leaves = λ pool. leaves.leaves (pool_reset (arc_value pool));
+        identity = λ pool. (fixed_view (arc_value pool)).identity;
+        leaves = λ pool. leaves.leaves (fixed_view (arc_value pool)).reset;
       }
 
   pub borrowed_reusable_sync : (ℓ : Lifetime) (κ : Lft) → IsSend T → IsSync T → IsSync R

@@ -4,7 +4,7 @@ use Rattle.std.proofs.Common.{lt-ltb, le-ltb, eq-eqb, ne_eqb}
 use Rattle.std.proofs.lemmas.Bool.{cases_lt, and_from, and_left, and_right, not_from_true, not_from_false}
 use native.Mathlib.Decide.{ℕ_discrete}
 use mathlib.Core.Logic.{dite}
-use Rattle.fixed_pools.specs.Inside.FixedCount.{is_beside}
+use Rattle.fixed_pools.specs.FixedCount.{is_beside}
 
 -- which numbers lie on the words of a segment, but for one word
 pub inside : (from to skipped id : ℕ) → from ≤ id / 32 → id / 32 < to → (id / 32 ≡ skipped → ⊥)

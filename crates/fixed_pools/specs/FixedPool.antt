@@ -1,25 +1,130 @@
--- What a fixed pool shows.
-use Rattle.std.specs.Prelude.{ℕ, List, Option}
+-- What a fixed pool and its reusables show, and what its answers show: of a pull, of a refusal, of a return.
+use Rattle.std.specs.Prelude.{◌≡◌, ◌⊎◌, ℕ, ◌+◌, ◌-◌, ◌*◌, ◌^◌, ◌<◌, ◌≤◌, List, Option, true}
+use Rattle.std.specs.Borrow.{Lends, Fml, RattleType, MutBor}
 use Rattle.atomic_table.specs.Seated.{TableId}
+use Rattle.pool_parts.specs.Answers.{IsMadeOrReset}
+use Rattle.pool_parts.specs.Item.{Item, IsPulled}
+use Rattle.pool_parts.specs.Ledger.{History, operations_of, IsLegal, IsPrefixOf, WasFullBetween, returns_among}
+use Rattle.pool_parts.specs.Page.{view_of, held_item, IsPulledAfter}
+use Rattle.pool_parts.specs.declared.page.note.PageNote.{PageNote}
+use Rattle.pool_parts.specs.declared.page.user_view.UserView.{UserView}
+use Rattle.fixed_pools.specs.contracts.fixed_reusable.FixedReusableOf.{the_row}
 use Rattle.fixed_pools.specs.declared.fixed_object_pool.FixedObjectPool.{FixedObjectPool}
+use Rattle.fixed_pools.specs.declared.fixed_reusable.FixedReusableOf.{FixedReusableOf}
+use Rattle.fixed_pools.specs.declared.fixed_reusable.SharedFixedPool.{Ghosts}
+
+-- what a pool with one table shows
+pub record FixedView (T R : Type 0) : Type 0 where
+  -- which pool it is
+  pub identity : TableId
+  -- how many items it has, and how many pages they lie on
+  pub items : ℕ
+  pub pages : ℕ
+  -- the values that the pool opened with, by number
+  pub opening : List (Option T)
+  -- what resets the pool's values
+  pub reset : R
+
+-- what a pulled value shows: the borrow or the owner of its pool, its item, the value, and what its user knows of the
+-- pool
+pub record FixedItem (T V P : Type 0) : Type 0 where
+  pub pool : P
+  pub item : Item T
+  pub value : V
+  pub known : UserView T
 
 module _ {T I R K : Type 0} where
-  -- which pool it is
-  abbrev pub pool_identity : FixedObjectPool T I R K → TableId
-  pool_identity pool = pool.items.shared.table.shared.table_id
+  -- what contracts see of a pool
+  abbrev pub fixed_view : FixedObjectPool T I R K → FixedView T R
+  fixed_view pool =
+      let table = pool.items.shared.table.shared in
+      record {
+        identity = table.table_id;
+        items = table.table_id.slots;
+        pages = table.table_id.words;
+        opening = table.key.values.value.items;
+        reset = pool.reset;
+      }
 
-  -- how many items it has
-  abbrev pub pool_items : FixedObjectPool T I R K → ℕ
-  pool_items pool = (pool_identity pool).slots
+module _ {T P : Type 0} where
+  -- what contracts see of a pulled value
+  abbrev pub fixed_item : FixedReusableOf T P → FixedItem T T P
+  fixed_item reusable = record {
+    pool = reusable.taken.0;
+    item = held_item reusable.taken.1 reusable.value;
+    value = reusable.value;
+    known = view_of reusable.taken.1.seat;
+  }
 
-  -- how many pages they lie on
-  abbrev pub pool_pages : FixedObjectPool T I R K → ℕ
-  pool_pages pool = (pool_identity pool).words
+module _ {T : Type 0} where
+  -- an item of this pool, pulled as the pool's one history tells, which begins with these values
+  pub record IsPulledFrom (pool : TableId) (opening : List (Option T)) (item : Item T) : Type 0 where
+    pub of_pool : item.page ≡ pool
+    pub in_pool : item.id < pool.slots
+    pub same_opening : item.opening ≡ opening
+    pub pulled : IsPulled item
 
-  -- the values that the pool opened with, by number
-  abbrev pub pool_opening : FixedObjectPool T I R K → List (Option T)
-  pool_opening pool = pool.items.shared.table.shared.key.values.value.items
+  -- the same of a pull by a note: it stands after all that the note knew
+  pub record IsPulledWith (pool : TableId) (note : PageNote T) (item : Item T) : Type 0 where
+    pub of_pool : item.page ≡ pool
+    pub in_pool : item.id < pool.slots
+    pub pulled : IsPulledAfter note item
 
-  -- what resets the pool's values
-  abbrev pub pool_reset : FixedObjectPool T I R K → R
-  pool_reset pool = pool.reset
+  -- how many returns came between two places of a pool's history
+  abbrev pub returns_between : History T → History T → ℕ
+  returns_between from to = returns_among (λ id. true) to - returns_among (λ id. true) from
+
+  -- how many returns came within the last call of this user, since its first load
+  abbrev pub returns_since : UserView T → ℕ
+  returns_since known = returns_between known.since known.operations
+
+  -- since some place of the history the pool was full at one moment; or 2^32 returns and more came since, which the
+  -- counts of its words can't tell from none
+  abbrev pub IsFullSince : ℕ → History T → UserView T → Type 0
+  IsFullSince items from known =
+      WasFullBetween known.opening from known.operations items ⊎ (2 ^ 32 ≤ returns_between from known.operations)
+
+  -- a pull was refused, whose user had done nothing: this pool was full since its first load, by a legal history
+  pub record IsFullNote (pool : TableId) (opening : List (Option T)) (note : PageNote T) : Type 0 where
+    pub of_pool : note.seat.table_id ≡ pool
+    pub same_opening : (view_of note.seat).opening ≡ opening
+    pub legal : IsLegal opening (view_of note.seat).operations
+    pub goes_on : IsPrefixOf (view_of note.seat).since (view_of note.seat).operations
+    pub full : IsFullSince pool.slots (view_of note.seat).since (view_of note.seat)
+
+  -- the same of a pull by a note, which keeps the evidence: the pull's first load stands after all that the note knew
+  pub record IsFullNoteAfter (pool : TableId) (old new : PageNote T) : Type 0 where
+    pub full : IsFullNote pool (view_of old.seat).opening new
+    pub same_user : (view_of new.seat).user ≡ (view_of old.seat).user
+    pub after_note : IsPrefixOf (view_of old.seat).operations (view_of new.seat).since
+    -- its user did nothing
+    pub same_operations : operations_of (view_of new.seat).user (view_of new.seat).operations
+        ≡ operations_of (view_of old.seat).user
+        (view_of old.seat).operations
+
+  -- a user that had read so many words and tried so many bits has read so many more words at most, and tried 32 bits
+  -- more for each at most
+  pub record IsWithin (words read tried : ℕ) (known : UserView T) : Type 0 where
+    pub loads : known.loads ≤ read + words
+    pub tries : known.tries ≤ tried + 32 * words
+
+module _ {T I R K : Type 0} where
+  -- a pull of this pool gave this item: its value meets the pool's condition, and was made by init or left by reset
+  pub record PullsFixed (meets : T → Type 0) (answers : I → Option T → Type 0) (leaves : R → T → T → Type 0)
+      (pool : FixedObjectPool T I R K) (item : Item T) : Type 0 where
+    pub from_pool : IsPulledFrom (fixed_view pool).identity (fixed_view pool).opening item
+    pub meets_condition : meets item.value
+    pub made_or_reset : IsMadeOrReset answers leaves item.value
+
+  -- the same of a pull by a note
+  pub record PullsFixedAfter (meets : T → Type 0) (answers : I → Option T → Type 0) (leaves : R → T → T → Type 0)
+      (pool : FixedObjectPool T I R K) (note : PageNote T) (item : Item T) : Type 0 where
+    pub after_note : IsPulledWith (fixed_view pool).identity note item
+    pub meets_condition : meets item.value
+    pub made_or_reset : IsMadeOrReset answers leaves item.value
+
+module _ (T P : RattleType) (pool : Ghosts P.Denot T.Denot) where
+  -- a loan of a reusable's value ends with the reusable as it was, but for the value written last
+  abbrev pub LendsFixedValue : MutBor (FixedReusableOf T.Denot P.Denot) → MutBor T.Denot → Fml
+  LendsFixedValue reusable loan =
+      Lends (the_row T P pool) T reusable loan (λ value. record reusable.now { value = value })

@@ -1,7 +1,2 @@
-pub mod FixedAnswer
-pub mod FixedLends
+pub mod FixedCount
 pub mod FixedPool
-pub mod FixedReusable
-pub mod Inside
-pub mod Near
-pub mod StepCount

@@ -5,7 +5,7 @@
 //! sequential history has the pulls and returns of the whole pool. No pull and no return waits for
 //! another thread. The upper half of each word counts the returns of its page, so a pull that took
 //! nothing sees whether an item came back while it looked.
-ghost use Rattle.std.specs.Prelude.{◌≡◌, ◌+◌, ◌*◌, ◌/◌, ◌<◌, ◌≤◌, None, Some, IfOk, IfErr, ◌⊎◌};
+ghost use Rattle.std.specs.Prelude.{◌≡◌, ◌+◌, ◌*◌, ◌/◌, ◌<◌, ◌≤◌, None, Some, IfOk, IfErr, ◌⊎◌, ⊤};
 ghost use Rattle.std.specs.Arc.{arc_value};
 ghost use Rattle.pool_parts.specs.declared.pull_error.PullError.TheVariants.{Memory, Limit};
 
@@ -89,18 +89,12 @@ impl<T: Drop, I: Init<T, K>, R: Reset<T, K>, K: Clean<T>> Drop for FixedObjectPo
 }
 
 impl<T: Drop, I: Init<T, K>, R: Reset<T, K>, K: Clean<T>> FixedObjectPool<T, I, R, K> {
-    ghost use Rattle.fixed_pools.specs.FixedAnswer.{PullsFixed, PullsFixedAfter, IsFullNote, IsFullNoteAfter, returns_since};
-    ghost use Rattle.fixed_pools.specs.StepCount.{IsWithin, IsWithinSince, passes_to_take, passes_to_refuse};
-    ghost use Rattle.pool_parts.specs.FullSeen.{full_view};
-    ghost use Rattle.pool_parts.specs.Note.{IsGivenBack};
-    ghost use Rattle.pool_parts.specs.FullSeen.{IsAllOut, IsAllOutAfter};
-    ghost use Rattle.fixed_pools.specs.FixedPool.{pool_identity, pool_items, pool_pages, pool_opening, pool_reset};
-    ghost use Rattle.pool_parts.specs.Holding.{holding_page, holding_view, held_item};
-    ghost use Rattle.fixed_pools.specs.Near.{near_pool};
-    ghost use Rattle.pool_parts.specs.Items.{IsFilled};
-    ghost use Rattle.fixed_pools.specs.FixedReusable.{reusable_pool, reusable_item, reusable_view};
-    ghost use Rattle.pool_parts.specs.Note.{note_page, note_view, witness_page, IsNoteOf, HasLearned};
-    ghost use Rattle.pool_parts.specs.Refusal.{RefusesMaking};
+    ghost use Rattle.fixed_pools.specs.FixedPool.{PullsFixed, PullsFixedAfter, IsFullNote, IsFullNoteAfter, returns_since, IsWithin, fixed_view, fixed_item};
+    ghost use Rattle.pool_parts.specs.Page.{view_of, IsGivenBack, held_item, IsNoteOf, HasLearned};
+    ghost use Rattle.pool_parts.specs.Ledger.{IsPrefixOf};
+    ghost use Rattle.pool_parts.specs.Slot.{IsAllOut};
+    ghost use Rattle.pool_parts.specs.Item.{IsFilled};
+    ghost use Rattle.pool_parts.specs.Answers.{Refuses};
 
     /// Creates a pool of `items` free items. Item `i` is the answer of call `i` of `init`, counted
     /// from 0.
@@ -121,12 +115,12 @@ impl<T: Drop, I: Init<T, K>, R: Reset<T, K>, K: Clean<T>> FixedObjectPool<T, I, 
         items: usize,
     ) -> Result<FixedObjectPool<T, I, R, K>, PullError>
         requires some_item { 1 ≤ items }
-        ensures reset { IfOk result (λ pool. pool_reset pool ≡ reset) }
-        ensures items { IfOk result (λ pool. pool_items pool ≡ items) }
-        ensures pages { IfOk result (λ pool. pool_pages pool ≡ (items + 31) / 32) }
+        ensures reset { IfOk result (λ pool. (fixed_view pool).reset ≡ reset) }
+        ensures items { IfOk result (λ pool. (fixed_view pool).items ≡ items) }
+        ensures pages { IfOk result (λ pool. (fixed_view pool).pages ≡ (items + 31) / 32) }
         ensures opened { IfOk result (λ pool.
-            IsFilled items (λ made. I.answers init (Some made)) (pool_opening pool)) }
-        ensures refused { IfErr result (RefusesMaking (I.answers init None)) }
+            IsFilled items (λ made. I.answers init (Some made)) (fixed_view pool).opening) }
+        ensures refused { IfErr result (Refuses ⊤ (I.answers init None) ⊥) }
     {
         let maker = &init;
         let items = FixedItems::new(alloc, items, Order::Round, &|| maker.make())?;
@@ -135,7 +129,7 @@ impl<T: Drop, I: Init<T, K>, R: Reset<T, K>, K: Clean<T>> FixedObjectPool<T, I, 
 
     /// Returns the number of items of the pool.
     pub fn items(&self) -> usize
-        ensures { result ≡ pool_items self.now }
+        ensures { result ≡ (fixed_view self.now).items }
     {
         self.items.count()
     }
@@ -156,12 +150,12 @@ impl<T: Drop, I: Init<T, K>, R: Reset<T, K>, K: Clean<T>> FixedObjectPool<T, I, 
     /// it, which the counts of the words can't tell from none).
     #[inline(always)]
     pub fn pull(&self) -> Result<FixedReusable<'_, T, I, R, K>, PullError>
-        ensures pool { IfOk result (λ item. (reusable_pool item).now ≡ self.now) }
+        ensures pool { IfOk result (λ item. (fixed_item item).pool.now ≡ self.now) }
         ensures pulled { IfOk result (λ item.
-            PullsFixed K.meets I.answers R.leaves self.now (reusable_item item)) }
+            PullsFixed K.meets I.answers R.leaves self.now (fixed_item item).item) }
         ensures brief { IfOk result (λ item.
-            IsWithin (pool_pages self.now * passes_to_take (returns_since (reusable_view item)))
-            (reusable_view item)) }
+            IsWithin ((fixed_view self.now).pages * (returns_since (fixed_item item).known + 1)) 0 0
+            (fixed_item item).known) }
         ensures refused { IfErr result (λ error. error ≡ Limit) }
     {
         match self.items.pull_in_order(self.items.hinted(), None) {
@@ -189,12 +183,12 @@ impl<T: Drop, I: Init<T, K>, R: Reset<T, K>, K: Clean<T>> FixedObjectPool<T, I, 
     /// ```
     #[inline(always)]
     pub fn pull_near(&self, page: usize) -> Result<FixedReusable<'_, T, I, R, K>, PullError>
-        ensures pool { IfOk result (λ item. (reusable_pool item).now ≡ self.now) }
+        ensures pool { IfOk result (λ item. (fixed_item item).pool.now ≡ self.now) }
         ensures pulled { IfOk result (λ item.
-            PullsFixed K.meets I.answers R.leaves self.now (reusable_item item)) }
+            PullsFixed K.meets I.answers R.leaves self.now (fixed_item item).item) }
         ensures brief { IfOk result (λ item.
-            IsWithin (pool_pages self.now * passes_to_take (returns_since (reusable_view item)))
-            (reusable_view item)) }
+            IsWithin ((fixed_view self.now).pages * (returns_since (fixed_item item).known + 1)) 0 0
+            (fixed_item item).known) }
         ensures refused { IfErr result (λ error. error ≡ Limit) }
     {
         let start = self.items.page_round(page);
@@ -214,7 +208,7 @@ impl<T: Drop, I: Init<T, K>, R: Reset<T, K>, K: Clean<T>> FixedObjectPool<T, I, 
     /// let item = near.pull()?;
     /// ```
     pub fn near(&self) -> Near<'_, T, I, R, K>
-        ensures { near_pool result ≡ self.now }
+        ensures { result.pool.now ≡ self.now }
     {
         Near::new(self, self.items.next_own_page())
     }
@@ -226,15 +220,15 @@ impl<T: Drop, I: Init<T, K>, R: Reset<T, K>, K: Clean<T>> FixedObjectPool<T, I, 
     ///
     /// The evidence that each item was out during this call.
     pub fn try_pull<'s, 'p>(&'s self, pass: &'p PullPass) -> FixedPulled<'s, 'p, T, I, R, K>
-        ensures pool { IfOk result (λ item. (reusable_pool item).now ≡ self.now) }
+        ensures pool { IfOk result (λ item. (fixed_item item).pool.now ≡ self.now) }
         ensures pulled { IfOk result (λ item.
-            PullsFixed K.meets I.answers R.leaves self.now (reusable_item item)) }
+            PullsFixed K.meets I.answers R.leaves self.now (fixed_item item).item) }
         ensures brief { IfOk result (λ item.
-            IsWithin (pool_pages self.now) (reusable_view item)) }
-        ensures busy { IfErr result (IsAllOut (pool_identity self.now).slots
-            (pool_identity self.now) (pool_opening self.now)) }
+            IsWithin (fixed_view self.now).pages 0 0 (fixed_item item).known) }
+        ensures busy { IfErr result (IsAllOut (fixed_view self.now).identity.slots
+            (fixed_view self.now).identity (fixed_view self.now).opening) }
         ensures busy_brief { IfErr result (λ busy.
-            IsWithin (pool_pages self.now) (full_view busy)) }
+            IsWithin (fixed_view self.now).pages 0 0 (view_of busy.seat)) }
     {
         Ok(FixedReusable::new(self, self.items.try_pull(pass)?))
     }
@@ -250,16 +244,21 @@ impl<T: Drop, I: Init<T, K>, R: Reset<T, K>, K: Clean<T>> FixedObjectPool<T, I, 
         pass: &'p PullPass,
         note: PoolNote<T>,
     ) -> FixedPulled<'s, 'p, T, I, R, K>
-        requires { note_page note ≡ pool_identity self.now }
-        ensures pool { IfOk result (λ item. (reusable_pool item).now ≡ self.now) }
+        requires { note.seat.table_id ≡ (fixed_view self.now).identity }
+        ensures pool { IfOk result (λ item. (fixed_item item).pool.now ≡ self.now) }
         ensures pulled { IfOk result (λ item.
-            PullsFixedAfter K.meets I.answers R.leaves self.now note (reusable_item item)) }
+            PullsFixedAfter K.meets I.answers R.leaves self.now note (fixed_item item).item) }
         ensures brief { IfOk result (λ item.
-            IsWithinSince (pool_pages self.now) (note_view note) (reusable_view item)) }
+            IsWithin (fixed_view self.now).pages (view_of note.seat).loads (view_of note.seat).tries
+            (fixed_item item).known) }
         ensures busy { IfErr result
-            (IsAllOutAfter (pool_identity self.now).slots (pool_identity self.now) note) }
+            (IsAllOut (fixed_view self.now).identity.slots (fixed_view self.now).identity
+            (view_of note.seat).opening) }
+        ensures after_note { IfErr result
+            (λ busy. IsPrefixOf (view_of note.seat).operations (view_of busy.seat).since) }
         ensures busy_brief { IfErr result (λ busy.
-            IsWithinSince (pool_pages self.now) (note_view note) (full_view busy)) }
+            IsWithin (fixed_view self.now).pages (view_of note.seat).loads (view_of note.seat).tries
+            (view_of busy.seat)) }
     {
         let pulled = self.items.pull_from(pass, note)?;
         Ok(FixedReusable::new(self, pulled))
@@ -267,7 +266,7 @@ impl<T: Drop, I: Init<T, K>, R: Reset<T, K>, K: Clean<T>> FixedObjectPool<T, I, 
 
     /// Returns a note of this pool, which knows some prefix of its history.
     pub fn note(&self) -> PoolNote<T>
-        ensures { IsNoteOf (pool_identity self.now) (pool_opening self.now) result }
+        ensures { IsNoteOf (fixed_view self.now).identity (fixed_view self.now).opening result }
     {
         self.items.shared.note()
     }
@@ -275,8 +274,8 @@ impl<T: Drop, I: Init<T, K>, R: Reset<T, K>, K: Clean<T>> FixedObjectPool<T, I, 
     /// Adds what a witness knows to what a note knows. Afterwards both their histories are prefixes
     /// of the note's.
     pub fn tell(&self, note: &mut PoolNote<T>, other: Witness<T>)
-        requires note { note_page note.old ≡ pool_identity self.now }
-        requires other { witness_page other ≡ pool_identity self.now }
+        requires note { note.old.seat.table_id ≡ (fixed_view self.now).identity }
+        requires other { other.seat.table_id ≡ (fixed_view self.now).identity }
         ensures { HasLearned note.old other note.new }
     {
         self.items.shared.tell(note, other);
@@ -289,13 +288,12 @@ impl<T: Drop, I: Init<T, K>, R: Reset<T, K>, K: Clean<T>> FixedObjectPool<T, I, 
     ///
     /// `Limit`, as of `pull`, and `Memory` if the pool can have no more owners.
     pub fn pull_owned(self: &Arc<Self>) -> Result<FixedOwnedReusable<T, I, R, K>, PullError>
-        ensures pool { IfOk result (λ item. arc_value (reusable_pool item) ≡ arc_value self.now) }
+        ensures pool { IfOk result (λ item. arc_value (fixed_item item).pool ≡ arc_value self.now) }
         ensures pulled { IfOk result (λ item.
-            PullsFixed K.meets I.answers R.leaves (arc_value self.now) (reusable_item item)) }
+            PullsFixed K.meets I.answers R.leaves (arc_value self.now) (fixed_item item).item) }
         ensures brief { IfOk result (λ item.
-            IsWithin
-            (pool_pages (arc_value self.now) * passes_to_take (returns_since (reusable_view item)))
-            (reusable_view item)) }
+            IsWithin ((fixed_view (arc_value self.now)).pages
+            * (returns_since (fixed_item item).known + 1)) 0 0 (fixed_item item).known) }
         ensures refused { IfErr result (λ error. (error ≡ Memory) ⊎ (error ≡ Limit)) }
     {
         let owner = Arc::try_clone(self)?;
@@ -319,21 +317,20 @@ impl<T: Drop, I: Init<T, K>, R: Reset<T, K>, K: Clean<T>> FixedObjectPool<T, I, 
         page: usize,
         note: PoolNote<T>,
     ) -> Result<FixedOwnedReusable<T, I, R, K>, (Arc<Self>, PoolNote<T>)>
-        requires { note_page note ≡ pool_identity (arc_value self) }
-        ensures pool { IfOk result (λ item. arc_value (reusable_pool item) ≡ arc_value self) }
+        requires { note.seat.table_id ≡ (fixed_view (arc_value self)).identity }
+        ensures pool { IfOk result (λ item. arc_value (fixed_item item).pool ≡ arc_value self) }
         ensures pulled { IfOk result (λ item.
-            PullsFixedAfter K.meets I.answers R.leaves (arc_value self) note (reusable_item item)) }
+            PullsFixedAfter K.meets I.answers R.leaves (arc_value self) note
+            (fixed_item item).item) }
         ensures brief { IfOk result (λ item.
-            IsWithinSince
-            (pool_pages (arc_value self) * passes_to_take (returns_since (reusable_view item)))
-            (note_view note) (reusable_view item)) }
+            IsWithin ((fixed_view (arc_value self)).pages * (returns_since (fixed_item item).known
+            + 1)) (view_of note.seat).loads (view_of note.seat).tries (fixed_item item).known) }
         ensures same_owner { IfErr result (λ kept. arc_value kept.0 ≡ arc_value self) }
         ensures full { IfErr result (λ kept.
-            IsFullNoteAfter (pool_identity (arc_value self)) note kept.1) }
+            IsFullNoteAfter (fixed_view (arc_value self)).identity note kept.1) }
         ensures full_brief { IfErr result (λ kept.
-            IsWithinSince
-            (pool_pages (arc_value self) * passes_to_refuse (returns_since (note_view kept.1)))
-            (note_view note) (note_view kept.1)) }
+            IsWithin ((fixed_view (arc_value self)).pages * (returns_since (view_of kept.1.seat)
+            + 2)) (view_of note.seat).loads (view_of note.seat).tries (view_of kept.1.seat)) }
     {
         let start = self.items.page_round(page);
         match self.items.pull_onward(start, note) {
@@ -354,12 +351,13 @@ impl<T: Drop, I: Init<T, K>, R: Reset<T, K>, K: Clean<T>> FixedObjectPool<T, I, 
         ensures pulled { IfOk result (λ apart.
             PullsFixed K.meets I.answers R.leaves self.now (held_item apart.0 apart.1)) }
         ensures brief { IfOk result (λ apart.
-            IsWithin (pool_pages self.now * passes_to_take (returns_since (holding_view apart.0)))
-            (holding_view apart.0)) }
-        ensures full { IfErr result (IsFullNote (pool_identity self.now) (pool_opening self.now)) }
+            IsWithin ((fixed_view self.now).pages * (returns_since (view_of apart.0.seat) + 1)) 0 0
+            (view_of apart.0.seat)) }
+        ensures full { IfErr result (IsFullNote (fixed_view self.now).identity
+            (fixed_view self.now).opening) }
         ensures full_brief { IfErr result (λ note.
-            IsWithin (pool_pages self.now * passes_to_refuse (returns_since (note_view note)))
-            (note_view note)) }
+            IsWithin ((fixed_view self.now).pages * (returns_since (view_of note.seat) + 2)) 0 0
+            (view_of note.seat)) }
     {
         let start = self.items.page_round(page);
         match self.items.pull_near(start) {
@@ -371,9 +369,10 @@ impl<T: Drop, I: Init<T, K>, R: Reset<T, K>, K: Clean<T>> FixedObjectPool<T, I, 
     /// Resets the value of an item that was pulled apart and returns it. The note knows the pool's
     /// history up to this return.
     pub fn give(&self, holding: Holding<T>, value: T) -> PoolNote<T>
-        requires of_pool { holding_page holding ≡ pool_identity self.now }
-        requires in_pool { holding.number < pool_items self.now }
-        ensures { IsGivenBack (R.leaves (pool_reset self.now)) (held_item holding value) result }
+        requires of_pool { holding.seat.table_id ≡ (fixed_view self.now).identity }
+        requires in_pool { holding.number < (fixed_view self.now).items }
+        ensures { IsGivenBack (R.leaves (fixed_view self.now).reset) (held_item holding value)
+            result }
     {
         let mut left = value;
         self.reset.reset(&mut left);

@@ -2,10 +2,9 @@
 ghost use Rattle.std.specs.Prelude.{◌≡◌, ◌≢◌, ◌<◌, ◌/◌, ◌%◌};
 ghost use Rattle.std.specs.Arc.{arc_value};
 ghost use Rattle.atomic_table.specs.Seated.{TableId};
-ghost use Rattle.fixed_pools.specs.FixedPool.{pool_identity, pool_reset};
-ghost use Rattle.pool_parts.specs.Holding.{holding_page, holding_view, held_item};
+ghost use Rattle.pool_parts.specs.Page.{held_item, view_of};
 
-use crate::fixed_object_pool::items::pulled_item::PulledItem;
+use crate::fixed_object_pool::items::PulledItem;
 use crate::fixed_object_pool::{FixedObjectPool, PoolNote};
 use pool_parts::clean::{AnyValue, Clean};
 use pool_parts::closures::{Init, Reset};
@@ -19,9 +18,7 @@ use std::sync::Arc;
 
 /// A fixed pool as a reusable has it: by a borrow or with an owner.
 pub trait SharedFixedPool<T>: Drop {
-    ghost use Rattle.pool_parts.specs.Note.{IsGivenBack};
-    ghost use Rattle.pool_parts.specs.Inside.Meeting.{HoldsSame};
-    ghost use Rattle.pool_parts.specs.Note.{witness_page, witness_history};
+    ghost use Rattle.pool_parts.specs.Page.{IsGivenBack, HoldsSame, view_of};
 
     /// Which pool it is.
     ghost identity: { Self → TableId };
@@ -31,35 +28,36 @@ pub trait SharedFixedPool<T>: Drop {
 
     /// Returns what the holder of an item knows of the pool.
     fn witness(&self, holding: &mut Holding<T>) -> Witness<T>
-        requires { holding_page holding.old ≡ identity self.now }
-        ensures page { witness_page result ≡ holding_page holding.old }
-        ensures history { witness_history result ≡ (holding_view holding.old).operations }
-        ensures same_page { holding_page holding.new ≡ holding_page holding.old }
-        ensures same_view { holding_view holding.new ≡ holding_view holding.old }
+        requires { holding.old.seat.table_id ≡ identity self.now }
+        ensures page { result.seat.table_id ≡ holding.old.seat.table_id }
+        ensures history { (view_of result.seat).operations ≡ (view_of holding.old.seat).operations }
+        ensures same_page { holding.new.seat.table_id ≡ holding.old.seat.table_id }
+        ensures same_view { view_of holding.new.seat ≡ view_of holding.old.seat }
         ensures same_number { holding.new.number ≡ holding.old.number };
 
     /// Finds that two holders have two items.
     fn are_two(&self, one: &mut Holding<T>, other: &mut Holding<T>)
-        requires one { holding_page one.old ≡ identity self.now }
-        requires other { holding_page other.old ≡ identity self.now }
+        requires one { one.old.seat.table_id ≡ identity self.now }
+        requires other { other.old.seat.table_id ≡ identity self.now }
         ensures differ { one.old.number ≢ other.old.number }
         ensures same_one { HoldsSame one.old one.new }
         ensures same_other { HoldsSame other.old other.new };
 
     /// Resets the value of an item and returns it.
     fn give(&self, holding: Holding<T>, value: T) -> PoolNote<T>
-        requires of_pool { holding_page holding ≡ identity self.now }
+        requires of_pool { holding.seat.table_id ≡ identity self.now }
         requires in_pool { holding.number < (identity self.now).slots }
         ensures { IsGivenBack (leaves self.now) (held_item holding value) result };
 }
 
 impl<T: Drop, I: Init<T, K>, R: Reset<T, K>, K: Clean<T>> SharedFixedPool<T>
     for &FixedObjectPool<T, I, R, K> {
-    ghost use Rattle.pool_parts.specs.Note.{IsGivenBack};
+    ghost use Rattle.fixed_pools.specs.FixedPool.{fixed_view};
+    ghost use Rattle.pool_parts.specs.Page.{IsGivenBack};
 
-    ghost identity = { λ pool. pool_identity pool.now };
+    ghost identity = { λ pool. (fixed_view pool.now).identity };
 
-    ghost leaves = { λ pool. R.leaves (pool_reset pool.now) };
+    ghost leaves = { λ pool. R.leaves (fixed_view pool.now).reset };
 
     fn witness(&self, holding: &mut Holding<T>) -> Witness<T> {
         holding.witness(&self.items.shared)
@@ -70,9 +68,9 @@ impl<T: Drop, I: Init<T, K>, R: Reset<T, K>, K: Clean<T>> SharedFixedPool<T>
     }
 
     fn give(&self, holding: Holding<T>, value: T) -> PoolNote<T>
-        requires of_pool { holding_page holding ≡ pool_identity self.now.now }
-        requires in_pool { holding.number < (pool_identity self.now.now).slots }
-        ensures { IsGivenBack (R.leaves (pool_reset self.now.now))
+        requires of_pool { holding.seat.table_id ≡ (fixed_view self.now.now).identity }
+        requires in_pool { holding.number < (fixed_view self.now.now).identity.slots }
+        ensures { IsGivenBack (R.leaves (fixed_view self.now.now).reset)
             (held_item holding value) result }
     {
         FixedObjectPool::give(*self, holding, value)
@@ -81,11 +79,12 @@ impl<T: Drop, I: Init<T, K>, R: Reset<T, K>, K: Clean<T>> SharedFixedPool<T>
 
 impl<T: Drop, I: Init<T, K>, R: Reset<T, K>, K: Clean<T>> SharedFixedPool<T>
     for Arc<FixedObjectPool<T, I, R, K>> {
-    ghost use Rattle.pool_parts.specs.Note.{IsGivenBack};
+    ghost use Rattle.fixed_pools.specs.FixedPool.{fixed_view};
+    ghost use Rattle.pool_parts.specs.Page.{IsGivenBack};
 
-    ghost identity = { λ pool. pool_identity (arc_value pool) };
+    ghost identity = { λ pool. (fixed_view (arc_value pool)).identity };
 
-    ghost leaves = { λ pool. R.leaves (pool_reset (arc_value pool)) };
+    ghost leaves = { λ pool. R.leaves (fixed_view (arc_value pool)).reset };
 
     fn witness(&self, holding: &mut Holding<T>) -> Witness<T> {
         holding.witness(&self.items.shared)
@@ -96,9 +95,9 @@ impl<T: Drop, I: Init<T, K>, R: Reset<T, K>, K: Clean<T>> SharedFixedPool<T>
     }
 
     fn give(&self, holding: Holding<T>, value: T) -> PoolNote<T>
-        requires of_pool { holding_page holding ≡ pool_identity (arc_value self.now) }
-        requires in_pool { holding.number < (pool_identity (arc_value self.now)).slots }
-        ensures { IsGivenBack (R.leaves (pool_reset (arc_value self.now)))
+        requires of_pool { holding.seat.table_id ≡ (fixed_view (arc_value self.now)).identity }
+        requires in_pool { holding.number < (fixed_view (arc_value self.now)).identity.slots }
+        ensures { IsGivenBack (R.leaves (fixed_view (arc_value self.now)).reset)
             (held_item holding value) result }
     {
         (**self).give(holding, value)
@@ -114,15 +113,14 @@ pub(crate) struct TakenItem<T, P: SharedFixedPool<T>> {
 
 impl<T, P: SharedFixedPool<T>> Model for TakenItem<T, P> {
     ghost use Rattle.std.specs.Prelude.{◌≡◌, ◌<◌};
-    ghost use Rattle.pool_parts.specs.Holding.{holding_page};
-    ghost use Rattle.fixed_pools.specs.Inside.FixedItem.{PoolAndHolding};
+    ghost use Rattle.pool_parts.specs.declared.page.holding.Holding.{Holding};
 
-    ghost Value = { PoolAndHolding T P };
+    ghost Value = { P × Holding T };
 
-    ghost view = { λ taken. record { pool = taken.pool; holding = taken.holding } };
+    ghost view = { λ taken. (taken.pool, taken.holding) };
 
     ghost invariant = { λ taken.
-        (holding_page taken.holding ≡ P.identity taken.pool)
+        (taken.holding.seat.table_id ≡ P.identity taken.pool)
         × (taken.holding.number < (P.identity taken.pool).slots) };
 }
 
@@ -148,18 +146,16 @@ pub type FixedReusable<'p, T, I, R, K = AnyValue> = FixedReusableOf<
 >;
 
 impl<T: Drop, P: SharedFixedPool<T>> FixedReusableOf<T, P> {
-    ghost use Rattle.pool_parts.specs.Note.{IsGivenBack};
-    ghost use Rattle.fixed_pools.specs.Inside.FixedItem.{pulled_item, pulled_view};
-    ghost use Rattle.fixed_pools.specs.FixedReusable.{reusable_pool, reusable_item, reusable_view};
-    ghost use Rattle.pool_parts.specs.Note.{witness_page, witness_history};
+    ghost use Rattle.pool_parts.specs.Page.{IsGivenBack, held_item, view_of};
+    ghost use Rattle.fixed_pools.specs.FixedPool.{fixed_item};
     ghost use Rattle.pool_parts.specs.declared.page.word.TheConstants.{PAGE_ITEMS};
 
     pub(crate) fn new(pool: P, pulled: PulledItem<T>) -> FixedReusableOf<T, P>
-        requires of_pool { holding_page pulled.holding ≡ P.identity pool }
+        requires of_pool { pulled.holding.seat.table_id ≡ P.identity pool }
         requires in_pool { pulled.holding.number < (P.identity pool).slots }
-        ensures pool { reusable_pool result ≡ pool }
-        ensures item { reusable_item result ≡ pulled_item pulled }
-        ensures view { reusable_view result ≡ pulled_view pulled }
+        ensures pool { (fixed_item result).pool ≡ pool }
+        ensures item { (fixed_item result).item ≡ held_item pulled.holding pulled.value }
+        ensures view { (fixed_item result).known ≡ view_of pulled.holding.seat }
     {
         let PulledItem { holding, value } = pulled;
         FixedReusableOf {
@@ -171,23 +167,23 @@ impl<T: Drop, P: SharedFixedPool<T>> FixedReusableOf<T, P> {
 
     /// Returns the number of the item in its pool, counted from 0.
     pub fn number(&self) -> usize
-        ensures value { result ≡ (reusable_item self.now).id }
-        ensures in_pool { result < (P.identity (reusable_pool self.now)).slots }
-        ensures of_pool { (reusable_item self.now).page ≡ P.identity (reusable_pool self.now) }
+        ensures value { result ≡ (fixed_item self.now).item.id }
+        ensures in_pool { result < (P.identity (fixed_item self.now).pool).slots }
+        ensures of_pool { (fixed_item self.now).item.page ≡ P.identity (fixed_item self.now).pool }
     {
         self.taken.holding.number
     }
 
     /// Returns the number of the item's page in the pool, counted from 0.
     pub fn page_number(&self) -> usize
-        ensures { result ≡ (reusable_item self.now).id / 32 }
+        ensures { result ≡ (fixed_item self.now).item.id / 32 }
     {
         self.taken.holding.number / PAGE_ITEMS
     }
 
     /// Returns the number of the item in its page.
     pub fn page_id(&self) -> PageId
-        ensures value { result ≡ (reusable_item self.now).id % 32 }
+        ensures value { result ≡ (fixed_item self.now).item.id % 32 }
         ensures in_page { result < PAGE_ITEMS }
     {
         (self.taken.holding.number % PAGE_ITEMS) as PageId
@@ -195,10 +191,10 @@ impl<T: Drop, P: SharedFixedPool<T>> FixedReusableOf<T, P> {
 
     /// Returns what the holder knows of the pool, for another user. It costs one load.
     pub fn witness(&mut self) -> Witness<T>
-        ensures pool { witness_page result ≡ (reusable_item self.old).page }
-        ensures history { witness_history result ≡ (reusable_item self.old).history }
-        ensures same_item { reusable_item self.new ≡ reusable_item self.old }
-        ensures same_pool { reusable_pool self.new ≡ reusable_pool self.old }
+        ensures pool { result.seat.table_id ≡ (fixed_item self.old).item.page }
+        ensures history { (view_of result.seat).operations ≡ (fixed_item self.old).item.history }
+        ensures same_item { (fixed_item self.new).item ≡ (fixed_item self.old).item }
+        ensures same_pool { (fixed_item self.new).pool ≡ (fixed_item self.old).pool }
     {
         let taken = &mut self.taken;
         taken.pool.witness(&mut taken.holding)
@@ -208,12 +204,12 @@ impl<T: Drop, P: SharedFixedPool<T>> FixedReusableOf<T, P> {
     ///
     /// It costs seven loads, and changes neither item.
     pub fn differs_from<Q: SharedFixedPool<T>>(&mut self, other: &mut FixedReusableOf<T, Q>)
-        requires pool { (reusable_item other.old).page ≡ (reusable_item self.old).page }
-        ensures differ { (reusable_item self.old).id ≢ (reusable_item other.old).id }
-        ensures same_item { reusable_item self.new ≡ reusable_item self.old }
-        ensures same_pool { reusable_pool self.new ≡ reusable_pool self.old }
-        ensures same_other { reusable_item other.new ≡ reusable_item other.old }
-        ensures same_others_pool { reusable_pool other.new ≡ reusable_pool other.old }
+        requires pool { (fixed_item other.old).item.page ≡ (fixed_item self.old).item.page }
+        ensures differ { (fixed_item self.old).item.id ≢ (fixed_item other.old).item.id }
+        ensures same_item { (fixed_item self.new).item ≡ (fixed_item self.old).item }
+        ensures same_pool { (fixed_item self.new).pool ≡ (fixed_item self.old).pool }
+        ensures same_other { (fixed_item other.new).item ≡ (fixed_item other.old).item }
+        ensures same_others_pool { (fixed_item other.new).pool ≡ (fixed_item other.old).pool }
     {
         let taken = &mut self.taken;
         let other = &mut other.taken;
@@ -223,7 +219,7 @@ impl<T: Drop, P: SharedFixedPool<T>> FixedReusableOf<T, P> {
     /// Resets the value and returns it, as the drop does. The note knows the pool's history up to
     /// this return.
     pub fn give_back(self) -> PoolNote<T>
-        ensures { IsGivenBack (P.leaves (reusable_pool self)) (reusable_item self) result }
+        ensures { IsGivenBack (P.leaves (fixed_item self).pool) (fixed_item self).item result }
     {
         let FixedReusableOf {
             lender: _,
@@ -236,7 +232,7 @@ impl<T: Drop, P: SharedFixedPool<T>> FixedReusableOf<T, P> {
 
     /// Returns the borrow or the owner of the pool that the reusable keeps.
     pub fn owner(&self) -> &P
-        ensures { result.now ≡ reusable_pool self.now }
+        ensures { result.now ≡ (fixed_item self.now).pool }
     {
         &self.taken.pool
     }
@@ -244,9 +240,9 @@ impl<T: Drop, P: SharedFixedPool<T>> FixedReusableOf<T, P> {
     /// Returns the value as `give_back` does, and hands out the borrow or the owner of the pool
     /// too.
     pub fn give_back_with_owner(self) -> (P, PoolNote<T>)
-        ensures owner { result.0 ≡ reusable_pool self }
-        ensures given_back { IsGivenBack (P.leaves (reusable_pool self))
-            (reusable_item self) result.1 }
+        ensures owner { result.0 ≡ (fixed_item self).pool }
+        ensures given_back { IsGivenBack (P.leaves (fixed_item self).pool)
+            (fixed_item self).item result.1 }
     {
         let FixedReusableOf {
             lender: _,
@@ -262,9 +258,9 @@ impl<T: Drop, P: SharedFixedPool<T>> FixedReusableOf<T, P> {
 impl<T: Drop, P: SharedFixedPool<T>> Deref for FixedReusableOf<T, P> {
     type Target = T;
 
-    ghost use Rattle.fixed_pools.specs.FixedReusable.{reusable_item};
+    ghost use Rattle.fixed_pools.specs.FixedPool.{fixed_item};
 
-    ghost deref_gives = { λ reusable value. value ≡ (reusable_item reusable).value };
+    ghost deref_gives = { λ reusable value. value ≡ (fixed_item reusable).item.value };
 
     fn deref(&self) -> &T {
         &self.value
@@ -273,15 +269,14 @@ impl<T: Drop, P: SharedFixedPool<T>> Deref for FixedReusableOf<T, P> {
 
 impl<T: Drop, P: SharedFixedPool<T>> DerefMut for FixedReusableOf<T, P> {
     ghost use Rattle.std.specs.Borrow.{sem};
-    ghost use Rattle.fixed_pools.specs.FixedLends.{LendsFixedValue};
-    ghost use Rattle.fixed_pools.specs.FixedReusable.{reusable_item};
+    ghost use Rattle.fixed_pools.specs.FixedPool.{LendsFixedValue, fixed_item};
 
-    ghost deref_mut_gives = { λ reusable value. value ≡ (reusable_item reusable).value };
+    ghost deref_mut_gives = { λ reusable value. value ≡ (fixed_item reusable).item.value };
 
     fn deref_mut(&mut self) -> &mut T
         ensures* writes_back { sem 𝓛
             (LendsFixedValue T.row P.row P.SharedFixedPool self.entry result) }
-        ensures shows { result.now ≡ (reusable_item self.old).value }
+        ensures shows { result.now ≡ (fixed_item self.old).item.value }
     {
         &mut self.value
     }
@@ -294,9 +289,9 @@ impl<T: Drop, P: SharedFixedPool<T>> Drop for FixedReusableOf<T, P> {
 }
 
 impl<T: Debug + Drop, P: SharedFixedPool<T>> Debug for FixedReusableOf<T, P> {
-    ghost use Rattle.fixed_pools.specs.FixedReusable.{reusable_item};
+    ghost use Rattle.fixed_pools.specs.FixedPool.{fixed_item};
 
-    ghost debug_output = { λ reusable. T.debug_output (reusable_item reusable).value };
+    ghost debug_output = { λ reusable. T.debug_output (fixed_item reusable).item.value };
 
     fn fmt<W: Write>(&self, f: &mut Formatter<W>) -> fmt::Result {
         Debug::fmt(&self.value, f)

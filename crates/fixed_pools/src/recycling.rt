@@ -38,8 +38,8 @@ pub type FixedPoolReusable<'p, T> = FixedReusable<'p, T, Recycler, Recycler, Rec
 pub type FixedPoolOwnedReusable<T> = FixedOwnedReusable<T, Recycler, Recycler, Recycler>;
 
 impl<T: Recyclable> FixedPool<T> {
-    ghost use Rattle.fixed_pools.specs.FixedPool.{pool_items};
-    ghost use Rattle.pool_parts.specs.Refusal.{RefusesMaking};
+    ghost use Rattle.fixed_pools.specs.FixedPool.{fixed_view};
+    ghost use Rattle.pool_parts.specs.Answers.{Refuses};
 
     /// Creates a pool of `items` values.
     ///
@@ -54,8 +54,8 @@ impl<T: Recyclable> FixedPool<T> {
     /// ```
     pub fn with_recycler(alloc: Global, items: usize) -> Result<FixedPool<T>, PullError>
         requires { 1 ≤ items }
-        ensures items { IfOk result (λ pool. pool_items pool ≡ items) }
-        ensures refused { IfErr result (RefusesMaking ⊤) }
+        ensures items { IfOk result (λ pool. (fixed_view pool).items ≡ items) }
+        ensures refused { IfErr result (Refuses ⊤ ⊤ ⊥) }
     {
         let recycler = Recycler::new(alloc);
         FixedObjectPool::new(alloc, recycler, recycler, items)

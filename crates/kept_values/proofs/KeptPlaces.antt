@@ -2,7 +2,7 @@
 use Rattle.std.proofs.Common.{◌≡◌, Option, None, Some, Box, box_value, Global, All, subst}
 use Rattle.std.proofs.lemmas.List.Elements.{All-nil, All-tail}
 use Rattle.kept_values.specs.declared.stack.node.Node.{Node, Node', None', Some', out-Node}
-use Rattle.kept_values.specs.Inside.Kept.{values_from, IsFull, kept_values, IsFullChain}
+use Rattle.kept_values.specs.Kept.{values_from, IsFull, kept_values, IsFullChain}
 
 module _ {T : Type 0} (P : T → Type 0) where
   behind : (place : Node T) → IsFull place × All P (values_from place)

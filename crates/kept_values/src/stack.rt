@@ -1,9 +1,8 @@
 //! The list of values that a stack pool keeps under its lock, last returned first.
 //!
 //! Each value lies in a boxed place that came with it, so keeping a value takes no memory.
-ghost use Rattle.std.specs.Prelude.{◌≡◌, [], length, min, IfErr, IfSome, MatchOption};
+ghost use Rattle.std.specs.Prelude.{◌≡◌, [], length, min, IfErr, IfSome, MatchOption, ◌∷◌};
 ghost use Rattle.pool_parts.specs.declared.pull_error.PullError.TheVariants.{Memory};
-ghost use Rattle.kept_values.specs.LastIn.{PutsInFront, StaysEmpty, TakesFirst};
 
 use crate::stack::node::Node;
 use atomic_table::Badge;
@@ -30,7 +29,7 @@ pub struct Room<T> {
 
 impl<T> Model for Room<T> {
     ghost use Rattle.std.specs.Prelude.{⊤, box_value};
-    ghost use Rattle.kept_values.specs.Inside.Kept.{IsVacant};
+    ghost use Rattle.kept_values.specs.Kept.{IsVacant};
 
     ghost Value = { ⊤ };
 
@@ -84,7 +83,7 @@ pub struct Stack<T, K: Clean<T>> {
 
 impl<T, K: Clean<T>> Model for Stack<T, K> {
     ghost use Rattle.std.specs.Prelude.{List, All};
-    ghost use Rattle.kept_values.specs.Inside.Kept.{kept_values, IsFullChain};
+    ghost use Rattle.kept_values.specs.Kept.{kept_values, IsFullChain};
 
     ghost Value = { List T };
 
@@ -112,8 +111,8 @@ impl<T: Drop, K: Clean<T>> Stack<T, K> {
 
     /// Takes the value that was put last, with its room.
     pub fn take(&mut self) -> Option<(T, Room<T>)>
-        ensures first { MatchOption result (StaysEmpty self.old self.new)
-            (λ taken. TakesFirst self.old taken.0 self.new) }
+        ensures first { MatchOption result ((self.old ≡ []) × (self.new ≡ []))
+            (λ taken. self.old ≡ taken.0 ∷ self.new) }
         ensures clean { IfSome result (λ taken. K.meets taken.0) }
     {
         let mut place = self.head.take()?;
@@ -127,7 +126,7 @@ impl<T: Drop, K: Clean<T>> Stack<T, K> {
     /// Keeps a value in an empty room.
     pub fn put(&mut self, room: Room<T>, value: T)
         requires { K.meets value }
-        ensures { PutsInFront self.old value self.new }
+        ensures { self.new ≡ value ∷ self.old }
     {
         let Room { mut place } = room;
         place.value = Some(value);

@@ -12,7 +12,7 @@ use Rattle.std.specs.contracts.option.Option as OptionRow
 use Rattle.std.specs.contracts.sync.Arc as Arc
 use Rattle.std.specs.contracts.alloc.Global as Global
 use Rattle.std.specs.contracts.impls.GlobalAllocator.TheImpl as GlobalAllocator
-use Rattle.lazy_pools.specs.LazyPool.{lazy_identity, lazy_reset}
+use Rattle.lazy_pools.specs.LazyPool.{lazy_view}
 use Rattle.pool_parts.specs.declared.clean.Clean as Clean
 use Rattle.pool_parts.specs.declared.closures.Init as Init
 use Rattle.pool_parts.specs.declared.closures.Reset as Reset
@@ -31,8 +31,13 @@ module _ (T P : RattleType) (pool : Ghosts P.Denot T.Denot) where
       let place = OptionRow.the_row T in
       let place_sent : IsSend place = search (sendable, crosses) depth 20 in
       view_sync (TakenInside.the_row T P pool) _ _ _ _
-      (declared_sync (TakenInside.the_type T P pool)
-      (as_row_sync (row_field P) pool_shared, (as_row_sync (Holding.the_field place) (holding_sync place place_sent), tt)))
+      (declared_sync (TakenInside.the_type T P pool) (
+        as_row_sync (row_field P) pool_shared,
+        (
+          as_row_sync (Holding.the_field place) (holding_sync place place_sent),
+          tt,
+        ),
+      ))
 
   pub reusable_sync : IsSend T → IsSync T → IsSync P → IsSync (LazyReusableOf.the_row T P pool)
   reusable_sync sent shared pool_shared = declared_sync (LazyReusableOf.the_type T P pool)
@@ -51,13 +56,17 @@ module _ (T I R K : RattleType) (answers : Init.Ghosts I.Denot T.Denot K.Denot)
   -- which pool it is of, and what that pool's reset may leave
   abbrev borrowed : (ℓ : Lifetime) (κ : Lft) → Ghosts (borrow ℓ κ).Denot T.Denot
   borrowed ℓ κ =
-      record { identity = λ pool. lazy_identity pool.now; leaves = λ pool. leaves.leaves (lazy_reset pool.now) }
+      record {
+        identity = λ pool. (lazy_view pool.now).identity;
+        leaves = λ pool. leaves.leaves
+            (lazy_view pool.now).reset;
+      }
 
   abbrev owned : Ghosts owner.Denot T.Denot
   owned =
       record {
-        identity = λ pool. lazy_identity (arc_value pool);
-        leaves = λ pool. leaves.leaves (lazy_reset (arc_value pool));
+        identity = λ pool. (lazy_view (arc_value pool)).identity;
+        leaves = λ pool. leaves.leaves (lazy_view (arc_value pool)).reset;
       }
 
   pub borrowed_reusable_sync : (ℓ : Lifetime) (κ : Lft) → IsSend T → IsSync T → IsSync I → IsSync R

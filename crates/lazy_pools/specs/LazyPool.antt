@@ -1,29 +1,71 @@
--- What a pool shows whose items are made one at a time.
-use Rattle.std.specs.Prelude.{ℕ, List, Option}
+-- What a pool shows whose items are made one at a time, and its reusables; and what its answers show.
+use Rattle.std.specs.Prelude.{◌≡◌, List, Option, Some, MatchOption}
+use Rattle.std.specs.Borrow.{Lends, Fml, RattleType, MutBor}
 use Rattle.atomic_table.specs.Seated.{TableId}
+use Rattle.pool_parts.specs.Item.{Item}
+use Rattle.pool_parts.specs.Page.{view_of, held_item}
+use Rattle.pool_parts.specs.Slot.{IsAllOut}
+use Rattle.fixed_pools.specs.FixedPool.{FixedView, FixedItem, IsPulledFrom, IsFullNote}
+use Rattle.lazy_pools.specs.contracts.lazy_reusable.LazyReusableOf.{the_row}
 use Rattle.lazy_pools.specs.declared.lazy_object_pool.LazyObjectPool.{LazyObjectPool}
+use Rattle.lazy_pools.specs.declared.lazy_object_pool.lazy_refused.LazyRefused.{LazyRefused}
+use Rattle.lazy_pools.specs.declared.lazy_object_pool.lazy_refused.LazyRefused.TheVariants.{Busy, NotMade}
+use Rattle.lazy_pools.specs.declared.lazy_object_pool.lazy_refused.PullWithError.{PullWithError}
+use Rattle.lazy_pools.specs.declared.lazy_object_pool.lazy_refused.PullWithError.TheVariants as With
+use Rattle.lazy_pools.specs.declared.lazy_reusable.LazyReusableOf.{LazyReusableOf}
+use Rattle.lazy_pools.specs.declared.lazy_reusable.SharedLazyPool.{Ghosts}
 
 module _ {T I R K : Type 0} where
-  -- which pool it is
-  abbrev pub lazy_identity : LazyObjectPool T I R K → TableId
-  lazy_identity pool = pool.places.shared.table.shared.table_id
-
-  -- how many items it may have
-  abbrev pub lazy_items : LazyObjectPool T I R K → ℕ
-  lazy_items pool = (lazy_identity pool).slots
-
-  -- how many pages their places lie on
-  abbrev pub lazy_pages : LazyObjectPool T I R K → ℕ
-  lazy_pages pool = (lazy_identity pool).words
-
-  -- what lay at its places when the pool opened, by number
-  abbrev pub lazy_opening : LazyObjectPool T I R K → List (Option (Option T))
-  lazy_opening pool = pool.places.shared.table.shared.key.values.value.items
+  -- what contracts see of a pool, whose places have a value or none
+  abbrev pub lazy_view : LazyObjectPool T I R K → FixedView (Option T) R
+  lazy_view pool =
+      let table = pool.places.shared.table.shared in
+      record {
+        identity = table.table_id;
+        items = table.table_id.slots;
+        pages = table.table_id.words;
+        opening = table.key.values.value.items;
+        reset = pool.reset;
+      }
 
   -- what makes the pool's values
   abbrev pub lazy_init : LazyObjectPool T I R K → I
   lazy_init pool = pool.init
 
-  -- what resets them
-  abbrev pub lazy_reset : LazyObjectPool T I R K → R
-  lazy_reset pool = pool.reset
+module _ {T P : Type 0} where
+  -- what contracts see of a pulled value: the item is its place with its value
+  abbrev pub lazy_item : LazyReusableOf T P → FixedItem (Option T) T P
+  lazy_item reusable = record {
+    pool = reusable.taken.0;
+    item = held_item reusable.taken.1 (Some reusable.value);
+    value = reusable.value;
+    known = view_of reusable.taken.1.seat;
+  }
+
+module _ {T : Type 0} where
+  -- an item of this pool, pulled as the pool's one history tells, which begins with these places
+  pub record IsPulledLazily (pool : TableId) (opening : List (Option (Option T))) (answers : Option T → Type 0)
+      (place : Item (Option T)) (value : T) : Type 0 where
+    -- what the pull found at its place
+    pub found : Option T
+    pub pulled : IsPulledFrom pool opening (record place { value = found })
+    -- the value is what lay there, or else an answer of init
+    pub value_is : MatchOption found (answers (Some value)) (λ kept. value ≡ kept)
+
+-- a pull of one pass gave no item: each was observed taken by it, or init may answer None
+abbrev pub RefusesOnePass : {T : Type 0} → TableId → List (Option (Option T)) → Type 0 → LazyRefused T → Type 0
+RefusesOnePass pool opening may_answer_none (Busy busy) = IsAllOut pool.slots pool opening busy
+RefusesOnePass pool opening may_answer_none NotMade = may_answer_none
+
+-- a pull by a closure gave no item: the pool was full at one moment, or the closure failed with this cause
+abbrev pub RefusesWith : {T E : Type 0} → TableId → List (Option (Option T)) → Type 0 → (E → Type 0)
+    → PullWithError T E → Type 0
+RefusesWith pool opening may_lack_memory fails_with With.Memory = may_lack_memory
+RefusesWith pool opening may_lack_memory fails_with (With.Limit full) = IsFullNote pool opening full
+RefusesWith pool opening may_lack_memory fails_with (With.Make cause) = fails_with cause
+
+module _ (T P : RattleType) (pool : Ghosts P.Denot T.Denot) where
+  -- a loan of a reusable's value ends with the reusable as it was, but for the value written last
+  abbrev pub LendsLazyValue : MutBor (LazyReusableOf T.Denot P.Denot) → MutBor T.Denot → Fml
+  LendsLazyValue reusable loan =
+      Lends (the_row T P pool) T reusable loan (λ value. record reusable.now { value = value })

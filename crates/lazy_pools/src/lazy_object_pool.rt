@@ -14,18 +14,16 @@
 //!
 //! Serving isn't fair: who waits longest needn't come first. An `init` or a `reset` that waits on
 //! its own pool can wait for ever.
-ghost use Rattle.std.specs.Prelude.{◌≡◌, ◌+◌, ◌*◌, ◌/◌, ◌<◌, ◌≤◌, ⊤, None, Some, IfOk, IfErr};
+ghost use Rattle.std.specs.Prelude.{◌≡◌, ◌+◌, ◌*◌, ◌/◌, ◌<◌, ◌≤◌, ⊤, None, Some, IfOk, IfErr, IfSome};
 ghost use Rattle.std.specs.Arc.{arc_value};
 
 use crate::lazy_owned_reusable::LazyOwnedReusable;
 use crate::lazy_reusable::LazyReusable;
 use crate::waiters::Waiters;
 use fixed_pools::fixed_object_pool::PoolNote;
-use fixed_pools::fixed_object_pool::items::FixedItems;
 use fixed_pools::fixed_object_pool::items::order::Order;
-use fixed_pools::fixed_object_pool::items::pulled_item::PulledItem;
+use fixed_pools::fixed_object_pool::items::{FixedItems, PulledItem};
 use kept_place::KeptPlace;
-use lazy_item::LazyItem;
 use lazy_refused::LazyRefused;
 use near::Near;
 use pool_parts::PullError;
@@ -42,7 +40,6 @@ use std::time::{Clock, Duration};
 
 mod counts;
 pub mod kept_place;
-pub(crate) mod lazy_item;
 pub mod lazy_refused;
 pub mod near;
 mod pull_with;
@@ -63,6 +60,14 @@ pub type LazyPulled<'s, 'p, T, I, R, K = AnyValue> = Result<
     LazyReusable<'s, T, I, R, K>,
     LazyRefused<'p, T>,
 >;
+
+/// A place that was taken, and the value that lay there or was made for it, before it is known how
+/// the pool is held.
+#[derive(Drop)]
+pub(crate) struct LazyItem<T> {
+    pub(crate) holding: Holding<Option<T>>,
+    pub(crate) value: T,
+}
 
 /// A pool of a set number of items, each made when it is first needed.
 ///
@@ -102,21 +107,11 @@ impl<T: Drop, I: Init<T, K>, R: Reset<T, K>, K: Clean<T>> Drop for LazyObjectPoo
 }
 
 impl<T: Drop, I: Init<T, K>, R: Reset<T, K>, K: Clean<T>> LazyObjectPool<T, I, R, K> {
-    ghost use Rattle.pool_parts.specs.Answers.{IsMadeOrReset};
-    ghost use Rattle.fixed_pools.specs.FixedAnswer.{IsPulledFrom};
-    ghost use Rattle.fixed_pools.specs.Inside.FixedItem.{pulled_item};
-    ghost use Rattle.fixed_pools.specs.StepCount.{IsWithin, passes_to_take};
-    ghost use Rattle.pool_parts.specs.Holding.{holding_page, held_item};
-    ghost use Rattle.pool_parts.specs.Items.{IsFilled};
-    ghost use Rattle.lazy_pools.specs.LazyAnswer.{IsBroughtBack, IsPulledLazily, RefusesLazily, RefusesOnePass, RefusesWaiting};
-    ghost use Rattle.lazy_pools.specs.Inside.LazyItem.{IsKeptPlace};
-    ghost use Rattle.lazy_pools.specs.LazyNear.{lazy_near_pool};
-    ghost use Rattle.lazy_pools.specs.LazyPool.{lazy_identity, lazy_items, lazy_pages, lazy_opening, lazy_init, lazy_reset};
-    ghost use Rattle.lazy_pools.specs.LazyReusable.{lazy_pool, lazy_place, lazy_value, held_place, lazy_view};
-    ghost use Rattle.lazy_pools.specs.Inside.LazyItem.{lazy_item_place};
-    ghost use Rattle.fixed_pools.specs.FixedAnswer.{returns_since};
-    ghost use Rattle.pool_parts.specs.Note.{note_page, witness_page, IsNoteOf, HasLearned, IsReturned};
-    ghost use Rattle.pool_parts.specs.Refusal.{RefusesMaking, RefusesPull};
+    ghost use Rattle.pool_parts.specs.Answers.{IsMadeOrReset, Refuses};
+    ghost use Rattle.fixed_pools.specs.FixedPool.{IsPulledFrom, returns_since, IsWithin};
+    ghost use Rattle.pool_parts.specs.Page.{held_item, IsNoteOf, HasLearned, IsReturned, IsBroughtBack};
+    ghost use Rattle.pool_parts.specs.Item.{IsFilled};
+    ghost use Rattle.lazy_pools.specs.LazyPool.{IsPulledLazily, RefusesOnePass, lazy_init, lazy_view, lazy_item};
 
     /// Creates a pool of `items` empty places. It makes no item. A place takes the room of a `T`
     /// and two words.
@@ -138,12 +133,12 @@ impl<T: Drop, I: Init<T, K>, R: Reset<T, K>, K: Clean<T>> LazyObjectPool<T, I, R
     ) -> Result<LazyObjectPool<T, I, R, K>, PullError>
         requires some_item { 1 ≤ items }
         ensures init { IfOk result (λ pool. lazy_init pool ≡ init) }
-        ensures reset { IfOk result (λ pool. lazy_reset pool ≡ reset) }
-        ensures items { IfOk result (λ pool. lazy_items pool ≡ items) }
-        ensures pages { IfOk result (λ pool. lazy_pages pool ≡ (items + 31) / 32) }
+        ensures reset { IfOk result (λ pool. (lazy_view pool).reset ≡ reset) }
+        ensures items { IfOk result (λ pool. (lazy_view pool).items ≡ items) }
+        ensures pages { IfOk result (λ pool. (lazy_view pool).pages ≡ (items + 31) / 32) }
         ensures empty { IfOk result (λ pool.
-            IsFilled items (λ place. place ≡ None) (lazy_opening pool)) }
-        ensures refused { IfErr result (RefusesMaking ⊥) }
+            IsFilled items (λ place. place ≡ None) (lazy_view pool).opening) }
+        ensures refused { IfErr result (Refuses ⊤ ⊥ ⊥) }
     {
         let places = FixedItems::new(alloc, items, Order::LowFirst, &|| Some(None))?;
         Ok(LazyObjectPool {
@@ -158,7 +153,7 @@ impl<T: Drop, I: Init<T, K>, R: Reset<T, K>, K: Clean<T>> LazyObjectPool<T, I, R
 
     /// Returns the number of items that the pool may have.
     pub fn items(&self) -> usize
-        ensures { result ≡ lazy_items self.now }
+        ensures { result ≡ (lazy_view self.now).items }
     {
         self.places.count()
     }
@@ -175,17 +170,17 @@ impl<T: Drop, I: Init<T, K>, R: Reset<T, K>, K: Clean<T>> LazyObjectPool<T, I, R
     ///   within it, which the counts of the words can't tell from none).
     /// - `Init` if `init` returned `None`. The place is free again, and empty.
     pub fn pull(&self) -> Result<LazyReusable<'_, T, I, R, K>, PullError>
-        ensures pool { IfOk result (λ item. (lazy_pool item).now ≡ self.now) }
+        ensures pool { IfOk result (λ item. (lazy_item item).pool.now ≡ self.now) }
         ensures pulled { IfOk result (λ item.
-            IsPulledLazily (lazy_identity self.now) (lazy_opening self.now)
-            (I.answers (lazy_init self.now)) (lazy_place item) (lazy_value item)) }
-        ensures meets { IfOk result (λ item. K.meets (lazy_value item)) }
+            IsPulledLazily (lazy_view self.now).identity (lazy_view self.now).opening
+            (I.answers (lazy_init self.now)) (lazy_item item).item (lazy_item item).value) }
+        ensures meets { IfOk result (λ item. K.meets (lazy_item item).value) }
         ensures made_or_reset { IfOk result (λ item.
-            IsMadeOrReset I.answers R.leaves (lazy_value item)) }
+            IsMadeOrReset I.answers R.leaves (lazy_item item).value) }
         ensures brief { IfOk result (λ item.
-            IsWithin (lazy_pages self.now * passes_to_take (returns_since (lazy_view item)))
-            (lazy_view item)) }
-        ensures refused { IfErr result (RefusesLazily (I.answers (lazy_init self.now) None)) }
+            IsWithin ((lazy_view self.now).pages * (returns_since (lazy_item item).known + 1)) 0 0
+            (lazy_item item).known) }
+        ensures refused { IfErr result (Refuses ⊥ (I.answers (lazy_init self.now) None) ⊤) }
     {
         match self.places.pull() {
             Ok(pulled) => {
@@ -206,7 +201,7 @@ impl<T: Drop, I: Init<T, K>, R: Reset<T, K>, K: Clean<T>> LazyObjectPool<T, I, R
     /// let item = near.pull()?;
     /// ```
     pub fn near(&self) -> Near<'_, T, I, R, K>
-        ensures { lazy_near_pool result ≡ self.now }
+        ensures { result.pool.now ≡ self.now }
     {
         Near::new(self, self.places.next_own_page())
     }
@@ -218,17 +213,17 @@ impl<T: Drop, I: Init<T, K>, R: Reset<T, K>, K: Clean<T>> LazyObjectPool<T, I, R
     /// - `Busy` with the evidence that each item was in use at some moment of the call.
     /// - `NotMade` if `init` returned `None`. The place is free again, and empty.
     pub fn try_pull<'s, 'p>(&'s self, pass: &'p PullPass) -> LazyPulled<'s, 'p, T, I, R, K>
-        ensures pool { IfOk result (λ item. (lazy_pool item).now ≡ self.now) }
+        ensures pool { IfOk result (λ item. (lazy_item item).pool.now ≡ self.now) }
         ensures pulled { IfOk result (λ item.
-            IsPulledLazily (lazy_identity self.now) (lazy_opening self.now)
-            (I.answers (lazy_init self.now)) (lazy_place item) (lazy_value item)) }
-        ensures meets { IfOk result (λ item. K.meets (lazy_value item)) }
+            IsPulledLazily (lazy_view self.now).identity (lazy_view self.now).opening
+            (I.answers (lazy_init self.now)) (lazy_item item).item (lazy_item item).value) }
+        ensures meets { IfOk result (λ item. K.meets (lazy_item item).value) }
         ensures made_or_reset { IfOk result (λ item.
-            IsMadeOrReset I.answers R.leaves (lazy_value item)) }
+            IsMadeOrReset I.answers R.leaves (lazy_item item).value) }
         ensures brief { IfOk result (λ item.
-            IsWithin (lazy_pages self.now) (lazy_view item)) }
+            IsWithin (lazy_view self.now).pages 0 0 (lazy_item item).known) }
         ensures refused { IfErr result
-            (RefusesOnePass (lazy_identity self.now) (lazy_opening self.now)
+            (RefusesOnePass (lazy_view self.now).identity (lazy_view self.now).opening
             (I.answers (lazy_init self.now) None)) }
     {
         match self.places.try_pull(pass) {
@@ -247,19 +242,20 @@ impl<T: Drop, I: Init<T, K>, R: Reset<T, K>, K: Clean<T>> LazyObjectPool<T, I, R
     ///
     /// As `pull`, and `Memory` if the pool can have no more owners.
     pub fn pull_owned(self: &Arc<Self>) -> Result<LazyOwnedReusable<T, I, R, K>, PullError>
-        ensures pool { IfOk result (λ item. arc_value (lazy_pool item) ≡ arc_value self.now) }
+        ensures pool { IfOk result (λ item. arc_value (lazy_item item).pool ≡ arc_value self.now) }
         ensures pulled { IfOk result (λ item.
-            IsPulledLazily (lazy_identity (arc_value self.now)) (lazy_opening (arc_value self.now))
-            (I.answers (lazy_init (arc_value self.now))) (lazy_place item) (lazy_value item)) }
-        ensures meets { IfOk result (λ item. K.meets (lazy_value item)) }
+            IsPulledLazily (lazy_view (arc_value self.now)).identity
+            (lazy_view (arc_value self.now)).opening
+            (I.answers (lazy_init (arc_value self.now))) (lazy_item item).item
+            (lazy_item item).value) }
+        ensures meets { IfOk result (λ item. K.meets (lazy_item item).value) }
         ensures made_or_reset { IfOk result (λ item.
-            IsMadeOrReset I.answers R.leaves (lazy_value item)) }
+            IsMadeOrReset I.answers R.leaves (lazy_item item).value) }
         ensures brief { IfOk result (λ item.
-            IsWithin
-            (lazy_pages (arc_value self.now) * passes_to_take (returns_since (lazy_view item)))
-            (lazy_view item)) }
+            IsWithin ((lazy_view (arc_value self.now)).pages * (returns_since (lazy_item item).known
+            + 1)) 0 0 (lazy_item item).known) }
         ensures refused { IfErr result
-            (RefusesPull ⊤ (I.answers (lazy_init (arc_value self.now)) None)) }
+            (Refuses ⊤ (I.answers (lazy_init (arc_value self.now)) None) ⊤) }
     {
         let owner = Arc::try_clone(self)?;
         match self.places.pull() {
@@ -277,14 +273,14 @@ impl<T: Drop, I: Init<T, K>, R: Reset<T, K>, K: Clean<T>> LazyObjectPool<T, I, R
     ///
     /// `Init` if `init` returned `None`. The place is free again, and empty.
     pub fn pull_wait<W: Wait>(&self, rt: &W) -> Result<LazyReusable<'_, T, I, R, K>, PullError>
-        ensures pool { IfOk result (λ item. (lazy_pool item).now ≡ self.now) }
+        ensures pool { IfOk result (λ item. (lazy_item item).pool.now ≡ self.now) }
         ensures pulled { IfOk result (λ item.
-            IsPulledLazily (lazy_identity self.now) (lazy_opening self.now)
-            (I.answers (lazy_init self.now)) (lazy_place item) (lazy_value item)) }
-        ensures meets { IfOk result (λ item. K.meets (lazy_value item)) }
+            IsPulledLazily (lazy_view self.now).identity (lazy_view self.now).opening
+            (I.answers (lazy_init self.now)) (lazy_item item).item (lazy_item item).value) }
+        ensures meets { IfOk result (λ item. K.meets (lazy_item item).value) }
         ensures made_or_reset { IfOk result (λ item.
-            IsMadeOrReset I.answers R.leaves (lazy_value item)) }
-        ensures refused { IfErr result (RefusesWaiting (I.answers (lazy_init self.now) None)) }
+            IsMadeOrReset I.answers R.leaves (lazy_item item).value) }
+        ensures refused { IfErr result (Refuses ⊥ (I.answers (lazy_init self.now) None) ⊥) }
     {
         let item = self.item(self.place_waiting(rt))?;
         Ok(LazyReusable::new(self, item))
@@ -302,14 +298,14 @@ impl<T: Drop, I: Init<T, K>, R: Reset<T, K>, K: Clean<T>> LazyObjectPool<T, I, R
         rt: &W,
         time: Duration,
     ) -> Result<LazyReusable<'_, T, I, R, K>, PullError>
-        ensures pool { IfOk result (λ item. (lazy_pool item).now ≡ self.now) }
+        ensures pool { IfOk result (λ item. (lazy_item item).pool.now ≡ self.now) }
         ensures pulled { IfOk result (λ item.
-            IsPulledLazily (lazy_identity self.now) (lazy_opening self.now)
-            (I.answers (lazy_init self.now)) (lazy_place item) (lazy_value item)) }
-        ensures meets { IfOk result (λ item. K.meets (lazy_value item)) }
+            IsPulledLazily (lazy_view self.now).identity (lazy_view self.now).opening
+            (I.answers (lazy_init self.now)) (lazy_item item).item (lazy_item item).value) }
+        ensures meets { IfOk result (λ item. K.meets (lazy_item item).value) }
         ensures made_or_reset { IfOk result (λ item.
-            IsMadeOrReset I.answers R.leaves (lazy_value item)) }
-        ensures refused { IfErr result (RefusesLazily (I.answers (lazy_init self.now) None)) }
+            IsMadeOrReset I.answers R.leaves (lazy_item item).value) }
+        ensures refused { IfErr result (Refuses ⊥ (I.answers (lazy_init self.now) None) ⊤) }
     {
         match self.place_within(rt, time) {
             Some(pulled) => {
@@ -329,15 +325,17 @@ impl<T: Drop, I: Init<T, K>, R: Reset<T, K>, K: Clean<T>> LazyObjectPool<T, I, R
         self: &Arc<Self>,
         rt: &W,
     ) -> Result<LazyOwnedReusable<T, I, R, K>, PullError>
-        ensures pool { IfOk result (λ item. arc_value (lazy_pool item) ≡ arc_value self.now) }
+        ensures pool { IfOk result (λ item. arc_value (lazy_item item).pool ≡ arc_value self.now) }
         ensures pulled { IfOk result (λ item.
-            IsPulledLazily (lazy_identity (arc_value self.now)) (lazy_opening (arc_value self.now))
-            (I.answers (lazy_init (arc_value self.now))) (lazy_place item) (lazy_value item)) }
-        ensures meets { IfOk result (λ item. K.meets (lazy_value item)) }
+            IsPulledLazily (lazy_view (arc_value self.now)).identity
+            (lazy_view (arc_value self.now)).opening
+            (I.answers (lazy_init (arc_value self.now))) (lazy_item item).item
+            (lazy_item item).value) }
+        ensures meets { IfOk result (λ item. K.meets (lazy_item item).value) }
         ensures made_or_reset { IfOk result (λ item.
-            IsMadeOrReset I.answers R.leaves (lazy_value item)) }
+            IsMadeOrReset I.answers R.leaves (lazy_item item).value) }
         ensures refused { IfErr result
-            (RefusesMaking (I.answers (lazy_init (arc_value self.now)) None)) }
+            (Refuses ⊤ (I.answers (lazy_init (arc_value self.now)) None) ⊥) }
     {
         let owner = Arc::try_clone(self)?;
         let item = self.item(self.place_waiting(rt))?;
@@ -354,15 +352,17 @@ impl<T: Drop, I: Init<T, K>, R: Reset<T, K>, K: Clean<T>> LazyObjectPool<T, I, R
         rt: &W,
         time: Duration,
     ) -> Result<LazyOwnedReusable<T, I, R, K>, PullError>
-        ensures pool { IfOk result (λ item. arc_value (lazy_pool item) ≡ arc_value self.now) }
+        ensures pool { IfOk result (λ item. arc_value (lazy_item item).pool ≡ arc_value self.now) }
         ensures pulled { IfOk result (λ item.
-            IsPulledLazily (lazy_identity (arc_value self.now)) (lazy_opening (arc_value self.now))
-            (I.answers (lazy_init (arc_value self.now))) (lazy_place item) (lazy_value item)) }
-        ensures meets { IfOk result (λ item. K.meets (lazy_value item)) }
+            IsPulledLazily (lazy_view (arc_value self.now)).identity
+            (lazy_view (arc_value self.now)).opening
+            (I.answers (lazy_init (arc_value self.now))) (lazy_item item).item
+            (lazy_item item).value) }
+        ensures meets { IfOk result (λ item. K.meets (lazy_item item).value) }
         ensures made_or_reset { IfOk result (λ item.
-            IsMadeOrReset I.answers R.leaves (lazy_value item)) }
+            IsMadeOrReset I.answers R.leaves (lazy_item item).value) }
         ensures refused { IfErr result
-            (RefusesPull ⊤ (I.answers (lazy_init (arc_value self.now)) None)) }
+            (Refuses ⊤ (I.answers (lazy_init (arc_value self.now)) None) ⊤) }
     {
         let owner = Arc::try_clone(self)?;
         match self.place_within(rt, time) {
@@ -376,15 +376,15 @@ impl<T: Drop, I: Init<T, K>, R: Reset<T, K>, K: Clean<T>> LazyObjectPool<T, I, R
 
     /// Returns a note of this pool, which knows some prefix of its history.
     pub fn note(&self) -> PoolNote<Option<T>>
-        ensures { IsNoteOf (lazy_identity self.now) (lazy_opening self.now) result }
+        ensures { IsNoteOf (lazy_view self.now).identity (lazy_view self.now).opening result }
     {
         self.places.shared.note()
     }
 
     /// Adds what a witness knows to what a note knows. The histories of both are prefixes of one.
     pub fn tell(&self, note: &mut PoolNote<Option<T>>, other: Witness<Option<T>>)
-        requires note { note_page note.old ≡ lazy_identity self.now }
-        requires other { witness_page other ≡ lazy_identity self.now }
+        requires note { note.old.seat.table_id ≡ (lazy_view self.now).identity }
+        requires other { other.seat.table_id ≡ (lazy_view self.now).identity }
         ensures { HasLearned note.old other note.new }
     {
         self.places.shared.tell(note, other);
@@ -392,16 +392,18 @@ impl<T: Drop, I: Init<T, K>, R: Reset<T, K>, K: Clean<T>> LazyObjectPool<T, I, R
 
     /// Returns the item of a place that was taken, and makes its value if the place is empty.
     fn item(&self, pulled: PulledItem<Option<T>>) -> Result<LazyItem<T>, PullError>
-        requires pulled { IsPulledFrom (lazy_identity self.now) (lazy_opening self.now)
-            (pulled_item pulled) }
-        requires kept { IsKeptPlace K.meets I.answers R.leaves pulled.value }
+        requires pulled { IsPulledFrom (lazy_view self.now).identity (lazy_view self.now).opening
+            (held_item pulled.holding pulled.value) }
+        requires kept { IfSome pulled.value (λ value.
+            K.meets value × IsMadeOrReset I.answers R.leaves value) }
         ensures same { IfOk result (λ item. item.holding ≡ pulled.holding) }
         ensures pulled { IfOk result (λ item.
-            IsPulledLazily (lazy_identity self.now) (lazy_opening self.now)
-            (I.answers (lazy_init self.now)) (lazy_item_place item) item.value) }
+            IsPulledLazily (lazy_view self.now).identity (lazy_view self.now).opening
+            (I.answers (lazy_init self.now)) (held_item item.holding (Some item.value))
+            item.value) }
         ensures meets { IfOk result (λ item. K.meets item.value) }
         ensures made_or_reset { IfOk result (λ item. IsMadeOrReset I.answers R.leaves item.value) }
-        ensures refused { IfErr result (RefusesWaiting (I.answers (lazy_init self.now) None)) }
+        ensures refused { IfErr result (Refuses ⊥ (I.answers (lazy_init self.now) None) ⊥) }
     {
         let PulledItem { holding, value } = pulled;
         match value {
@@ -413,15 +415,16 @@ impl<T: Drop, I: Init<T, K>, R: Reset<T, K>, K: Clean<T>> LazyObjectPool<T, I, R
     /// Makes the value of an empty place that was taken. If `init` refuses, the place is returned.
     #[cold]
     fn make(&self, holding: Holding<Option<T>>) -> Result<LazyItem<T>, PullError>
-        requires pulled { IsPulledFrom (lazy_identity self.now) (lazy_opening self.now)
+        requires pulled { IsPulledFrom (lazy_view self.now).identity (lazy_view self.now).opening
             (held_item holding None) }
         ensures same { IfOk result (λ item. item.holding ≡ holding) }
         ensures pulled { IfOk result (λ item.
-            IsPulledLazily (lazy_identity self.now) (lazy_opening self.now)
-            (I.answers (lazy_init self.now)) (lazy_item_place item) item.value) }
+            IsPulledLazily (lazy_view self.now).identity (lazy_view self.now).opening
+            (I.answers (lazy_init self.now)) (held_item item.holding (Some item.value))
+            item.value) }
         ensures meets { IfOk result (λ item. K.meets item.value) }
         ensures made_or_reset { IfOk result (λ item. IsMadeOrReset I.answers R.leaves item.value) }
-        ensures refused { IfErr result (RefusesWaiting (I.answers (lazy_init self.now) None)) }
+        ensures refused { IfErr result (Refuses ⊥ (I.answers (lazy_init self.now) None) ⊥) }
     {
         match self.init.make() {
             Some(value) => {
@@ -437,9 +440,10 @@ impl<T: Drop, I: Init<T, K>, R: Reset<T, K>, K: Clean<T>> LazyObjectPool<T, I, R
 
     /// Resets the value of an item, returns it, and wakes one that waits.
     pub(crate) fn give(&self, holding: Holding<Option<T>>, value: T) -> PoolNote<Option<T>>
-        requires of_pool { holding_page holding ≡ lazy_identity self.now }
-        requires in_pool { holding.number < lazy_items self.now }
-        ensures { IsBroughtBack (R.leaves (lazy_reset self.now)) (held_place holding value) value
+        requires of_pool { holding.seat.table_id ≡ (lazy_view self.now).identity }
+        requires in_pool { holding.number < (lazy_view self.now).items }
+        ensures { IsBroughtBack (R.leaves (lazy_view self.now).reset)
+            (held_item holding (Some value)) value
             result }
     {
         let mut left = value;
@@ -449,8 +453,8 @@ impl<T: Drop, I: Init<T, K>, R: Reset<T, K>, K: Clean<T>> LazyObjectPool<T, I, R
 
     /// Returns the place of an item without its value, and wakes one that waits.
     pub(crate) fn leave_empty(&self, holding: Holding<Option<T>>) -> PoolNote<Option<T>>
-        requires of_pool { holding_page holding ≡ lazy_identity self.now }
-        requires in_pool { holding.number < lazy_items self.now }
+        requires of_pool { holding.seat.table_id ≡ (lazy_view self.now).identity }
+        requires in_pool { holding.number < (lazy_view self.now).items }
         ensures { IsReturned (held_item holding None) result }
     {
         self.existing.fetch_sub(1, SeqCst);
@@ -459,9 +463,10 @@ impl<T: Drop, I: Init<T, K>, R: Reset<T, K>, K: Clean<T>> LazyObjectPool<T, I, R
 
     /// Returns a place with what lies there, and wakes one that waits.
     fn bring_back(&self, holding: Holding<Option<T>>, place: Option<T>) -> PoolNote<Option<T>>
-        requires of_pool { holding_page holding ≡ lazy_identity self.now }
-        requires in_pool { holding.number < lazy_items self.now }
-        requires kept { IsKeptPlace K.meets I.answers R.leaves place }
+        requires of_pool { holding.seat.table_id ≡ (lazy_view self.now).identity }
+        requires in_pool { holding.number < (lazy_view self.now).items }
+        requires kept { IfSome place (λ value.
+            K.meets value × IsMadeOrReset I.answers R.leaves value) }
         ensures { IsReturned (held_item holding place) result }
     {
         let seat = self.places.give(holding, place);

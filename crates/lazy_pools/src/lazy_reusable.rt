@@ -2,12 +2,9 @@
 ghost use Rattle.std.specs.Prelude.{◌≡◌, ◌<◌, ◌/◌, ◌%◌, None};
 ghost use Rattle.std.specs.Arc.{arc_value};
 ghost use Rattle.atomic_table.specs.Seated.{TableId};
-ghost use Rattle.pool_parts.specs.Holding.{holding_page, holding_view, held_item};
-ghost use Rattle.pool_parts.specs.Note.{IsReturned};
-ghost use Rattle.lazy_pools.specs.LazyPool.{lazy_identity, lazy_reset};
+ghost use Rattle.pool_parts.specs.Page.{held_item, view_of, IsReturned};
 
-use crate::lazy_object_pool::LazyObjectPool;
-use crate::lazy_object_pool::lazy_item::LazyItem;
+use crate::lazy_object_pool::{LazyItem, LazyObjectPool};
 use fixed_pools::fixed_object_pool::PoolNote;
 use pool_parts::clean::{AnyValue, Clean};
 use pool_parts::closures::{Init, Reset};
@@ -21,9 +18,7 @@ use std::sync::Arc;
 
 /// A lazy pool as each of its reusables has it: by a borrow, or with an owner.
 pub trait SharedLazyPool<T>: Drop {
-    ghost use Rattle.lazy_pools.specs.LazyAnswer.{IsBroughtBack};
-    ghost use Rattle.lazy_pools.specs.LazyReusable.{held_place};
-    ghost use Rattle.pool_parts.specs.Note.{witness_page, witness_history};
+    ghost use Rattle.pool_parts.specs.Page.{IsBroughtBack, held_item, view_of};
 
     /// Which pool it is.
     ghost identity: { Self → TableId };
@@ -33,51 +28,52 @@ pub trait SharedLazyPool<T>: Drop {
 
     /// Returns what the holder of an item knows of the pool.
     fn witness(&self, holding: &mut Holding<Option<T>>) -> Witness<Option<T>>
-        requires { holding_page holding.old ≡ identity self.now }
-        ensures page { witness_page result ≡ holding_page holding.old }
-        ensures history { witness_history result ≡ (holding_view holding.old).operations }
-        ensures same_page { holding_page holding.new ≡ holding_page holding.old }
-        ensures same_view { holding_view holding.new ≡ holding_view holding.old }
+        requires { holding.old.seat.table_id ≡ identity self.now }
+        ensures page { result.seat.table_id ≡ holding.old.seat.table_id }
+        ensures history { (view_of result.seat).operations ≡ (view_of holding.old.seat).operations }
+        ensures same_page { holding.new.seat.table_id ≡ holding.old.seat.table_id }
+        ensures same_view { view_of holding.new.seat ≡ view_of holding.old.seat }
         ensures same_number { holding.new.number ≡ holding.old.number };
 
     /// Resets the value of an item and returns it.
     fn give(&self, holding: Holding<Option<T>>, value: T) -> PoolNote<Option<T>>
-        requires of_pool { holding_page holding ≡ identity self.now }
+        requires of_pool { holding.seat.table_id ≡ identity self.now }
         requires in_pool { holding.number < (identity self.now).slots }
-        ensures { IsBroughtBack (leaves self.now) (held_place holding value) value result };
+        ensures { IsBroughtBack (leaves self.now) (held_item holding (Some value)) value result };
 
     /// Returns the place of an item without its value.
     fn leave_empty(&self, holding: Holding<Option<T>>) -> PoolNote<Option<T>>
-        requires of_pool { holding_page holding ≡ identity self.now }
+        requires of_pool { holding.seat.table_id ≡ identity self.now }
         requires in_pool { holding.number < (identity self.now).slots }
         ensures { IsReturned (held_item holding None) result };
 }
 
 impl<T: Drop, I: Init<T, K>, R: Reset<T, K>, K: Clean<T>> SharedLazyPool<T>
     for &LazyObjectPool<T, I, R, K> {
-    ghost use Rattle.lazy_pools.specs.LazyAnswer.{IsBroughtBack};
-    ghost use Rattle.lazy_pools.specs.LazyReusable.{held_place};
+    ghost use Rattle.lazy_pools.specs.LazyPool.{lazy_view};
+    ghost use Rattle.pool_parts.specs.Page.{IsBroughtBack, held_item};
 
-    ghost identity = { λ pool. lazy_identity pool.now };
+    ghost identity = { λ pool. (lazy_view pool.now).identity };
 
-    ghost leaves = { λ pool. R.leaves (lazy_reset pool.now) };
+    ghost leaves = { λ pool. R.leaves (lazy_view pool.now).reset };
 
     fn witness(&self, holding: &mut Holding<Option<T>>) -> Witness<Option<T>> {
         holding.witness(&self.places.shared)
     }
 
     fn give(&self, holding: Holding<Option<T>>, value: T) -> PoolNote<Option<T>>
-        requires of_pool { holding_page holding ≡ lazy_identity self.now.now }
-        requires in_pool { holding.number < (lazy_identity self.now.now).slots }
-        ensures { IsBroughtBack (R.leaves (lazy_reset self.now.now)) (held_place holding value)
+        requires of_pool { holding.seat.table_id ≡ (lazy_view self.now.now).identity }
+        requires in_pool { holding.number < (lazy_view self.now.now).identity.slots }
+        ensures { IsBroughtBack (R.leaves (lazy_view self.now.now).reset)
+            (held_item holding (Some value))
             value result }
     {
         LazyObjectPool::give(*self, holding, value)
     }
 
     fn leave_empty(&self, holding: Holding<Option<T>>) -> PoolNote<Option<T>>
-        requires of_pool { holding_page holding ≡ lazy_identity self.now.now }
-        requires in_pool { holding.number < (lazy_identity self.now.now).slots }
+        requires of_pool { holding.seat.table_id ≡ (lazy_view self.now.now).identity }
+        requires in_pool { holding.number < (lazy_view self.now.now).identity.slots }
         ensures { IsReturned (held_item holding None) result }
     {
         LazyObjectPool::leave_empty(*self, holding)
@@ -86,29 +82,29 @@ impl<T: Drop, I: Init<T, K>, R: Reset<T, K>, K: Clean<T>> SharedLazyPool<T>
 
 impl<T: Drop, I: Init<T, K>, R: Reset<T, K>, K: Clean<T>> SharedLazyPool<T>
     for Arc<LazyObjectPool<T, I, R, K>> {
-    ghost use Rattle.lazy_pools.specs.LazyAnswer.{IsBroughtBack};
-    ghost use Rattle.lazy_pools.specs.LazyReusable.{held_place};
+    ghost use Rattle.lazy_pools.specs.LazyPool.{lazy_view};
+    ghost use Rattle.pool_parts.specs.Page.{IsBroughtBack, held_item};
 
-    ghost identity = { λ pool. lazy_identity (arc_value pool) };
+    ghost identity = { λ pool. (lazy_view (arc_value pool)).identity };
 
-    ghost leaves = { λ pool. R.leaves (lazy_reset (arc_value pool)) };
+    ghost leaves = { λ pool. R.leaves (lazy_view (arc_value pool)).reset };
 
     fn witness(&self, holding: &mut Holding<Option<T>>) -> Witness<Option<T>> {
         holding.witness(&self.places.shared)
     }
 
     fn give(&self, holding: Holding<Option<T>>, value: T) -> PoolNote<Option<T>>
-        requires of_pool { holding_page holding ≡ lazy_identity (arc_value self.now) }
-        requires in_pool { holding.number < (lazy_identity (arc_value self.now)).slots }
-        ensures { IsBroughtBack (R.leaves (lazy_reset (arc_value self.now)))
-            (held_place holding value) value result }
+        requires of_pool { holding.seat.table_id ≡ (lazy_view (arc_value self.now)).identity }
+        requires in_pool { holding.number < (lazy_view (arc_value self.now)).identity.slots }
+        ensures { IsBroughtBack (R.leaves (lazy_view (arc_value self.now)).reset)
+            (held_item holding (Some value)) value result }
     {
         (**self).give(holding, value)
     }
 
     fn leave_empty(&self, holding: Holding<Option<T>>) -> PoolNote<Option<T>>
-        requires of_pool { holding_page holding ≡ lazy_identity (arc_value self.now) }
-        requires in_pool { holding.number < (lazy_identity (arc_value self.now)).slots }
+        requires of_pool { holding.seat.table_id ≡ (lazy_view (arc_value self.now)).identity }
+        requires in_pool { holding.number < (lazy_view (arc_value self.now)).identity.slots }
         ensures { IsReturned (held_item holding None) result }
     {
         (**self).leave_empty(holding)
@@ -123,16 +119,15 @@ pub(crate) struct TakenPlace<T, P: SharedLazyPool<T>> {
 }
 
 impl<T, P: SharedLazyPool<T>> Model for TakenPlace<T, P> {
+    ghost use Rattle.pool_parts.specs.declared.page.holding.Holding.{Holding};
     ghost use Rattle.std.specs.Prelude.{◌≡◌, ◌<◌, Option};
-    ghost use Rattle.pool_parts.specs.Holding.{holding_page};
-    ghost use Rattle.fixed_pools.specs.Inside.FixedItem.{PoolAndHolding};
 
-    ghost Value = { PoolAndHolding (Option T) P };
+    ghost Value = { P × Holding (Option T) };
 
-    ghost view = { λ taken. record { pool = taken.pool; holding = taken.holding } };
+    ghost view = { λ taken. (taken.pool, taken.holding) };
 
     ghost invariant = { λ taken.
-        (holding_page taken.holding ≡ P.identity taken.pool)
+        (taken.holding.seat.table_id ≡ P.identity taken.pool)
         × (taken.holding.number < (P.identity taken.pool).slots) };
 }
 
@@ -158,20 +153,17 @@ pub type LazyReusable<'p, T, I, R, K = AnyValue> = LazyReusableOf<
 >;
 
 impl<T: Drop, P: SharedLazyPool<T>> LazyReusableOf<T, P> {
-    ghost use Rattle.lazy_pools.specs.LazyAnswer.{IsBroughtBack};
-    ghost use Rattle.lazy_pools.specs.LazyReusable.{lazy_pool, lazy_place, lazy_value, lazy_view};
-    ghost use Rattle.lazy_pools.specs.Inside.LazyItem.{lazy_item_place};
-    ghost use Rattle.pool_parts.specs.Item.{item_with};
-    ghost use Rattle.pool_parts.specs.Note.{witness_page, witness_history};
+    ghost use Rattle.lazy_pools.specs.LazyPool.{lazy_item};
+    ghost use Rattle.pool_parts.specs.Page.{IsBroughtBack, held_item, view_of};
     ghost use Rattle.pool_parts.specs.declared.page.word.TheConstants.{PAGE_ITEMS};
 
     pub(crate) fn new(pool: P, item: LazyItem<T>) -> LazyReusableOf<T, P>
-        requires of_pool { holding_page item.holding ≡ P.identity pool }
+        requires of_pool { item.holding.seat.table_id ≡ P.identity pool }
         requires in_pool { item.holding.number < (P.identity pool).slots }
-        ensures pool { lazy_pool result ≡ pool }
-        ensures place { lazy_place result ≡ lazy_item_place item }
-        ensures value { lazy_value result ≡ item.value }
-        ensures view { lazy_view result ≡ holding_view item.holding }
+        ensures pool { (lazy_item result).pool ≡ pool }
+        ensures place { (lazy_item result).item ≡ held_item item.holding (Some item.value) }
+        ensures value { (lazy_item result).value ≡ item.value }
+        ensures view { (lazy_item result).known ≡ view_of item.holding.seat }
     {
         let LazyItem { holding, value } = item;
         LazyReusableOf {
@@ -183,23 +175,23 @@ impl<T: Drop, P: SharedLazyPool<T>> LazyReusableOf<T, P> {
 
     /// Returns the number of the item in its pool, counted from 0.
     pub fn number(&self) -> usize
-        ensures value { result ≡ (lazy_place self.now).id }
-        ensures in_pool { result < (P.identity (lazy_pool self.now)).slots }
-        ensures of_pool { (lazy_place self.now).page ≡ P.identity (lazy_pool self.now) }
+        ensures value { result ≡ (lazy_item self.now).item.id }
+        ensures in_pool { result < (P.identity (lazy_item self.now).pool).slots }
+        ensures of_pool { (lazy_item self.now).item.page ≡ P.identity (lazy_item self.now).pool }
     {
         self.taken.holding.number
     }
 
     /// Returns the number of the item's page in the pool, counted from 0.
     pub fn page_number(&self) -> usize
-        ensures { result ≡ (lazy_place self.now).id / 32 }
+        ensures { result ≡ (lazy_item self.now).item.id / 32 }
     {
         self.taken.holding.number / PAGE_ITEMS
     }
 
     /// Returns the number of the item in its page.
     pub fn page_id(&self) -> PageId
-        ensures value { result ≡ (lazy_place self.now).id % 32 }
+        ensures value { result ≡ (lazy_item self.now).item.id % 32 }
         ensures in_page { result < PAGE_ITEMS }
     {
         (self.taken.holding.number % PAGE_ITEMS) as PageId
@@ -207,10 +199,10 @@ impl<T: Drop, P: SharedLazyPool<T>> LazyReusableOf<T, P> {
 
     /// Returns a witness of what the holder knows of the pool. It costs one load.
     pub fn witness(&mut self) -> Witness<Option<T>>
-        ensures pool { witness_page result ≡ (lazy_place self.old).page }
-        ensures history { witness_history result ≡ (lazy_place self.old).history }
-        ensures same_place { lazy_place self.new ≡ lazy_place self.old }
-        ensures same_pool { lazy_pool self.new ≡ lazy_pool self.old }
+        ensures pool { result.seat.table_id ≡ (lazy_item self.old).item.page }
+        ensures history { (view_of result.seat).operations ≡ (lazy_item self.old).item.history }
+        ensures same_place { (lazy_item self.new).item ≡ (lazy_item self.old).item }
+        ensures same_pool { (lazy_item self.new).pool ≡ (lazy_item self.old).pool }
     {
         let taken = &mut self.taken;
         taken.pool.witness(&mut taken.holding)
@@ -219,7 +211,8 @@ impl<T: Drop, P: SharedLazyPool<T>> LazyReusableOf<T, P> {
     /// Resets the value and returns it, as the drop does. The note knows the pool's history up to
     /// this return.
     pub fn give_back(self) -> PoolNote<Option<T>>
-        ensures { IsBroughtBack (P.leaves (lazy_pool self)) (lazy_place self) (lazy_value self) result }
+        ensures { IsBroughtBack (P.leaves (lazy_item self).pool) (lazy_item self).item
+            (lazy_item self).value result }
     {
         let LazyReusableOf {
             lender: _,
@@ -233,7 +226,7 @@ impl<T: Drop, P: SharedLazyPool<T>> LazyReusableOf<T, P> {
     /// Drops the value without a reset. Its place is empty, and a later pull makes an item there.
     /// The note knows the pool's history up to this return.
     pub fn discard(self) -> PoolNote<Option<T>>
-        ensures { IsReturned (item_with (lazy_place self) None) result }
+        ensures { IsReturned (record (lazy_item self).item { value = None }) result }
     {
         let (value, note) = self.take_out();
         drop(value);
@@ -243,15 +236,15 @@ impl<T: Drop, P: SharedLazyPool<T>> LazyReusableOf<T, P> {
     /// Takes the value out of its pool without a reset. Its place is empty, and a later pull makes
     /// an item there.
     pub fn detach(self) -> T
-        ensures { result ≡ lazy_value self }
+        ensures { result ≡ (lazy_item self).value }
     {
         self.take_out().0
     }
 
     /// Takes the value out, and returns its place empty.
     fn take_out(self) -> (T, PoolNote<Option<T>>)
-        ensures value { result.0 ≡ lazy_value self }
-        ensures returned { IsReturned (item_with (lazy_place self) None) result.1 }
+        ensures value { result.0 ≡ (lazy_item self).value }
+        ensures returned { IsReturned (record (lazy_item self).item { value = None }) result.1 }
     {
         let LazyReusableOf {
             lender: _,
@@ -267,9 +260,9 @@ impl<T: Drop, P: SharedLazyPool<T>> LazyReusableOf<T, P> {
 impl<T: Drop, P: SharedLazyPool<T>> Deref for LazyReusableOf<T, P> {
     type Target = T;
 
-    ghost use Rattle.lazy_pools.specs.LazyReusable.{lazy_value};
+    ghost use Rattle.lazy_pools.specs.LazyPool.{lazy_item};
 
-    ghost deref_gives = { λ reusable value. value ≡ lazy_value reusable };
+    ghost deref_gives = { λ reusable value. value ≡ (lazy_item reusable).value };
 
     fn deref(&self) -> &T {
         &self.value
@@ -278,15 +271,14 @@ impl<T: Drop, P: SharedLazyPool<T>> Deref for LazyReusableOf<T, P> {
 
 impl<T: Drop, P: SharedLazyPool<T>> DerefMut for LazyReusableOf<T, P> {
     ghost use Rattle.std.specs.Borrow.{sem};
-    ghost use Rattle.lazy_pools.specs.LazyLends.{LendsLazyValue};
-    ghost use Rattle.lazy_pools.specs.LazyReusable.{lazy_value};
+    ghost use Rattle.lazy_pools.specs.LazyPool.{LendsLazyValue, lazy_item};
 
-    ghost deref_mut_gives = { λ reusable value. value ≡ lazy_value reusable };
+    ghost deref_mut_gives = { λ reusable value. value ≡ (lazy_item reusable).value };
 
     fn deref_mut(&mut self) -> &mut T
         ensures* writes_back { sem 𝓛
             (LendsLazyValue T.row P.row P.SharedLazyPool self.entry result) }
-        ensures shows { result.now ≡ lazy_value self.old }
+        ensures shows { result.now ≡ (lazy_item self.old).value }
     {
         &mut self.value
     }
@@ -299,9 +291,9 @@ impl<T: Drop, P: SharedLazyPool<T>> Drop for LazyReusableOf<T, P> {
 }
 
 impl<T: Debug + Drop, P: SharedLazyPool<T>> Debug for LazyReusableOf<T, P> {
-    ghost use Rattle.lazy_pools.specs.LazyReusable.{lazy_value};
+    ghost use Rattle.lazy_pools.specs.LazyPool.{lazy_item};
 
-    ghost debug_output = { λ reusable. T.debug_output (lazy_value reusable) };
+    ghost debug_output = { λ reusable. T.debug_output (lazy_item reusable).value };
 
     fn fmt<W: Write>(&self, f: &mut Formatter<W>) -> fmt::Result {
         Debug::fmt(&self.value, f)

@@ -1,5 +1,5 @@
 //! The lazy pool of values that say themselves how they are made and reset.
-ghost use Rattle.std.specs.Prelude.{◌≡◌, ◌≤◌, IfOk, IfErr};
+ghost use Rattle.std.specs.Prelude.{◌≡◌, ◌≤◌, IfOk, IfErr, ⊤};
 
 use crate::lazy_object_pool::LazyObjectPool;
 use crate::lazy_owned_reusable::LazyOwnedReusable;
@@ -38,8 +38,8 @@ pub type LazyPoolReusable<'p, T> = LazyReusable<'p, T, Recycler, Recycler, Recyc
 pub type LazyPoolOwnedReusable<T> = LazyOwnedReusable<T, Recycler, Recycler, Recycler>;
 
 impl<T: Recyclable> LazyPool<T> {
-    ghost use Rattle.lazy_pools.specs.LazyPool.{lazy_items};
-    ghost use Rattle.pool_parts.specs.Refusal.{RefusesMaking};
+    ghost use Rattle.lazy_pools.specs.LazyPool.{lazy_view};
+    ghost use Rattle.pool_parts.specs.Answers.{Refuses};
 
     /// Creates a pool of `items` empty places. It makes no value.
     ///
@@ -54,8 +54,8 @@ impl<T: Recyclable> LazyPool<T> {
     /// ```
     pub fn with_recycler(alloc: Global, items: usize) -> Result<LazyPool<T>, PullError>
         requires { 1 ≤ items }
-        ensures items { IfOk result (λ pool. lazy_items pool ≡ items) }
-        ensures refused { IfErr result (RefusesMaking ⊥) }
+        ensures items { IfOk result (λ pool. (lazy_view pool).items ≡ items) }
+        ensures refused { IfErr result (Refuses ⊤ ⊥ ⊥) }
     {
         let recycler = Recycler::new(alloc);
         LazyObjectPool::new(alloc, recycler, recycler, items)

@@ -1,23 +1,21 @@
 -- That what a chain's pages answered is what a linear pool's pull gives.
+use Rattle.std.specs.Prelude.{⊤}
 use Rattle.std.proofs.Common.{◌≡◌, ℕ, ◌-◌, ◌<◌, Option, None, Some, IfSome, IsSome, Ok, Err, IfOk, refl, sym, subst, inl, arith}
 use Rattle.std.specs.declared.result.Result.{Result}
 use Rattle.std.specs.Option.{option_map}
-use Rattle.pool_parts.specs.Answers.{IsAnswer, IsMadeOrReset}
-use Rattle.pool_parts.specs.Item.{Item, IsItemOf, IsPulled}
-use Rattle.pool_parts.specs.Items.{IsFilled}
-use Rattle.page_chain.specs.Walk.{Start, number_of, IsTaken, IsRefusedBy, cause_of}
+use Rattle.pool_parts.specs.Answers.{IsMadeOrReset, Refuses}
+use Rattle.pool_parts.specs.Item.{Item, IsItemOf, IsPulled, IsFilled}
+use Rattle.page_chain.specs.Walk.{ChainPage, IsTaken, IsRefusedBy, cause_of}
 use Rattle.page_chain.specs.declared.linear_page.page_number.PageNumber.{PageNumber}
 use Rattle.page_chain.specs.declared.linear_page.walk.WalkEnd.{WalkEnd}
 use Rattle.page_chain.specs.declared.linear_page.walk.WalkRefusal.{WalkRefusal}
 use Rattle.page_chain.specs.declared.linear_page.walk.WalkRefusal.TheVariants.{Limit, Making}
-use Rattle.pool_parts.specs.Refusal.{RefusesPull}
 use Rattle.pool_parts.specs.Slot.{slot_item}
 use Rattle.pool_parts.specs.declared.pull_error.PullError.{PullError}
 use Rattle.pool_parts.specs.declared.pull_error.PullError.TheVariants.{Memory, Init, Limit as LimitCause}
 use Rattle.pool_parts.specs.declared.made_or_reset.MadeOrReset.{MadeOrReset}
 use Rattle.pool_parts.specs.declared.page.word.TheConstants.{PAGE_ITEMS}
-use Rattle.linear_pools.specs.LinearPool.{pool_limit, pool_start, pool_first_page, pool_first_opening}
-use Rattle.linear_pools.specs.LinearPool.{Pulls}
+use Rattle.linear_pools.specs.LinearPool.{linear_view, Pulls}
 use Rattle.linear_pools.specs.declared.linear_object_pool.LinearObjectPool.{LinearObjectPool}
 use Rattle.linear_pools.specs.declared.linear_object_pool.AnswerOf.{AnswerOf}
 use Rattle.linear_pools.specs.declared.linear_object_pool.PageLimit.{PageLimit}
@@ -33,9 +31,9 @@ within_from_first None number within = tt
 within_from_first (Some pages) number within = omega (arith, within)
 
 -- a pull whose walk had no item is refused for the walk's cause
-pub refuses_pull : {T K O : Type 0} (start : Start) (limit : Option ℕ) (init_refuses : Type 0)
+pub refuses_pull : {T K O : Type 0} (start : ChainPage T) (limit : Option ℕ) (init_refuses : Type 0)
     (refusal : WalkRefusal T K O) (cause : PullError) → cause ≡ cause_of refusal
-    → IsRefusedBy start limit init_refuses refusal → RefusesPull (IsSome limit) init_refuses cause
+    → IsRefusedBy start limit init_refuses refusal → Refuses ⊤ init_refuses (IsSome limit) cause
 refuses_pull start limit init_refuses (Limit seen) cause same refused =
     rw same (subst (λ limit. IsSome limit) (sym refused.1) refl)
 refuses_pull start limit init_refuses (Making Memory) cause same refused = rw same tt
@@ -46,9 +44,10 @@ module _ {T I R K : Type 0} (meets : T → Type 0) (answers : I → Option T →
     (pool : LinearObjectPool T I R K) where
   -- an item that the first page answered is what a pull gives
   pub first_pulls : (number : PageNumber T (MadeOrReset I R K) (AnswerOf I K)) (held item : Item T) → held ≡ item
-      → number_of number ≡ 0
-      → IsItemOf (λ value. meets value × IsMadeOrReset answers leaves value) (pool_first_page pool) item
-      → IsFilled PAGE_ITEMS (IsAnswer answers) item.opening → IsPulled item → item.opening ≡ pool_first_opening pool
+      → number.number ≡ 0
+      → IsItemOf (λ value. meets value × IsMadeOrReset answers leaves value) (linear_view pool).start.page item
+      → IsFilled PAGE_ITEMS (λ value. (initializer : I) × answers initializer (Some value)) item.opening → IsPulled item
+      → item.opening ≡ (linear_view pool).start.opening
       → Pulls meets answers leaves pool number held
   first_pulls number held item same first is_item opened pulled opening =
       subst (λ item. Pulls meets answers leaves pool number item) (sym same) (record {
@@ -64,15 +63,16 @@ module _ {T I R K : Type 0} (meets : T → Type 0) (answers : I → Option T →
 
   -- an item that the walk took past the first page is what a pull gives
   pub further_pulls : {E : Type 0} (limit : Option ℕ)
-      (result : Result (WalkEnd T (MadeOrReset I R K) (AnswerOf I K)) E) → limit ≡ pool_limit pool
-      → IfOk result (λ reached. IsTaken (λ value. meets value × IsMadeOrReset answers leaves value) (IsAnswer answers)
-      (pool_start pool) limit reached.number (slot_item reached.slot))
-      → IfOk result (λ reached. 0 < number_of reached.number)
+      (result : Result (WalkEnd T (MadeOrReset I R K) (AnswerOf I K)) E) → limit ≡ (linear_view pool).limit
+      → IfOk result (λ reached. IsTaken (λ value. meets value × IsMadeOrReset answers leaves value)
+      (λ value. (initializer : I) × answers initializer (Some value))
+      (linear_view pool).start limit reached.number (slot_item reached.slot))
+      → IfOk result (λ reached. 0 < reached.number.number)
       → IfOk result (λ reached. Pulls meets answers leaves pool reached.number (slot_item reached.slot))
   further_pulls limit (Ok reached) same taken past = record {
     in_page = taken.is_item.in_page;
     on_page = taken.on_page;
-    within = subst (λ limit. IfSome limit (λ pages. number_of reached.number < pages)) same
+    within = subst (λ limit. IfSome limit (λ pages. reached.number.number < pages)) same
         (within_from_first limit reached.number.number taken.within);
     opened = taken.opened;
     same_opening = λ zero. absurd (omega (arith, past, zero));

@@ -1,2 +1,1 @@
-pub mod LinearLends
 pub mod LinearPool

@@ -1,120 +1,107 @@
--- What a linear pool and its reusables show.
-use Rattle.std.specs.Prelude.{◌≡◌, ◌⊎◌, ℕ, ◌<◌, List, Option, None, IfSome}
+-- What a linear pool and its reusables show, and what a pull gives.
+use mir.Syntax.{named}
+use Rattle.std.specs.Prelude.{◌≡◌, ℕ, ◌<◌, List, [], Option, None, IfSome, Some}
 use Rattle.std.specs.Arc.{arc_value}
+use Rattle.std.specs.Borrow.{Lends, Fml, RattleType, MutBor}
 use Rattle.std.specs.Option.{option_map}
-use Rattle.atomic_table.specs.Seated.{TableId}
-use Rattle.pool_parts.specs.Answers.{IsAnswer, IsMadeOrReset}
-use Rattle.pool_parts.specs.Holding.{held_item}
-use Rattle.pool_parts.specs.Item.{Item, IsPulled}
-use Rattle.pool_parts.specs.Items.{IsFilled}
-use Rattle.pool_parts.specs.Note.{IsPulledAfter}
-use Rattle.pool_parts.specs.Page.{page_identity}
-use Rattle.page_chain.specs.Walk.{Start, start_of, number_of, IsLinkedAt, IsRefusedBy}
-use Rattle.linear_pools.specs.declared.linear_object_pool.LinearObjectPool.{LinearObjectPool}
-use Rattle.linear_pools.specs.declared.linear_object_pool.AnswerOf.{AnswerOf}
-use Rattle.linear_pools.specs.declared.linear_owned_reusable.LinearOwnedReusable.{LinearOwnedReusable}
-use Rattle.page_chain.specs.declared.linear_page.page_number.PageNumber.{PageNumber}
-use Rattle.page_chain.specs.declared.linear_page.walk.WalkRefusal.{WalkRefusal}
-use Rattle.linear_pools.specs.declared.linear_reusable.LinearReusable.{LinearReusable}
+use Rattle.pool_parts.specs.Answers.{IsMadeOrReset}
+use Rattle.pool_parts.specs.Item.{Item, IsPulled, IsFilled}
+use Rattle.pool_parts.specs.Page.{held_item, IsPulledAfter}
+use Rattle.pool_parts.specs.declared.clean.Clean as Clean
+use Rattle.pool_parts.specs.declared.closures.Init as Init
+use Rattle.pool_parts.specs.declared.closures.Reset as Reset
 use Rattle.pool_parts.specs.declared.made_or_reset.MadeOrReset.{MadeOrReset}
 use Rattle.pool_parts.specs.declared.page.note.PageNote.{PageNote}
 use Rattle.pool_parts.specs.declared.page.word.TheConstants.{PAGE_ITEMS}
+use Rattle.page_chain.specs.Walk.{ChainPage, first_page, IsWalkedTo}
+use Rattle.page_chain.specs.declared.linear_page.page_number.PageNumber.{PageNumber}
+use Rattle.linear_pools.specs.contracts.linear_owned_reusable.LinearOwnedReusable as Owned
+use Rattle.linear_pools.specs.contracts.linear_reusable.LinearReusable as Borrowed
+use Rattle.linear_pools.specs.declared.linear_object_pool.AnswerOf.{AnswerOf}
+use Rattle.linear_pools.specs.declared.linear_object_pool.LinearObjectPool.{LinearObjectPool}
+use Rattle.linear_pools.specs.declared.linear_owned_reusable.LinearOwnedReusable.{LinearOwnedReusable}
+use Rattle.linear_pools.specs.declared.linear_reusable.LinearReusable.{LinearReusable}
+
+-- what a linear pool shows
+pub record LinearView (T I R : Type 0) : Type 0 where
+  -- what makes its values, and what resets them
+  pub init : I
+  pub reset : R
+  -- how many pages it may have
+  pub limit : Option ℕ
+  -- where a pull begins: at the pool's first page
+  pub start : ChainPage T
+
+-- what a pulled value shows: its pool, the number of its page with what the pull learned of the link to it, and its
+-- item
+pub record LinearItem (T I R K : Type 0) : Type 0 where
+  pub pool : LinearObjectPool T I R K
+  pub number : PageNumber T (MadeOrReset I R K) (AnswerOf I K)
+  pub item : Item T
 
 module _ {T I R K : Type 0} where
-  -- what makes the pool's values
-  abbrev pub pool_init : LinearObjectPool T I R K → I
-  pool_init pool = pool.init
+  -- what contracts see of a pool
+  abbrev pub linear_view : LinearObjectPool T I R K → LinearView T I R
+  linear_view pool = record {
+    init = pool.init;
+    reset = pool.reset;
+    limit = option_map (λ limit. limit.pages) pool.limit;
+    start = first_page pool.chain;
+  }
 
-  -- what resets the pool's values
-  abbrev pub pool_reset : LinearObjectPool T I R K → R
-  pool_reset pool = pool.reset
+  -- what contracts see of a pulled value with a borrow of its pool
+  abbrev pub linear_item : LinearReusable T I R K → LinearItem T I R K
+  linear_item reusable = record {
+    pool = reusable.pool.now;
+    number = reusable.number;
+    item = held_item reusable.taken.holding reusable.value;
+  }
 
-  -- how many pages the pool may have
-  abbrev pub pool_limit : LinearObjectPool T I R K → Option ℕ
-  pool_limit pool = option_map (λ limit. limit.pages) pool.limit
-
-  -- which page the pool's first one is
-  abbrev pub pool_first_page : LinearObjectPool T I R K → TableId
-  pool_first_page pool = page_identity (arc_value pool.chain.first)
-
-  -- the values that the pool's first page opened with, by id
-  abbrev pub pool_first_opening : LinearObjectPool T I R K → List (Option T)
-  pool_first_opening pool = (arc_value pool.chain.first).items.table.shared.key.values.value.items
-
-  -- where a pull begins: at the pool's first page, with number 0
-  abbrev pub pool_start : LinearObjectPool T I R K → Start
-  pool_start pool = start_of pool.chain
-
-  -- which pool the value returns to
-  abbrev pub reusable_pool : LinearReusable T I R K → LinearObjectPool T I R K
-  reusable_pool reusable = reusable.pool.now
-
-  -- the item that the reusable has
-  abbrev pub reusable_item : LinearReusable T I R K → Item T
-  reusable_item reusable = held_item reusable.taken.holding reusable.value
-
-  -- the number of the item's page, with what the pull learned of the link to it
-  abbrev pub reusable_page : LinearReusable T I R K → PageNumber T (MadeOrReset I R K) (AnswerOf I K)
-  reusable_page reusable = reusable.number
-
-  -- the same item with another value
-  abbrev pub reusable_with : LinearReusable T I R K → T → LinearReusable T I R K
-  reusable_with reusable value = record reusable { value = value }
-
-  -- which pool the value of an owned reusable returns to
-  abbrev pub owned_pool : LinearOwnedReusable T I R K → LinearObjectPool T I R K
-  owned_pool reusable = arc_value reusable.taken.pool
-
-  -- the item that the owned reusable has
-  abbrev pub owned_item : LinearOwnedReusable T I R K → Item T
-  owned_item reusable = held_item reusable.taken.holding reusable.value
-
-  -- the number of the item's page, with what the pull learned of the link to it
-  abbrev pub owned_page : LinearOwnedReusable T I R K → PageNumber T (MadeOrReset I R K) (AnswerOf I K)
-  owned_page reusable = reusable.taken.number
-
-  -- the same item with another value
-  abbrev pub owned_with : LinearOwnedReusable T I R K → T → LinearOwnedReusable T I R K
-  owned_with reusable value = record reusable { value = value }
-
-  -- the item's page is the pool's page of this number: the first one where it is 0, else the one to which that page's
-  -- link leads
-  abbrev pub IsOnPage : LinearObjectPool T I R K → PageNumber T (MadeOrReset I R K) (AnswerOf I K) → Item T → Type 0
-  IsOnPage pool number item =
-      ((number.number ≡ 0) × (item.page ≡ page_identity (arc_value pool.chain.first)))
-      ⊎ IsLinkedAt pool.chain.directory number item.page
+  -- what contracts see of one with an owner of its pool
+  abbrev pub linear_owned_item : LinearOwnedReusable T I R K → LinearItem T I R K
+  linear_owned_item reusable = record {
+    pool = arc_value reusable.taken.pool;
+    number = reusable.taken.number;
+    item = held_item reusable.taken.holding reusable.value;
+  }
 
   -- what a pull gives: an item of the pool's page of this number
   pub record Pulls (meets : T → Type 0) (answers : I → Option T → Type 0) (leaves : R → T → T → Type 0)
       (pool : LinearObjectPool T I R K) (number : PageNumber T (MadeOrReset I R K) (AnswerOf I K)) (item : Item T)
       : Type 0 where
     pub in_page : item.id < PAGE_ITEMS
-    pub on_page : IsOnPage pool number item
-    pub within : IfSome (pool_limit pool) (λ pages. number.number < pages)
+    pub on_page : IsWalkedTo (linear_view pool).start number item.page
+    pub within : IfSome (linear_view pool).limit (λ pages. number.number < pages)
     -- the page opened with 32 answers of init
-    pub opened : IsFilled PAGE_ITEMS (IsAnswer answers) item.opening
+    pub opened : IsFilled PAGE_ITEMS (λ value. (initializer : I) × answers initializer (Some value)) item.opening
     -- the histories of two items of the first page begin with the same values
-    pub same_opening : number.number ≡ 0 → item.opening ≡ pool_first_opening pool
+    pub same_opening : number.number ≡ 0 → item.opening ≡ (linear_view pool).start.opening
     -- it was pulled as its page's history tells
     pub pulled : IsPulled item
     pub meets_condition : meets item.value
     pub made_or_reset : IsMadeOrReset answers leaves item.value
 
-  -- what a pull by a note of the first page gives: an item of that page, pulled after all that the note knew; or one of a
-  -- later page, as any pull gives it
+  -- what a pull by a note of the first page gives: an item of that page, pulled after all that the note knew; or one
+  -- of a later page, as any pull gives it
   pub record PullsAfter (meets : T → Type 0) (answers : I → Option T → Type 0) (leaves : R → T → T → Type 0)
       (pool : LinearObjectPool T I R K) (note : PageNote T) (number : PageNumber T (MadeOrReset I R K) (AnswerOf I K))
       (item : Item T) : Type 0 where
     pub in_page : item.id < PAGE_ITEMS
     pub meets_condition : meets item.value
     pub made_or_reset : IsMadeOrReset answers leaves item.value
-    pub of_first : number_of number ≡ 0 → item.page ≡ pool_first_page pool
-    pub after_note : number_of number ≡ 0 → IsPulledAfter note item
-    pub further : 0 < number_of number → Pulls meets answers leaves pool number item
+    pub of_first : number.number ≡ 0 → item.page ≡ (linear_view pool).start.page
+    pub after_note : number.number ≡ 0 → IsPulledAfter note item
+    pub further : 0 < number.number → Pulls meets answers leaves pool number item
 
-  -- why a pull has no item, and what it saw: each page up to the pool's limit was found full in it, or no further page
-  -- could be made
-  abbrev pub IsLinearRefusal : (I → Option T → Type 0) → LinearObjectPool T I R K
-      → WalkRefusal T (MadeOrReset I R K) (AnswerOf I K) → Type 0
-  IsLinearRefusal answers pool refusal =
-      IsRefusedBy (pool_start pool) (pool_limit pool) (answers (pool_init pool) None) refusal
+module _ (T I R K : RattleType) (init : Init.Ghosts I.Denot T.Denot K.Denot)
+    (reset : Reset.Ghosts R.Denot T.Denot K.Denot) (clean : Clean.Ghosts K.Denot T.Denot) where
+  -- a loan of a linear reusable's value ends with the reusable as it was, but for the value written last
+  abbrev pub LendsLinearValue : MutBor (LinearReusable T.Denot I.Denot R.Denot K.Denot) → MutBor T.Denot → Fml
+  LendsLinearValue reusable loan =
+      Lends (Borrowed.the_row (record { mir = named 1; lft = [] }) T I R K init reset clean) T reusable loan
+      (λ value. record reusable.now { value = value })
+
+  -- so it is of an owned linear reusable's value
+  abbrev pub LendsLinearOwnedValue : MutBor (LinearOwnedReusable T.Denot I.Denot R.Denot K.Denot) → MutBor T.Denot → Fml
+  LendsLinearOwnedValue reusable loan =
+      Lends (Owned.the_row T I R K init reset clean) T reusable loan (λ value. record reusable.now { value = value })

@@ -3,10 +3,9 @@
 //! A pull takes a free item of the first page, or of a page that a hint names, or of the first page
 //! along the links that has one. If each page was full it makes a further page. No pull and no
 //! return waits for another thread.
-ghost use Rattle.std.specs.Prelude.{◌≡◌, ◌≤◌, ◌<◌, Option, None, Some, IsSome, IfOk, IfErr};
+ghost use Rattle.std.specs.Prelude.{◌≡◌, ◌≤◌, ◌<◌, Option, None, Some, IsSome, IfOk, IfErr, ⊤};
 ghost use Rattle.std.specs.Arc.{arc_value};
 ghost use Rattle.std.specs.Option.{option_map};
-ghost use Rattle.pool_parts.specs.Answers.{IsAnswer};
 
 use crate::linear_owned_reusable::LinearOwnedReusable;
 use crate::linear_reusable::LinearReusable;
@@ -71,7 +70,7 @@ pub struct AnswerOf<I, K> {
 }
 
 impl<T, I: Init<T, K>, K: Clean<T>> Clean<T> for AnswerOf<I, K> {
-    ghost meets = { λ value. IsAnswer I.answers value };
+    ghost meets = { λ value. (initializer : I) × I.answers initializer (Some value) };
 }
 
 /// A number of pages, at least 1.
@@ -113,14 +112,9 @@ impl<T: Drop, I: Init<T, K>, R: Reset<T, K>, K: Clean<T>> Drop for LinearObjectP
 }
 
 impl<T: Drop, I: Init<T, K>, R: Reset<T, K>, K: Clean<T>> LinearObjectPool<T, I, R, K> {
-    ghost use Rattle.pool_parts.specs.Answers.{IsMadeOrReset};
-    ghost use Rattle.pool_parts.specs.FullSeen.{full_page};
-    ghost use Rattle.linear_pools.specs.LinearPool.{pool_init, pool_reset, pool_limit, pool_first_page};
-    ghost use Rattle.linear_pools.specs.LinearPool.{reusable_pool, reusable_item, reusable_page};
-    ghost use Rattle.linear_pools.specs.LinearPool.{owned_pool, owned_item, owned_page, Pulls, PullsAfter, IsLinearRefusal};
-    ghost use Rattle.page_chain.specs.Walk.{number_of};
-    ghost use Rattle.pool_parts.specs.Note.{note_page};
-    ghost use Rattle.pool_parts.specs.Refusal.{RefusesMaking, RefusesPull};
+    ghost use Rattle.pool_parts.specs.Answers.{IsMadeOrReset, Refuses};
+    ghost use Rattle.linear_pools.specs.LinearPool.{linear_view, linear_item, Pulls, PullsAfter, linear_owned_item};
+    ghost use Rattle.page_chain.specs.Walk.{IsRefusedBy};
     ghost use Rattle.pool_parts.specs.Slot.{slot_item};
 
     /// Creates a pool of one page, which grows by a page if each is full.
@@ -135,10 +129,10 @@ impl<T: Drop, I: Init<T, K>, R: Reset<T, K>, K: Clean<T>> LinearObjectPool<T, I,
     /// let pool = LinearObjectPool::<u32, _, _>::new(alloc, Copied::new(0), Copied::new(0))?;
     /// ```
     pub fn new(alloc: Global, init: I, reset: R) -> Result<LinearObjectPool<T, I, R, K>, PullError>
-        ensures init { IfOk result (λ pool. pool_init pool ≡ init) }
-        ensures reset { IfOk result (λ pool. pool_reset pool ≡ reset) }
-        ensures limit { IfOk result (λ pool. pool_limit pool ≡ None) }
-        ensures refused { IfErr result (RefusesMaking (I.answers init None)) }
+        ensures init { IfOk result (λ pool. (linear_view pool).init ≡ init) }
+        ensures reset { IfOk result (λ pool. (linear_view pool).reset ≡ reset) }
+        ensures limit { IfOk result (λ pool. (linear_view pool).limit ≡ None) }
+        ensures refused { IfErr result (Refuses ⊤ (I.answers init None) ⊥) }
     {
         LinearObjectPool::with_page_limit(alloc, init, reset, None)
     }
@@ -162,10 +156,10 @@ impl<T: Drop, I: Init<T, K>, R: Reset<T, K>, K: Clean<T>> LinearObjectPool<T, I,
         pages: usize,
     ) -> Result<LinearObjectPool<T, I, R, K>, PullError>
         requires some_page { 1 ≤ pages }
-        ensures init { IfOk result (λ pool. pool_init pool ≡ init) }
-        ensures reset { IfOk result (λ pool. pool_reset pool ≡ reset) }
-        ensures limit { IfOk result (λ pool. pool_limit pool ≡ Some pages) }
-        ensures refused { IfErr result (RefusesMaking (I.answers init None)) }
+        ensures init { IfOk result (λ pool. (linear_view pool).init ≡ init) }
+        ensures reset { IfOk result (λ pool. (linear_view pool).reset ≡ reset) }
+        ensures limit { IfOk result (λ pool. (linear_view pool).limit ≡ Some pages) }
+        ensures refused { IfErr result (Refuses ⊤ (I.answers init None) ⊥) }
     {
         LinearObjectPool::with_page_limit(alloc, init, reset, Some(PageLimit { pages }))
     }
@@ -176,10 +170,11 @@ impl<T: Drop, I: Init<T, K>, R: Reset<T, K>, K: Clean<T>> LinearObjectPool<T, I,
         reset: R,
         limit: Option<PageLimit>,
     ) -> Result<LinearObjectPool<T, I, R, K>, PullError>
-        ensures init { IfOk result (λ pool. pool_init pool ≡ init) }
-        ensures reset { IfOk result (λ pool. pool_reset pool ≡ reset) }
-        ensures limit { IfOk result (λ pool. pool_limit pool ≡ option_map (λ limit. limit.pages) limit) }
-        ensures refused { IfErr result (RefusesMaking (I.answers init None)) }
+        ensures init { IfOk result (λ pool. (linear_view pool).init ≡ init) }
+        ensures reset { IfOk result (λ pool. (linear_view pool).reset ≡ reset) }
+        ensures limit { IfOk result (λ pool. (linear_view pool).limit ≡ option_map
+            (λ limit. limit.pages) limit) }
+        ensures refused { IfErr result (Refuses ⊤ (I.answers init None) ⊥) }
     {
         let maker = &init;
         let chain = Chain::new(alloc, &|| maker.make())?;
@@ -193,7 +188,7 @@ impl<T: Drop, I: Init<T, K>, R: Reset<T, K>, K: Clean<T>> LinearObjectPool<T, I,
 
     /// Returns how many pages the pool may have, if it has a limit.
     pub fn limit(&self) -> Option<usize>
-        ensures { result ≡ pool_limit self.now }
+        ensures { result ≡ (linear_view self.now).limit }
     {
         match &self.limit {
             Some(limit) => Some(limit.pages),
@@ -214,11 +209,13 @@ impl<T: Drop, I: Init<T, K>, R: Reset<T, K>, K: Clean<T>> LinearObjectPool<T, I,
     /// - `Limit` if each item of as many pages as the limit allows was seen in use in this call.
     /// - `Memory`, or `Init` at the first `None`, if it has to make a page. Then no page is linked.
     pub fn pull(&self) -> Result<LinearReusable<'_, T, I, R, K>, PullError>
-        ensures pool { IfOk result (λ item. reusable_pool item ≡ self.now) }
+        ensures pool { IfOk result (λ item. (linear_item item).pool ≡ self.now) }
         ensures pulled { IfOk result (λ item.
-            Pulls K.meets I.answers R.leaves self.now (reusable_page item) (reusable_item item)) }
+            Pulls K.meets I.answers R.leaves self.now (linear_item item).number
+            (linear_item item).item) }
         ensures refused { IfErr result
-            (RefusesPull (IsSome (pool_limit self.now)) (I.answers (pool_init self.now) None)) }
+            (Refuses ⊤ (I.answers (linear_view self.now).init None)
+            (IsSome (linear_view self.now).limit)) }
     {
         let pass = PullPass::new();
         match self.chain.ask_first(&pass) {
@@ -240,10 +237,12 @@ impl<T: Drop, I: Init<T, K>, R: Reset<T, K>, K: Clean<T>> LinearObjectPool<T, I,
     /// - `Limit`, with the evidence that each page up to the limit was full during this call.
     /// - `Making`, with the reason why no further page could be made.
     pub fn try_pull<'s, 'p>(&'s self, pass: &'p PullPass) -> LinearPulled<'s, 'p, T, I, R, K>
-        ensures pool { IfOk result (λ item. reusable_pool item ≡ self.now) }
+        ensures pool { IfOk result (λ item. (linear_item item).pool ≡ self.now) }
         ensures pulled { IfOk result (λ item.
-            Pulls K.meets I.answers R.leaves self.now (reusable_page item) (reusable_item item)) }
-        ensures refused { IfErr result (IsLinearRefusal I.answers self.now) }
+            Pulls K.meets I.answers R.leaves self.now (linear_item item).number
+            (linear_item item).item) }
+        ensures refused { IfErr result (IsRefusedBy (linear_view self.now).start
+            (linear_view self.now).limit (I.answers (linear_view self.now).init None)) }
     {
         match self.chain.ask_first(pass) {
             Allocated::Slot(slot) => {
@@ -268,11 +267,12 @@ impl<T: Drop, I: Init<T, K>, R: Reset<T, K>, K: Clean<T>> LinearObjectPool<T, I,
         pass: &'p PullPass,
         note: PageNote<T>,
     ) -> LinearPulled<'s, 'p, T, I, R, K>
-        requires { note_page note ≡ pool_first_page self.now }
-        ensures pool { IfOk result (λ item. reusable_pool item ≡ self.now) }
+        requires { note.seat.table_id ≡ (linear_view self.now).start.page }
+        ensures pool { IfOk result (λ item. (linear_item item).pool ≡ self.now) }
         ensures pulled { IfOk result (λ item. PullsAfter K.meets I.answers R.leaves self.now note
-            (reusable_page item) (reusable_item item)) }
-        ensures refused { IfErr result (IsLinearRefusal I.answers self.now) }
+            (linear_item item).number (linear_item item).item) }
+        ensures refused { IfErr result (IsRefusedBy (linear_view self.now).start
+            (linear_view self.now).limit (I.answers (linear_view self.now).init None)) }
     {
         match self.chain.ask_first_from(pass, note) {
             Allocated::Slot(slot) => {
@@ -293,11 +293,12 @@ impl<T: Drop, I: Init<T, K>, R: Reset<T, K>, K: Clean<T>> LinearObjectPool<T, I,
     ///
     /// As `pull`, and `Memory` if the pool can have no more owners.
     pub fn pull_owned(self: &Arc<Self>) -> Result<LinearOwnedReusable<T, I, R, K>, PullError>
-        ensures pool { IfOk result (λ item. owned_pool item ≡ arc_value self.now) }
+        ensures pool { IfOk result (λ item. (linear_owned_item item).pool ≡ arc_value self.now) }
         ensures pulled { IfOk result (λ item.
-            Pulls K.meets I.answers R.leaves (arc_value self.now) (owned_page item) (owned_item item)) }
-        ensures refused { IfErr result (RefusesPull (IsSome (pool_limit (arc_value self.now)))
-            (I.answers (pool_init (arc_value self.now)) None)) }
+            Pulls K.meets I.answers R.leaves (arc_value self.now) (linear_owned_item item).number
+            (linear_owned_item item).item) }
+        ensures refused { IfErr result (Refuses ⊤ (I.answers (linear_view (arc_value self.now)).init
+            None) (IsSome (linear_view (arc_value self.now)).limit)) }
     {
         let owner = Arc::try_clone(self)?;
         let pass = PullPass::new();
@@ -315,7 +316,8 @@ impl<T: Drop, I: Init<T, K>, R: Reset<T, K>, K: Clean<T>> LinearObjectPool<T, I,
     fn take<'s, 'p>(&'s self, pass: &'p PullPass) -> LinearTaken<'s, 'p, T, I, R, K>
         ensures pulled { IfOk result (λ taken.
             Pulls K.meets I.answers R.leaves self.now taken.1 (slot_item taken.0)) }
-        ensures refused { IfErr result (IsLinearRefusal I.answers self.now) }
+        ensures refused { IfErr result (IsRefusedBy (linear_view self.now).start
+            (linear_view self.now).limit (I.answers (linear_view self.now).init None)) }
     {
         match self.chain.ask_first(pass) {
             Allocated::Slot(slot) => Ok((slot, self.chain.first_number())),
@@ -333,11 +335,12 @@ impl<T: Drop, I: Init<T, K>, R: Reset<T, K>, K: Clean<T>> LinearObjectPool<T, I,
         &'s self,
         seen: FullSeen<'p, T>,
     ) -> Result<WalkEnd<'s, T, MadeOrReset<I, R, K>, AnswerOf<I, K>>, LinearRefusal<'p, T, I, R, K>>
-        requires { full_page seen ≡ pool_first_page self.now }
+        requires { seen.seat.table_id ≡ (linear_view self.now).start.page }
         ensures pulled { IfOk result (λ reached.
             Pulls K.meets I.answers R.leaves self.now reached.number (slot_item reached.slot)) }
-        ensures past_first { IfOk result (λ reached. 0 < number_of reached.number) }
-        ensures refused { IfErr result (IsLinearRefusal I.answers self.now) }
+        ensures past_first { IfOk result (λ reached. 0 < reached.number.number) }
+        ensures refused { IfErr result (IsRefusedBy (linear_view self.now).start
+            (linear_view self.now).limit (I.answers (linear_view self.now).init None)) }
     {
         let init = &self.init;
         self.chain.pull_further(seen, self.limit(), &|| init.make())
@@ -345,7 +348,7 @@ impl<T: Drop, I: Init<T, K>, R: Reset<T, K>, K: Clean<T>> LinearObjectPool<T, I,
 
     /// Leaves a value as it is kept.
     pub(crate) fn reset(&self, value: &mut T)
-        ensures leaves { R.leaves (pool_reset self.now) value.old value.new }
+        ensures leaves { R.leaves (linear_view self.now).reset value.old value.new }
         ensures meets { K.meets value.new }
         ensures made_or_reset { IsMadeOrReset I.answers R.leaves value.new }
     {

@@ -1,8 +1,7 @@
 //! A value that was pulled from a linear pool, with an owner of the pool.
 ghost use Rattle.std.specs.Prelude.{◌≡◌, ◌<◌};
 ghost use Rattle.std.specs.Arc.{arc_value};
-ghost use Rattle.pool_parts.specs.Holding.{holding_page};
-ghost use Rattle.page_chain.specs.Walk.{start_of, IsWalkedTo};
+ghost use Rattle.page_chain.specs.Walk.{IsWalkedTo, first_page};
 ghost use Rattle.pool_parts.specs.declared.page.word.TheConstants.{PAGE_ITEMS};
 
 use crate::linear_object_pool::{AnswerOf, LinearObjectPool};
@@ -23,8 +22,8 @@ pub(crate) struct OwnedTakenItem<T: Drop, I: Init<T, K>, R: Reset<T, K>, K: Clea
     pool: Arc<LinearObjectPool<T, I, R, K>>,
     holding: Holding<T>,
     number: PageNumber<T, MadeOrReset<I, R, K>, AnswerOf<I, K>>,
-    ghost on_page: { ∥ IsWalkedTo (start_of (arc_value pool).chain) number
-        (holding_page holding) ∥₁ },
+    ghost on_page: { ∥ IsWalkedTo (first_page (arc_value pool).chain) number
+        holding.seat.table_id ∥₁ },
     ghost in_page: { holding.number < PAGE_ITEMS },
 }
 
@@ -44,10 +43,9 @@ pub struct LinearOwnedReusable<T: Drop, I: Init<T, K>, R: Reset<T, K>, K: Clean<
 }
 
 impl<T: Drop, I: Init<T, K>, R: Reset<T, K>, K: Clean<T>> LinearOwnedReusable<T, I, R, K> {
-    ghost use Rattle.pool_parts.specs.Note.{IsGivenBack};
-    ghost use Rattle.linear_pools.specs.LinearPool.{pool_reset, owned_pool, owned_item, owned_page, IsOnPage};
-    ghost use Rattle.page_chain.specs.Walk.{number_of};
-    ghost use Rattle.pool_parts.specs.Note.{note_page, witness_page, witness_history, IsNoteOf, HasLearned, note_view};
+    ghost use Rattle.pool_parts.specs.Page.{IsGivenBack, IsNoteOf, HasLearned, view_of};
+    ghost use Rattle.linear_pools.specs.LinearPool.{linear_view, linear_owned_item};
+    ghost use Rattle.page_chain.specs.Walk.{IsWalkedTo};
     ghost use Rattle.pool_parts.specs.Slot.{slot_item};
 
     pub(crate) fn new(
@@ -55,10 +53,10 @@ impl<T: Drop, I: Init<T, K>, R: Reset<T, K>, K: Clean<T>> LinearOwnedReusable<T,
         slot: PageSlot<'_, T, MadeOrReset<I, R, K>>,
         number: PageNumber<T, MadeOrReset<I, R, K>, AnswerOf<I, K>>,
     ) -> LinearOwnedReusable<T, I, R, K>
-        requires { IsOnPage (arc_value pool) number (slot_item slot) }
-        ensures pool { owned_pool result ≡ arc_value pool }
-        ensures item { owned_item result ≡ slot_item slot.entry }
-        ensures page { owned_page result ≡ number }
+        requires { IsWalkedTo (linear_view (arc_value pool)).start number (slot_item slot).page }
+        ensures pool { (linear_owned_item result).pool ≡ arc_value pool }
+        ensures item { (linear_owned_item result).item ≡ slot_item slot.entry }
+        ensures page { (linear_owned_item result).number ≡ number }
     {
         let (holding, value) = slot.into_holding();
         LinearOwnedReusable {
@@ -73,18 +71,20 @@ impl<T: Drop, I: Init<T, K>, R: Reset<T, K>, K: Clean<T>> LinearOwnedReusable<T,
 
     /// Returns the number of the item's page in the pool, counted from 0.
     pub fn page_number(&self) -> usize
-        ensures { result ≡ number_of (owned_page self.now) }
+        ensures { result ≡ (linear_owned_item self.now).number.number }
     {
         self.taken.number.get()
     }
 
     /// Returns what the holder knows of the item's page, for another user. It costs one load.
     pub fn witness(&mut self) -> Witness<T>
-        ensures page { witness_page result ≡ (owned_item self.old).page }
-        ensures history { witness_history result ≡ (owned_item self.old).history }
-        ensures same_item { owned_item self.new ≡ owned_item self.old }
-        ensures same_pool { owned_pool self.new ≡ owned_pool self.old }
-        ensures same_page { owned_page self.new ≡ owned_page self.old }
+        ensures page { result.seat.table_id ≡ (linear_owned_item self.old).item.page }
+        ensures history { (view_of result.seat).operations
+            ≡ (linear_owned_item self.old).item.history }
+        ensures same_item { (linear_owned_item self.new).item ≡ (linear_owned_item self.old).item }
+        ensures same_pool { (linear_owned_item self.new).pool ≡ (linear_owned_item self.old).pool }
+        ensures same_page { (linear_owned_item self.new).number
+            ≡ (linear_owned_item self.old).number }
     {
         let taken = &mut self.taken;
         let page = taken.pool.chain.page_at(&mut taken.number, &taken.holding);
@@ -95,10 +95,12 @@ impl<T: Drop, I: Init<T, K>, R: Reset<T, K>, K: Clean<T>> LinearOwnedReusable<T,
     ///
     /// It knows some prefix of the page's history; which one, no contract can say.
     pub fn note(&mut self) -> PageNote<T>
-        ensures note { IsNoteOf (owned_item self.old).page (note_view result).opening result }
-        ensures same_item { owned_item self.new ≡ owned_item self.old }
-        ensures same_pool { owned_pool self.new ≡ owned_pool self.old }
-        ensures same_page { owned_page self.new ≡ owned_page self.old }
+        ensures note { IsNoteOf (linear_owned_item self.old).item.page (view_of result.seat).opening
+            result }
+        ensures same_item { (linear_owned_item self.new).item ≡ (linear_owned_item self.old).item }
+        ensures same_pool { (linear_owned_item self.new).pool ≡ (linear_owned_item self.old).pool }
+        ensures same_page { (linear_owned_item self.new).number
+            ≡ (linear_owned_item self.old).number }
     {
         let taken = &mut self.taken;
         let page = taken.pool.chain.page_at(&mut taken.number, &taken.holding);
@@ -108,12 +110,13 @@ impl<T: Drop, I: Init<T, K>, R: Reset<T, K>, K: Clean<T>> LinearOwnedReusable<T,
     /// Adds what a witness knows of the item's page to what a note knows. Afterwards both their
     /// histories are prefixes of the note's.
     pub fn tell(&mut self, note: &mut PageNote<T>, other: Witness<T>)
-        requires note { note_page note.old ≡ (owned_item self.old).page }
-        requires other { witness_page other ≡ (owned_item self.old).page }
+        requires note { note.old.seat.table_id ≡ (linear_owned_item self.old).item.page }
+        requires other { other.seat.table_id ≡ (linear_owned_item self.old).item.page }
         ensures learned { HasLearned note.old other note.new }
-        ensures same_item { owned_item self.new ≡ owned_item self.old }
-        ensures same_pool { owned_pool self.new ≡ owned_pool self.old }
-        ensures same_page { owned_page self.new ≡ owned_page self.old }
+        ensures same_item { (linear_owned_item self.new).item ≡ (linear_owned_item self.old).item }
+        ensures same_pool { (linear_owned_item self.new).pool ≡ (linear_owned_item self.old).pool }
+        ensures same_page { (linear_owned_item self.new).number
+            ≡ (linear_owned_item self.old).number }
     {
         let taken = &mut self.taken;
         let page = taken.pool.chain.page_at(&mut taken.number, &taken.holding);
@@ -124,7 +127,8 @@ impl<T: Drop, I: Init<T, K>, R: Reset<T, K>, K: Clean<T>> LinearOwnedReusable<T,
     /// this return.
     #[inline(always)]
     pub fn give_back(self) -> PageNote<T>
-        ensures { IsGivenBack (R.leaves (pool_reset (owned_pool self))) (owned_item self) result }
+        ensures { IsGivenBack (R.leaves (linear_view (linear_owned_item self).pool).reset)
+            (linear_owned_item self).item result }
     {
         let LinearOwnedReusable { taken, mut value } = self;
         let OwnedTakenItem {
@@ -138,7 +142,7 @@ impl<T: Drop, I: Init<T, K>, R: Reset<T, K>, K: Clean<T>> LinearOwnedReusable<T,
 
     /// Returns the number of the item in its page.
     pub fn page_id(&self) -> PageId
-        ensures value { result ≡ (owned_item self.now).id }
+        ensures value { result ≡ (linear_owned_item self.now).item.id }
         ensures in_page { result < PAGE_ITEMS }
     {
         self.taken.holding.number as PageId
@@ -149,9 +153,9 @@ impl<T: Drop, I: Init<T, K>, R: Reset<T, K>, K: Clean<T>> Deref
     for LinearOwnedReusable<T, I, R, K> {
     type Target = T;
 
-    ghost use Rattle.linear_pools.specs.LinearPool.{owned_item};
+    ghost use Rattle.linear_pools.specs.LinearPool.{linear_owned_item};
 
-    ghost deref_gives = { λ reusable value. value ≡ (owned_item reusable).value };
+    ghost deref_gives = { λ reusable value. value ≡ (linear_owned_item reusable).item.value };
 
     fn deref(&self) -> &T {
         &self.value
@@ -161,16 +165,15 @@ impl<T: Drop, I: Init<T, K>, R: Reset<T, K>, K: Clean<T>> Deref
 impl<T: Drop, I: Init<T, K>, R: Reset<T, K>, K: Clean<T>> DerefMut
     for LinearOwnedReusable<T, I, R, K> {
     ghost use Rattle.std.specs.Borrow.{sem};
-    ghost use Rattle.linear_pools.specs.LinearLends.{LendsLinearOwnedValue};
-    ghost use Rattle.linear_pools.specs.LinearPool.{owned_item};
+    ghost use Rattle.linear_pools.specs.LinearPool.{LendsLinearOwnedValue, linear_owned_item};
 
-    ghost deref_mut_gives = { λ reusable value. value ≡ (owned_item reusable).value };
+    ghost deref_mut_gives = { λ reusable value. value ≡ (linear_owned_item reusable).item.value };
 
     fn deref_mut(&mut self) -> &mut T
         ensures* writes_back { sem 𝓛
             (LendsLinearOwnedValue T.row I.row R.row K.row I.Init R.Reset K.Clean self.entry
             result) }
-        ensures shows { result.now ≡ (owned_item self.old).value }
+        ensures shows { result.now ≡ (linear_owned_item self.old).item.value }
     {
         &mut self.value
     }
@@ -186,9 +189,9 @@ impl<T: Drop, I: Init<T, K>, R: Reset<T, K>, K: Clean<T>> Drop for LinearOwnedRe
 
 impl<T: Debug + Drop, I: Init<T, K>, R: Reset<T, K>, K: Clean<T>> Debug
     for LinearOwnedReusable<T, I, R, K> {
-    ghost use Rattle.linear_pools.specs.LinearPool.{owned_item};
+    ghost use Rattle.linear_pools.specs.LinearPool.{linear_owned_item};
 
-    ghost debug_output = { λ reusable. T.debug_output (owned_item reusable).value };
+    ghost debug_output = { λ reusable. T.debug_output (linear_owned_item reusable).item.value };
 
     fn fmt<W: Write>(&self, f: &mut Formatter<W>) -> fmt::Result {
         Debug::fmt(&self.value, f)

@@ -30,10 +30,8 @@ pub struct LinearReusable<'p, T: Drop, I: Init<T, K>, R: Reset<T, K>, K: Clean<T
 }
 
 impl<'p, T: Drop, I: Init<T, K>, R: Reset<T, K>, K: Clean<T>> LinearReusable<'p, T, I, R, K> {
-    ghost use Rattle.pool_parts.specs.Note.{IsGivenBack};
-    ghost use Rattle.linear_pools.specs.LinearPool.{pool_reset, reusable_pool, reusable_item, reusable_page};
-    ghost use Rattle.page_chain.specs.Walk.{number_of};
-    ghost use Rattle.pool_parts.specs.Note.{note_page, witness_page, witness_history, IsNoteOf, HasLearned, note_view};
+    ghost use Rattle.pool_parts.specs.Page.{IsGivenBack, IsNoteOf, HasLearned, view_of};
+    ghost use Rattle.linear_pools.specs.LinearPool.{linear_view, linear_item};
     ghost use Rattle.pool_parts.specs.Slot.{slot_item};
 
     pub(crate) fn new(
@@ -41,9 +39,9 @@ impl<'p, T: Drop, I: Init<T, K>, R: Reset<T, K>, K: Clean<T>> LinearReusable<'p,
         slot: PageSlot<'p, T, MadeOrReset<I, R, K>>,
         number: PageNumber<T, MadeOrReset<I, R, K>, AnswerOf<I, K>>,
     ) -> LinearReusable<'p, T, I, R, K>
-        ensures pool { reusable_pool result ≡ pool.now }
-        ensures item { reusable_item result ≡ slot_item slot.entry }
-        ensures page { reusable_page result ≡ number }
+        ensures pool { (linear_item result).pool ≡ pool.now }
+        ensures item { (linear_item result).item ≡ slot_item slot.entry }
+        ensures page { (linear_item result).number ≡ number }
     {
         let (taken, value) = slot.into_parts();
         LinearReusable {
@@ -57,18 +55,18 @@ impl<'p, T: Drop, I: Init<T, K>, R: Reset<T, K>, K: Clean<T>> LinearReusable<'p,
 
     /// Returns the number of the item's page in the pool, counted from 0.
     pub fn page_number(&self) -> usize
-        ensures { result ≡ number_of (reusable_page self.now) }
+        ensures { result ≡ (linear_item self.now).number.number }
     {
         self.number.get()
     }
 
     /// Returns what the holder knows of the item's page, for another user. It costs one load.
     pub fn witness(&mut self) -> Witness<T>
-        ensures page { witness_page result ≡ (reusable_item self.old).page }
-        ensures history { witness_history result ≡ (reusable_item self.old).history }
-        ensures same_item { reusable_item self.new ≡ reusable_item self.old }
-        ensures same_pool { reusable_pool self.new ≡ reusable_pool self.old }
-        ensures same_page { reusable_page self.new ≡ reusable_page self.old }
+        ensures page { result.seat.table_id ≡ (linear_item self.old).item.page }
+        ensures history { (view_of result.seat).operations ≡ (linear_item self.old).item.history }
+        ensures same_item { (linear_item self.new).item ≡ (linear_item self.old).item }
+        ensures same_pool { (linear_item self.new).pool ≡ (linear_item self.old).pool }
+        ensures same_page { (linear_item self.new).number ≡ (linear_item self.old).number }
     {
         self.taken.witness()
     }
@@ -77,14 +75,14 @@ impl<'p, T: Drop, I: Init<T, K>, R: Reset<T, K>, K: Clean<T>> LinearReusable<'p,
     ///
     /// It costs seven loads, and changes neither item.
     pub fn differs_from(&mut self, other: &mut LinearReusable<'_, T, I, R, K>)
-        requires page { (reusable_item other.old).page ≡ (reusable_item self.old).page }
-        ensures differ { (reusable_item self.old).id ≢ (reusable_item other.old).id }
-        ensures same_item { reusable_item self.new ≡ reusable_item self.old }
-        ensures same_pool { reusable_pool self.new ≡ reusable_pool self.old }
-        ensures same_page { reusable_page self.new ≡ reusable_page self.old }
-        ensures same_other { reusable_item other.new ≡ reusable_item other.old }
-        ensures same_others_pool { reusable_pool other.new ≡ reusable_pool other.old }
-        ensures same_others_page { reusable_page other.new ≡ reusable_page other.old }
+        requires page { (linear_item other.old).item.page ≡ (linear_item self.old).item.page }
+        ensures differ { (linear_item self.old).item.id ≢ (linear_item other.old).item.id }
+        ensures same_item { (linear_item self.new).item ≡ (linear_item self.old).item }
+        ensures same_pool { (linear_item self.new).pool ≡ (linear_item self.old).pool }
+        ensures same_page { (linear_item self.new).number ≡ (linear_item self.old).number }
+        ensures same_other { (linear_item other.new).item ≡ (linear_item other.old).item }
+        ensures same_others_pool { (linear_item other.new).pool ≡ (linear_item other.old).pool }
+        ensures same_others_page { (linear_item other.new).number ≡ (linear_item other.old).number }
     {
         self.taken.differs_from(&mut other.taken);
     }
@@ -93,7 +91,7 @@ impl<'p, T: Drop, I: Init<T, K>, R: Reset<T, K>, K: Clean<T>> LinearReusable<'p,
     ///
     /// It knows some prefix of the page's history; which one, no contract can say.
     pub fn note(&self) -> PageNote<T>
-        ensures { IsNoteOf (reusable_item self.now).page (note_view result).opening result }
+        ensures { IsNoteOf (linear_item self.now).item.page (view_of result.seat).opening result }
     {
         self.taken.note()
     }
@@ -101,8 +99,8 @@ impl<'p, T: Drop, I: Init<T, K>, R: Reset<T, K>, K: Clean<T>> LinearReusable<'p,
     /// Adds what a witness knows of the item's page to what a note knows. Afterwards both their
     /// histories are prefixes of the note's.
     pub fn tell(&self, note: &mut PageNote<T>, other: Witness<T>)
-        requires note { note_page note.old ≡ (reusable_item self.now).page }
-        requires other { witness_page other ≡ (reusable_item self.now).page }
+        requires note { note.old.seat.table_id ≡ (linear_item self.now).item.page }
+        requires other { other.seat.table_id ≡ (linear_item self.now).item.page }
         ensures { HasLearned note.old other note.new }
     {
         self.taken.tell(note, other);
@@ -112,8 +110,8 @@ impl<'p, T: Drop, I: Init<T, K>, R: Reset<T, K>, K: Clean<T>> LinearReusable<'p,
     /// this return.
     #[inline]
     pub fn give_back(self) -> PageNote<T>
-        ensures { IsGivenBack (R.leaves (pool_reset (reusable_pool self.entry)))
-            (reusable_item self.entry) result }
+        ensures { IsGivenBack (R.leaves (linear_view (linear_item self.entry).pool).reset)
+            (linear_item self.entry).item result }
     {
         let LinearReusable {
             pool,
@@ -133,7 +131,7 @@ impl<'p, T: Drop, I: Init<T, K>, R: Reset<T, K>, K: Clean<T>> LinearReusable<'p,
 
     /// Returns the number of the item in its page.
     pub fn page_id(&self) -> PageId
-        ensures value { result ≡ (reusable_item self.now).id }
+        ensures value { result ≡ (linear_item self.now).item.id }
         ensures in_page { result < PAGE_ITEMS }
     {
         self.taken.id()
@@ -143,9 +141,9 @@ impl<'p, T: Drop, I: Init<T, K>, R: Reset<T, K>, K: Clean<T>> LinearReusable<'p,
 impl<T: Drop, I: Init<T, K>, R: Reset<T, K>, K: Clean<T>> Deref for LinearReusable<'_, T, I, R, K> {
     type Target = T;
 
-    ghost use Rattle.linear_pools.specs.LinearPool.{reusable_item};
+    ghost use Rattle.linear_pools.specs.LinearPool.{linear_item};
 
-    ghost deref_gives = { λ reusable value. value ≡ (reusable_item reusable).value };
+    ghost deref_gives = { λ reusable value. value ≡ (linear_item reusable).item.value };
 
     fn deref(&self) -> &T {
         &self.value
@@ -155,15 +153,14 @@ impl<T: Drop, I: Init<T, K>, R: Reset<T, K>, K: Clean<T>> Deref for LinearReusab
 impl<T: Drop, I: Init<T, K>, R: Reset<T, K>, K: Clean<T>> DerefMut
     for LinearReusable<'_, T, I, R, K> {
     ghost use Rattle.std.specs.Borrow.{sem};
-    ghost use Rattle.linear_pools.specs.LinearLends.{LendsLinearValue};
-    ghost use Rattle.linear_pools.specs.LinearPool.{reusable_item};
+    ghost use Rattle.linear_pools.specs.LinearPool.{LendsLinearValue, linear_item};
 
-    ghost deref_mut_gives = { λ reusable value. value ≡ (reusable_item reusable).value };
+    ghost deref_mut_gives = { λ reusable value. value ≡ (linear_item reusable).item.value };
 
     fn deref_mut(&mut self) -> &mut T
         ensures* writes_back { sem 𝓛
             (LendsLinearValue T.row I.row R.row K.row I.Init R.Reset K.Clean self.entry result) }
-        ensures shows { result.now ≡ (reusable_item self.old).value }
+        ensures shows { result.now ≡ (linear_item self.old).item.value }
     {
         &mut self.value
     }
@@ -178,9 +175,9 @@ impl<T: Drop, I: Init<T, K>, R: Reset<T, K>, K: Clean<T>> Drop for LinearReusabl
 
 impl<T: Debug + Drop, I: Init<T, K>, R: Reset<T, K>, K: Clean<T>> Debug
     for LinearReusable<'_, T, I, R, K> {
-    ghost use Rattle.linear_pools.specs.LinearPool.{reusable_item};
+    ghost use Rattle.linear_pools.specs.LinearPool.{linear_item};
 
-    ghost debug_output = { λ reusable. T.debug_output (reusable_item reusable).value };
+    ghost debug_output = { λ reusable. T.debug_output (linear_item reusable).item.value };
 
     fn fmt<W: Write>(&self, f: &mut Formatter<W>) -> fmt::Result {
         Debug::fmt(&self.value, f)

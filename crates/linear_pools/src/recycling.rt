@@ -39,8 +39,8 @@ pub type Reusable<'p, T> = LinearReusable<'p, T, Recycler, Recycler, Recycler>;
 pub type OwnedReusable<T> = LinearOwnedReusable<T, Recycler, Recycler, Recycler>;
 
 impl<T: Recyclable> Pool<T> {
-    ghost use Rattle.linear_pools.specs.LinearPool.{pool_limit};
-    ghost use Rattle.pool_parts.specs.Refusal.{RefusesMaking};
+    ghost use Rattle.linear_pools.specs.LinearPool.{linear_view};
+    ghost use Rattle.pool_parts.specs.Answers.{Refuses};
 
     /// Creates a pool of one page, which grows by a page if each is full.
     ///
@@ -54,8 +54,8 @@ impl<T: Recyclable> Pool<T> {
     /// let pool = Pool::<Vec<u8>>::with_recycler(alloc)?;
     /// ```
     pub fn with_recycler(alloc: Global) -> Result<Pool<T>, PullError>
-        ensures limit { IfOk result (λ pool. pool_limit pool ≡ None) }
-        ensures refused { IfErr result (RefusesMaking ⊤) }
+        ensures limit { IfOk result (λ pool. (linear_view pool).limit ≡ None) }
+        ensures refused { IfErr result (Refuses ⊤ ⊤ ⊥) }
     {
         let recycler = Recycler::new(alloc);
         LinearObjectPool::new(alloc, recycler, recycler)
@@ -74,8 +74,8 @@ impl<T: Recyclable> Pool<T> {
     /// ```
     pub fn with_recycler_within(alloc: Global, pages: usize) -> Result<Pool<T>, PullError>
         requires { 1 ≤ pages }
-        ensures limit { IfOk result (λ pool. pool_limit pool ≡ Some pages) }
-        ensures refused { IfErr result (RefusesMaking ⊤) }
+        ensures limit { IfOk result (λ pool. (linear_view pool).limit ≡ Some pages) }
+        ensures refused { IfErr result (Refuses ⊤ ⊤ ⊥) }
     {
         let recycler = Recycler::new(alloc);
         LinearObjectPool::with_limit(alloc, recycler, recycler, pages)

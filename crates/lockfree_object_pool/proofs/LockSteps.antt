@@ -1,5 +1,5 @@
 -- Each step on a lock's table keeps its rule.
-use Rattle.std.proofs.Common.{◌≡◌, ℕ, ◌<◌, List, [], ◌∷◌, ◌++◌, length, length-set, refl, sym, ◌∙◌, ap}
+use Rattle.std.proofs.Common.{◌≡◌, ◌≢◌, ℕ, ◌<◌, List, [], ◌∷◌, ◌++◌, length, length-set, refl, sym, ◌∙◌, ap}
 use Rattle.std.proofs.Common.{subst, inl, inr, arith, Option, Some}
 use Rattle.std.specs.Prelude.{slice_index, slice_set}
 use Rattle.std.proofs.lemmas.Bool.{cases_lt}
@@ -11,13 +11,21 @@ use Rattle.atomic_table.specs.Table.{State, Me, keeps, takes, gives, opening, re
 use Rattle.atomic_table.proofs.Lists.{at_last, at_longer, at_set, set_here}
 use Rattle.lockfree_object_pool.specs.declared.spin_lock.rule.Visitor.{Visitor}
 use Rattle.lockfree_object_pool.specs.declared.spin_lock.rule.Visitor.TheVariants.{Passing, Holder}
-use Rattle.lockfree_object_pool.specs.Inside.Lock.{IsLock, HasValue, HasNothing, TakesIfFree}
+use Rattle.lockfree_object_pool.specs.Lock.{IsLock, HasValue}
 use Rattle.pool_parts.proofs.PageItems.{at_snoc_last, only_one}
 
 no_holder : (j : ℕ) → get_elem? (Passing ∷ []) j ≡ some Holder → ⊥
 no_holder j held = let unlike = (only_one Passing Holder j held).1 in cc
 
 module _ {T : Type 0} where
+  -- a visitor has nothing of the lock
+  abbrev HasNothing : Me (Option T) Visitor → Type 0
+  HasNothing me = me ≡ (Passing, [])
+
+  -- an exchange takes the value where the word was free, and nothing where it was taken
+  abbrev TakesIfFree : ℕ → Me (Option T) Visitor → Type 0
+  TakesIfFree word me = (word ≡ 0 → HasValue me) × (word ≢ 0 → HasNothing me)
+
   -- a new lock is free, with its value at home
   pub opens : (places : List (Option T)) (value : T) → places ≡ Some value ∷ []
       → IsLock (opening (0 ∷ []) places Passing)
@@ -80,7 +88,7 @@ module _ {T : Type 0} where
         ]
 
   -- an exchange takes the lock where it is free
-  pub tries : (words slots : ℕ) → words ≡ 1 → (0 < words) × Arrives IsLock slots 0 (λ _. 1) (TakesIfFree {T = T})
+  pub tries : (words slots : ℕ) → words ≡ 1 → (0 < words) × Arrives IsLock slots 0 (λ _. 1) TakesIfFree
   tries words slots one = (
     omega arith,
     λ s lock _ _. elim (cases_lt 0 (slice_index s.words 0)) [

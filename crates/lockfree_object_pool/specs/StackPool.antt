@@ -1,4 +1,11 @@
--- What a stack pool and its reusables show.
+-- What a stack pool and its reusables show, and a lock's guard.
+use mir.Syntax.{named}
+use Rattle.std.specs.Prelude.{[]}
+use Rattle.std.specs.Borrow.{Lends, Fml, RattleType, MutBor}
+use Rattle.atomic_table.specs.Seated.{TableId}
+use Rattle.lockfree_object_pool.specs.contracts.spin_lock.SpinLockGuard as Guard
+use Rattle.lockfree_object_pool.specs.contracts.stack_reusable.StackReusable as Reusable
+use Rattle.lockfree_object_pool.specs.declared.spin_lock.SpinLockGuard.{SpinLockGuard}
 use Rattle.lockfree_object_pool.specs.declared.stack_object_pool.StackObjectPool.{StackObjectPool}
 use Rattle.lockfree_object_pool.specs.declared.stack_reusable.StackReusable.{StackReusable}
 
@@ -20,6 +27,23 @@ module _ {T P W : Type 0} where
   abbrev pub stack_value : StackReusable T P W → T
   stack_value reusable = reusable.value
 
-  -- the same item with another value
-  abbrev pub stack_with : StackReusable T P W → T → StackReusable T P W
-  stack_with reusable value = record reusable { value = value }
+module _ (T P W : RattleType) where
+  -- once the loan of its value ends, the reusable has the value that was written last
+  abbrev pub LendsStackValue : MutBor (StackReusable T.Denot P.Denot W.Denot) → MutBor T.Denot → Fml
+  LendsStackValue reusable loan =
+      Lends (Reusable.the_row T P W) T reusable loan (λ value. record reusable.now { value = value })
+
+-- the lock whose guard it is
+abbrev pub lock_of : {T : Type 0} → SpinLockGuard T → TableId
+lock_of guard = guard.turn.0
+
+-- the value that it has
+abbrev pub guard_value : {T : Type 0} → SpinLockGuard T → T
+guard_value guard = guard.value
+
+module _ (T : RattleType) where
+  -- once the loan of its value ends, the guard has the value that was written last
+  abbrev pub LendsGuardedValue : MutBor (SpinLockGuard T.Denot) → MutBor T.Denot → Fml
+  LendsGuardedValue guard loan =
+      Lends (Guard.the_row (record { mir = named 1; lft = [] }) T) T guard loan
+      (λ value. record guard.now { value = value })

@@ -2,7 +2,7 @@
 //!
 //! A type needs one impl of [`Recyclable`]. Its pools are [`Pool`], [`FixedPool`], [`LazyPool`],
 //! [`MutexPool`] and [`SpinLockPool`].
-ghost use Rattle.std.specs.Prelude.{IfErr};
+ghost use Rattle.std.specs.Prelude.{IfErr, ⊤};
 
 use crate::mutex_object_pool::MutexObjectPool;
 use crate::mutex_owned_reusable::MutexOwnedReusable;
@@ -99,7 +99,7 @@ pub type SpinLockPoolOwnedReusable<T, W> = SpinLockOwnedReusable<
 >;
 
 impl<T: Recyclable> SpinLockPool<T> {
-    ghost use Rattle.pool_parts.specs.Refusal.{RefusesMaking};
+    ghost use Rattle.pool_parts.specs.Answers.{Refuses};
 
     /// Creates a pool that keeps nothing yet.
     ///
@@ -113,7 +113,7 @@ impl<T: Recyclable> SpinLockPool<T> {
     /// let pool = SpinLockPool::<Vec<u8>>::with_recycler(alloc)?;
     /// ```
     pub fn with_recycler(alloc: Global) -> Result<SpinLockPool<T>, PullError>
-        ensures refused { IfErr result (RefusesMaking ⊥) }
+        ensures refused { IfErr result (Refuses ⊤ ⊥ ⊥) }
     {
         let recycler = Recycler::new(alloc);
         SpinLockObjectPool::new(alloc, recycler, recycler)

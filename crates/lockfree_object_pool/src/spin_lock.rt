@@ -4,8 +4,8 @@
 //! value itself. Its drop puts the value back before it frees the word. A holder that stops keeps
 //! all others waiting.
 ghost use Rattle.std.specs.Prelude.{◌≡◌, [], ◌∷◌, Some, IfErr, IfOk, IfSome};
-ghost use Rattle.lockfree_object_pool.specs.Guard.{lock_of, guard_value};
-ghost use Rattle.lockfree_object_pool.specs.Inside.Lock.{HasValue};
+ghost use Rattle.lockfree_object_pool.specs.StackPool.{lock_of, guard_value};
+ghost use Rattle.lockfree_object_pool.specs.Lock.{HasValue};
 
 use crate::spin_lock::rule::{OneHolder, Take, Visitor};
 use crate::spin_lock::turn::Turn;
@@ -165,7 +165,7 @@ impl<T> Deref for SpinLockGuard<'_, T> {
 
 impl<T> DerefMut for SpinLockGuard<'_, T> {
     ghost use Rattle.std.specs.Borrow.{sem};
-    ghost use Rattle.lockfree_object_pool.specs.GuardLends.{LendsGuardedValue};
+    ghost use Rattle.lockfree_object_pool.specs.StackPool.{LendsGuardedValue};
 
     ghost deref_mut_gives = { λ guard shown. shown ≡ guard_value guard };
 

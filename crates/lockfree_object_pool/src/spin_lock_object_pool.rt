@@ -1,10 +1,11 @@
 //! A pool over a stack of kept values under a spin lock.
 //!
 //! It isn't lock free: a thread that stops while it has the lock keeps all others waiting.
-ghost use Rattle.std.specs.Prelude.{◌≡◌, IfOk, IfErr};
+ghost use Rattle.std.specs.Prelude.{◌≡◌, IfOk, IfErr, ⊤};
 
 use crate::spin_lock::SpinLock;
 use crate::stack_object_pool::StackObjectPool;
+use crate::stack_reusable::StackReusable;
 use kept_values::stack::Stack;
 use pool_parts::PullError;
 use pool_parts::clean::{AnyValue, Clean};
@@ -12,6 +13,7 @@ use pool_parts::closures::{Init, Reset};
 use pool_parts::made_or_reset::MadeOrReset;
 use std::alloc::Global;
 use std::fmt::{self, Debug, Formatter, Write};
+use std::sync::Arc;
 
 /// A pool that keeps returned values in a stack under a spin lock.
 ///
@@ -32,9 +34,42 @@ pub type SpinLockObjectPool<T, I, R, K = AnyValue> = StackObjectPool<
     SpinLock<Stack<T, MadeOrReset<I, R, K>>>,
 >;
 
+/// A value that was pulled from a spin lock pool or attached to it, under a borrow of it.
+///
+/// It has the room for its return: its drop resets the value, waits for the pool's lock and returns
+/// the value.
+///
+/// # Examples
+///
+/// ```rust
+/// let item = SpinLockReusable::new(&rt, &pool, 5)?; // its drop gives the pool a value
+/// ```
+pub type SpinLockReusable<'p, T, I, R, K, W> = StackReusable<
+    T,
+    &'p SpinLockObjectPool<T, I, R, K>,
+    W,
+>;
+
+/// A value that was pulled from a spin lock pool or attached to it, with an owner of it.
+///
+/// It has the room for its return: its drop resets the value, waits for the pool's lock and returns
+/// the value.
+///
+/// # Examples
+///
+/// ```rust
+/// let pool = Arc::new(alloc, pool)?;
+/// let item = pool.pull_owned(&rt)?; // may go to any thread
+/// ```
+pub type SpinLockOwnedReusable<T, I, R, K, W> = StackReusable<
+    T,
+    Arc<SpinLockObjectPool<T, I, R, K>>,
+    W,
+>;
+
 impl<T: Drop, I: Init<T, K>, R: Reset<T, K>, K: Clean<T>> SpinLockObjectPool<T, I, R, K> {
     ghost use Rattle.lockfree_object_pool.specs.StackPool.{stack_init, stack_reset};
-    ghost use Rattle.pool_parts.specs.Refusal.{RefusesMaking};
+    ghost use Rattle.pool_parts.specs.Answers.{Refuses};
 
     /// Creates a pool that keeps nothing yet.
     ///
@@ -54,7 +89,7 @@ impl<T: Drop, I: Init<T, K>, R: Reset<T, K>, K: Clean<T>> SpinLockObjectPool<T, 
     ) -> Result<SpinLockObjectPool<T, I, R, K>, PullError>
         ensures init { IfOk result (λ pool. stack_init pool ≡ init) }
         ensures reset { IfOk result (λ pool. stack_reset pool ≡ reset) }
-        ensures refused { IfErr result (RefusesMaking ⊥) }
+        ensures refused { IfErr result (Refuses ⊤ ⊥ ⊥) }
     {
         match SpinLock::new(alloc, Stack::new()) {
             Ok(kept) => Ok(StackObjectPool::over(alloc, init, reset, kept)),

@@ -2,7 +2,7 @@
 //!
 //! A pull takes the value that was returned last, or makes one if none is kept. Pulls and returns
 //! wait for the lock.
-ghost use Rattle.std.specs.Prelude.{◌≡◌, None, IfOk, IfErr};
+ghost use Rattle.std.specs.Prelude.{◌≡◌, None, IfOk, IfErr, ⊤};
 ghost use Rattle.std.specs.Arc.{arc_value};
 
 use crate::free_list::FreeList;
@@ -64,9 +64,8 @@ impl<
     K: Clean<T>,
     F: FreeList<T, MadeOrReset<I, R, K>>,
 > StackObjectPool<T, I, R, K, F> {
-    ghost use Rattle.pool_parts.specs.Answers.{IsMadeOrReset};
+    ghost use Rattle.pool_parts.specs.Answers.{IsMadeOrReset, Refuses};
     ghost use Rattle.lockfree_object_pool.specs.StackPool.{stack_init, stack_reset, stack_pool, stack_value};
-    ghost use Rattle.pool_parts.specs.Refusal.{RefusesMaking};
 
     /// Creates a pool over this list.
     pub(crate) fn over(alloc: Global, init: I, reset: R, kept: F) -> StackObjectPool<T, I, R, K, F>
@@ -96,7 +95,7 @@ impl<
         ensures meets { IfOk result (λ item. K.meets (stack_value item)) }
         ensures made_or_reset { IfOk result (λ item.
             IsMadeOrReset I.answers R.leaves (stack_value item)) }
-        ensures refused { IfErr result (RefusesMaking (I.answers (stack_init self.now) None)) }
+        ensures refused { IfErr result (Refuses ⊤ (I.answers (stack_init self.now) None) ⊥) }
     {
         let (value, room) = self.item(rt)?;
         Ok(StackReusable::in_room(self, *rt, room, value))
@@ -117,7 +116,7 @@ impl<
         ensures made_or_reset { IfOk result (λ item.
             IsMadeOrReset I.answers R.leaves (stack_value item)) }
         ensures refused { IfErr result
-            (RefusesMaking (I.answers (stack_init (arc_value self.now)) None)) }
+            (Refuses ⊤ (I.answers (stack_init (arc_value self.now)) None) ⊥) }
     {
         let owner = Arc::try_clone(self)?;
         let (value, room) = self.item(rt)?;
@@ -129,7 +128,7 @@ impl<
     fn item<W: Wait>(&self, rt: &W) -> Result<(T, Room<T>), PullError>
         ensures meets { IfOk result (λ item. K.meets item.0) }
         ensures made_or_reset { IfOk result (λ item. IsMadeOrReset I.answers R.leaves item.0) }
-        ensures refused { IfErr result (RefusesMaking (I.answers (stack_init self.now) None)) }
+        ensures refused { IfErr result (Refuses ⊤ (I.answers (stack_init self.now) None) ⊥) }
     {
         match self.kept.take(rt) {
             Some(item) => Ok(item),
@@ -141,7 +140,7 @@ impl<
     fn made(&self) -> Result<(T, Room<T>), PullError>
         ensures meets { IfOk result (λ item. K.meets item.0) }
         ensures made_or_reset { IfOk result (λ item. IsMadeOrReset I.answers R.leaves item.0) }
-        ensures refused { IfErr result (RefusesMaking (I.answers (stack_init self.now) None)) }
+        ensures refused { IfErr result (Refuses ⊤ (I.answers (stack_init self.now) None) ⊥) }
     {
         let room = self.room()?;
         match self.init.make() {
@@ -157,7 +156,7 @@ impl<
     ///
     /// `Memory`, or `Init` at the first `None`. The values made until then are kept.
     pub fn fill<W: Wait>(&self, rt: &W, count: usize) -> Result<(), PullError>
-        ensures refused { IfErr result (RefusesMaking (I.answers (stack_init self.now) None)) }
+        ensures refused { IfErr result (Refuses ⊤ (I.answers (stack_init self.now) None) ⊥) }
     {
         for _ in 0..count {
             let (value, room) = self.made()?;
@@ -184,7 +183,7 @@ impl<
     ///
     /// `Memory`.
     pub(crate) fn room(&self) -> Result<Room<T>, PullError>
-        ensures refused { IfErr result (RefusesMaking ⊥) }
+        ensures refused { IfErr result (Refuses ⊤ ⊥ ⊥) }
     {
         Room::new(self.alloc)
     }

@@ -1,6 +1,6 @@
 //! A value that was pulled from a stack pool or attached to it, with a borrow or an owner of the
 //! pool.
-ghost use Rattle.std.specs.Prelude.{◌≡◌, IfOk, IfErr};
+ghost use Rattle.std.specs.Prelude.{◌≡◌, IfOk, IfErr, ⊤};
 
 use crate::free_list::FreeList;
 use crate::stack_object_pool::StackObjectPool;
@@ -16,7 +16,7 @@ use std::sync::{Arc, Wait};
 
 /// A stack pool as a reusable has it: by a borrow or with an owner.
 pub trait SharedStackPool<T>: Drop {
-    ghost use Rattle.pool_parts.specs.Refusal.{RefusesMaking};
+    ghost use Rattle.pool_parts.specs.Answers.{Refuses};
 
     /// Makes a room for the return of a value.
     ///
@@ -24,7 +24,7 @@ pub trait SharedStackPool<T>: Drop {
     ///
     /// `Memory` if there is no memory for it.
     fn room(&self) -> Result<Room<T>, PullError>
-        ensures refused { IfErr result (RefusesMaking ⊥) };
+        ensures refused { IfErr result (Refuses ⊤ ⊥ ⊥) };
 
     /// Resets a value and keeps it. It takes no memory besides what the reset takes.
     fn give<W: Wait>(&self, rt: &W, room: Room<T>, value: T);
@@ -167,8 +167,7 @@ impl<T: Drop, P: SharedStackPool<T>, W: ReturnPermission<T, P>> Deref for StackR
 impl<T: Drop, P: SharedStackPool<T>, W: ReturnPermission<T, P>> DerefMut
     for StackReusable<T, P, W> {
     ghost use Rattle.std.specs.Borrow.{sem};
-    ghost use Rattle.lockfree_object_pool.specs.StackLends.{LendsStackValue};
-    ghost use Rattle.lockfree_object_pool.specs.StackPool.{stack_value};
+    ghost use Rattle.lockfree_object_pool.specs.StackPool.{LendsStackValue, stack_value};
 
     ghost deref_mut_gives = { λ reusable value. value ≡ stack_value reusable };
 

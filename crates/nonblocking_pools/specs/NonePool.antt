@@ -1,4 +1,6 @@
 -- What a pool that keeps nothing, and its reusable, show.
+use Rattle.std.specs.Borrow.{Lends, Fml, RattleType, MutBor}
+use Rattle.nonblocking_pools.specs.contracts.none_reusable.NoneReusable.{the_row}
 use Rattle.nonblocking_pools.specs.declared.none_object_pool.NoneObjectPool.{NoneObjectPool}
 use Rattle.nonblocking_pools.specs.declared.none_reusable.NoneReusable.{NoneReusable}
 
@@ -6,11 +8,12 @@ use Rattle.nonblocking_pools.specs.declared.none_reusable.NoneReusable.{NoneReus
 abbrev pub none_init : {T I : Type 0} → NoneObjectPool T I → I
 none_init pool = pool.init
 
-module _ {T : Type 0} where
-  -- the reusable's value
-  abbrev pub none_value : NoneReusable T → T
-  none_value reusable = reusable.value
+-- the reusable's value
+abbrev pub none_value : {T : Type 0} → NoneReusable T → T
+none_value reusable = reusable.value
 
-  -- the same item with another value
-  abbrev pub none_with : NoneReusable T → T → NoneReusable T
-  none_with reusable value = record reusable { value = value }
+module _ (T : RattleType) where
+  -- once the loan of its value ends, the reusable has the value that was written last
+  abbrev pub LendsNoneValue : MutBor (NoneReusable T.Denot) → MutBor T.Denot → Fml
+  LendsNoneValue reusable loan =
+      Lends (the_row T) T reusable loan (λ value. record reusable.now { value = value })

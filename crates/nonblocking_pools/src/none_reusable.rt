@@ -48,8 +48,7 @@ impl<T> Deref for NoneReusable<T> {
 
 impl<T> DerefMut for NoneReusable<T> {
     ghost use Rattle.std.specs.Borrow.{sem};
-    ghost use Rattle.nonblocking_pools.specs.NoneLends.{LendsNoneValue};
-    ghost use Rattle.nonblocking_pools.specs.NonePool.{none_value};
+    ghost use Rattle.nonblocking_pools.specs.NonePool.{LendsNoneValue, none_value};
 
     ghost deref_mut_gives = { λ reusable value. value ≡ none_value reusable };
 

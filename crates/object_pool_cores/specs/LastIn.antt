@@ -1,12 +1,24 @@
 -- A stack: a list of kept values, last returned first.
-use Rattle.std.specs.Prelude.{◌≡◌, Option, Some, None, List, Result, Ok, Err, ◌⊎◌}
+use Rattle.std.specs.Prelude.{◌≡◌, Option, Some, None, List, Result, Ok, Err, ◌⊎◌, ⊤, ◌∷◌, []}
 use Rattle.pool_parts.specs.declared.pull_error.PullError.{PullError}
-use Rattle.kept_values.specs.LastIn.{TakesFirst, StaysEmpty, PutsInFront}
-use Rattle.pool_parts.specs.Refusal.{RefusesMaking}
+use Rattle.pool_parts.specs.Answers.{Refuses}
 use Rattle.object_pool_cores.specs.declared.sequential.item.Item.{Item}
 use Rattle.object_pool_cores.specs.declared.sequential.attach_error.AttachError.{AttachError}
 use Rattle.object_pool_cores.specs.declared.sequential.attach_error.AttachError.TheVariants.{Memory}
 use Rattle.object_pool_cores.specs.Item.{item_value, item_number}
+
+module _ {T : Type 0} where
+  -- a pull takes the first value
+  abbrev pub TakesFirst : List T → T → List T → Type 0
+  TakesFirst old value new = old ≡ value ∷ new
+
+  -- nothing is kept, before and after
+  abbrev pub StaysEmpty : List T → List T → Type 0
+  StaysEmpty old new = (old ≡ []) × (new ≡ [])
+
+  -- a return puts a value in front
+  abbrev pub PutsInFront : List T → T → List T → Type 0
+  PutsInFront old value new = new ≡ value ∷ old
 
 module _ {T : Type 0} where
   -- a pull gives an item without a number: the first value, or where nothing is kept an answer of
@@ -15,7 +27,7 @@ module _ {T : Type 0} where
   PullsLast answers old (Ok item) new =
       (item_number item ≡ None)
       × (TakesFirst old (item_value item) new ⊎ (StaysEmpty old new × answers (Some (item_value item))))
-  PullsLast answers old (Err cause) new = StaysEmpty old new × RefusesMaking (answers None) cause
+  PullsLast answers old (Err cause) new = StaysEmpty old new × Refuses ⊤ (answers None) ⊥ cause
 
   -- a return puts what reset left in front
   abbrev pub ReturnsLast : (T → T → Type 0) → List T → Item T → List T → Type 0

@@ -2,7 +2,7 @@
 //!
 //! A pulled buffer is empty, whatever was done with it before, and it returns to its pool when it
 //! is dropped.
-ghost use Rattle.std.specs.Prelude.{◌≡◌, ◌≤◌, ◌<◌, [], None, Some, IfOk, IfErr, IsSome, IfSome};
+ghost use Rattle.std.specs.Prelude.{◌≡◌, ◌≤◌, ◌<◌, [], None, Some, IfOk, IfErr, IsSome, IfSome, ⊤};
 ghost use Rattle.std.specs.Prelude.{vec_capacity};
 
 use linear_pools::LinearObjectPool;
@@ -65,7 +65,7 @@ pub struct BufferPool<I: Init<T, K>, R: Reset<T, K>, T = Vec<u8>, K: Clean<T> = 
 }
 
 impl<I: Init<Vec<u8>, Empty>, R: Reset<Vec<u8>, Empty>> BufferPool<I, R> {
-    ghost use Rattle.pool_parts.specs.Refusal.{RefusesMaking, RefusesPull};
+    ghost use Rattle.pool_parts.specs.Answers.{Refuses};
     ghost use Rattle.object_pool_cores.specs.Buffers.{maker_of, limit_of_pages, bytes_of, page_of};
     ghost use Rattle.object_pool_cores.specs.Buffers.{IsOnItsPage};
 
@@ -89,7 +89,7 @@ impl<I: Init<Vec<u8>, Empty>, R: Reset<Vec<u8>, Empty>> BufferPool<I, R> {
         requires some_page { 1 ≤ pages }
         ensures maker { IfOk result (λ pool. maker_of pool ≡ init) }
         ensures limit { IfOk result (λ pool. limit_of_pages pool ≡ Some pages) }
-        ensures refused { IfErr result (RefusesMaking (I.answers init None)) }
+        ensures refused { IfErr result (Refuses ⊤ (I.answers init None) ⊥) }
     {
         let pool = LinearObjectPool::with_limit(alloc, init, reset, pages)?;
         Ok(BufferPool { pool })
@@ -107,7 +107,7 @@ impl<I: Init<Vec<u8>, Empty>, R: Reset<Vec<u8>, Empty>> BufferPool<I, R> {
         ensures within { IfOk result (λ buffer. IfSome (limit_of_pages self.now)
             (λ pages. page_of buffer < pages)) }
         ensures refused { IfErr result
-            (RefusesPull (IsSome (limit_of_pages self.now)) (I.answers (maker_of self.now) None)) }
+            (Refuses ⊤ (I.answers (maker_of self.now) None) (IsSome (limit_of_pages self.now))) }
     {
         Ok(Buffer::new(self.pool.pull()?))
     }

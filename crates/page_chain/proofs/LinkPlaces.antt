@@ -10,8 +10,8 @@ use Rattle.std.proofs.Math.Logic.{∥∥₁_elim}
 use Rattle.std.proofs.Math.Nat.{pow-le-pow_right, two-pow-succ}
 use Rattle.atomic_table.specs.Seated.{TableId, table_id_coded}
 use Rattle.once_cell.specs.Once.{cell_name}
-use Rattle.page_chain.specs.LinkRow.{IsLinkTo, cell_in_row}
-use Rattle.pool_parts.specs.Inside.OneProof.{same_holding}
+use Rattle.page_chain.specs.Links.{IsLinkTo, cell_in_row}
+use Rattle.pool_parts.specs.Item.{same_holding}
 use Rattle.pool_parts.specs.Page.{page_identity}
 use Rattle.page_chain.specs.Walk.{IsLinkedAt}
 use Rattle.page_chain.specs.declared.linear_page.page_number.PageNumber.{PageNumber}

@@ -5,7 +5,7 @@ use Rattle.std.specs.Prelude.{slice_get}
 use Rattle.std.specs.declared.alloc.Global.{Global}
 use Rattle.std.proofs.lemmas.Option.{none-some, same_Some, slice_get_read, slice_get_past}
 use Rattle.once_cell.specs.Once.{Agrees, cell_name}
-use Rattle.page_chain.specs.LinkRow.{cell_in_row}
+use Rattle.page_chain.specs.Links.{cell_in_row}
 use Rattle.page_chain.specs.declared.linear_page.directory.Row.{Row}
 
 -- the row has the link at its place
@@ -16,7 +16,8 @@ cell_kept (Some was) row offset cell in_row agrees =
     ap (λ row. cell_in_row (Some row) offset) (sym agrees) ∙ in_row
 
 -- and so does what the note knows after a look at the row's cell
-pub cell_known : {T K O : Type 0} (seen : Option (Bor (Row T K O))) (known learned : Option (Row T K O)) (offset cell : ℕ)
+pub cell_known : {T K O : Type 0} (seen : Option (Bor (Row T K O))) (known learned : Option (Row T K O))
+    (offset cell : ℕ)
     → cell_in_row known offset ≡ Some cell
     → MatchOption seen ((known ≡ None) × (learned ≡ None)) (λ row. (learned ≡ Some row.now) × Agrees known row.now)
     → cell_in_row learned offset ≡ Some cell

@@ -1,43 +1,76 @@
--- Where a walk along the links of a chain came to.
-use Rattle.std.specs.Prelude.{◌≡◌, ◌⊎◌, ℕ, ◌+◌, ◌-◌, ◌<◌, ◌≤◌, List, Option, Some, IfSome}
+-- A chain and its pages, a note of a link, and where a walk along the links came to.
+use Rattle.std.proofs.Common.{inl, inr, arith}
+use Rattle.std.proofs.lemmas.Nat.{pow_pos}
+use Rattle.std.specs.Prelude.{◌≡◌, ◌⊎◌, ℕ, ◌+◌, ◌-◌, ◌<◌, ◌≤◌, List, Option, Some, None, IfSome, ⊤}
 use Rattle.std.specs.Arc.{arc_value}
 use Rattle.std.specs.Option.{option_map}
 use Rattle.std.specs.declared.alloc.Global.{Global}
 use Rattle.atomic_table.specs.Seated.{TableId}
-use Rattle.pool_parts.specs.FullSeen.{full_page}
-use Rattle.pool_parts.specs.Item.{Item, IsItemOf, IsPulled}
-use Rattle.pool_parts.specs.Items.{IsFilled}
-use Rattle.page_chain.specs.LinearPage.{first_page, shown_page, page_number}
-use Rattle.page_chain.specs.LinkRow.{IsLinkTo, cell_in_row}
-use Rattle.pool_parts.specs.Page.{page_identity}
+use Rattle.once_cell.specs.Once.{cell_name}
+use Rattle.pool_parts.specs.Answers.{Refuses}
+use Rattle.pool_parts.specs.Item.{Item, IsItemOf, IsPulled, IsFilled}
+use Rattle.pool_parts.specs.Page.{page_identity, page_opening}
 use Rattle.pool_parts.specs.declared.clean.Clean.{Ghosts}
+use Rattle.pool_parts.specs.declared.page.full_seen.FullSeen.{FullSeen}
+use Rattle.pool_parts.specs.declared.page.word.TheConstants.{PAGE_ITEMS}
+use Rattle.pool_parts.specs.declared.pull_error.PullError.{PullError}
+use Rattle.pool_parts.specs.declared.pull_error.PullError.TheVariants.{Limit as LimitCause}
+use Rattle.page_chain.specs.Links.{IsLinkTo, cell_in_row}
 use Rattle.page_chain.specs.declared.linear_page.Chain.{Chain}
 use Rattle.page_chain.specs.declared.linear_page.LinearPage.{LinearPage}
+use Rattle.page_chain.specs.declared.linear_page.link_note.LinkNote.{LinkNote}
 use Rattle.page_chain.specs.declared.linear_page.page_number.PageNumber.{PageNumber}
 use Rattle.page_chain.specs.declared.linear_page.walk.LimitSeen.{LimitSeen}
 use Rattle.page_chain.specs.declared.linear_page.walk.WalkRefusal.{WalkRefusal}
 use Rattle.page_chain.specs.declared.linear_page.walk.WalkRefusal.TheVariants.{Limit, Making}
-use Rattle.pool_parts.specs.declared.page.full_seen.FullSeen.{FullSeen}
-use Rattle.pool_parts.specs.declared.pull_error.PullError.{PullError}
-use Rattle.pool_parts.specs.declared.pull_error.PullError.TheVariants.{Limit as LimitCause}
-use Rattle.pool_parts.specs.Refusal.{RefusesMaking}
-use Rattle.pool_parts.specs.declared.page.word.TheConstants.{PAGE_ITEMS}
 
--- where a walk starts: the links of its chain, a page of that chain, and the page's number
-pub record Start : Type 0 where
+-- a page of a chain: the chain's links, the page, its first values, and how many links lead to it from the first one
+pub record ChainPage (T : Type 0) : Type 0 where
   pub links : List (Global × ℕ)
   pub page : TableId
+  -- the values that the page opened with, by id
+  pub opening : List (Option T)
   pub number : ℕ
 
 module _ {T K O : Type 0} where
-  -- the start of a walk that begins at a chain's first page
-  abbrev pub start_of : Chain T K O → Start
-  start_of chain = record { links = chain.directory; page = first_page chain; number = 0 }
+  -- the chain's first page
+  abbrev pub first_page : Chain T K O → ChainPage T
+  first_page chain =
+      let first = arc_value chain.first in
+      record { links = chain.directory; page = page_identity first; opening = page_opening first; number = 0 }
 
-  -- how many links the page lies after its chain's first one
-  abbrev pub number_of : PageNumber T K O → ℕ
-  number_of known = known.number
+module _ {T K O : Type 0} {opens : Ghosts O T} where
+  -- which page of its chain it is
+  abbrev pub shown_page : LinearPage T K O opens → ChainPage T
+  shown_page page =
+      let here = arc_value page.page.now in
+      record {
+        links = page.directory.now;
+        page = page_identity here;
+        opening = page_opening here;
+        number = page.number;
+      }
 
+  -- which link leads on from a page
+  abbrev pub next_link : LinearPage T K O opens → ℕ × ℕ
+  next_link page = (cell_name page.next.row.now, page.next.offset)
+
+  -- which link the note is of
+  abbrev pub known_link : LinkNote T K O opens → ℕ × ℕ
+  known_link note = (note.row.cell, note.offset.value)
+
+  -- which page the note knows to be linked
+  abbrev pub known_next : LinkNote T K O opens → Option TableId
+  known_next note = option_map (λ page. page_identity (arc_value page)) note.link.known
+
+  -- the page after a page: this note is of the link between them, and knows it
+  pub record IsNext (page : LinearPage T K O opens) (note : LinkNote T K O opens) (next : LinearPage T K O opens)
+      : Type 0 where
+    pub one_further : (shown_page next).number ≡ (shown_page page).number + 1
+    pub of_link : known_link note ≡ next_link page
+    pub known : known_next note ≡ Some (shown_page next).page
+
+module _ {T K O : Type 0} where
   -- the link to the page of this number leads to this page, as the notes of its row and of itself
   -- know
   pub record IsLinkedAt (links : List (Global × ℕ)) (known : PageNumber T K O) (page : TableId) : Type 0 where
@@ -49,36 +82,31 @@ module _ {T K O : Type 0} where
 
   -- a walk came to the page of this number: it is the start's, or the one to which the link of that
   -- number leads
-  abbrev pub IsWalkedTo : Start → PageNumber T K O → TableId → Type 0
+  abbrev pub IsWalkedTo : ChainPage T → PageNumber T K O → TableId → Type 0
   IsWalkedTo start known page =
       ((known.number ≡ start.number) × (page ≡ start.page)) ⊎ IsLinkedAt start.links known page
 
-module _ {T K O : Type 0} {opens : Ghosts O T} where
-  -- the start of a walk that begins at this page
-  abbrev pub start_at : LinearPage T K O opens → Start
-  start_at page = record { links = page.directory.now; page = shown_page page; number = page_number page }
-
 -- the page of this number, as a walk comes to it, was found full in one pull
-pub record WasFull (T K O : Type 0) (start : Start) (number : ℕ) : Type 0 where
+pub record WasFull (T K O : Type 0) (start : ChainPage T) (number : ℕ) : Type 0 where
   -- the number with what was learned of the link to the page
   pub known : PageNumber T K O
-  pub is_number : number_of known ≡ number
+  pub is_number : known.number ≡ number
   -- each of its ids was observed taken
   pub full : FullSeen T
-  pub on_page : IsWalkedTo start known (full_page full)
+  pub on_page : IsWalkedTo start known full.seat.table_id
 
 -- each of so many pages from a walk's start was found full, and this is of the last of them
-pub record IsAllFull {T K O : Type 0} (start : Start) (pages : ℕ) (seen : LimitSeen T K O) : Type 0 where
-  pub last : number_of seen.number + 1 ≡ start.number + pages
-  pub on_page : IsWalkedTo start seen.number (full_page seen.seen)
+pub record IsAllFull {T K O : Type 0} (start : ChainPage T) (pages : ℕ) (seen : LimitSeen T K O) : Type 0 where
+  pub last : seen.number.number + 1 ≡ start.number + pages
+  pub on_page : IsWalkedTo start seen.number seen.seen.seat.table_id
   pub each : (number : ℕ) → start.number ≤ number → number < start.number + pages → WasFull T K O start number
 
 module _ {T K O : Type 0} where
   -- why a walk has no item: there is a limit, and each page up to it was found full; or no further
   -- page could be made
-  abbrev pub IsRefusedBy : Start → Option ℕ → Type 0 → WalkRefusal T K O → Type 0
+  abbrev pub IsRefusedBy : ChainPage T → Option ℕ → Type 0 → WalkRefusal T K O → Type 0
   IsRefusedBy start limit init_refuses (Limit seen) = (pages : ℕ) × (limit ≡ Some pages) × IsAllFull start pages seen
-  IsRefusedBy start limit init_refuses (Making cause) = RefusesMaking init_refuses cause
+  IsRefusedBy start limit init_refuses (Making cause) = Refuses ⊤ init_refuses ⊥ cause
 
   -- the name of a walk's refusal
   abbrev pub cause_of : WalkRefusal T K O → PullError
@@ -86,14 +114,31 @@ module _ {T K O : Type 0} where
   cause_of (Making cause) = cause
 
 -- what a walk took: an item of the page of this number, within so many pages from the walk's start
-pub record IsTaken {T K O : Type 0} (meets may_open : T → Type 0) (start : Start) (limit : Option ℕ)
+pub record IsTaken {T K O : Type 0} (meets may_open : T → Type 0) (start : ChainPage T) (limit : Option ℕ)
     (number : PageNumber T K O) (item : Item T) : Type 0 where
   pub is_item : IsItemOf meets item.page item
   -- its page opened with 32 values of this kind
   pub opened : IsFilled PAGE_ITEMS may_open item.opening
   -- it was pulled as its page's history tells, which begins with them
   pub pulled : IsPulled item
-  pub from_start : start.number ≤ number_of number
+  pub from_start : start.number ≤ number.number
   pub on_page : IsWalkedTo start number item.page
-  pub of_start : number_of number ≡ start.number → item.page ≡ start.page
-  pub within : IfSome limit (λ pages. number_of number - start.number < pages)
+  pub of_start : number.number ≡ start.number → item.page ≡ start.page
+  pub within : IfSome limit (λ pages. number.number - start.number < pages)
+
+-- no link leads to the first page
+pub no_link_to_first : {T K O : Type 0} (links : List (Global × ℕ)) (known : PageNumber T K O) (page : TableId)
+    → IsLinkedAt links known page → known.number ≡ 0 → ⊥
+no_link_to_first links known page linked first =
+    let here = linked.is_link in
+    let start = pow_pos here.row_number in
+    omega (arith, here.offset, start, first)
+
+-- so the page of number 0 that a walk came to from the chain's start is the first one, as
+-- `on_page` of a pull says
+pub first_of_walk : {T K O : Type 0} (chain : Chain T K O) (known : PageNumber T K O) (page : TableId)
+    → IsWalkedTo (first_page chain) known page → known.number ≡ 0 → page ≡ (first_page chain).page
+first_of_walk chain known page walked first = elim walked [
+  | inl here ↦ here.1
+  | inr linked ↦ absurd (no_link_to_first _ known page linked first)
+]

@@ -11,12 +11,14 @@
 //!
 //! No call waits for another thread. A link is set once, only in `get_or_create_next_as`, for a
 //! caller that has found its page full.
-ghost use Rattle.std.specs.Prelude.{◌≡◌, ◌+◌, ◌^◌, ◌<◌, Option, None, IfSome, IfNone, IfOk, IfErr};
+ghost use Rattle.std.specs.Prelude.{◌≡◌, ◌+◌, ◌^◌, ◌<◌, Option, None, IfSome, IfNone, IfOk, IfErr, ⊤};
 ghost use Rattle.std.specs.Arc.{arc_value};
-ghost use Rattle.pool_parts.specs.Answers.{MayOpen};
-ghost use Rattle.page_chain.specs.LinkRow.{IsLinkTo, link_at};
-ghost use Rattle.pool_parts.specs.Page.{page_identity, OpensWith};
-ghost use Rattle.pool_parts.specs.Refusal.{RefusesMaking};
+ghost use Rattle.once_cell.specs.Once.{cell_name};
+ghost use Rattle.pool_parts.specs.Answers.{MayMake, Refuses};
+ghost use Rattle.page_chain.specs.Links.{IsLinkTo};
+ghost use Rattle.pool_parts.specs.Item.{IsFilled};
+ghost use Rattle.pool_parts.specs.declared.page.word.TheConstants.{PAGE_ITEMS};
+ghost use Rattle.pool_parts.specs.Page.{page_identity, page_opening};
 
 use directory::{Directory, LinkPlace};
 use opened_page::OpenedPage;
@@ -67,8 +69,7 @@ impl<T: Drop, K: Clean<T>, O: Clean<T>> Drop for Chain<T, K, O> {
 }
 
 impl<T: Drop, K: Clean<T>, O: Clean<T>> Chain<T, K, O> {
-    ghost use Rattle.page_chain.specs.LinearPage.{first_page, shown_page, page_number};
-    ghost use Rattle.page_chain.specs.Walk.{start_at, start_of};
+    ghost use Rattle.page_chain.specs.Walk.{shown_page, first_page};
 
     /// Creates a chain of one page, made as by [`Page::new`].
     ///
@@ -82,8 +83,9 @@ impl<T: Drop, K: Clean<T>, O: Clean<T>> Chain<T, K, O> {
     /// let chain: Chain<u32, AnyValue> = Chain::new(alloc, &|| Some(0))?;
     /// ```
     pub fn new<I: Fn() -> Option<T>>(alloc: Global, init: &I) -> Result<Chain<T, K, O>, PullError>
-        requires { MayOpen I.pre I.post K.meets O.meets init.now }
-        ensures refused { IfErr result (RefusesMaking (I.post init.now None)) }
+        requires may_make { MayMake I.pre I.post K.meets init.now }
+        requires opens { MayMake I.pre I.post O.meets init.now }
+        ensures refused { IfErr result (Refuses ⊤ (I.post init.now None) ⊥) }
     {
         let first = made_page(alloc, init)?;
         let directory = Directory::new(alloc)?;
@@ -92,9 +94,9 @@ impl<T: Drop, K: Clean<T>, O: Clean<T>> Chain<T, K, O> {
 
     /// Returns the page with number 0.
     pub fn first(&self) -> LinearPage<'_, T, K, O>
-        ensures page { shown_page result ≡ first_page self.now }
-        ensures number { page_number result ≡ 0 }
-        ensures start { start_at result ≡ start_of self.now }
+        ensures page { (shown_page result).page ≡ (first_page self.now).page }
+        ensures number { (shown_page result).number ≡ 0 }
+        ensures start { shown_page result ≡ first_page self.now }
     {
         LinearPage::new(&self.directory, &self.first, 0)
     }
@@ -114,7 +116,10 @@ pub struct LinearPage<'c, T, K: Clean<T>, O: Clean<T> = AnyValue> {
     number: usize,
     next: LinkPlace<'c, T, K, O>,
     ghost next_link: { ∥
-        (number + 1 < 2 ^ 64 → IsLinkTo directory.now (number + 1) (link_at next)) ∥₁ },
+        (number + 1 < 2 ^ 64 → IsLinkTo directory.now (number + 1) (
+          cell_name next.row.now,
+          next.offset,
+        )) ∥₁ },
 }
 
 impl<T, K: Clean<T>, O: Clean<T>> Copy for LinearPage<'_, T, K, O> {}
@@ -132,19 +137,17 @@ impl<T, K: Clean<T>, O: Clean<T>> Clone for LinearPage<'_, T, K, O> {
 }
 
 impl<'c, T: Drop, K: Clean<T>, O: Clean<T>> LinearPage<'c, T, K, O> {
-    ghost use Rattle.pool_parts.specs.FullSeen.{full_page};
-    ghost use Rattle.page_chain.specs.LinearPage.{shown_page, page_number, next_link, IsNext, IsNextAs};
-    ghost use Rattle.page_chain.specs.LinkNote.{IsNewNoteOf, known_link, known_next};
-    ghost use Rattle.page_chain.specs.Walk.{start_at};
+    ghost use Rattle.page_chain.specs.Walk.{next_link, IsNext, shown_page, known_link, known_next};
 
     fn new(
         directory: &'c Directory<T, K, O>,
         page: &'c OpenedPage<T, K, O>,
         number: usize,
     ) -> LinearPage<'c, T, K, O>
-        ensures page { shown_page result ≡ page_identity (arc_value page.now) }
-        ensures number { page_number result ≡ number }
-        ensures links { (start_at result).links ≡ directory.now }
+        ensures page { (shown_page result).page ≡ page_identity (arc_value page.now) }
+        ensures number { (shown_page result).number ≡ number }
+        ensures opening { (shown_page result).opening ≡ page_opening (arc_value page.now) }
+        ensures links { (shown_page result).links ≡ directory.now }
         ensures next { number + 1 < 2 ^ 64
             → IsLinkTo directory.now (number + 1) (next_link result) }
     {
@@ -158,15 +161,15 @@ impl<'c, T: Drop, K: Clean<T>, O: Clean<T>> LinearPage<'c, T, K, O> {
 
     /// Returns the page with its items.
     pub fn page(&self) -> &'c Page<T, K>
-        ensures page { page_identity result.now ≡ shown_page self.now }
-        ensures opened { OpensWith O.meets result.now }
+        ensures page { page_identity result.now ≡ (shown_page self.now).page }
+        ensures opened { IsFilled PAGE_ITEMS O.meets (page_opening result.now) }
     {
         self.page.owner()
     }
 
     /// Returns the page's number: how many links lead to it from the first page of its chain.
     pub fn number(&self) -> usize
-        ensures { result ≡ page_number self.now }
+        ensures { result ≡ (shown_page self.now).number }
     {
         self.number
     }
@@ -188,8 +191,9 @@ impl<'c, T: Drop, K: Clean<T>, O: Clean<T>> LinearPage<'c, T, K, O> {
     ///
     /// `Memory`, only if the link has no place yet.
     pub fn next_note(&self) -> Result<LinkNote<T, K, O>, PullError>
-        ensures note { IfOk result (IsNewNoteOf (next_link self.now)) }
-        ensures refused { IfErr result (RefusesMaking ⊥) }
+        ensures note { IfOk result (λ note. (known_link note ≡ (next_link self.now))
+            × (known_next note ≡ None)) }
+        ensures refused { IfErr result (Refuses ⊤ ⊥ ⊥) }
     {
         self.next.new_note()
     }
@@ -202,9 +206,11 @@ impl<'c, T: Drop, K: Clean<T>, O: Clean<T>> LinearPage<'c, T, K, O> {
         requires { known_link note.old ≡ next_link self.now }
         ensures link { known_link note.new ≡ known_link note.old }
         ensures none { IfNone result
-            (page_number self.now + 1 < 2 ^ 64 → known_next note.old ≡ None) }
+            ((shown_page self.now).number + 1 < 2 ^ 64 → known_next note.old ≡ None) }
         ensures unlearned { IfNone result (known_next note.new ≡ known_next note.old) }
-        ensures next { IfSome result (IsNextAs self.now note.old note.new) }
+        ensures next { IfSome result (IsNext self.now note.new) }
+        ensures agrees { IfSome result
+            (λ next. IfSome (known_next note.old) (λ known. known ≡ (shown_page next).page)) }
     {
         let number = self.number.checked_add(1)?;
         let page = self.next.get_as(note)?;
@@ -224,10 +230,11 @@ impl<'c, T: Drop, K: Clean<T>, O: Clean<T>> LinearPage<'c, T, K, O> {
         seen: FullSeen<'_, T>,
         init: &I,
     ) -> Result<(LinearPage<'c, T, K, O>, LinkNote<T, K, O>), PullError>
-        requires of_page { full_page seen ≡ shown_page self.now }
-        requires opens { MayOpen I.pre I.post K.meets O.meets init.now }
+        requires of_page { seen.seat.table_id ≡ (shown_page self.now).page }
+        requires may_make { MayMake I.pre I.post K.meets init.now }
+        requires opens { MayMake I.pre I.post O.meets init.now }
         ensures next { IfOk result (λ answer. IsNext self.now answer.1 answer.0) }
-        ensures refused { IfErr result (RefusesMaking (I.post init.now None)) }
+        ensures refused { IfErr result (Refuses ⊤ (I.post init.now None) ⊥) }
     {
         let mut note = self.next_note()?;
         let next = self.get_or_create_next_as(seen, init, &mut note)?;
@@ -250,12 +257,15 @@ impl<'c, T: Drop, K: Clean<T>, O: Clean<T>> LinearPage<'c, T, K, O> {
         init: &I,
         note: &mut LinkNote<T, K, O>,
     ) -> Result<LinearPage<'c, T, K, O>, PullError>
-        requires of_page { full_page seen ≡ shown_page self.now }
-        requires opens { MayOpen I.pre I.post K.meets O.meets init.now }
+        requires of_page { seen.seat.table_id ≡ (shown_page self.now).page }
+        requires may_make { MayMake I.pre I.post K.meets init.now }
+        requires opens { MayMake I.pre I.post O.meets init.now }
         requires link { known_link note.old ≡ next_link self.now }
         ensures link { known_link note.new ≡ known_link note.old }
-        ensures next { IfOk result (IsNextAs self.now note.old note.new) }
-        ensures refused { IfErr result (RefusesMaking (I.post init.now None)) }
+        ensures next { IfOk result (IsNext self.now note.new) }
+        ensures agrees { IfOk result
+            (λ next. IfSome (known_next note.old) (λ known. known ≡ (shown_page next).page)) }
+        ensures refused { IfErr result (Refuses ⊤ (I.post init.now None) ⊥) }
     {
         let Some(number) = self.number.checked_add(1) else {
             return Err(PullError::Memory);
@@ -280,8 +290,9 @@ fn made_page<T: Drop, K: Clean<T>, O: Clean<T>, I: Fn() -> Option<T>>(
     alloc: Global,
     init: &I,
 ) -> Result<OpenedPage<T, K, O>, PullError>
-    requires { MayOpen I.pre I.post K.meets O.meets init.now }
-    ensures refused { IfErr result (RefusesMaking (I.post init.now None)) }
+    requires may_make { MayMake I.pre I.post K.meets init.now }
+    requires opens { MayMake I.pre I.post O.meets init.now }
+    ensures refused { IfErr result (Refuses ⊤ (I.post init.now None) ⊥) }
 {
     let page = Arc::new(alloc, Page::new(alloc, init)?)?;
     Ok(OpenedPage::new(page))
@@ -293,8 +304,9 @@ fn told_page<T: Drop, K: Clean<T>, O: Clean<T>, I: Fn() -> Option<T>>(
     init: &I,
     made: &Cell<bool>,
 ) -> Result<OpenedPage<T, K, O>, PullError>
-    requires { MayOpen I.pre I.post K.meets O.meets init.now }
-    ensures refused { IfErr result (RefusesMaking (I.post init.now None)) }
+    requires may_make { MayMake I.pre I.post K.meets init.now }
+    requires opens { MayMake I.pre I.post O.meets init.now }
+    ensures refused { IfErr result (Refuses ⊤ (I.post init.now None) ⊥) }
 {
     let page = made_page(alloc, init)?;
     made.set(true);

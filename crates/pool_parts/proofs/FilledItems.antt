@@ -2,12 +2,12 @@
 use Rattle.std.proofs.Common.{◌≡◌, ℕ, zero, suc, ◌+◌, ◌<◌, List, [], ◌∷◌, ◌++◌, length, Option, Some, None, get_or}
 use Rattle.std.proofs.Common.{arith, refl, subst, sym, length-append}
 use Rattle.std.proofs.lemmas.List.Elements.{All-append, All-get_or, All-nil}
-use Rattle.std.specs.Prelude.{IsSomeAnd}
+use Rattle.std.specs.Prelude.{IsSomeAnd, ⊤}
 use Rattle.std.proofs.Common.{Result, Ok, Err, IfOk, IfErr}
 use Rattle.pool_parts.specs.declared.pull_error.PullError.{PullError}
 use Rattle.pool_parts.specs.declared.pull_error.PullError.TheVariants.{Memory}
-use Rattle.pool_parts.specs.Items.{IsFilled}
-use Rattle.pool_parts.specs.Refusal.{RefusesMaking}
+use Rattle.pool_parts.specs.Item.{IsFilled}
+use Rattle.pool_parts.specs.Answers.{Refuses}
 
 module _ {T : Type 0} where
   -- no items
@@ -61,6 +61,6 @@ module _ {T : Type 0} where
 
 -- a refusal for want of memory is one that the making of items may answer
 pub refuses_memory : {A : Type 0} (none : Type 0) (made : Result A PullError) → IfErr made (λ error. error ≡ Memory)
-    → IfErr made (RefusesMaking none)
+    → IfErr made (Refuses ⊤ none ⊥)
 refuses_memory none (Ok value) is = tt
-refuses_memory none (Err error) is = subst (RefusesMaking none) (sym is) tt
+refuses_memory none (Err error) is = subst (Refuses ⊤ none ⊥) (sym is) tt

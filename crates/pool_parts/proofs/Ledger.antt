@@ -5,10 +5,9 @@ use mathlib.Core.Option.{some, some-ne-none}
 use lib.ListN.{get_elem?}
 use Rattle.atomic_table.proofs.Lists.{at_set}
 use Rattle.pool_parts.specs.declared.page.user_view.UserView.{UserView}
-use Rattle.pool_parts.specs.Inside.PageRule.{IsSound, Knows, GoesOn, IsOutNow}
+use Rattle.pool_parts.specs.PageRule.{IsSound, Knows, GoesOn, IsOutNow}
 use Rattle.pool_parts.specs.declared.page.history.Operation.{Operation}
-use Rattle.pool_parts.specs.Ledger.{History, user_of, id_of, operations_of, left_by, value_at}
-use Rattle.pool_parts.specs.Ledger.{IsLegal, IsPrefixOf, WasOutBetween}
+use Rattle.pool_parts.specs.Ledger.{History, user_of, id_of, operations_of, left_by, value_at, IsLegal, IsPrefixOf, WasOutBetween}
 
 -- where something stands in a list, it stands below its length
 pub at_below : {A : Type 0} (list : List A) (place : ℕ) (there : A) → get_elem? list place ≡ some there

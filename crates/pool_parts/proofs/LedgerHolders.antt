@@ -5,10 +5,9 @@ use native.Mathlib.Decide.{ℕ_discrete}
 use mathlib.Core.Logic.{dite}
 use Rattle.pool_parts.specs.declared.page.history.Operation.{Operation}
 use Rattle.pool_parts.specs.declared.page.history.Operation.TheVariants.{Pull, Return}
-use Rattle.pool_parts.specs.Ledger.{History, user_of, id_of, operations_of, held_id, left_by, value_at}
-use Rattle.pool_parts.specs.Ledger.{MayFollow, IsLegal, NoOperationOn}
+use Rattle.pool_parts.specs.Ledger.{History, user_of, id_of, operations_of, held_id, left_by, value_at, MayFollow, IsLegal, NoOperationOn}
 use Rattle.pool_parts.specs.declared.page.user_view.UserView.{UserView}
-use Rattle.pool_parts.specs.Inside.PageRule.{GoesOn}
+use Rattle.pool_parts.specs.PageRule.{GoesOn}
 use Rattle.pool_parts.proofs.Ledger.{behind, operations_of_own, operations_of_other, value_at-here}
 use Rattle.pool_parts.proofs.Ledger.{value_at-elsewhere}
 
@@ -33,9 +32,9 @@ module _ {T : Type 0} where
       → MayFollow opening operations operation → Held opening operations → user_of operation ≢ user
       → held_id (operations_of user operations) ≡ Some id → id_of operation ≢ id
   other_item opening (Pull who place value) operations user id may before differ holds same =
-      no_value value (sym may.lies_there ∙ ap (value_at opening operations) same ∙ before.out user id holds)
+      no_value value (sym may.0 ∙ ap (value_at opening operations) same ∙ before.out user id holds)
   other_item opening (Return who place value) operations user id may before differ holds same =
-      differ (before.one who user id (may.holds ∙ ap Some same) holds)
+      differ (before.one who user id (may.1 ∙ ap Some same) holds)
 
   -- who holds an item after one more operation: its user, who took it now, or another, who held it before
   held_after : (opening : List (Option T)) (operation : Operation T) (operations : History T) (user id : ℕ)
@@ -120,5 +119,5 @@ module _ {T : Type 0} where
       mine ∙ sym goes.own_before ∙ ap (λ u. operations_of u known.operations) (sym same) in (
         others,
         goes.operations.1,
-        spared new.opening who id others known.operations legal.1 before (ap held_id (sym before) ∙ legal.0.holds),
+        spared new.opening who id others known.operations legal.1 before (ap held_id (sym before) ∙ legal.0.1),
       )

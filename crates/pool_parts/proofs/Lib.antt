@@ -12,4 +12,5 @@ pub mod Returns
 pub mod SeatShared
 pub mod SlotShared
 pub mod Taking
+pub mod Views
 pub mod WordBits

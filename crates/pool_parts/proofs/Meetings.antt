@@ -8,10 +8,10 @@ use mathlib.Core.Logic.{dite}
 use Rattle.atomic_table.proofs.Lists.{at_set, at_snoc, at_longer, set_here, set_else}
 use Rattle.pool_parts.specs.declared.page.user_view.UserView.{UserView}
 use Rattle.pool_parts.specs.Ledger.{History, user_of, operations_of, held_id, IsPrefixOf}
-use Rattle.pool_parts.specs.Inside.PageRule.{User, HasMet, AllHaveMet}
-use Rattle.pool_parts.specs.Inside.Meeting.{Meets, introduced_to}
+use Rattle.pool_parts.specs.PageRule.{User, Meets}
 use Rattle.pool_parts.proofs.Ledger.{at_below, operations_of_own, operations_of_other}
 use Rattle.pool_parts.proofs.LedgerHolders.{held, longer_own}
+use Rattle.pool_parts.proofs.Views.{HasMet, AllHaveMet, introduced_to}
 
 module _ {T : Type 0} where
   -- one user's view has changed: whom another has met is there still
@@ -101,15 +101,15 @@ module _ {T : Type 0} where
     two_users same =
         let said = there.apart met_one.0.meetings (ap (λ user. Some (user, met_one.0.meetings)) same) in
         let other_user : met_other.0.user ≡ met_one.0.user =
-        ap (λ (known : UserView T). known.user) there.hears.knows ∙ sym same in
+        ap (λ (known : UserView T). known.user) there.knows ∙ sym same in
         let said_back =
         back.apart met_other.0.meetings (ap (λ user. Some (user, met_other.0.meetings)) other_user) in
         absurd (omega (arith, there.once_more))
 
     pub two_items : (id : ℕ) → one.0.held ≡ Some id → other.0.held ≡ Some id → ⊥
     two_items id one_holds other_holds =
-        let same_user : met_one.0.user ≡ one.0.user = ap (λ (known : UserView T). known.user) start.hears.knows in
-        let same_own : met_one.0.own ≡ one.0.own = ap (λ (known : UserView T). known.own) start.hears.knows in
+        let same_user : met_one.0.user ≡ one.0.user = ap (λ (known : UserView T). known.user) start.knows in
+        let same_own : met_one.0.own ≡ one.0.own = ap (λ (known : UserView T). known.own) start.knows in
         let at_end : operations_of one.0.user last.0.told ≡ one.0.own =
         ap (λ user. operations_of user last.0.told) (sym same_user) ∙ back.own ∙ same_own in
         let own : operations_of one.0.user met_other.0.told ≡ one.0.own =

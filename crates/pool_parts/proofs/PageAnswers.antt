@@ -8,11 +8,11 @@ use Rattle.pool_parts.specs.declared.page.full_seen.FullSeen.{FullSeen}
 use Rattle.pool_parts.specs.declared.page.full_seen.Allocated.{Allocated}
 use Rattle.pool_parts.specs.declared.page.full_seen.Allocated.TheVariants.{Slot, Full}
 use Rattle.pool_parts.specs.Item.{Item, IsPulled}
-use Rattle.pool_parts.specs.Note.{note_page, note_view, IsReturned, IsPulledAfter}
+use Rattle.pool_parts.specs.Page.{IsReturned, IsPulledAfter, view_of}
 use Rattle.pool_parts.specs.Ledger.{History, operations_of, IsPrefixOf, WasOutBetween}
-use Rattle.pool_parts.specs.Inside.PageRule.{GoesOn, StartsFrom, KnowsOut}
-use Rattle.pool_parts.specs.FullSeen.{full_page, full_view, IsAllOut, IsAnswerOf, IsAnswerAfter}
-use Rattle.pool_parts.specs.Inside.Taking.{IsAnswerFrom}
+use Rattle.pool_parts.specs.PageRule.{GoesOn}
+use Rattle.pool_parts.proofs.Views.{StartsFrom}
+use Rattle.pool_parts.specs.Slot.{IsAllOut, IsAnswerOf, IsAnswerAfter, IsAnswerFrom}
 use Rattle.pool_parts.proofs.Ledger.{legal_of, prefix_further, out_longer}
 use Rattle.pool_parts.proofs.LedgerHolders.{spared_return}
 
@@ -29,7 +29,8 @@ module _ {T : Type 0} where
   }
 
   -- what was observed taken since a load, told of the user as it was then
-  pub was_out_from : (start known : UserView T) (id : ℕ) → GoesOn [] start known → IsPrefixOf start.since start.operations
+  pub was_out_from : (start known : UserView T) (id : ℕ) → GoesOn [] start known
+      → IsPrefixOf start.since start.operations
       → WasOutBetween known.opening start.operations known.operations id
       → WasOutBetween start.opening start.since known.operations id
   was_out_from start known id goes began was =
@@ -38,7 +39,8 @@ module _ {T : Type 0} where
 
   -- and of the user as it is now
   pub knows_out : (start known : UserView T) (id : ℕ) → GoesOn [] start known → IsPrefixOf start.since start.operations
-      → WasOutBetween known.opening start.operations known.operations id → KnowsOut known id
+      → WasOutBetween known.opening start.operations known.operations id → WasOutBetween known.opening known.since
+      known.operations id
   knows_out start known id goes began was =
       subst (λ since. WasOutBetween known.opening since known.operations id) (sym goes.same_since)
       (out_longer known.opening start.since start.operations known.operations id began was)
@@ -54,12 +56,12 @@ module _ {T : Type 0} where
       only = goes.sound.own_operations ∙ goes.own ∙ ap (λ own. Pull known.user id value ∷ own) none;
     }
 
-    pub pulled_after : (note : PageNote T) → StartsFrom (note_view note) start
+    pub pulled_after : (note : PageNote T) → StartsFrom (view_of note.seat) start
         → IsPulledAfter note (item_known page known id value)
     pulled_after note starts =
-        let further = prefix_further (note_view note).operations start.operations
+        let further = prefix_further (view_of note.seat).operations start.operations
         (goes.operations.0 ++ start.operations) starts.after_known (goes.operations.0, refl) in
-        let last : known.operations ≡ Pull known.user id value ∷ (further.0 ++ (note_view note).operations) =
+        let last : known.operations ≡ Pull known.user id value ∷ (further.0 ++ (view_of note.seat).operations) =
         goes.operations.1 ∙ ap (λ operations. Pull known.user id value ∷ operations) further.1 in
         let same_user = goes.same_user ∙ starts.same_user in
         record {
@@ -71,16 +73,16 @@ module _ {T : Type 0} where
           only = goes.sound.own_operations ∙ goes.own ∙ ap (λ own.
               Pull known.user id value ∷ own)
               (starts.own_same ∙ sym starts.own_before
-              ∙ ap (λ user. operations_of user (note_view note).operations) (sym same_user));
+              ∙ ap (λ user. operations_of user (view_of note.seat).operations) (sym same_user));
         }
 
   -- what a call found that observed each of so many items taken, since its user stood here at its load
   pub found_out : (count : ℕ) (page : TableId) (opening : List (Option T)) (start : UserView T) (seen : FullSeen T)
-      → full_page seen ≡ page → start.opening ≡ opening → GoesOn [] start (full_view seen)
-      → ((id : ℕ) → id < count → WasOutBetween start.opening start.since (full_view seen).operations id)
+      → seen.seat.table_id ≡ page → start.opening ≡ opening → GoesOn [] start (view_of seen.seat)
+      → ((id : ℕ) → id < count → WasOutBetween start.opening start.since (view_of seen.seat).operations id)
       → IsAllOut count page opening seen
   found_out count page opening start seen of_page same goes each =
-      let known = full_view seen in
+      let known = view_of seen.seat in
       record {
         of_page = of_page;
         same_opening = goes.same_opening ∙ same;
@@ -98,23 +100,25 @@ module _ {T : Type 0} where
       subst (IsPrefixOf before.operations) (sym (goes.same_since ∙ starts.from_now)) starts.after_known
 
   -- a return: nobody was at the item since its pull
-  pub returned : (page : TableId) (old new : UserView T) (note : PageNote T) (id : ℕ) (value : T) → note_view note ≡ new
-      → note_page note ≡ page → GoesOn (Return new.user id value ∷ []) old new
+  pub returned : (page : TableId) (old new : UserView T) (note : PageNote T) (id : ℕ) (value : T) → view_of note.seat
+      ≡ new
+      → note.seat.table_id ≡ page → GoesOn (Return new.user id value ∷ []) old new
       → IsReturned (item_known page old id value) note
   returned page old new note id value is of_page went =
-      let same : GoesOn (Return old.user id value ∷ []) old (note_view note) =
+      let same : GoesOn (Return old.user id value ∷ []) old (view_of note.seat) =
       subst (λ (p : ℕ × UserView T). GoesOn (Return p.0 id value ∷ []) old p.1) (λ i.
       (went.same_user i, sym is i)) went in
-      let spared = spared_return old (note_view note) old.user id value refl same in
+      let spared = spared_return old (view_of note.seat) old.user id value refl same in
       record {
         of_page = of_page;
         same_opening = same.same_opening;
         same_user = same.same_user;
-        legal = legal_of old.opening (note_view note) same.same_opening same.sound;
+        legal = legal_of old.opening (view_of note.seat) same.same_opening same.sound;
         others = spared.0;
         last = spared.1;
         untouched = spared.2;
-        only = ap (λ user. operations_of user (note_view note).operations) (sym same.same_user) ∙ same.sound.own_operations
+        only = ap (λ user. operations_of user (view_of note.seat).operations) (sym same.same_user)
+            ∙ same.sound.own_operations
             ∙ same.own ∙ ap (λ own. Return old.user id value ∷ own) (sym same.own_before);
       }
 
@@ -123,25 +127,25 @@ module _ {T K : Type 0} where
   pub answer_fresh : (meets : T → Type 0) (page : TableId) (opening : List (Option T)) (start : UserView T)
       (answer : Allocated T K) → start.opening ≡ opening → start.own ≡ [] → IsAnswerFrom meets page start answer
       → IsAnswerOf meets page opening answer
-  answer_fresh meets page opening start (Slot slot) same none is = record {
-    is_item = is.0;
-    same_opening = is.1.same_opening ∙ same;
-    pulled = pulled slot.taken.holding.seat.table_id start slot.taken.holding.seat.me.0 slot.taken.holding.number
-        slot.value is.1 none;
-  }
+  answer_fresh meets page opening start (Slot slot) same none is = (
+    is.0,
+    is.1.same_opening ∙ same,
+    pulled slot.taken.holding.seat.table_id start slot.taken.holding.seat.me.0 slot.taken.holding.number
+        slot.value is.1 none,
+  )
   answer_fresh meets page opening start (Full seen) same none is =
       found_out _ page opening start seen is.0 same is.1 is.2
 
   -- the answer to a user that had a note
   pub answer_after : (meets : T → Type 0) (page : TableId) (note : PageNote T) (start : UserView T)
-      (answer : Allocated T K) → StartsFrom (note_view note) start → IsAnswerFrom meets page start answer
+      (answer : Allocated T K) → StartsFrom (view_of note.seat) start → IsAnswerFrom meets page start answer
       → IsAnswerAfter meets page note answer
   answer_after meets page note start (Slot slot) starts is = (
     is.0,
     pulled_after slot.taken.holding.seat.table_id start slot.taken.holding.seat.me.0 slot.taken.holding.number
         slot.value is.1 note starts,
   )
-  answer_after meets page note start (Full seen) starts is = record {
-    all_out = found_out _ page (note_view note).opening start seen is.0 starts.same_opening is.1 is.2;
-    after_note = after_known (note_view note) start (full_view seen) starts is.1;
-  }
+  answer_after meets page note start (Full seen) starts is = (
+    found_out _ page (view_of note.seat).opening start seen is.0 starts.same_opening is.1 is.2,
+    after_known (view_of note.seat) start (view_of seen.seat) starts is.1,
+  )

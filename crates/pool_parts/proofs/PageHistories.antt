@@ -1,5 +1,6 @@
 -- The history of a page goes on by a step: a pull, a return, a load, or a user that joins or learns.
-use Rattle.std.proofs.Common.{◌≡◌, ◌≢◌, ℕ, false, ◌*◌, ◌%◌, ◌^◌, ◌<◌, List, [], ◌∷◌, ◌++◌, length, set, get_or, Option, Some}
+use Rattle.atomic_table.specs.Table.{State}
+use Rattle.std.proofs.Common.{◌≡◌, ◌≢◌, ℕ, false, ◌*◌, ◌%◌, ◌^◌, ◌<◌, List, [], ◌∷◌, ◌++◌, length, set, get_or, Option, Some, ◌/◌, ◌+◌, ◌==◌}
 use Rattle.std.proofs.Common.{None, refl, sym, ◌∙◌, ap, subst, arith, length-append, length-set, inl, inr}
 use mathlib.Core.Option as maybe
 use mathlib.Core.Option.{some}
@@ -10,10 +11,8 @@ use Rattle.std.specs.Int.{bit_at}
 use Rattle.atomic_table.proofs.Lists.{set_else}
 use Rattle.pool_parts.specs.declared.page.user_view.UserView.{UserView}
 use Rattle.pool_parts.specs.declared.page.history.Operation.{Operation}
-use Rattle.pool_parts.specs.Ledger.{History, user_of, id_of, operations_of, held_id, left_by, value_at}
-use Rattle.pool_parts.specs.Ledger.{MayFollow, IsLegal, IsPrefixOf, returns_on}
-use Rattle.pool_parts.specs.Inside.Word.{item_bit, count_in}
-use Rattle.pool_parts.specs.Inside.PageRule.{PageState, first_view, item_of, HasHistory, Knows, GoesOn, IsSound}
+use Rattle.pool_parts.specs.Ledger.{History, user_of, id_of, operations_of, held_id, left_by, value_at, MayFollow, IsLegal, IsPrefixOf, returns_among}
+use Rattle.pool_parts.specs.PageRule.{item_bit, first_view, HasHistory, Knows, GoesOn, IsSound}
 use Rattle.pool_parts.proofs.Ledger.{operations_of_own, operations_of_other, value_at-here}
 use Rattle.pool_parts.proofs.Ledger.{value_at-elsewhere, informed_later, informed_set, at_below}
 use Rattle.pool_parts.proofs.Ledger.{prefix_same, prefix_further}
@@ -22,7 +21,7 @@ use Rattle.pool_parts.proofs.PageItems.{state, at_snoc_last}
 
 module _ {T : Type 0} where
   -- one view has changed, and nothing else
-  abbrev pub told_page : PageState T → ℕ → UserView T → PageState T
+  abbrev pub told_page : State (Option T) (UserView T) → ℕ → UserView T → State (Option T) (UserView T)
   told_page page user known = record page { views = set page.views user known }
 
   -- what a user knows once it has seen these operations, and made its own behind them
@@ -48,7 +47,8 @@ module _ {T : Type 0} (raise : ℕ) (opening : List (Option T)) where
   newcomer operations user =
       record (first_view opening) { user = user; operations = operations; since = operations; loads = 1 }
 
-  pub joins_history : (page : PageState T) (known : UserView T) → (has : HasHistory raise opening page)
+  pub joins_history : (page : State (Option T) (UserView T)) (known : UserView T)
+      → (has : HasHistory raise opening page)
       → Knows opening has.operations (length page.views) known
       → HasHistory raise opening (state page.words page.homes (page.views ++ known ∷ []))
   joins_history page known has is = record {
@@ -66,17 +66,18 @@ module _ {T : Type 0} (raise : ℕ) (opening : List (Option T)) where
   }
 
   -- an item whose bit is clear in its word is out now
-  pub clear_out : (page : PageState T) (has : HasHistory raise opening page) (own : List (Option T)) → own ≡ opening
+  pub clear_out : (page : State (Option T) (UserView T)) (has : HasHistory raise opening page) (own : List (Option T))
+      → own ≡ opening
       → (place bit : ℕ) → bit < 32 → bit_at (get_or page.words place 0) bit ≡ 0
-      → value_at own has.operations (item_of place bit) ≡ None
+      → value_at own has.operations (32 * place + bit) ≡ None
   clear_out page has own same place bit within clear =
-      ap (λ o. value_at o has.operations (item_of place bit)) same
-      ∙ has.out_lies (item_of place bit) (item_bit_of page.words place bit within ∙ clear)
+      ap (λ o. value_at o has.operations (32 * place + bit)) same
+      ∙ has.out_lies (32 * place + bit) (item_bit_of page.words place bit within ∙ clear)
 
   -- no bit has changed, and one user knows something else
-  pub saw_history : (page : PageState T) (words : List ℕ) (user : ℕ) (known : UserView T)
+  pub saw_history : (page : State (Option T) (UserView T)) (words : List ℕ) (user : ℕ) (known : UserView T)
       → (has : HasHistory raise opening page) → ((i : ℕ) → item_bit words i ≡ item_bit page.words i)
-      → ((p : ℕ) → count_in (get_or words p 0) ≡ count_in (get_or page.words p 0))
+      → ((p : ℕ) → ((get_or words p 0) / 2 ^ 32) ≡ ((get_or page.words p 0) / 2 ^ 32))
       → Knows opening has.operations user known
       → HasHistory raise opening (state words page.homes (set page.views user known))
   saw_history page words user known has same_bits same_counts knows = record {
@@ -91,7 +92,7 @@ module _ {T : Type 0} (raise : ℕ) (opening : List (Option T)) where
   }
 
   -- one user goes on
-  module _ (page : PageState T) (has : HasHistory raise opening page) (user : ℕ) (me : UserView T)
+  module _ (page : State (Option T) (UserView T)) (has : HasHistory raise opening page) (user : ℕ) (me : UserView T)
       (at : get_elem? page.views user ≡ some me) (here : me.gone ≡ false) where
     own_now : operations_of me.user has.operations ≡ me.own
     own_now = let is = (has.informed user me at).acting here in
@@ -148,7 +149,8 @@ module _ {T : Type 0} (raise : ℕ) (opening : List (Option T)) where
         → get_elem? (set page.homes (id_of operation) home) (id_of operation) ≡ some (some (Some value))
         → left_by operation ≡ Some value)
         → (bit ≡ 0 → left_by operation ≡ None)
-        → ((p : ℕ) → count_in (get_or words p 0) ≡ (raise * returns_on p (operation ∷ has.operations)) % 2 ^ 32)
+        → ((p : ℕ) → ((get_or words p 0) / 2 ^ 32)
+        ≡ (raise * returns_among (λ id. id / 32 == p) (operation ∷ has.operations)) % 2 ^ 32)
         → HasHistory raise opening
         (state words (set page.homes (id_of operation) home)
         (set page.views user (acted me has.operations operation tries)))

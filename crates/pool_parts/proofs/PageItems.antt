@@ -1,4 +1,5 @@
 -- Who holds which item of a page after a step, and what lies at home.
+use Rattle.atomic_table.specs.Table.{State}
 use Rattle.std.proofs.Common.{◌≡◌, ◌≢◌, ℕ, zero, suc, ◌<◌, ◌⊎◌, List, [], ◌∷◌, ◌++◌, length, set, Option}
 use Rattle.std.proofs.Common.{Some, None, refl, sym, ◌∙◌, ap, subst, arith, length-set, inl, inr}
 use mathlib.Core.Option.{some, none, some-injective, some-ne-none}
@@ -8,8 +9,7 @@ use native.Mathlib.Decide.{ℕ_discrete}
 use mathlib.Core.Logic.{dite}
 use Rattle.atomic_table.proofs.Lists.{at_set, at_snoc, set_here, set_else}
 use Rattle.pool_parts.specs.declared.page.user_view.UserView.{UserView}
-use Rattle.pool_parts.specs.Inside.Word.{item_bit}
-use Rattle.pool_parts.specs.Inside.PageRule.{PageState, IsSet, UserHolds, IsPage}
+use Rattle.pool_parts.specs.PageRule.{item_bit, UserHolds, IsPage}
 use Rattle.pool_parts.proofs.WordBits.{Turns}
 
 -- what stands in a list of one element
@@ -30,11 +30,12 @@ at_snoc_last (first ∷ list) last there (suc place) at = elim (at_snoc_last lis
 ]
 
 module _ {T : Type 0} where
-  abbrev pub state : List ℕ → List (maybe.Option (Option T)) → List (UserView T) → PageState T
+  abbrev pub state : List ℕ → List (maybe.Option (Option T)) → List (UserView T) → State (Option T) (UserView T)
   state words homes views = record { words = words; homes = homes; views = views }
 
   -- who holds an item, once the view of one user has changed
-  pub holds_after : (page : PageState T) (words : List ℕ) (homes : List (maybe.Option (Option T))) (user : ℕ)
+  pub holds_after : (page : State (Option T) (UserView T)) (words : List ℕ) (homes : List (maybe.Option (Option T)))
+      (user : ℕ)
       (known : UserView T) (other id : ℕ) → UserHolds (state words homes (set page.views user known)) other id
       → ((other ≡ user) × (known.held ≡ Some id)) ⊎ ((other ≢ user) × UserHolds page other id)
   holds_after page words homes user known other id holds = elim (at_set page.views user other known holds.0 holds.1) [
@@ -44,7 +45,7 @@ module _ {T : Type 0} where
 
 module _ {T : Type 0} (meets : T → Type 0) where
   -- who joins holds nothing
-  pub held_before : (page : PageState T) (known : UserView T) → known.held ≡ None → (user id : ℕ)
+  pub held_before : (page : State (Option T) (UserView T)) (known : UserView T) → known.held ≡ None → (user id : ℕ)
       → UserHolds (state page.words page.homes (page.views ++ known ∷ [])) user id → UserHolds page user id
   held_before page known holds_none user id holds = elim (at_snoc page.views known holds.0 user holds.1) [
     | inl before ↦ (holds.0, before, holds.2)
@@ -52,7 +53,7 @@ module _ {T : Type 0} (meets : T → Type 0) where
         sym holds_none ∙ ap (λ (known : UserView T). known.held) new ∙ holds.2 in absurd (cc)
   ]
 
-  pub joins_page : (page : PageState T) (known : UserView T) → IsPage meets page → known.held ≡ None
+  pub joins_page : (page : State (Option T) (UserView T)) (known : UserView T) → IsPage meets page → known.held ≡ None
       → IsPage meets (state page.words page.homes (page.views ++ known ∷ []))
   joins_page page known is holds_none = record {
     all_places = is.all_places;
@@ -63,8 +64,9 @@ module _ {T : Type 0} (meets : T → Type 0) where
   }
 
   -- a bit is cleared that was set: the item goes out with the user
-  pub takes_item : (page : PageState T) (words : List ℕ) (user id : ℕ) (known : UserView T) → IsPage meets page
-      → id < length page.homes → Turns page.words id 0 words → IsSet page id → known.held ≡ Some id
+  pub takes_item : (page : State (Option T) (UserView T)) (words : List ℕ) (user id : ℕ) (known : UserView T)
+      → IsPage meets page
+      → id < length page.homes → Turns page.words id 0 words → item_bit page.words id ≡ 1 → known.held ≡ Some id
       → IsPage meets (state words (set page.homes id none) (set page.views user known))
   takes_item page words user id known is within turned free holds_id =
       let after = holds_after page words (set page.homes id none) user known in
@@ -102,7 +104,8 @@ module _ {T : Type 0} (meets : T → Type 0) where
       }
 
   -- no bit has changed: the page is as it was, and one user knows more
-  pub keeps_item : (page : PageState T) (words : List ℕ) (user : ℕ) (old known : UserView T) → IsPage meets page
+  pub keeps_item : (page : State (Option T) (UserView T)) (words : List ℕ) (user : ℕ) (old known : UserView T)
+      → IsPage meets page
       → length words ≡ length page.words → ((i : ℕ) → item_bit words i ≡ item_bit page.words i)
       → get_elem? page.views user ≡ some old
       → ((i : ℕ) → known.held ≡ Some i → old.held ≡ Some i)
@@ -123,7 +126,7 @@ module _ {T : Type 0} (meets : T → Type 0) where
       }
 
   -- a bit is set that its holder's value is home for: the item is free again
-  pub gives_item : (page : PageState T) (words : List ℕ) (user id : ℕ) (old : UserView T) (value : T)
+  pub gives_item : (page : State (Option T) (UserView T)) (words : List ℕ) (user id : ℕ) (old : UserView T) (value : T)
       (known : UserView T)
       → IsPage meets page → id < length page.homes → Turns page.words id 1 words
       → get_elem? page.views user ≡ some old → old.held ≡ Some id → meets value → known.held ≡ None

@@ -11,8 +11,7 @@ use Rattle.pool_parts.specs.declared.page.user_view.UserView.{UserView}
 use Rattle.pool_parts.proofs.Ledger.{prefix_same}
 use Rattle.pool_parts.proofs.Meetings.{met_nobody}
 use Rattle.pool_parts.proofs.PageItems.{only_one}
-use Rattle.pool_parts.specs.Inside.Word.{item_bit, IsAllFree}
-use Rattle.pool_parts.specs.Inside.PageRule.{first_view, IsPage, IsKept, Knows}
+use Rattle.pool_parts.specs.PageRule.{item_bit, IsAllFree, first_view, IsPage, IsKept, Knows}
 
 module _ {T : Type 0} where
   -- a page's first user holds nothing

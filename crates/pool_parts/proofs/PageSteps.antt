@@ -1,5 +1,5 @@
 -- Each kind of step on a page keeps its rule.
-use Rattle.std.proofs.Common.{◌≡◌, ℕ, ◌^◌, false, true≢false, ◌+◌, ◌*◌, ◌/◌, ◌%◌, ◌<◌, List, [], ◌∷◌, ◌++◌, length, set}
+use Rattle.std.proofs.Common.{◌≡◌, ℕ, ◌^◌, false, true≢false, ◌+◌, ◌*◌, ◌/◌, ◌%◌, ◌<◌, List, [], ◌∷◌, ◌++◌, length, set, ◌-◌, ◌==◌}
 use Rattle.std.proofs.Common.{get_or, Option, Some, None, bit_and, refl, sym, ◌∙◌, ap, subst, arith, append-nil}
 use Rattle.std.proofs.Common.{get_or-set_same, eq-eqb, ne_eqb, mul-add, mul-one}
 use Rattle.std.proofs.Common.{inl, inr, ◌≤◌}
@@ -11,18 +11,14 @@ use native.Mathlib.Decide.{ℕ_discrete}
 use mathlib.Core.Logic.{dite}
 use Rattle.std.proofs.lemmas.Nat.Bits.{bit_at-lt}
 use Rattle.std.specs.Int.{bit_at}
-use Rattle.atomic_table.specs.Table.{keeps, takes, gives, rest, Allows, Enters, Joins, Splits}
+use Rattle.atomic_table.specs.Table.{keeps, takes, gives, rest, Allows, Enters, Joins, Splits, State}
 use Rattle.atomic_table.proofs.Lists.{at_set, set_again, set_here}
 use Rattle.pool_parts.specs.declared.page.user_view.UserView.{UserView}
 use Rattle.pool_parts.specs.declared.page.history.Operation.{Operation}
 use Rattle.pool_parts.specs.declared.page.history.Operation.TheVariants.{Pull, Return}
-use Rattle.pool_parts.specs.Ledger.{History, operations_of, value_at, MayFollow, IsLegal, IsPrefixOf, returns_on}
-use Rattle.pool_parts.specs.Inside.Word.{whole_word, count_in, item_bit}
+use Rattle.pool_parts.specs.Ledger.{History, operations_of, value_at, MayFollow, IsLegal, IsPrefixOf, returns_among}
+use Rattle.pool_parts.specs.PageRule.{item_bit, User, first_view, HasHistory, IsKept, IsSound, IsInformed, Knows, GoesOn, TakesOne, Misses, Loads, Counts, Meets}
 use Rattle.pool_parts.specs.Word.{SetsBit, ClearsBit}
-use Rattle.pool_parts.specs.Inside.PageRule.{PageState, User, first_view, item_of, IsSet, IsClear, HasHistory, IsKept, IsSound}
-use Rattle.pool_parts.specs.Inside.PageRule.{IsInformed, Knows, GoesOn, Takes, Misses, Loads, LoadsAgain, LoadsOn}
-use Rattle.pool_parts.specs.Inside.PageRule.{Counts, Clears, GivesBack, AllHaveMet, told_of, gone_view, witness_of}
-use Rattle.pool_parts.specs.Inside.Meeting.{Meets, introduction_of}
 use Rattle.pool_parts.proofs.Ledger.{prefix_same, at_below}
 use Rattle.pool_parts.proofs.Meetings.{met_set, met_same, met_snoc, met_nobody}
 use Rattle.pool_parts.proofs.WordBits.{lacks_one, and_clears, Raises, raises, item_bit_of, Turns, turns, same_count}
@@ -31,10 +27,12 @@ use Rattle.pool_parts.proofs.PageItems.{state, joins_page, takes_item, keeps_ite
 use Rattle.pool_parts.proofs.PageItems.{gives_item}
 use Rattle.pool_parts.proofs.PageHistories.{newcomer, told_page, acted, has_seen, joins_history, clear_out}
 use Rattle.pool_parts.proofs.PageHistories.{saw_history, after_load, acts_history, held_now}
+use Rattle.pool_parts.proofs.Views.{HasTried, Clears, GivesBack, AllHaveMet, told_of, gone_view, witness_of, introduction_of}
 
 module _ {T : Type 0} (meets : T → Type 0) (raise : ℕ) (opening : List (Option T)) where
   pub loads : (slots place : ℕ)
-      → Enters (IsKept meets raise opening) slots place (λ word known. Loads (first_view opening) place word (known, []))
+      → Enters (IsKept meets raise opening) slots place (λ word known.
+      Loads place (record (first_view opening) { user = known.user }, []) word (known, []))
   loads slots place page kept places fits =
       let has = kept.history in
       let known : UserView T = newcomer raise opening has.operations (length page.views) in
@@ -53,11 +51,16 @@ module _ {T : Type 0} (meets : T → Type 0) (raise : ℕ) (opening : List (Opti
           have_met = met_snoc page.views known (met_nobody page.views known refl) kept.have_met;
         },
         record {
-          holds_none = refl;
+          holds_same = refl;
+          carries_same = refl;
           here = refl;
+          same_user = refl;
           same_opening = refl;
+          own_before = refl;
+          own_same = refl;
           from_now = refl;
-          did_nothing = refl;
+          after_known = (has.operations, sym (append-nil has.operations));
+          after_told = (has.operations, sym (append-nil has.operations));
           loads = refl;
           tries = refl;
           sound = sound;
@@ -66,7 +69,8 @@ module _ {T : Type 0} (meets : T → Type 0) (raise : ℕ) (opening : List (Opti
       )
 
   -- one user knows something else, and holds what it held, or nothing
-  sees : (page : PageState T) (user : ℕ) (old known : UserView T) → (kept : IsKept meets raise opening page)
+  sees : (page : State (Option T) (UserView T)) (user : ℕ) (old known : UserView T)
+      → (kept : IsKept meets raise opening page)
       → get_elem? page.views user ≡ some old → ((i : ℕ) → known.held ≡ Some i → old.held ≡ Some i)
       → AllHaveMet (set page.views user known) → Knows opening kept.history.operations user known
       → IsKept meets raise opening (told_page page user known)
@@ -77,7 +81,8 @@ module _ {T : Type 0} (meets : T → Type 0) (raise : ℕ) (opening : List (Opti
   }
 
   -- so it is where a user reads a word
-  reads : (page : PageState T) (place user : ℕ) (old known : UserView T) → (kept : IsKept meets raise opening page)
+  reads : (page : State (Option T) (UserView T)) (place user : ℕ) (old known : UserView T)
+      → (kept : IsKept meets raise opening page)
       → get_elem? page.views user ≡ some old → known.held ≡ old.held → AllHaveMet (set page.views user known)
       → Knows opening kept.history.operations user known
       → IsKept meets raise opening
@@ -104,7 +109,7 @@ module _ {T : Type 0} (meets : T → Type 0) (raise : ℕ) (opening : List (Opti
   }
 
   pub loads_again : (slots place user : ℕ) (me : User T) → me.0.gone ≡ false
-      → Allows (IsKept meets raise opening) slots user me place (λ word. word) (LoadsAgain place me)
+      → Allows (IsKept meets raise opening) slots user me place (λ word. word) (Loads place me)
   loads_again slots place user me here page kept places at fits =
       let has = kept.history in
       let knew = has.informed user me.0 at in
@@ -122,17 +127,15 @@ module _ {T : Type 0} (meets : T → Type 0) (raise : ℕ) (opening : List (Opti
             record { seen = step.0.seen; told = knew.told; acting = λ _. is },
         record {
           holds_same = refl;
-          here = here;
-          starts = record {
-            same_user = refl;
-            same_opening = refl;
-            own_before = step.1.own_before;
-            own_same = refl;
-            from_now = refl;
-            after_known = knew.seen;
-            after_told = knew.told;
-          };
           carries_same = refl;
+          here = here;
+          same_user = refl;
+          same_opening = refl;
+          own_before = step.1.own_before;
+          own_same = refl;
+          from_now = refl;
+          after_known = knew.seen;
+          after_told = knew.told;
           loads = refl;
           tries = refl;
           sound = is.sound;
@@ -193,14 +196,16 @@ module _ {T : Type 0} (meets : T → Type 0) (raise : ℕ) (opening : List (Opti
         keeps,
         tt,
         reads page place user me.0 known kept at refl
-            (met_set page.views user me.0 known at (λ _. (here, omega arith)) (kept.have_met user me.0 at) kept.have_met) record {
+            (met_set page.views user me.0 known at (λ _. (here, omega arith)) (kept.have_met user me.0 at)
+            kept.have_met) record {
               seen = knew.seen;
               told = prefix_same has.operations;
               acting = λ _. told_since me.0 me.0.since has.operations me.0.met (me.0.meetings + 1) has.operations
                   user is.sound.since_load is;
             },
         record {
-          hears = record { knows = refl; carries_same = refl };
+          knows = refl;
+          carries_same = refl;
           once_more = refl;
           legal = subst (λ o. IsLegal o has.operations) (sym is.same_opening) has.legal;
           after_told = knew.told;
@@ -227,11 +232,13 @@ module _ {T : Type 0} (meets : T → Type 0) (raise : ℕ) (opening : List (Opti
       let knew = kept.history.informed user me at in
       let has_told : IsKept meets raise opening (told_page page user known) =
       sees page user me known kept at (λ i holds. holds)
-      (met_set page.views user me known at (λ _. (here, omega arith)) (kept.have_met other them theirs) kept.have_met) record {
+      (met_set page.views user me known at (λ _. (here, omega arith)) (kept.have_met other them theirs) kept.have_met)
+      record {
         seen = knew.seen;
         told = (kept.history.informed other them theirs).seen;
         acting = λ _. let is = knew.acting here in
-            told_since me me.since them.operations them.met me.meetings kept.history.operations user is.sound.since_load is;
+            told_since me me.since them.operations them.met me.meetings kept.history.operations user is.sound.since_load
+            is;
       } in
       let none : IsPrefixOf [] has_told.history.operations =
       (has_told.history.operations, sym (append-nil has_told.history.operations)) in
@@ -241,13 +248,34 @@ module _ {T : Type 0} (meets : T → Type 0) (raise : ℕ) (opening : List (Opti
       (met_nobody views gone_view refl) has_told.have_met)
       record { seen = none; told = none; acting = λ gone. absurd (true≢false gone) }
 
-  pub loads_on : (slots place user : ℕ) (me : User T) → me.0.gone ≡ false
-      → Allows (IsKept meets raise opening) slots user me place (λ word. word) (LoadsOn place me)
-  loads_on slots place user me here page kept places at fits =
+  -- an item whose bit is set in its word is free now
+  set_free : (page : State (Option T) (UserView T)) (kept : IsKept meets raise opening page) (own : List (Option T))
+      → own ≡ opening
+      → (slots : ℕ) → length page.homes ≡ slots → (place bit : ℕ) → bit < 32
+      → bit_at (get_or page.words place 0) bit ≡ 1
+      → (32 * place + bit < slots)
+      × ((value : T) × (value_at own kept.history.operations (32 * place + bit) ≡ Some value))
+  set_free page kept own same slots places place bit within one =
+      let id : ℕ = 32 * place + bit in
+      let free : item_bit page.words id ≡ 1 = item_bit_of page.words place bit within ∙ one in
+      let item = kept.is_page.free_is_home id free in
+      let inside = at_below page.homes id (some (Some item.0)) item.1 in (
+        omega arith,
+        (
+          item.0,
+          ap (λ o. value_at o kept.history.operations id) same ∙ kept.history.free_lies id free item.0 item.1,
+        ),
+      )
+
+  pub counts : (slots place user : ℕ) (me : User T) → raise ≡ 1 → me.0.gone ≡ false
+      → Allows (IsKept meets raise opening) slots user me place (λ word. word) (λ word.
+      Counts slots place me word (word / 2 ^ 32))
+  counts slots place user me once here page kept places at fits =
       let has = kept.history in
       let known : UserView T = has_seen me.0 has.operations (me.0.loads + 1) me.0.tries in
       let step = after_load raise opening page has user me.0 at here (me.0.loads + 1) me.0.tries in
-      let is = step.0.acting here in (
+      let is = step.0.acting here in
+      let opened = (has.informed user me.0 at).acting here in (
         known,
         keeps,
         tt,
@@ -260,50 +288,16 @@ module _ {T : Type 0} (meets : T → Type 0) (raise : ℕ) (opening : List (Opti
           tries = refl;
           goes_on = step.1;
           clear_are_out = clear_out raise opening page has me.0.opening is.same_opening place;
-        },
-      )
-
-  -- an item whose bit is set in its word is free now
-  set_free : (page : PageState T) (kept : IsKept meets raise opening page) (own : List (Option T)) → own ≡ opening
-      → (slots : ℕ) → length page.homes ≡ slots → (place bit : ℕ) → bit < 32
-      → bit_at (get_or page.words place 0) bit ≡ 1
-      → (item_of place bit < slots)
-      × ((value : T) × (value_at own kept.history.operations (item_of place bit) ≡ Some value))
-  set_free page kept own same slots places place bit within one =
-      let id : ℕ = item_of place bit in
-      let free : IsSet page id = item_bit_of page.words place bit within ∙ one in
-      let item = kept.is_page.free_is_home id free in
-      let inside = at_below page.homes id (some (Some item.0)) item.1 in (
-        omega arith,
-        (
-          item.0,
-          ap (λ o. value_at o kept.history.operations id) same ∙ kept.history.free_lies id free item.0 item.1,
-        ),
-      )
-
-  pub counts : (slots place user : ℕ) (me : User T) → raise ≡ 1 → me.0.gone ≡ false
-      → Allows (IsKept meets raise opening) slots user me place (λ word. word) (λ word.
-      Counts slots place me word (count_in word))
-  unfolding loads_on
-  counts slots place user me once here page kept places at fits =
-      let has = kept.history in
-      let loaded = loads_on slots place user me here page kept places at fits in
-      let opened = (has.informed user me.0 at).acting here in (
-        loaded.0,
-        loaded.1,
-        loaded.2,
-        loaded.3,
-        record {
-          loads_on = loaded.4;
           set_are_free = set_free page kept me.0.opening opened.same_opening slots places place;
-          counts = has.counted place ∙ ap (λ r. (r * returns_on place has.operations) % 2 ^ 32) once
-              ∙ ap (λ n. n % 2 ^ 32) (let one : 1 * returns_on place has.operations ≡ returns_on place has.operations
-              = omega arith in one);
+          counts = has.counted place ∙ ap (λ r. (r * returns_among (λ id. id / 32 == place) has.operations) % 2 ^ 32)
+              once
+              ∙ ap (λ n. n % 2 ^ 32) (let one : 1 * returns_among (λ id. id / 32 == place) has.operations
+              ≡ returns_among (λ id. id / 32 == place) has.operations = omega arith in one);
         },
       )
 
   pub clears : (slots place user operand bit : ℕ) (me : User T) → bit < 32 → 32 * place < slots
-      → ClearsBit whole_word bit operand → me.0.held ≡ None → me.0.gone ≡ false
+      → ClearsBit (2 ^ 64 - 1) bit operand → me.0.held ≡ None → me.0.gone ≡ false
       → Allows (IsKept meets raise opening) slots user me place (λ word.
       bit_and word operand) (Clears meets slots place operand me)
   clears slots place user operand bit me within inside lacks holds_none here page kept places at fits =
@@ -311,7 +305,7 @@ module _ {T : Type 0} (meets : T → Type 0) (raise : ℕ) (opening : List (Opti
       let has = kept.history in
       let word : ℕ = get_or page.words place 0 in
       let words : List ℕ = set page.words place (bit_and word operand) in
-      let id : ℕ = item_of place bit in
+      let id : ℕ = 32 * place + bit in
       let below : place < length page.words = let all = is.all_places in omega arith in
       let bits = and_clears word operand bit fits lacks in
       let counts_same = same_counts page.words place (bit_and word operand) below
@@ -323,15 +317,13 @@ module _ {T : Type 0} (meets : T → Type 0) (raise : ℕ) (opening : List (Opti
         | inl some_bit ↦
             let low = bit_at-lt word bit in
             let one : bit_at word bit ≡ 1 = omega arith in
-            let free : IsSet page id = own_bit ∙ one in
+            let free : item_bit page.words id ≡ 1 = own_bit ∙ one in
             let item = is.free_is_home id free in
             let inside_places : id < length page.homes = at_below page.homes id (some (Some item.0)) item.1 in
             let operation : Operation T = Pull me.0.user id item.0 in
             let known : UserView T = acted me.0 has.operations operation (me.0.tries + 1) in
-            let may : MayFollow opening has.operations operation = record {
-              lies_there = has.free_lies id free item.0 item.1;
-              holds_none = held_now raise opening page has user me.0 at here ∙ holds_none;
-            } in
+            let may : MayFollow opening has.operations operation =
+            (has.free_lies id free item.0 item.1, held_now raise opening page has user me.0 at here ∙ holds_none) in
             let history = acts_history raise opening page has user me.0 at here words 0 none operation (me.0.tries + 1)
             refl may turned (λ one. absurd (omega arith)) (λ _. refl) (λ p. counts_same p ∙ has.counted p) in (
               known,
@@ -342,22 +334,29 @@ module _ {T : Type 0} (meets : T → Type 0) (raise : ℕ) (opening : List (Opti
                 history = history.0;
                 have_met = met_same page.views user me.0 known at refl refl refl kept.have_met;
               },
-              record {
-                took = λ i inside lacks_i _. subst (λ i.
-                    Takes meets slots (item_of place i) me (known, (id, Some item.0) ∷ me.1))
-                    (lacks_one operand bit i inside lacks lacks_i) record {
-                      in_places = omega arith;
-                      holds = refl;
-                      counts = record { loads_same = refl; one_more = refl };
-                      value = (item.0, item.2, refl, history.1);
-                    };
-                missed = λ i inside lacks_i zero. let here =
-                    ap (bit_at word) (lacks_one operand bit i inside lacks lacks_i) in absurd (omega arith);
-              },
+              (
+                λ i inside lacks_i _. subst (λ i. (value : T)
+                    × TakesOne meets slots (32 * place + i) value (Some value) me (known, (id, Some item.0) ∷ me.1)
+                    × (known.loads ≡ me.0.loads) × (known.tries ≡ me.0.tries + 1))
+                    (lacks_one operand bit i inside lacks lacks_i) (
+                      item.0,
+                      record {
+                        in_pool = omega arith;
+                        meets_condition = item.2;
+                        holds = refl;
+                        carries = refl;
+                        goes_on = history.1;
+                      },
+                      refl,
+                      refl,
+                    ),
+                λ i inside lacks_i zero. let here =
+                    ap (bit_at word) (lacks_one operand bit i inside lacks lacks_i) in absurd (omega arith),
+              ),
             )
         | inr no_bit ↦
             let zero_bit : bit_at word bit ≡ 0 = omega arith in
-            let out : IsClear page id = own_bit ∙ zero_bit in
+            let out : item_bit page.words id ≡ 0 = own_bit ∙ zero_bit in
             let known : UserView T = has_seen me.0 has.operations me.0.loads (me.0.tries + 1) in
             let same_bits : (i : ℕ)
             → item_bit words i ≡ item_bit page.words i =
@@ -373,45 +372,49 @@ module _ {T : Type 0} (meets : T → Type 0) (raise : ℕ) (opening : List (Opti
                 history = saw_history raise opening page words user known has same_bits counts_same step.0;
                 have_met = met_same page.views user me.0 known at refl refl refl kept.have_met;
               },
-              record {
-                took = λ i inside lacks_i one. let here =
-                    ap (bit_at word) (lacks_one operand bit i inside lacks lacks_i) in absurd (omega arith);
-                missed = λ i inside lacks_i _. subst (λ i.
-                    Misses (item_of place i) me (known, me.1)) (lacks_one operand bit i inside lacks lacks_i) record {
+              (
+                λ i inside lacks_i one. let here =
+                    ap (bit_at word) (lacks_one operand bit i inside lacks lacks_i) in absurd (omega arith),
+                λ i inside lacks_i _. subst (λ i.
+                    Misses (32 * place + i) me (known, me.1)) (lacks_one operand bit i inside lacks lacks_i) record {
                       holds_same = refl;
                       carries_same = refl;
-                      was_out = clear_out raise opening page has me.0.opening is_now.same_opening place bit within zero_bit;
-                      counts = record { loads_same = refl; one_more = refl };
+                      was_out = clear_out raise opening page has me.0.opening is_now.same_opening place bit within
+                          zero_bit;
+                      loads_same = refl;
+                      one_more = refl;
                       goes_on = step.1;
-                    };
-              },
+                    },
+              ),
             )
       ]
 
   -- what each word counts after a return
-  counted_after : (page : PageState T) (has : HasHistory raise opening page) (user id new : ℕ) (value : T)
+  counted_after : (page : State (Option T) (UserView T)) (has : HasHistory raise opening page) (user id new : ℕ)
+      (value : T)
       → id / 32 < length page.words → Raises (get_or page.words (id / 32) 0) (id % 32) raise new → (p : ℕ)
-      → count_in (get_or (set page.words (id / 32) new) p 0)
-      ≡ (raise * returns_on p (Return user id value ∷ has.operations)) % 2 ^ 32
+      → ((get_or (set page.words (id / 32) new) p 0) / 2 ^ 32)
+      ≡ (raise * returns_among (λ id. id / 32 == p) (Return user id value ∷ has.operations)) % 2 ^ 32
   counted_after page has user id new value below raised p = dite (ℕ_discrete (id / 32) p)
       (λ here.
-      let before : ℕ = returns_on p has.operations in
+      let before : ℕ = returns_among (λ id. id / 32 == p) has.operations in
       let had = has.counted p in
       let more = mul-add raise before 1 in
       let own = mul-one raise in
       let word : get_or (set page.words (id / 32) new) p 0 ≡ new =
       ap (get_or (set page.words (id / 32) new) p) refl ∙ subst (λ q. get_or (set page.words (id / 32) new) q 0 ≡ new)
       here (get_or-set_same page.words (id / 32) new 0 below) in
-      let was = raised.count ∙ ap (λ q. (count_in (get_or page.words q 0) + raise) % 2 ^ 32) here in
-      rw (eq-eqb (id / 32) p here) (ap count_in word ∙ was ∙ omega arith))
-      (λ other. rw (ne_eqb (id / 32) p other) (ap count_in
-      (get_or-set_other page.words (id / 32) p new 0 (λ same. other (sym same))) ∙ has.counted p))
+      let was = raised.count ∙ ap (λ q. (((get_or page.words q 0) / 2 ^ 32) + raise) % 2 ^ 32) here in
+      rw (eq-eqb (id / 32) p here) (ap (λ (word : ℕ). word / 2 ^ 32) word ∙ was ∙ omega arith))
+      (λ other. rw (ne_eqb (id / 32) p other) (ap (λ (word : ℕ). word / 2 ^ 32) (get_or-set_other page.words (id / 32) p
+      new 0 (λ same. other (sym same))) ∙ has.counted p))
 
   pub gives_back : (slots user bit operand id : ℕ) (out me : User T) (value : T) → id < slots → bit < 2 ^ 32
       → raise ≤ 1 → operand ≡ raise * 2 ^ 32 + bit
       → SetsBit 0 (id % 32) bit → out.0.held ≡ Some id → out.0.gone ≡ false → out.1 ≡ (id, None) ∷ []
       → me ≡ (out.0, (id, Some value) ∷ rest out.1) → meets value
-      → Allows (IsKept meets raise opening) slots user me (id / 32) (λ word. (word + operand) % 2 ^ 64) (λ _. GivesBack me)
+      → Allows (IsKept meets raise opening) slots user me (id / 32) (λ word. (word + operand) % 2 ^ 64)
+      (λ _. GivesBack me)
   gives_back slots user added operand id out me value within small once is_sum sets holds here carries moved met =
       let is_me : me ≡ (out.0, (id, Some value) ∷ []) =
       moved ∙ ap (λ (carried : List (ℕ × Option T)). (out.0, (id, Some value) ∷ rest carried)) carries in
@@ -429,7 +432,7 @@ module _ {T : Type 0} (meets : T → Type 0) (raise : ℕ) (opening : List (Opti
       let clear : bit_at word bit ≡ 0 = (is.held_is_out user id (out.0, at, holds)).1 in
       let operation : Operation T = Return out.0.user id value in
       let may : MayFollow opening has.operations operation =
-      record { is_out = has.out_lies id clear; holds = held_now raise opening page has user out.0 at here ∙ holds } in
+      (has.out_lies id clear, held_now raise opening page has user out.0 at here ∙ holds) in
       let raised : Raises word bit raise new = subst (λ o. Raises word bit raise ((word + o) % 2 ^ 64)) (sym is_sum)
       (raises word added bit raise (omega arith) small once fits sets clear) in
       let turned : Turns page.words id 1 words =
@@ -437,7 +440,8 @@ module _ {T : Type 0} (meets : T → Type 0) (raise : ℕ) (opening : List (Opti
       (turns page.words place bit 1 new (omega arith) below raised.set raised.others) in
       let known : UserView T = acted out.0 has.operations operation out.0.tries in
       let inside : id < length page.homes = omega arith in
-      let history = acts_history raise opening page has user out.0 at here words 1 (some (Some value)) operation out.0.tries
+      let history = acts_history raise opening page has user out.0 at here words 1 (some (Some value)) operation
+      out.0.tries
       refl may turned (λ _ found home. some-injective (Some value) (Some found)
       (some-injective (some (Some value)) (some (Some found))
       (sym (set_here page.homes id (some (Some value)) inside) ∙ home))) (λ one. absurd (omega arith))
@@ -450,15 +454,15 @@ module _ {T : Type 0} (meets : T → Type 0) (raise : ℕ) (opening : List (Opti
           history = history.0;
           have_met = met_same page.views user out.0 known at refl refl refl kept.have_met;
         },
-        record {
-          holds_none = refl;
-          carries = refl;
-          operations = λ i found holds_i carries_i.
+        (
+          refl,
+          refl,
+          λ i found holds_i carries_i.
               let same_id : id ≡ i = cc in
               let same : Some value ≡ Some found =
               ap (λ (carried : List (ℕ × Option T)). (get_or carried 0 (id, None)).1) carries_i in
               let same_value : value ≡ found = cc in
               subst (λ (operation : Operation T). GoesOn (operation ∷ []) out.0 known) (λ k.
-              Return out.0.user (same_id k) (same_value k)) history.1;
-        },
+              Return out.0.user (same_id k) (same_value k)) history.1,
+        ),
       ))

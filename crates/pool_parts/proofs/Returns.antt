@@ -5,7 +5,7 @@ use Rattle.std.proofs.lemmas.Bool.{cases_lt}
 use native.Mathlib.Decide.{ℕ_discrete}
 use mathlib.Core.Logic.{dite}
 use Rattle.pool_parts.specs.declared.page.history.Operation.TheVariants.{Pull, Return}
-use Rattle.pool_parts.specs.Ledger.{History, value_at, returns_among, returns_of}
+use Rattle.pool_parts.specs.Ledger.{History, value_at, returns_among}
 use Rattle.pool_parts.proofs.Ledger.{value_at-here, value_at-elsewhere}
 
 by_test : (test : Bool) (count : ℕ) → ((test ≡ true) × ((if test then count + 1 else count) ≡ count + 1))
@@ -34,7 +34,8 @@ module _ {T : Type 0} where
 
   -- and no more of some numbers than of all
   pub grows_within : (passes : ℕ → Bool) (later before : History T)
-      → returns_among passes (later ++ before) + returns_of before ≤ returns_of (later ++ before) + returns_among passes before
+      → returns_among passes (later ++ before) + returns_among (λ id. true) before ≤ returns_among (λ id. true)
+      (later ++ before) + returns_among passes before
   grows_within passes [] before = omega arith
   grows_within passes (Pull user id value ∷ later) before = grows_within passes later before
   grows_within passes (Return user id value ∷ later) before =
@@ -67,9 +68,9 @@ module _ {T : Type 0} where
   -- where a number was out and is free again, it was returned meanwhile
   pub came_back : (opening : List (Option T)) (id : ℕ) (value : T) (later before : History T)
       → value_at opening before id ≡ None → value_at opening (later ++ before) id ≡ Some value
-      → returns_of before < returns_of (later ++ before)
+      → returns_among (λ id. true) before < returns_among (λ id. true) (later ++ before)
   came_back opening id value later before out free =
-      elim (cases_lt (returns_of before) (returns_of (later ++ before))) [
+      elim (cases_lt (returns_among (λ id. true) before) (returns_among (λ id. true) (later ++ before))) [
         | inl more ↦ more
         | inr none ↦ let still = stays_out opening (λ id. true) id later before refl none out in absurd (cc)
       ]

@@ -14,7 +14,7 @@ use Rattle.std.proofs.lemmas.Nat.Bits.{bit_at_ones_above, bit_at_or, bit_at-zero
 use Rattle.std.proofs.lemmas.Nat.Bits.{bit_at_cat_low, bit_at_cat_high}
 use Rattle.std.proofs.lemmas.Nat.{or_lt}
 use lib.Pow.{pow_mono, ones_lt}
-use Rattle.pool_parts.specs.Inside.Word.{all_bits, whole_word, count_in, IsLowHalf, item_bit, IsAllFree}
+use Rattle.pool_parts.specs.PageRule.{item_bit, IsAllFree}
 use Rattle.pool_parts.specs.Word.{SetsBit, ClearsBit}
 
 -- one less turns the lowest set bit off, the bits below it on, and leaves those above it
@@ -49,20 +49,24 @@ clears_least word k set lowest =
       others = λ i other. grind (arith, bit_at_and word (word - 1) i, lowest i, (less i).1);
     }
 
+-- the word whose 32 bits are all set
+abbrev pub all_bits : ℕ
+all_bits = 4294967295
+
 -- the lower half of a word
-pub low_half_is : (word : ℕ) → IsLowHalf word (bit_and word all_bits)
+pub low_half_is : (word i : ℕ) → i < 32 → bit_at (bit_and word all_bits) i ≡ bit_at word i
 low_half_is word i within =
     let ones = bit_at_ones 32 i within in
     let low = bit_at-lt word i in
     bit_at_and word all_bits i ∙ omega arith
 
-pub low_half_rest : (word : ℕ) → IsLowHalf word (word % 2 ^ 32)
+pub low_half_rest : (word i : ℕ) → i < 32 → bit_at (word % 2 ^ 32) i ≡ bit_at word i
 low_half_rest word i within =
     let whole : word / 2 ^ 32 * 2 ^ 32 + word % 2 ^ 32 ≡ word = omega arith in
     sym (bit_at_cat_low (word / 2 ^ 32) 32 (word % 2 ^ 32) i within) ∙ ap (λ w. bit_at w i) whole
 
 -- a bit of the count
-bit_at_count : (word i : ℕ) → bit_at (count_in word) i ≡ bit_at word (i + 32)
+bit_at_count : (word i : ℕ) → bit_at (word / 2 ^ 32) i ≡ bit_at word (i + 32)
 bit_at_count word i =
     let whole : word / 2 ^ 32 * 2 ^ 32 + word % 2 ^ 32 ≡ word = omega arith in
     let place : i + 32 - 32 ≡ i = omega arith in
@@ -72,12 +76,12 @@ bit_at_count word i =
 
 -- a word of which one bit of the lower half has changed has the same count
 pub same_count : (old id new : ℕ) → id < 32 → ((i : ℕ) → i ≢ id → bit_at new i ≡ bit_at old i)
-    → count_in new ≡ count_in old
-same_count old id new within others = same_from_bits (count_in new) (count_in old) (λ i.
+    → (new / 2 ^ 32) ≡ (old / 2 ^ 32)
+same_count old id new within others = same_from_bits (new / 2 ^ 32) (old / 2 ^ 32) (λ i.
     bit_at_count new i ∙ others (i + 32) (λ same. absurd (omega arith)) ∙ sym (bit_at_count old i))
 
 -- an and with a word that lacks one bit alone clears that bit
-pub and_clears : (word operand id : ℕ) → word < 2 ^ 64 → ClearsBit whole_word id operand
+pub and_clears : (word operand id : ℕ) → word < 2 ^ 64 → ClearsBit (2 ^ 64 - 1) id operand
     → ClearsBit word id (bit_and word operand)
 and_clears word operand id fits lacks = record {
   clear = grind (arith, bit_at_and word operand id, lacks.clear);
@@ -111,7 +115,7 @@ add_sets word operand id has clear =
 pub record Raises (word id raise new : ℕ) : Type 0 where
   pub set : bit_at new id ≡ 1
   pub others : (i : ℕ) → i < 32 → i ≢ id → bit_at new i ≡ bit_at word i
-  pub count : count_in new ≡ (count_in word + raise) % 2 ^ 32
+  pub count : (new / 2 ^ 32) ≡ ((word / 2 ^ 32) + raise) % 2 ^ 32
 
 pub raises : (word bit id raise : ℕ) → id < 32 → bit < 2 ^ 32 → raise ≤ 1 → word < 2 ^ 64 → SetsBit 0 id bit
     → bit_at word id ≡ 0
@@ -165,15 +169,15 @@ turns words place bit value new within inside here others = record {
 
 -- one word has changed, and has the same count
 pub same_counts : (words : List ℕ) (place new : ℕ) → place < length words
-    → count_in new ≡ count_in (get_or words place 0) → (p : ℕ)
-    → count_in (get_or (set words place new) p 0) ≡ count_in (get_or words p 0)
+    → (new / 2 ^ 32) ≡ ((get_or words place 0) / 2 ^ 32) → (p : ℕ)
+    → ((get_or (set words place new) p 0) / 2 ^ 32) ≡ ((get_or words p 0) / 2 ^ 32)
 same_counts words place new inside same p = dite (ℕ_discrete p place)
     (λ here. rw (here, get_or-set_same words place new 0 inside) same)
-    (λ other. ap count_in (get_or-set_other words place p new 0 other))
+    (λ other. ap (λ (word : ℕ). word / 2 ^ 32) (get_or-set_other words place p new 0 other))
 
 -- a word that lacks one bit alone tells which
-pub lacks_one : (operand bit other : ℕ) → other < 32 → ClearsBit whole_word bit operand
-    → ClearsBit whole_word other operand → bit ≡ other
+pub lacks_one : (operand bit other : ℕ) → other < 32 → ClearsBit (2 ^ 64 - 1) bit operand
+    → ClearsBit (2 ^ 64 - 1) other operand → bit ≡ other
 lacks_one operand bit other within one two =
     grind (arith, one.others other, two.clear, bit_at_ones 64 other (omega arith))
 

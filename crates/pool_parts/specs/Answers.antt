@@ -1,10 +1,9 @@
--- What initializers of values may answer, and what a call asks of an initializer.
-use denote.Ref.{MutBor}
+-- What initializers and resets of values may do, what a call asks of an initializer, and why a call fails.
 use Rattle.std.specs.Prelude.{◌≡◌, ◌⊎◌, ⊤, Option, Some, IfSome}
-
--- an initializer of this type may answer the value
-abbrev pub IsAnswer : {T I : Type 0} → (I → Option T → Type 0) → T → Type 0
-IsAnswer {T} {I} answers value = (initializer : I) × answers initializer (Some value)
+use Rattle.std.specs.declared.io.ErrorKind.{ErrorKind}
+use Rattle.std.specs.declared.io.ErrorKind.TheVariants.{OutOfMemory, Other, ResourceBusy}
+use Rattle.pool_parts.specs.declared.pull_error.PullError.{PullError}
+use Rattle.pool_parts.specs.declared.pull_error.PullError.TheVariants.{Memory, Init, Limit}
 
 -- some initializer may answer the value, or some reset may leave it of a value before it
 abbrev pub IsMadeOrReset : {T I R : Type 0} → (I → Option T → Type 0) → (R → T → T → Type 0) → T → Type 0
@@ -12,21 +11,22 @@ IsMadeOrReset {T} {I} {R} answers leaves value =
     ((initializer : I) × answers initializer (Some value))
     ⊎ ((resetter : R) × (before : T) × leaves resetter before value)
 
--- a closure that is called with a loan of a value may leave the new value of the old one
-abbrev pub LeavesByLoan : {T F : Type 0} → (F → MutBor T → ⊤ → MutBor T → Type 0) → F → T → T → Type 0
-LeavesByLoan {T} post closure old new =
-    (before after : MutBor T) × post closure before tt after × (before.now ≡ old) × (after.now ≡ new)
+-- an initializer may be called, and each value that it answers meets the condition
+pub record MayMake {T I : Type 0} (callable : I → Type 0) (answers : I → Option T → Type 0) (meets : T → Type 0)
+    (initializer : I)
+    : Type 0 where
+  pub may_call : callable initializer
+  pub each_meets : (answer : Option T) → answers initializer answer → IfSome answer meets
 
-module _ {T I : Type 0} where
-  -- an initializer may be called, and each value that it answers meets the condition
-  pub record MayMake (callable : I → Type 0) (answers : I → Option T → Type 0) (meets : T → Type 0) (initializer : I)
-      : Type 0 where
-    pub may_call : callable initializer
-    pub each_meets : (answer : Option T) → answers initializer answer → IfSome answer meets
+-- a call fails with this cause: for want of memory, because init may answer None, or because there may be no further
+-- page or item, each only if this holds of it
+abbrev pub Refuses : (memory init limit : Type 0) → PullError → Type 0
+Refuses memory init limit Memory = memory
+Refuses memory init limit Init = init
+Refuses memory init limit Limit = limit
 
-  -- the same, and a page may open with each value that it answers
-  pub record MayOpen (callable : I → Type 0) (answers : I → Option T → Type 0) (meets opens : T → Type 0)
-      (initializer : I)
-      : Type 0 where
-    pub may_make : MayMake callable answers meets initializer
-    pub each_opens : (answer : Option T) → answers initializer answer → IfSome answer opens
+-- the kind of the io::Error that a refusal becomes
+abbrev pub refusal_kind : PullError → ErrorKind
+refusal_kind Memory = OutOfMemory
+refusal_kind Init = Other
+refusal_kind Limit = ResourceBusy

@@ -1,9 +1,15 @@
 -- An item that is out of its page, however it is held, and what the page's history tells of it.
-use Rattle.std.specs.Prelude.{◌≡◌, ℕ, ◌<◌, List, [], ◌∷◌, Option}
-use Rattle.atomic_table.specs.Seated.{TableId}
+use Rattle.std.specs.Prelude.{◌≡◌, ℕ, ◌<◌, List, [], ◌∷◌, Option, length, All, IsSomeAnd}
+use Rattle.std.specs.Coded.{Coded, Coded-set, coded_ℕ, coded_option, coded_list, coded×}
+use Rattle.atomic_table.specs.Seated.{TableId, table_id_coded}
 use Rattle.pool_parts.specs.declared.page.history.Operation.TheVariants.{Pull}
 use Rattle.pool_parts.specs.Ledger.{History, operations_of, IsLegal}
 use Rattle.pool_parts.specs.declared.page.word.TheConstants.{PAGE_ITEMS}
+
+-- so many values, by number, each of which meets the condition
+pub record IsFilled {T : Type 0} (count : ℕ) (meets : T → Type 0) (items : List (Option T)) : Type 0 where
+  pub all : length items ≡ count
+  pub each : All (λ item. IsSomeAnd item meets) items
 
 -- an item, its value now, and what its holder knows of the page
 pub record Item (T : Type 0) : Type 0 where
@@ -36,12 +42,14 @@ module _ {T : Type 0} where
     -- its holder did nothing else
     pub only : operations_of item.holder item.history ≡ Pull item.holder item.id item.value ∷ []
 
-  -- an item of this page, pulled from it as its history tells, which begins with these values
-  pub record IsPulledOf (meets : T → Type 0) (page : TableId) (opening : List (Option T)) (item : Item T) : Type 0 where
-    pub is_item : IsItemOf meets page item
-    pub same_opening : item.opening ≡ opening
-    pub pulled : IsPulled item
+-- that two names of pages are equal
+pub same_page : (a b : TableId) → IsProp (a ≡ b)
+same_page = Coded-set table_id_coded
 
-  -- the same item with another value
-  abbrev pub item_with : Item T → T → Item T
-  item_with item value = record item { value = value }
+-- that two ids, or their absences, are equal
+pub same_holding : (a b : Option ℕ) → IsProp (a ≡ b)
+same_holding = Coded-set (coded_option coded_ℕ)
+
+-- that two lists of what is carried are equal
+pub same_carrying : {T : Type 0} → Coded T → (a b : List (ℕ × Option T)) → IsProp (a ≡ b)
+same_carrying code = Coded-set (coded_list (coded× coded_ℕ (coded_option code)))

@@ -2,8 +2,11 @@
 -- A page's ledger is of its 32 numbers, and that of a fixed pool of all its numbers; neither grows. The pulls and
 -- returns of a world's agents, in the crate above, are a ledger too, to whose opening each page that is linked adds its
 -- values.
+use Rattle.std.proofs.Common.{refl, sym, ap, ◌∙◌, subst, inl, inr, eq-eqb, ne_eqb}
 use Rattle.std.specs.Prelude.{◌≡◌, ◌≢◌, ◌⊎◌, ℕ, ◌+◌, ◌/◌, ◌<◌, ◌==◌, if◌then◌else◌, Bool, true, List, [], ◌∷◌, ◌++◌, get_or}
 use Rattle.std.specs.Prelude.{Option, Some, None, ⊤}
+use native.Mathlib.Decide.{ℕ_discrete}
+use mathlib.Core.Logic.{dite}
 use Rattle.pool_parts.specs.declared.page.history.Operation.{Operation}
 use Rattle.pool_parts.specs.declared.page.history.Operation.TheVariants.{Pull, Return}
 
@@ -44,27 +47,20 @@ module _ {T : Type 0} where
   left_by (Pull user id value) = None
   left_by (Return user id value) = Some value
 
-  -- what lies at a number, in a pool that opened with these values: what its last operation left, and the opening's where
-  -- no operation was on it
+  -- what lies at a number, in a pool that opened with these values: what its last operation left, and the opening's
+  -- where no operation was on it
   abbrev pub value_at : List (Option T) → History T → ℕ → Option T
   value_at opening [] id = get_or opening id None
   value_at opening (operation ∷ before) id =
       if id_of operation == id then left_by operation else value_at opening before id
 
-  -- who holds nothing pulls exactly the value that lies there
-  pub record MayPull (opening : List (Option T)) (before : History T) (user id : ℕ) (value : T) : Type 0 where
-    pub lies_there : value_at opening before id ≡ Some value
-    pub holds_none : held_id (operations_of user before) ≡ None
-
-  -- who pulled a number and hasn't returned it returns it, where nothing lies
-  pub record MayReturn (opening : List (Option T)) (before : History T) (user id : ℕ) : Type 0 where
-    pub is_out : value_at opening before id ≡ None
-    pub holds : held_id (operations_of user before) ≡ Some id
-
-  -- an operation may come after these
+  -- an operation may come after these: who holds nothing pulls exactly the value that lies there; who pulled a number
+  -- and hasn't returned it returns it, where nothing lies
   abbrev pub MayFollow : List (Option T) → History T → Operation T → Type 0
-  MayFollow opening before (Pull user id value) = MayPull opening before user id value
-  MayFollow opening before (Return user id value) = MayReturn opening before user id
+  MayFollow opening before (Pull user id value) =
+      (value_at opening before id ≡ Some value) × (held_id (operations_of user before) ≡ None)
+  MayFollow opening before (Return user id value) =
+      (value_at opening before id ≡ None) × (held_id (operations_of user before) ≡ Some id)
 
   -- a history is legal where each operation may come after those before it
   abbrev pub IsLegal : List (Option T) → History T → Type 0
@@ -94,14 +90,6 @@ module _ {T : Type 0} where
   returns_among passes (Return user id value ∷ before) =
       if passes id then returns_among passes before + 1 else returns_among passes before
 
-  -- how many returns there are
-  abbrev pub returns_of : History T → ℕ
-  returns_of history = returns_among (λ id. true) history
-
-  -- how many returns there are of the 32 numbers of one word
-  abbrev pub returns_on : ℕ → History T → ℕ
-  returns_on place history = returns_among (λ id. id / 32 == place) history
-
   -- somebody returned this number with this value, and no operation was on it since
   pub record WasReturned (history : History T) (id : ℕ) (value : T) : Type 0 where
     pub user : ℕ
@@ -110,11 +98,59 @@ module _ {T : Type 0} where
     pub here : history ≡ later ++ (Return user id value ∷ before)
     pub untouched : NoOperationOn id later
 
-  -- no operation was on this number, and the pool opened with this value of it
-  pub record WasOpened (opening : List (Option T)) (history : History T) (id : ℕ) (value : T) : Type 0 where
-    pub untouched : NoOperationOn id history
-    pub opened : get_or opening id None ≡ Some value
-
-  -- where a value comes from that lies at a number: the last return of this number left it, or the pool opened with it
+  -- where a value comes from that lies at a number: the last return of this number left it, or no operation was on the
+  -- number and the pool opened with it
   abbrev pub CameFrom : List (Option T) → History T → ℕ → T → Type 0
-  CameFrom opening history id value = WasReturned history id value ⊎ WasOpened opening history id value
+  CameFrom opening history id value =
+      WasReturned history id value ⊎ (NoOperationOn id history × (get_or opening id None ≡ Some value))
+
+  returned : (operation : Operation T) (operations : History T) (id : ℕ) (value : T) → id_of operation ≡ id
+      → left_by operation ≡ Some value → WasReturned (operation ∷ operations) id value
+  returned (Pull user place took) operations id value same left = absurd (cc)
+  returned (Return user place kept) operations id value same left = let is : kept ≡ value = cc in record {
+    user = user;
+    later = [];
+    before = operations;
+    here = λ k. Return user (same k) (is k) ∷ operations;
+    untouched = tt;
+  }
+
+  came_later : (opening : List (Option T)) (operation : Operation T) (operations : History T) (id : ℕ) (value : T)
+      → id_of operation ≢ id → CameFrom opening operations id value → CameFrom opening (operation ∷ operations) id value
+  came_later opening operation operations id value differ came = elim came [
+    | inl was ↦ inl record {
+      user = was.user;
+      later = operation ∷ was.later;
+      before = was.before;
+      here = ap (λ l. operation ∷ l) was.here;
+      untouched = (differ, was.untouched);
+    }
+    | inr first ↦ inr ((differ, first.0), first.1)
+  ]
+
+  value_at-here : (opening : List (Option T)) (operation : Operation T) (before : History T) (id : ℕ)
+      → id_of operation ≡ id → value_at opening (operation ∷ before) id ≡ left_by operation
+  value_at-here opening operation before id same = rw (eq-eqb (id_of operation) id same) refl
+
+  value_at-elsewhere : (opening : List (Option T)) (operation : Operation T) (before : History T) (id : ℕ)
+      → id_of operation ≢ id → value_at opening (operation ∷ before) id ≡ value_at opening before id
+  value_at-elsewhere opening operation before id differ = rw (ne_eqb (id_of operation) id differ) refl
+
+  -- what lies at a number is what the last return of this very number left, or the opening's
+  pub came_from : (opening : List (Option T)) (operations : History T) (id : ℕ) (value : T)
+      → value_at opening operations id ≡ Some value → CameFrom opening operations id value
+  came_from opening [] id value there = inr (tt, there)
+  came_from opening (operation ∷ operations) id value there = dite (ℕ_discrete (id_of operation) id)
+      (λ same. inl (returned operation operations id value same
+      (sym (value_at-here opening operation operations id same) ∙ there)))
+      (λ differ. came_later opening operation operations id value differ
+      (came_from opening operations id value
+      (sym (value_at-elsewhere opening operation operations id differ) ∙ there)))
+
+  -- so it is with what a pull takes if a legal history ends with it, as `legal` and `last` of an
+  -- item say
+  pub pulled_from : (opening : List (Option T)) (history before : History T) (user id : ℕ) (value : T)
+      → IsLegal opening history → history ≡ Pull user id value ∷ before → CameFrom opening before id value
+  pulled_from opening history before user id value legal last =
+      let known : IsLegal opening (Pull user id value ∷ before) = subst (IsLegal opening) last legal in
+      came_from opening before id value known.0.0

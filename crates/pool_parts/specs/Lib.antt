@@ -1,15 +1,8 @@
 pub mod Answers
-pub mod FullSeen
-pub mod Holding
-pub mod Inside
 pub mod Item
-pub mod Items
 pub mod Ledger
-pub mod Lends
-pub mod Note
-pub mod Origin
-pub mod OwnedSlot
 pub mod Page
-pub mod Refusal
+pub mod PageItems
+pub mod PageRule
 pub mod Slot
 pub mod Word

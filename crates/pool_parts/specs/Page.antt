@@ -1,9 +1,15 @@
--- What a page shows.
-use Rattle.std.specs.Prelude.{List, Option}
+-- What a page shows, and what somebody knows of its history: the holder of an item, a note, a witness.
+use Rattle.std.specs.Prelude.{◌≡◌, List, [], ◌∷◌, ◌++◌, Option, Some}
 use Rattle.atomic_table.specs.Seated.{TableId}
+use Rattle.atomic_table.specs.declared.shared.Seat.{Seat}
 use Rattle.pool_parts.specs.declared.page.Page.{Page}
-use Rattle.pool_parts.specs.declared.page.word.TheConstants.{PAGE_ITEMS}
-use Rattle.pool_parts.specs.Items.{IsFilled}
+use Rattle.pool_parts.specs.declared.page.history.Operation.TheVariants.{Pull, Return}
+use Rattle.pool_parts.specs.declared.page.holding.Holding.{Holding}
+use Rattle.pool_parts.specs.declared.page.note.PageNote.{PageNote}
+use Rattle.pool_parts.specs.declared.page.note.Witness.{Witness}
+use Rattle.pool_parts.specs.declared.page.user_view.UserView.{UserView}
+use Rattle.pool_parts.specs.Item.{Item}
+use Rattle.pool_parts.specs.Ledger.{History, operations_of, IsLegal, IsPrefixOf, NoOperationOn}
 
 module _ {T K : Type 0} where
   -- which page it is
@@ -14,6 +20,86 @@ module _ {T K : Type 0} where
   abbrev pub page_opening : Page T K → List (Option T)
   page_opening page = page.items.table.shared.key.values.value.items
 
-  -- the page opened with 32 values, each of which meets the condition
-  abbrev pub OpensWith : (T → Type 0) → Page T K → Type 0
-  OpensWith meets page = IsFilled PAGE_ITEMS meets (page_opening page)
+module _ {T : Type 0} where
+  -- what the user of a seat knows
+  abbrev pub view_of : Seat (Option T) (UserView T) → UserView T
+  view_of seat = seat.me.0
+
+  -- the item that a holder has, with a value
+  abbrev pub held_item : Holding T → T → Item T
+  held_item holding value = record {
+    page = holding.seat.table_id;
+    opening = (view_of holding.seat).opening;
+    id = holding.number;
+    value = value;
+    holder = (view_of holding.seat).user;
+    history = (view_of holding.seat).operations;
+  }
+
+  -- a holder has the item that it had, of the page that it was of
+  pub record HoldsSame (old new : Holding T) : Type 0 where
+    pub same_page : new.seat.table_id ≡ old.seat.table_id
+    pub same_number : new.number ≡ old.number
+    pub same_item : (value : T) → held_item new value ≡ held_item old value
+
+  -- a note of this page by a user that did nothing, whose history is legal
+  pub record IsNoteOf (page : TableId) (opening : List (Option T)) (note : PageNote T) : Type 0 where
+    pub of_page : note.seat.table_id ≡ page
+    pub same_opening : (view_of note.seat).opening ≡ opening
+    pub legal : IsLegal opening (view_of note.seat).operations
+    pub did_nothing : operations_of (view_of note.seat).user (view_of note.seat).operations ≡ []
+
+  -- how an item was returned with this value, by the note of the return
+  pub record IsReturned (item : Item T) (note : PageNote T) : Type 0 where
+    pub of_page : note.seat.table_id ≡ item.page
+    pub same_opening : (view_of note.seat).opening ≡ item.opening
+    pub same_user : (view_of note.seat).user ≡ item.holder
+    -- each operation of the note's history may come after those before it
+    pub legal : IsLegal item.opening (view_of note.seat).operations
+    -- its last operation is the giving, after all that the holder knew of and what others did since
+    pub others : History T
+    pub last : (view_of note.seat).operations ≡ Return item.holder item.id item.value ∷ (others ++ item.history)
+    -- nobody was at the item between its pull and its return
+    pub untouched : NoOperationOn item.id others
+    -- the holder did nothing but the return since
+    pub only : operations_of item.holder
+        (view_of note.seat).operations ≡ Return item.holder item.id item.value ∷ operations_of item.holder item.history
+
+  -- an item was returned with exactly what its pool's reset left of its value
+  pub record IsGivenBack (leaves : T → T → Type 0) (item : Item T) (note : PageNote T) : Type 0 where
+    pub left : T
+    pub by_reset : leaves item.value left
+    pub returned : IsReturned (record item { value = left }) note
+
+  -- how an item was pulled by a user that had a note: after all that the note knew
+  pub record IsPulledAfter (note : PageNote T) (item : Item T) : Type 0 where
+    pub same_opening : item.opening ≡ (view_of note.seat).opening
+    pub same_user : item.holder ≡ (view_of note.seat).user
+    -- each operation of the history may come after those before it
+    pub legal : IsLegal item.opening item.history
+    -- its last operation is this pull, with exactly this value, after what the note knew and what others did since
+    pub others : History T
+    pub last : item.history ≡ Pull item.holder item.id item.value ∷ (others ++ (view_of note.seat).operations)
+    -- its holder did nothing but the pull since
+    pub only : operations_of item.holder item.history ≡ Pull item.holder item.id item.value ∷ operations_of item.holder
+        (view_of note.seat).operations
+
+  -- the note knows more: what it knew, and what the witness knew, are prefixes of its history
+  pub record HasLearned (old : PageNote T) (told : Witness T) (new : PageNote T) : Type 0 where
+    pub of_page : new.seat.table_id ≡ old.seat.table_id
+    pub same_user : (view_of new.seat).user ≡ (view_of old.seat).user
+    pub same_opening : (view_of new.seat).opening ≡ (view_of old.seat).opening
+    pub legal : IsLegal (view_of new.seat).opening (view_of new.seat).operations
+    pub from_own : IsPrefixOf (view_of old.seat).operations (view_of new.seat).operations
+    pub from_told : IsPrefixOf (view_of told.seat).operations (view_of new.seat).operations
+    -- its user did nothing
+    pub same_operations : operations_of (view_of new.seat).user (view_of new.seat).operations
+        ≡ operations_of (view_of old.seat).user
+        (view_of old.seat).operations
+
+-- an item whose place has a value or none was returned, with exactly what its pool's reset left of its value
+pub record IsBroughtBack {T : Type 0} (leaves : T → T → Type 0) (place : Item (Option T)) (value : T)
+    (note : PageNote (Option T)) : Type 0 where
+  pub left : T
+  pub by_reset : leaves value left
+  pub returned : IsReturned (record place { value = Some left }) note

@@ -1,37 +1,90 @@
--- What an item that is out of its page shows, under a borrow of the page.
-use Rattle.std.specs.Prelude.{ℕ}
+-- What a page answers to a pull: a slot with an item, or that each of its items was observed taken.
+use mir.Syntax.{named}
+use Rattle.std.specs.Prelude.{◌≡◌, ℕ, ◌+◌, ◌<◌, ◌≤◌, List, [], ◌∷◌, Option}
+use Rattle.std.specs.Borrow.{Lends, Fml, RattleType, MutBor}
 use Rattle.atomic_table.specs.Seated.{TableId}
-use Rattle.pool_parts.specs.declared.page.user_view.UserView.{UserView}
-use Rattle.pool_parts.specs.declared.page.slot.TakenId.{TakenId}
+use Rattle.pool_parts.specs.contracts.page.owned_slot.OwnedSlot as OwnedSlotRow
+use Rattle.pool_parts.specs.contracts.page.slot.PageSlot as SlotRow
+use Rattle.pool_parts.specs.declared.clean.Clean as Clean
+use Rattle.pool_parts.specs.declared.page.full_seen.Allocated.{Allocated}
+use Rattle.pool_parts.specs.declared.page.full_seen.Allocated.TheVariants.{Slot, Full}
+use Rattle.pool_parts.specs.declared.page.full_seen.FullSeen.{FullSeen}
+use Rattle.pool_parts.specs.declared.page.history.Operation.TheVariants.{Pull}
+use Rattle.pool_parts.specs.declared.page.note.PageNote.{PageNote}
+use Rattle.pool_parts.specs.declared.page.owned_slot.OwnedSlot.{OwnedSlot}
 use Rattle.pool_parts.specs.declared.page.slot.PageSlot.{PageSlot}
-use Rattle.pool_parts.specs.Holding.{held_item}
-use Rattle.pool_parts.specs.Item.{Item}
+use Rattle.pool_parts.specs.declared.page.user_view.UserView.{UserView}
+use Rattle.pool_parts.specs.declared.page.word.TheConstants.{PAGE_ITEMS}
+use Rattle.pool_parts.specs.Item.{Item, IsItemOf, IsPulled}
+use Rattle.pool_parts.specs.Ledger.{IsLegal, IsPrefixOf, WasOutBetween}
+use Rattle.pool_parts.specs.Page.{view_of, held_item, IsPulledAfter}
+use Rattle.pool_parts.specs.PageRule.{GoesOn}
 
 module _ {T K : Type 0} where
-  -- the id that was taken
-  abbrev pub taken_id : TakenId T K → ℕ
-  taken_id taken = taken.holding.number
-
-  -- which page it was taken from
-  abbrev pub taken_page : TakenId T K → TableId
-  taken_page taken = taken.holding.seat.table_id
-
-  -- what the holder of the id knows of the page
-  abbrev pub taken_view : TakenId T K → UserView T
-  taken_view taken = taken.holding.seat.me.0
-
-  -- the item that was taken, with a value
-  abbrev pub taken_item : TakenId T K → T → Item T
-  taken_item taken value = held_item taken.holding value
-
   -- the item that the slot has
   abbrev pub slot_item : PageSlot T K → Item T
   slot_item slot = held_item slot.taken.holding slot.value
 
-  -- what the holder of the slot knows of the page
-  abbrev pub slot_view : PageSlot T K → UserView T
-  slot_view slot = slot.taken.holding.seat.me.0
+  -- the item that the slot has
+  abbrev pub owned_slot_item : OwnedSlot T K → Item T
+  owned_slot_item slot = held_item slot.taken.holding slot.value
 
-  -- the same slot with another value
-  abbrev pub slot_with : PageSlot T K → T → PageSlot T K
-  slot_with slot value = record slot { value = value }
+module _ {T : Type 0} where
+  -- each of the items of this page or fixed pool, which has so many, was observed taken by one user, since its first
+  -- load
+  pub record IsAllOut (count : ℕ) (page : TableId) (opening : List (Option T)) (seen : FullSeen T) : Type 0 where
+    pub of_page : seen.seat.table_id ≡ page
+    pub same_opening : (view_of seen.seat).opening ≡ opening
+    pub legal : IsLegal opening (view_of seen.seat).operations
+    -- the user's history goes on from what it was at its first load
+    pub goes_on : IsPrefixOf (view_of seen.seat).since (view_of seen.seat).operations
+    -- each item was out at some place between the two
+    pub each_was_out : (id : ℕ) → id < count
+        → WasOutBetween opening (view_of seen.seat).since (view_of seen.seat).operations id
+
+  -- a user that had made so many loads and tries has read the page's word once more, and has tried 32 bits more at most
+  pub record IsBrief (read tried : ℕ) (known : UserView T) : Type 0 where
+    pub one_look : known.loads ≡ read + 1
+    pub tries : known.tries ≤ tried + PAGE_ITEMS
+
+module _ {T K : Type 0} where
+  -- what the user of the call knows of the page, whatever it answers
+  abbrev pub answer_view : Allocated T K → UserView T
+  answer_view (Slot slot) = view_of slot.taken.holding.seat
+  answer_view (Full seen) = view_of seen.seat
+
+  -- an item of this page, pulled as its history tells, which begins with these values; or each of its ids was observed
+  -- taken
+  abbrev pub IsAnswerOf : (T → Type 0) → TableId → List (Option T) → Allocated T K → Type 0
+  IsAnswerOf meets page opening (Slot slot) =
+      let item = slot_item slot in IsItemOf meets page item × (item.opening ≡ opening) × IsPulled item
+  IsAnswerOf meets page opening (Full seen) = IsAllOut PAGE_ITEMS page opening seen
+
+  -- the same, after all that a note knew
+  abbrev pub IsAnswerAfter : (T → Type 0) → TableId → PageNote T → Allocated T K → Type 0
+  IsAnswerAfter meets page note (Slot slot) = IsItemOf meets page (slot_item slot) × IsPulledAfter note (slot_item slot)
+  IsAnswerAfter meets page note (Full seen) =
+      IsAllOut PAGE_ITEMS page (view_of note.seat).opening seen
+      × IsPrefixOf (view_of note.seat).operations (view_of seen.seat).since
+
+  -- what a user may be answered that stands here: a pull is its one operation more; a full page was found so by it
+  abbrev pub IsAnswerFrom : (T → Type 0) → TableId → UserView T → Allocated T K → Type 0
+  IsAnswerFrom meets page start (Slot slot) =
+      let item = slot_item slot in
+      IsItemOf meets page item × GoesOn (Pull item.holder item.id item.value ∷ []) start
+      (view_of slot.taken.holding.seat)
+  IsAnswerFrom meets page start (Full seen) =
+      (seen.seat.table_id ≡ page) × GoesOn [] start (view_of seen.seat)
+      × ((id : ℕ) → id < PAGE_ITEMS → WasOutBetween start.opening start.since (view_of seen.seat).operations id)
+
+module _ (T K : RattleType) (clean : Clean.Ghosts K.Denot T.Denot) where
+  -- a loan of a borrowed slot's value ends with the slot as it was, but for the value written last
+  abbrev pub LendsSlotValue : MutBor (PageSlot T.Denot K.Denot) → MutBor T.Denot → Fml
+  LendsSlotValue slot loan =
+      Lends (SlotRow.the_row (record { mir = named 1; lft = [] }) T K clean) T slot loan
+      (λ value. record slot.now { value = value })
+
+  -- so it is of an owned slot's value
+  abbrev pub LendsOwnedSlotValue : MutBor (OwnedSlot T.Denot K.Denot) → MutBor T.Denot → Fml
+  LendsOwnedSlotValue slot loan =
+      Lends (OwnedSlotRow.the_row T K clean) T slot loan (λ value. record slot.now { value = value })

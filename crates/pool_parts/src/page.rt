@@ -15,9 +15,9 @@
 //!
 //! No call waits for another thread or tries again: a page reads its word once, and then clears
 //! single bits.
-ghost use Rattle.std.specs.Prelude.{◌≡◌, ◌+◌, ◌<◌, ◌≤◌, ℕ, [], false, Option, None, Some, IfSome, IsOk, IfOk, IfErr};
+ghost use Rattle.std.specs.Prelude.{◌≡◌, ◌+◌, ◌<◌, ◌≤◌, ℕ, [], false, Option, None, Some, IfSome, IsOk, IfOk, IfErr, ⊤, ◌*◌};
 ghost use Rattle.std.specs.Int.{bit_at};
-ghost use Rattle.pool_parts.specs.Inside.Items.{items_identity, items_raise};
+ghost use Rattle.pool_parts.specs.PageItems.{items_view};
 ghost use Rattle.pool_parts.specs.declared.page.word.TheConstants.{PAGE_ITEMS};
 
 use crate::PullError;
@@ -59,8 +59,8 @@ pub use word::{PAGE_ITEMS, PageId, has_bit, take_least, with_bit, without_bit};
 /// ```
 pub struct Page<T, K: Clean<T>> {
     items: Items<T, K>,
-    ghost sized: { (items_identity items).slots ≡ PAGE_ITEMS },
-    ghost counts_nothing: { items_raise items ≡ 0 },
+    ghost sized: { (items_view items).identity.slots ≡ PAGE_ITEMS },
+    ghost counts_nothing: { (items_view items).raise ≡ 0 },
 }
 
 /// Not derived: the proof of a caller that drops it has one call here, and a derived drop has that
@@ -72,16 +72,12 @@ impl<T: Drop, K: Clean<T>> Drop for Page<T, K> {
 }
 
 impl<T, K: Clean<T>> Page<T, K> {
-    ghost use Rattle.pool_parts.specs.Answers.{MayMake};
-    ghost use Rattle.pool_parts.specs.FullSeen.{IsAnswerOf, IsAnswerAfter, IsBrief, IsBriefAfter, answer_view};
-    ghost use Rattle.pool_parts.specs.Inside.Taking.{IsAnswerFrom};
-    ghost use Rattle.pool_parts.specs.Holding.{holding_page, held_item};
-    ghost use Rattle.pool_parts.specs.Item.{IsPulledOf};
-    ghost use Rattle.pool_parts.specs.Note.{note_page, witness_page, IsReturned, IsNoteOf, HasLearned};
-    ghost use Rattle.pool_parts.specs.Page.{page_identity, page_opening, OpensWith};
-    ghost use Rattle.pool_parts.specs.Inside.PageRule.{IsSound, IsOutNow, item_of};
-    ghost use Rattle.pool_parts.specs.Refusal.{RefusesMaking};
-    ghost use Rattle.pool_parts.specs.Slot.{slot_item, slot_view};
+    ghost use Rattle.pool_parts.specs.declared.page.full_seen.Allocated.TheVariants.{Slot};
+    ghost use Rattle.pool_parts.specs.Answers.{MayMake, Refuses};
+    ghost use Rattle.pool_parts.specs.Slot.{IsAnswerOf, IsAnswerAfter, IsBrief, answer_view, IsAnswerFrom, slot_item};
+    ghost use Rattle.pool_parts.specs.Page.{held_item, IsReturned, IsNoteOf, HasLearned, page_identity, page_opening, view_of};
+    ghost use Rattle.pool_parts.specs.Item.{IsItemOf, IsPulled, IsFilled};
+    ghost use Rattle.pool_parts.specs.PageRule.{IsSound, IsOutNow};
 
     /// Creates a page of 32 free items. Item `i` is the answer of call `i` of `init`, counted from
     /// 0.
@@ -99,8 +95,10 @@ impl<T, K: Clean<T>> Page<T, K> {
     where
         T: Drop,
         requires { MayMake I.pre I.post K.meets init.now }
-        ensures refused { IfErr result (RefusesMaking (I.post init.now None)) }
-        ensures opened { IfOk result (OpensWith (λ made. I.post init.now (Some made))) }
+        ensures refused { IfErr result (Refuses ⊤ (I.post init.now None) ⊥) }
+        ensures opened { IfOk result
+            (λ page. IsFilled PAGE_ITEMS (λ made. I.post init.now (Some made))
+            (page_opening page)) }
     {
         let items = Items::new(alloc, PAGE_ITEMS, &[u32::MAX as u64], 0, init)?;
         Ok(Page { items })
@@ -118,11 +116,13 @@ impl<T, K: Clean<T>> Page<T, K> {
     /// clause. [`Page::try_alloc`] gives the evidence.
     pub fn alloc(&self) -> Result<Option<PageSlot<'_, T, K>>, PullError>
         ensures succeeds { IsOk result }
-        ensures pulled { IfOk result
-            (λ found. IfSome found
-            (λ slot. IsPulledOf K.meets (page_identity self.now) (page_opening self.now)
-            (slot_item slot))) }
-        ensures brief { IfOk result (λ found. IfSome found (λ slot. IsBrief (slot_view slot))) }
+        ensures item { IfOk result (λ found. IfSome found
+            (λ slot. IsItemOf K.meets (page_identity self.now) (slot_item slot))) }
+        ensures same_opening { IfOk result (λ found. IfSome found
+            (λ slot. (slot_item slot).opening ≡ page_opening self.now)) }
+        ensures pulled { IfOk result (λ found. IfSome found (λ slot. IsPulled (slot_item slot))) }
+        ensures brief { IfOk result (λ found. IfSome found
+            (λ slot. IsBrief 0 0 (answer_view (Slot slot)))) }
     {
         let pass = PullPass::new();
         match self.try_alloc(&pass)? {
@@ -144,7 +144,7 @@ impl<T, K: Clean<T>> Page<T, K> {
         ensures succeeds { IsOk result }
         ensures answer { IfOk result
             (IsAnswerOf K.meets (page_identity self.now) (page_opening self.now)) }
-        ensures brief { IfOk result (λ answer. IsBrief (answer_view answer)) }
+        ensures brief { IfOk result (λ answer. IsBrief 0 0 (answer_view answer)) }
     {
         Ok(self.take(pass).answer)
     }
@@ -154,7 +154,7 @@ impl<T, K: Clean<T>> Page<T, K> {
     pub fn take<'s, 'p>(&'s self, pass: &'p PullPass) -> Taken<'s, 'p, T, K>
         ensures answer { IsAnswerOf K.meets (page_identity self.now)
             (page_opening self.now) result.answer }
-        ensures brief { IsBrief (answer_view result.answer) }
+        ensures brief { IsBrief 0 0 (answer_view result.answer) }
     {
         let (word, seat) = self.items.look(0);
         self.take_lowest(pass, word, seat)
@@ -171,10 +171,12 @@ impl<T, K: Clean<T>> Page<T, K> {
         pass: &'p PullPass,
         note: PageNote<T>,
     ) -> Result<Allocated<'s, 'p, T, K>, PullError>
-        requires page { note_page note ≡ page_identity self.now }
+        requires page { note.seat.table_id ≡ page_identity self.now }
         ensures succeeds { IsOk result }
         ensures answer { IfOk result (IsAnswerAfter K.meets (page_identity self.now) note) }
-        ensures brief { IfOk result (λ answer. IsBriefAfter note (answer_view answer)) }
+        ensures brief { IfOk result
+            (λ answer. IsBrief (view_of note.seat).loads (view_of note.seat).tries
+            (answer_view answer)) }
     {
         let PageNote { mut seat } = note;
         let word = self.items.look_again(&mut seat, 0);
@@ -196,8 +198,8 @@ impl<T, K: Clean<T>> Page<T, K> {
     /// A witness comes from another thread's slot or note. So a thread that received it can
     /// conclude what happened before.
     pub fn tell(&self, note: &mut PageNote<T>, other: Witness<T>)
-        requires note { note_page note.old ≡ page_identity self.now }
-        requires other { witness_page other ≡ page_identity self.now }
+        requires note { note.old.seat.table_id ≡ page_identity self.now }
+        requires other { other.seat.table_id ≡ page_identity self.now }
         ensures { HasLearned note.old other note.new }
     {
         self.items.tell(note, other);
@@ -216,7 +218,7 @@ impl<T, K: Clean<T>> Page<T, K> {
         requires here { seat.me.0.gone ≡ false }
         requires sound { IsSound seat.me.0 }
         requires found { (id : ℕ) → id < PAGE_ITEMS → bit_at word id ≡ 0
-            → IsOutNow seat.me.0 (item_of 0 id) }
+            → IsOutNow seat.me.0 (32 * 0 + id) }
         ensures answer { IsAnswerFrom K.meets (page_identity self.now) seat.me.0 result.answer }
         ensures loads { (answer_view result.answer).loads ≡ seat.me.0.loads }
         ensures tries { (answer_view result.answer).tries ≤ seat.me.0.tries + PAGE_ITEMS }
@@ -254,7 +256,7 @@ impl<T, K: Clean<T>> Page<T, K> {
 
     /// Returns an item to this page by what its holder has, with a value.
     pub fn give(&self, holding: Holding<T>, value: T) -> Returned<T>
-        requires of_page { holding_page holding ≡ page_identity self.now }
+        requires of_page { holding.seat.table_id ≡ page_identity self.now }
         requires in_page { holding.number < PAGE_ITEMS }
         requires meets { K.meets value }
         ensures { IsReturned (held_item holding value) result.note }

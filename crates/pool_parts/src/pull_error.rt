@@ -1,6 +1,6 @@
 //! Why a pull was refused.
 ghost use Rattle.pool_parts.specs.declared.pull_error.PullError.TheVariants.{Memory};
-ghost use Rattle.pool_parts.specs.Refusal.{refusal_kind};
+ghost use Rattle.pool_parts.specs.Answers.{refusal_kind};
 ghost use Rattle.std.specs.IoError.{error_kind};
 ghost use Rattle.std.specs.Prelude.{◌≡◌};
 

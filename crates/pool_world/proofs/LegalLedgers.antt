@@ -6,8 +6,7 @@ use Rattle.std.proofs.lemmas.Bool.{cases_eq, cases_lt}
 use Rattle.std.proofs.lemmas.List.{get_or_append_left, get_or_past}
 use Rattle.pool_parts.specs.declared.page.history.Operation.{Operation}
 use Rattle.pool_parts.specs.declared.page.history.Operation.TheVariants.{Pull, Return}
-use Rattle.pool_parts.specs.Ledger.{History, user_of, id_of, operations_of, held_id, left_by, value_at}
-use Rattle.pool_parts.specs.Ledger.{MayFollow, IsLegal, NoOperationOn}
+use Rattle.pool_parts.specs.Ledger.{History, user_of, id_of, operations_of, held_id, left_by, value_at, MayFollow, IsLegal, NoOperationOn}
 use Rattle.pool_parts.proofs.Ledger.{operations_of_own, operations_of_other, value_at-here}
 use Rattle.pool_parts.proofs.Ledger.{value_at-elsewhere}
 
@@ -39,11 +38,11 @@ module _ {T : Type 0} where
   untouched-past opening (Pull user place value ∷ before) (may, legal) id past =
       let none = untouched-past opening before legal id past in
       let lies = untouched-value opening before id none ∙ get_or_past opening id None past in
-      let there = may.lies_there in
+      let there = may.0 in
       (λ same. absurd (cc), none)
   untouched-past opening (Return user place value ∷ before) (may, legal) id past =
       let none = untouched-past opening before legal id past in
-      (λ same. untouched-held before user id none (may.holds ∙ ap Some same), none)
+      (λ same. untouched-held before user id none (may.1 ∙ ap Some same), none)
 
   inside : (opening : List (Option T)) (history : History T) → IsLegal opening history → (id : ℕ)
       → (NoOperationOn id history → length opening ≤ id → ⊥) → id < length opening
@@ -76,13 +75,13 @@ module _ {T : Type 0} where
       → IsLegal (opening ++ more) history
   legal-more opening more [] legal = tt
   legal-more opening more (Pull user id value ∷ before) (may, legal) =
-      let below = free-inside opening before legal id value may.lies_there in
-      let lies = value_at-more opening more before id below ∙ may.lies_there in
-      (record { lies_there = lies; holds_none = may.holds_none }, legal-more opening more before legal)
+      let below = free-inside opening before legal id value may.0 in
+      let lies = value_at-more opening more before id below ∙ may.0 in
+      ((lies, may.1), legal-more opening more before legal)
   legal-more opening more (Return user id value ∷ before) (may, legal) =
-      let below = held-inside opening before legal user id may.holds in
-      let out = value_at-more opening more before id below ∙ may.is_out in
-      (record { is_out = out; holds = may.holds }, legal-more opening more before legal)
+      let below = held-inside opening before legal user id may.1 in
+      let out = value_at-more opening more before id below ∙ may.0 in
+      ((out, may.1), legal-more opening more before legal)
 
   -- what is out has a holder, where the pool opened with a value there
   taker : (operation : Operation T) (own : History T) → left_by operation ≡ None
@@ -93,8 +92,8 @@ module _ {T : Type 0} where
   another : (opening : List (Option T)) (operation : Operation T) (before : History T)
       → MayFollow opening before operation → (user id : ℕ) → id_of operation ≢ id
       → held_id (operations_of user before) ≡ Some id → user_of operation ≢ user
-  another opening (Pull who place value) before may user id other holds own = let none = may.holds_none in cc
-  another opening (Return who place value) before may user id other holds own = let held = may.holds in other (cc)
+  another opening (Pull who place value) before may user id other holds own = let none = may.1 in cc
+  another opening (Return who place value) before may user id other holds own = let held = may.1 in other (cc)
 
   pub has-holder : (opening : List (Option T)) (history : History T) → IsLegal opening history → (id : ℕ)
       → get_or opening id None ≢ None → value_at opening history id ≡ None

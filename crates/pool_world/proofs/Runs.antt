@@ -7,8 +7,7 @@ use Rattle.std.proofs.lemmas.List.{length-map, map-append}
 use Rattle.std.proofs.lemmas.Option.{slice_get_past}
 use Rattle.pool_parts.specs.declared.page.history.Operation.{Operation}
 use Rattle.pool_parts.specs.declared.page.history.Operation.TheVariants.{Pull, Return}
-use Rattle.pool_parts.specs.Ledger.{user_of, id_of, operations_of, held_id, left_by, value_at, IsLegal}
-use Rattle.pool_parts.specs.Ledger.{NoOperationOn}
+use Rattle.pool_parts.specs.Ledger.{user_of, id_of, operations_of, held_id, left_by, value_at, IsLegal, NoOperationOn}
 use Rattle.pool_parts.proofs.Ledger.{operations_of_own, value_at-here, value_at-elsewhere}
 use Rattle.pool_parts.proofs.LedgerHolders.{held}
 use Rattle.pool_world.specs.Pool.{Place, Pool, Absent, Free, Out, IsPool, AllowsPages, place_of, free_with}
@@ -216,13 +215,13 @@ module _ {T : Type 0} (Leaves : T → T → Type 0) (limit : Option ℕ) (first 
       → (pool_of first acts).at n ≡ Free value → MayCome Leaves limit first acts (Operates (Pull a n value))
   may-pull acts a n value looks free =
       let none = ap held_id (ledger-own acts a ∙ looks-none (acts_of a acts) looks) in
-      (record { lies_there = free-lies first acts n value free; holds_none = none }, looks)
+      ((free-lies first acts n value free, none), looks)
 
   pub may-return : (acts : List (Act T)) → Run Leaves limit first acts → (a n : ℕ) (value kept : T)
       → Holds acts a n value → Leaves value kept → MayCome Leaves limit first acts (Operates (Return a n kept))
   may-return acts run a n value kept holds leaves =
       let out = (held (opened first acts) (ledger_of acts) (legal-run acts run)).out a n holds.number in
-      (record { is_out = out; holds = holds.number }, (value, holds.has, leaves))
+      ((out, holds.number), (value, holds.has, leaves))
 
   module _ (full : length first ≡ 32) where
     -- pages come with a value for each of their numbers

@@ -8,7 +8,7 @@ use Rattle.pool_parts.specs.declared.page.history.Operation.TheVariants.{Pull, R
 use Rattle.pool_parts.specs.declared.page.word.TheConstants.{PAGE_ITEMS}
 use Rattle.pool_parts.specs.declared.pull_error.PullError.{PullError}
 use Rattle.pool_parts.specs.declared.pull_error.PullError.TheVariants.{Memory, Init, Limit}
-use Rattle.pool_parts.specs.Ledger.{History, user_of, operations_of, held_id, value_at, MayPull, MayReturn}
+use Rattle.pool_parts.specs.Ledger.{History, user_of, operations_of, held_id, value_at, MayFollow}
 use Rattle.pool_world.specs.Pool.{Pool, Out, place_of, IsGrowth}
 
 -- an agent opens, writes the value that it holds, does an operation of the ledger, grows the pool
@@ -115,9 +115,9 @@ module _ {T : Type 0} (Leaves : T → T → Type 0) (limit : Option ℕ) (first 
   MayCome acts (Opens a) = acts_of a acts ≡ []
   MayCome acts (Writes a value) = (n : ℕ) × IsHolder acts a n
   MayCome acts (Operates (Pull a n value)) =
-      MayPull (opened first acts) (ledger_of acts) a n value × Looks (acts_of a acts)
+      MayFollow (opened first acts) (ledger_of acts) (Pull a n value) × Looks (acts_of a acts)
   MayCome acts (Operates (Return a n kept)) =
-      MayReturn (opened first acts) (ledger_of acts) a n
+      MayFollow (opened first acts) (ledger_of acts) (Return a n kept)
       × ((value : T) × (last_value (acts_of a acts) ≡ Some value) × Leaves value kept)
   MayCome acts (Grows a values) = Looks (acts_of a acts) × IsGrowth limit (pages_of acts) values
   MayCome acts (Refused a cause) = Looks (acts_of a acts) × MayRefuse acts a cause

@@ -3,15 +3,15 @@ use Rattle.std.proofs.Common.{◌≡◌, ◌⊎◌, ℕ, [], ◌∷◌, ◌++◌
 use Rattle.pool_parts.specs.declared.page.history.Operation.TheVariants.{Pull, Return}
 use Rattle.pool_parts.specs.declared.page.note.PageNote.{PageNote}
 use Rattle.lockfree_object_pool.specs.Item.{Item}
-use Rattle.lockfree_object_pool.specs.Note.{IsPulledAfter, note_view}
-use Rattle.lockfree_object_pool.specs.Origin.{pulled_from}
-use Rattle.lockfree_object_pool.specs.Ledger.{History, id_of, NoOperationOn, IsPrefixOf}
+use Rattle.lockfree_object_pool.specs.Page.{IsPulledAfter}
+use Rattle.pool_parts.specs.Page.{view_of}
+use Rattle.lockfree_object_pool.specs.Ledger.{pulled_from, History, id_of, NoOperationOn, IsPrefixOf}
 use Rattle.pool_parts.proofs.Ledger.{behind}
 use Rattle.test_lockfree_object_pool.specs.Returned.{EndsWithReturnOf, HasOperationOn, WasReturnedBefore, WasUsedSince}
 
 -- a pull by a note stands after all that the note knew
 pub pull_is_later : (note : PageNote ℕ) (item : Item ℕ) → IsPulledAfter note item
-    → IsPrefixOf (note_view note).operations item.history
+    → IsPrefixOf (view_of note.seat).operations item.history
 pull_is_later note item is = (Pull item.holder item.id item.value ∷ is.others, is.last)
 
 -- a prefix of a prefix is a prefix
@@ -48,26 +48,26 @@ last_return id (operation ∷ between) (one ∷ later) rest before user other nu
     ]
 
 module _ (number : ℕ) (note : PageNote ℕ) (item : Item ℕ) (first : item.id ≡ 0) (is : IsPulledAfter note item)
-    (known : EndsWithReturnOf 0 number (note_view note).operations) where
-  returned : EndsWithReturnOf item.id number (note_view note).operations
-  returned = subst (λ id. EndsWithReturnOf id number (note_view note).operations) (sym first) known
+    (known : EndsWithReturnOf 0 number (view_of note.seat).operations) where
+  returned : EndsWithReturnOf item.id number (view_of note.seat).operations
+  returned = subst (λ id. EndsWithReturnOf id number (view_of note.seat).operations) (sym first) known
 
   -- a pull of item 0, by a note that knows of a return of it, takes what a return left
   pub pulled_what_returned : WasReturnedBefore item
   pulled_what_returned = (
-    is.others ++ (note_view note).operations,
+    is.others ++ (view_of note.seat).operations,
     is.last,
     elim (pulled_from _ _ _ _ _ _ is.legal is.last) [
       | inl was ↦ was
       | inr opened ↦
-          let none = none_before item.id is.others (note_view note).operations opened.untouched in
+          let none = none_before item.id is.others (view_of note.seat).operations opened.0 in
           let here = subst (NoOperationOn item.id) returned.2 none in
           absurd (here.0 refl)
     ],
   )
 
   -- it takes what that return left, unless somebody had the item in between
-  pub pulled_same_or_used : (item.value ≡ number) ⊎ WasUsedSince (note_view note).operations item
+  pub pulled_same_or_used : (item.value ≡ number) ⊎ WasUsedSince (view_of note.seat).operations item
   unfolding pulled_what_returned
   pulled_same_or_used =
       let was = pulled_what_returned.2 in

@@ -1,6 +1,6 @@
 //! The linear pool in use. Here stands what makes and resets the values of its tests.
 ghost use Rattle.std.specs.Prelude.{◌≡◌, ◌≤◌, None, IfOk};
-ghost use Rattle.lockfree_object_pool.specs.LinearPool.{pool_limit};
+ghost use Rattle.linear_pools.specs.LinearPool.{linear_view};
 
 use crate::made::count_of_calls;
 use lockfree_object_pool::clean::{AnyValue, Clean};
@@ -88,7 +88,7 @@ fn shared_within(
 }
 
 fn cleared(alloc: Global, calls: &Arc<AtomicUsize>) -> Cleared
-    ensures { IfOk result (λ pool. pool_limit pool ≡ None) }
+    ensures { IfOk result (λ pool. (linear_view pool).limit ≡ None) }
 {
     let calls = Arc::try_clone(calls)?;
     LinearObjectPool::new(alloc, CountedZeros { calls }, ToZero)

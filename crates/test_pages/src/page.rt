@@ -1,9 +1,8 @@
 //! One page in use. Here stands how its tests come to an item.
 ghost use Rattle.std.specs.Prelude.{◌≡◌, IfSome};
 ghost use Rattle.std.specs.Arc.{arc_value};
-ghost use Rattle.pool_parts.specs.OwnedSlot.{owned_slot_item};
+ghost use Rattle.pool_parts.specs.Slot.{owned_slot_item, slot_item};
 ghost use Rattle.pool_parts.specs.Page.{page_identity};
-ghost use Rattle.pool_parts.specs.Slot.{slot_item};
 
 use pool_parts::clean::Clean;
 use pool_parts::page::{OwnedSlot, Page, PageSlot};

@@ -1,6 +1,6 @@
 //! Pools that keep nothing: what is pulled, when `init` is called, and when an item is dropped.
 ghost use Rattle.std.specs.Prelude.{◌≡◌, None, Some, IsOk, IfOk};
-ghost use Rattle.lockfree_object_pool.specs.NonePool.{none_init, none_with};
+ghost use Rattle.lockfree_object_pool.specs.NonePool.{none_init};
 
 use crate::assert_equal::assert_equal;
 use lockfree_object_pool::{NoneObjectPool, NoneReusable, PullError};
@@ -52,7 +52,7 @@ fn pulled_and_written() -> Result<(u32, u32), PullError>
 
 /// A write changes the value alone.
 fn write(item: &mut NoneReusable<u32>, value: u32)
-    ensures { item.new ≡ none_with item.old value }
+    ensures { item.new ≡ record item.old { value = value } }
 {
     **item = value;
 }

@@ -1,7 +1,7 @@
 //! The items of a fixed pool: a word for each page, and what a pull and a return do there.
-ghost use Rattle.std.specs.Prelude.{◌≡◌, ◌+◌, ◌-◌, ◌*◌, ◌/◌, ◌^◌, ◌<◌, ◌≤◌, ℕ, [], ◌∷◌, Option, None, Some, IfOk, IfErr, MatchOption, false, vec_len};
-ghost use Rattle.pool_parts.specs.Inside.Items.{items_identity, items_raise};
-ghost use Rattle.pool_parts.specs.Inside.Word.{IsAllFree};
+ghost use Rattle.std.specs.Prelude.{◌≡◌, ◌+◌, ◌-◌, ◌*◌, ◌/◌, ◌^◌, ◌<◌, ◌≤◌, ℕ, [], ◌∷◌, Option, None, Some, IfOk, IfErr, MatchOption, false, vec_len, ⊤};
+ghost use Rattle.pool_parts.specs.PageItems.{items_view};
+ghost use Rattle.pool_parts.specs.PageRule.{IsAllFree};
 
 use crate::fixed_object_pool::{BusySeen, PoolNote};
 use order::Order;
@@ -11,7 +11,6 @@ use pool_parts::page::holding::Holding;
 use pool_parts::page::items::{Items, TakenValue};
 use pool_parts::page::user_view::UserSeat;
 use pool_parts::page::{PAGE_ITEMS, PageNote, PullPass};
-use pulled_item::PulledItem;
 use std::alloc::{AllocError, Global};
 use std::sync::atomic::AtomicU64;
 use std::sync::atomic::Ordering::SeqCst;
@@ -20,10 +19,16 @@ mod at;
 mod full;
 pub mod order;
 mod pass;
-pub mod pulled_item;
 
 /// How many words share a cache line.
 const WORDS_APART: usize = 8;
+
+/// An item that was taken, with its value, before it is known how the pool is held.
+#[derive(Drop)]
+pub struct PulledItem<T> {
+    pub holding: Holding<T>,
+    pub value: T,
+}
 
 /// Returns the word of a page of which the first `count` items are free.
 fn low_bits(count: usize) -> u64
@@ -56,24 +61,20 @@ pub struct FixedItems<T, K: Clean<T>> {
     hint: AtomicU64,
     /// How many pages were named by `next_own_page`. It promises nothing.
     own_pages: AtomicU64,
-    ghost counted: { count ≡ (items_identity shared).slots },
-    ghost paged: { pages ≡ (items_identity shared).words },
-    ghost counts_returns: { items_raise shared ≡ 1 },
+    ghost counted: { count ≡ (items_view shared).identity.slots },
+    ghost paged: { pages ≡ (items_view shared).identity.words },
+    ghost counts_returns: { (items_view shared).raise ≡ 1 },
 }
 
 impl<T, K: Clean<T>> FixedItems<T, K> {
-    ghost use Rattle.pool_parts.specs.Answers.{MayMake};
-    ghost use Rattle.fixed_pools.specs.FixedAnswer.{IsPulledFrom, IsPulledWith, IsFullNote, IsFullNoteAfter, returns_since};
-    ghost use Rattle.pool_parts.specs.FullSeen.{full_view};
-    ghost use Rattle.pool_parts.specs.FullSeen.{IsAllOut, IsAllOutAfter};
-    ghost use Rattle.fixed_pools.specs.Inside.FixedItem.{fixed_identity, fixed_opening};
-    ghost use Rattle.fixed_pools.specs.Inside.FixedItem.{pulled_item, pulled_view};
-    ghost use Rattle.fixed_pools.specs.StepCount.{IsWithin, IsWithinSince, passes_to_take, passes_to_refuse};
-    ghost use Rattle.pool_parts.specs.Holding.{holding_page, holding_view};
-    ghost use Rattle.pool_parts.specs.Items.{IsFilled};
-    ghost use Rattle.pool_parts.specs.Note.{note_page, note_view};
-    ghost use Rattle.pool_parts.specs.Inside.PageRule.{GoesOn};
-    ghost use Rattle.pool_parts.specs.Refusal.{RefusesMaking};
+    ghost use Rattle.pool_parts.specs.Answers.{MayMake, Refuses};
+    ghost use Rattle.fixed_pools.specs.FixedPool.{IsPulledFrom, IsPulledWith, IsFullNote, IsFullNoteAfter, returns_since, IsWithin};
+    ghost use Rattle.pool_parts.specs.Page.{view_of, held_item};
+    ghost use Rattle.pool_parts.specs.Ledger.{IsPrefixOf};
+    ghost use Rattle.pool_parts.specs.Slot.{IsAllOut};
+    ghost use Rattle.pool_parts.specs.PageItems.{items_view};
+    ghost use Rattle.pool_parts.specs.Item.{IsFilled};
+    ghost use Rattle.pool_parts.specs.PageRule.{GoesOn};
     ghost use Rattle.pool_parts.specs.declared.page.history.Operation.TheVariants.{Return};
 
     /// Creates `count` free items. Item `i` is the answer of call `i` of `init`, counted from 0.
@@ -89,11 +90,13 @@ impl<T, K: Clean<T>> FixedItems<T, K> {
         T: Drop,
         requires some_item { 1 ≤ count }
         requires may_make { MayMake I.pre I.post K.meets init.now }
-        ensures refused { IfErr result (RefusesMaking (I.post init.now None)) }
-        ensures count { IfOk result (λ fixed. (fixed_identity fixed).slots ≡ count) }
-        ensures pages { IfOk result (λ fixed. (fixed_identity fixed).words ≡ (count + 31) / 32) }
+        ensures refused { IfErr result (Refuses ⊤ (I.post init.now None) ⊥) }
+        ensures count { IfOk result (λ fixed. (items_view fixed.shared).identity.slots ≡ count) }
+        ensures pages { IfOk result (λ fixed. (items_view fixed.shared).identity.words
+            ≡ (count + 31) / 32) }
         ensures opened { IfOk result
-            (λ fixed. IsFilled count (λ made. I.post init.now (Some made)) (fixed_opening fixed)) }
+            (λ fixed. IsFilled count (λ made. I.post init.now (Some made))
+            (items_view fixed.shared).opening) }
     {
         let Some(_) = count.checked_add(PAGE_ITEMS - 1) else {
             return Err(PullError::Memory);
@@ -112,7 +115,7 @@ impl<T, K: Clean<T>> FixedItems<T, K> {
 
     /// Returns the number of items.
     pub fn count(&self) -> usize
-        ensures { result ≡ (fixed_identity self.now).slots }
+        ensures { result ≡ (items_view self.now.shared).identity.slots }
     {
         self.count
     }
@@ -122,7 +125,7 @@ impl<T, K: Clean<T>> FixedItems<T, K> {
     /// A division takes as long as an atomic step, so it is made only for a number that is past the
     /// pages.
     pub fn page_round(&self, page: usize) -> usize
-        ensures { result < (fixed_identity self.now).words }
+        ensures { result < (items_view self.now.shared).identity.words }
     {
         if page < self.pages {
             page
@@ -133,7 +136,7 @@ impl<T, K: Clean<T>> FixedItems<T, K> {
 
     /// Returns the page at which a pull starts.
     pub(super) fn hinted(&self) -> usize
-        ensures { result < (fixed_identity self.now).words }
+        ensures { result < (items_view self.now.shared).identity.words }
     {
         let hint = self.hint.load(SeqCst) as usize;
         if hint < self.pages { hint } else { 0 }
@@ -145,7 +148,7 @@ impl<T, K: Clean<T>> FixedItems<T, K> {
     /// one page further than the round before, so in a small pool users share a page only if there
     /// are more users than pages.
     pub fn next_own_page(&self) -> usize
-        ensures { result < (fixed_identity self.now).words }
+        ensures { result < (items_view self.now.shared).identity.words }
     {
         let number = self.own_pages.fetch_add(1, SeqCst) as usize;
         let lines = self.pages.div_ceil(WORDS_APART);
@@ -168,15 +171,17 @@ impl<T, K: Clean<T>> FixedItems<T, K> {
     /// Beyond its first page it hints at the page of its item.
     pub fn try_pull<'p>(&self, pass: &'p PullPass) -> Result<PulledItem<T>, BusySeen<'p, T>>
         ensures pulled { IfOk result
-            (λ pulled. IsPulledFrom (fixed_identity self.now) (fixed_opening self.now)
-            (pulled_item pulled)) }
+            (λ pulled. IsPulledFrom (items_view self.now.shared).identity
+            (items_view self.now.shared).opening
+            (held_item pulled.holding pulled.value)) }
         ensures meets { IfOk result (λ pulled. K.meets pulled.value) }
         ensures brief { IfOk result
-            (λ pulled. IsWithin (fixed_identity self.now).words (pulled_view pulled)) }
-        ensures busy { IfErr result (IsAllOut (fixed_identity self.now).slots
-            (fixed_identity self.now) (fixed_opening self.now)) }
+            (λ pulled. IsWithin (items_view self.now.shared).identity.words 0 0
+            (view_of pulled.holding.seat)) }
+        ensures busy { IfErr result (IsAllOut (items_view self.now.shared).identity.slots
+            (items_view self.now.shared).identity (items_view self.now.shared).opening) }
         ensures busy_brief { IfErr result
-            (λ busy. IsWithin (fixed_identity self.now).words (full_view busy)) }
+            (λ busy. IsWithin (items_view self.now.shared).identity.words 0 0 (view_of busy.seat)) }
     {
         let page = self.hinted();
         let (word, mut seat) = self.shared.look(page);
@@ -199,19 +204,20 @@ impl<T, K: Clean<T>> FixedItems<T, K> {
     #[inline(never)]
     pub fn pull(&self) -> Result<PulledItem<T>, PoolNote<T>>
         ensures pulled { IfOk result
-            (λ pulled. IsPulledFrom (fixed_identity self.now) (fixed_opening self.now)
-            (pulled_item pulled)) }
+            (λ pulled. IsPulledFrom (items_view self.now.shared).identity
+            (items_view self.now.shared).opening
+            (held_item pulled.holding pulled.value)) }
         ensures meets { IfOk result (λ pulled. K.meets pulled.value) }
         ensures brief { IfOk result
-            (λ pulled. IsWithin
-            ((fixed_identity self.now).words * passes_to_take (returns_since (pulled_view pulled)))
-            (pulled_view pulled)) }
+            (λ pulled. IsWithin ((items_view self.now.shared).identity.words
+            * (returns_since (view_of pulled.holding.seat) + 1)) 0 0
+            (view_of pulled.holding.seat)) }
         ensures full { IfErr result
-            (IsFullNote (fixed_identity self.now) (fixed_opening self.now)) }
+            (IsFullNote (items_view self.now.shared).identity
+            (items_view self.now.shared).opening) }
         ensures full_brief { IfErr result
-            (λ note. IsWithin
-            ((fixed_identity self.now).words * passes_to_refuse (returns_since (note_view note)))
-            (note_view note)) }
+            (λ note. IsWithin ((items_view self.now.shared).identity.words
+            * (returns_since (view_of note.seat) + 2)) 0 0 (view_of note.seat)) }
     {
         self.pull_in_order(self.hinted(), None)
     }
@@ -219,21 +225,22 @@ impl<T, K: Clean<T>> FixedItems<T, K> {
     /// Pulls an item as `pull` does, but begins at this page, and goes on at the hinted one. While
     /// this page has a free item it neither reads nor sets the hint.
     pub fn pull_near(&self, start: usize) -> Result<PulledItem<T>, PoolNote<T>>
-        requires { start < (fixed_identity self.now).words }
+        requires { start < (items_view self.now.shared).identity.words }
         ensures pulled { IfOk result
-            (λ pulled. IsPulledFrom (fixed_identity self.now) (fixed_opening self.now)
-            (pulled_item pulled)) }
+            (λ pulled. IsPulledFrom (items_view self.now.shared).identity
+            (items_view self.now.shared).opening
+            (held_item pulled.holding pulled.value)) }
         ensures meets { IfOk result (λ pulled. K.meets pulled.value) }
         ensures brief { IfOk result
-            (λ pulled. IsWithin
-            ((fixed_identity self.now).words * passes_to_take (returns_since (pulled_view pulled)))
-            (pulled_view pulled)) }
+            (λ pulled. IsWithin ((items_view self.now.shared).identity.words
+            * (returns_since (view_of pulled.holding.seat) + 1)) 0 0
+            (view_of pulled.holding.seat)) }
         ensures full { IfErr result
-            (IsFullNote (fixed_identity self.now) (fixed_opening self.now)) }
+            (IsFullNote (items_view self.now.shared).identity
+            (items_view self.now.shared).opening) }
         ensures full_brief { IfErr result
-            (λ note. IsWithin
-            ((fixed_identity self.now).words * passes_to_refuse (returns_since (note_view note)))
-            (note_view note)) }
+            (λ note. IsWithin ((items_view self.now.shared).identity.words
+            * (returns_since (view_of note.seat) + 2)) 0 0 (view_of note.seat)) }
     {
         self.pull_in_order(start, Some(Order::Hinted))
     }
@@ -245,21 +252,22 @@ impl<T, K: Clean<T>> FixedItems<T, K> {
         start: usize,
         order: Option<Order>,
     ) -> Result<PulledItem<T>, PoolNote<T>>
-        requires { start < (fixed_identity self.now).words }
+        requires { start < (items_view self.now.shared).identity.words }
         ensures pulled { IfOk result
-            (λ pulled. IsPulledFrom (fixed_identity self.now) (fixed_opening self.now)
-            (pulled_item pulled)) }
+            (λ pulled. IsPulledFrom (items_view self.now.shared).identity
+            (items_view self.now.shared).opening
+            (held_item pulled.holding pulled.value)) }
         ensures meets { IfOk result (λ pulled. K.meets pulled.value) }
         ensures brief { IfOk result
-            (λ pulled. IsWithin
-            ((fixed_identity self.now).words * passes_to_take (returns_since (pulled_view pulled)))
-            (pulled_view pulled)) }
+            (λ pulled. IsWithin ((items_view self.now.shared).identity.words
+            * (returns_since (view_of pulled.holding.seat) + 1)) 0 0
+            (view_of pulled.holding.seat)) }
         ensures full { IfErr result
-            (IsFullNote (fixed_identity self.now) (fixed_opening self.now)) }
+            (IsFullNote (items_view self.now.shared).identity
+            (items_view self.now.shared).opening) }
         ensures full_brief { IfErr result
-            (λ note. IsWithin
-            ((fixed_identity self.now).words * passes_to_refuse (returns_since (note_view note)))
-            (note_view note)) }
+            (λ note. IsWithin ((items_view self.now.shared).identity.words
+            * (returns_since (view_of note.seat) + 2)) 0 0 (view_of note.seat)) }
     {
         let (word, mut seat) = self.shared.look(start);
         match self.take_or_full(&mut seat, start, word, order) {
@@ -281,17 +289,22 @@ impl<T, K: Clean<T>> FixedItems<T, K> {
         pass: &'p PullPass,
         note: PoolNote<T>,
     ) -> Result<PulledItem<T>, BusySeen<'p, T>>
-        requires { note_page note ≡ fixed_identity self.now }
+        requires { note.seat.table_id ≡ (items_view self.now.shared).identity }
         ensures pulled { IfOk result
-            (λ pulled. IsPulledWith (fixed_identity self.now) note (pulled_item pulled)) }
+            (λ pulled. IsPulledWith (items_view self.now.shared).identity note
+            (held_item pulled.holding pulled.value)) }
         ensures meets { IfOk result (λ pulled. K.meets pulled.value) }
         ensures brief { IfOk result
-            (λ pulled. IsWithinSince (fixed_identity self.now).words (note_view note)
-            (pulled_view pulled)) }
+            (λ pulled. IsWithin (items_view self.now.shared).identity.words
+            (view_of note.seat).loads (view_of note.seat).tries (view_of pulled.holding.seat)) }
         ensures busy { IfErr result
-            (IsAllOutAfter (fixed_identity self.now).slots (fixed_identity self.now) note) }
+            (IsAllOut (items_view self.now.shared).identity.slots
+            (items_view self.now.shared).identity (view_of note.seat).opening) }
+        ensures after_note { IfErr result
+            (λ busy. IsPrefixOf (view_of note.seat).operations (view_of busy.seat).since) }
         ensures busy_brief { IfErr result
-            (λ busy. IsWithinSince (fixed_identity self.now).words (note_view note) (full_view busy)) }
+            (λ busy. IsWithin (items_view self.now.shared).identity.words (view_of note.seat).loads
+            (view_of note.seat).tries (view_of busy.seat)) }
     {
         let PageNote { mut seat } = note;
         let start = self.hinted();
@@ -316,20 +329,21 @@ impl<T, K: Clean<T>> FixedItems<T, K> {
         page: usize,
         note: PoolNote<T>,
     ) -> Result<PulledItem<T>, PoolNote<T>>
-        requires page { page < (fixed_identity self.now).words }
-        requires note { note_page note ≡ fixed_identity self.now }
+        requires page { page < (items_view self.now.shared).identity.words }
+        requires note { note.seat.table_id ≡ (items_view self.now.shared).identity }
         ensures pulled { IfOk result
-            (λ pulled. IsPulledWith (fixed_identity self.now) note (pulled_item pulled)) }
+            (λ pulled. IsPulledWith (items_view self.now.shared).identity note
+            (held_item pulled.holding pulled.value)) }
         ensures meets { IfOk result (λ pulled. K.meets pulled.value) }
         ensures brief { IfOk result
-            (λ pulled. IsWithinSince
-            ((fixed_identity self.now).words * passes_to_take (returns_since (pulled_view pulled)))
-            (note_view note) (pulled_view pulled)) }
-        ensures full { IfErr result (IsFullNoteAfter (fixed_identity self.now) note) }
+            (λ pulled. IsWithin ((items_view self.now.shared).identity.words
+            * (returns_since (view_of pulled.holding.seat) + 1)) (view_of note.seat).loads
+            (view_of note.seat).tries (view_of pulled.holding.seat)) }
+        ensures full { IfErr result (IsFullNoteAfter (items_view self.now.shared).identity note) }
         ensures full_brief { IfErr result
-            (λ later. IsWithinSince
-            ((fixed_identity self.now).words * passes_to_refuse (returns_since (note_view later)))
-            (note_view note) (note_view later)) }
+            (λ later. IsWithin ((items_view self.now.shared).identity.words
+            * (returns_since (view_of later.seat) + 2)) (view_of note.seat).loads
+            (view_of note.seat).tries (view_of later.seat)) }
     {
         let PageNote { mut seat } = note;
         let word = self.shared.look_again(&mut seat, page);
@@ -348,15 +362,15 @@ impl<T, K: Clean<T>> FixedItems<T, K> {
     /// Moves the value back and sets its bit, by the user that has the item. It hints at a page
     /// that was full.
     pub fn give(&self, holding: Holding<T>, value: T) -> UserSeat<T>
-        requires pool { holding_page holding ≡ fixed_identity self.now }
-        requires in_pool { holding.number < (fixed_identity self.now).slots }
+        requires pool { holding.seat.table_id ≡ (items_view self.now.shared).identity }
+        requires in_pool { holding.number < (items_view self.now.shared).identity.slots }
         requires meets { K.meets value }
-        ensures pool { result.table_id ≡ holding_page holding }
+        ensures pool { result.table_id ≡ holding.seat.table_id }
         ensures carries_none { result.me.1 ≡ [] }
         ensures holds_none { result.me.0.held ≡ None }
         ensures here { result.me.0.gone ≡ false }
         ensures returned { GoesOn (Return result.me.0.user holding.number value ∷ [])
-            (holding_view holding) result.me.0 }
+            (view_of holding.seat) result.me.0 }
     {
         let page = holding.number / PAGE_ITEMS;
         let (seat, was_full) = self.shared.give(holding, value, 1);

@@ -1,5 +1,5 @@
 //! A place at which one user of a fixed pool begins its pulls.
-ghost use Rattle.std.specs.Prelude.{◌≡◌, ◌*◌, IfOk, IfErr};
+ghost use Rattle.std.specs.Prelude.{◌≡◌, ◌*◌, IfOk, IfErr, ◌+◌};
 ghost use Rattle.pool_parts.specs.declared.pull_error.PullError.TheVariants.{Limit};
 
 use super::FixedObjectPool;
@@ -27,14 +27,10 @@ pub struct Near<'p, T, I: Init<T, K>, R: Reset<T, K>, K: Clean<T> = AnyValue> {
 }
 
 impl<'p, T: Drop, I: Init<T, K>, R: Reset<T, K>, K: Clean<T>> Near<'p, T, I, R, K> {
-    ghost use Rattle.fixed_pools.specs.FixedPool.{pool_pages};
-    ghost use Rattle.fixed_pools.specs.FixedReusable.{reusable_pool, reusable_item, reusable_view};
-    ghost use Rattle.fixed_pools.specs.StepCount.{IsWithin, passes_to_take};
-    ghost use Rattle.fixed_pools.specs.FixedAnswer.{PullsFixed, returns_since};
-    ghost use Rattle.fixed_pools.specs.Near.{near_pool};
+    ghost use Rattle.fixed_pools.specs.FixedPool.{fixed_view, fixed_item, PullsFixed, returns_since, IsWithin};
 
     pub(super) fn new(pool: &'p FixedObjectPool<T, I, R, K>, page: usize) -> Near<'p, T, I, R, K>
-        ensures { near_pool result ≡ pool.now }
+        ensures { result.pool.now ≡ pool.now }
     {
         Near { pool, page }
     }
@@ -45,13 +41,12 @@ impl<'p, T: Drop, I: Init<T, K>, R: Reset<T, K>, K: Clean<T>> Near<'p, T, I, R, 
     ///
     /// `Limit`, as of [`FixedObjectPool::pull`].
     pub fn pull(&self) -> Result<FixedReusable<'p, T, I, R, K>, PullError>
-        ensures pool { IfOk result (λ item. (reusable_pool item).now ≡ near_pool self.now) }
+        ensures pool { IfOk result (λ item. (fixed_item item).pool.now ≡ self.now.pool.now) }
         ensures pulled { IfOk result (λ item.
-            PullsFixed K.meets I.answers R.leaves (near_pool self.now) (reusable_item item)) }
+            PullsFixed K.meets I.answers R.leaves self.now.pool.now (fixed_item item).item) }
         ensures brief { IfOk result (λ item.
-            IsWithin
-            (pool_pages (near_pool self.now) * passes_to_take (returns_since (reusable_view item)))
-            (reusable_view item)) }
+            IsWithin ((fixed_view self.now.pool.now).pages * (returns_since (fixed_item item).known
+            + 1)) 0 0 (fixed_item item).known) }
         ensures refused { IfErr result (λ error. error ≡ Limit) }
     {
         self.pool.pull_near(self.page)

@@ -1,8 +1,7 @@
 //! How many items a lazy pool has, and how it makes them beforehand.
 ghost use Rattle.std.specs.Prelude.{◌<◌, ◌≤◌, IfErr};
 
-use super::LazyObjectPool;
-use super::lazy_item::LazyItem;
+use super::{LazyItem, LazyObjectPool};
 use pool_parts::PullError;
 use pool_parts::clean::Clean;
 use pool_parts::closures::{Init, Reset};
@@ -10,13 +9,13 @@ use pool_parts::page::{PAGE_ITEMS, PageId};
 use std::sync::atomic::Ordering::SeqCst;
 
 impl<T: Drop, I: Init<T, K>, R: Reset<T, K>, K: Clean<T>> LazyObjectPool<T, I, R, K> {
-    ghost use Rattle.lazy_pools.specs.LazyAnswer.{RefusesWaiting};
-    ghost use Rattle.lazy_pools.specs.LazyPool.{lazy_items, lazy_init};
+    ghost use Rattle.pool_parts.specs.Answers.{Refuses};
+    ghost use Rattle.lazy_pools.specs.LazyPool.{lazy_init, lazy_view};
 
     /// Returns the most items that the pool has ever had at once, in use or free. It never falls:
     /// an item that is made in the place of one that was discarded or detached isn't counted anew.
     pub fn made(&self) -> usize
-        ensures { result ≤ lazy_items self.now }
+        ensures { result ≤ (lazy_view self.now).items }
     {
         self.made.load(SeqCst).min(self.places.count())
     }
@@ -26,7 +25,7 @@ impl<T: Drop, I: Init<T, K>, R: Reset<T, K>, K: Clean<T>> LazyObjectPool<T, I, R
     /// may be one that never was. It counts the places that a call has taken to make an item there,
     /// and those of items that were leaked.
     pub fn in_use(&self) -> usize
-        ensures { result ≤ lazy_items self.now }
+        ensures { result ≤ (lazy_view self.now).items }
     {
         let items = self.places.count();
         let mut free: usize = 0;
@@ -44,7 +43,7 @@ impl<T: Drop, I: Init<T, K>, R: Reset<T, K>, K: Clean<T>> LazyObjectPool<T, I, R
     ///
     /// `Init` if `init` returned `None`. The items made until then stay.
     pub fn fill(&self, items: usize) -> Result<(), PullError>
-        ensures refused { IfErr result (RefusesWaiting (I.answers (lazy_init self.now) None)) }
+        ensures refused { IfErr result (Refuses ⊥ (I.answers (lazy_init self.now) None) ⊥) }
     {
         for number in 0..self.places.count() {
             if self.existing.load(SeqCst) >= items {
@@ -57,8 +56,8 @@ impl<T: Drop, I: Init<T, K>, R: Reset<T, K>, K: Clean<T>> LazyObjectPool<T, I, R
 
     /// Makes the value of a place that is free and empty.
     fn fill_place(&self, number: usize) -> Result<(), PullError>
-        requires { number < lazy_items self.now }
-        ensures refused { IfErr result (RefusesWaiting (I.answers (lazy_init self.now) None)) }
+        requires { number < (lazy_view self.now).items }
+        ensures refused { IfErr result (Refuses ⊥ (I.answers (lazy_init self.now) None) ⊥) }
     {
         let bit = (number % PAGE_ITEMS) as PageId;
         let Some(pulled) = self.places.pull_at(number / PAGE_ITEMS, bit) else {

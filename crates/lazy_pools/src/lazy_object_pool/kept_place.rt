@@ -1,6 +1,7 @@
 //! The condition of the places of a lazy pool: empty, or with a value that was made by an
 //! initializer or left by a reset.
-ghost use Rattle.lazy_pools.specs.Inside.LazyItem.{IsKeptPlace};
+ghost use Rattle.std.specs.Prelude.{IfSome};
+ghost use Rattle.pool_parts.specs.Answers.{IsMadeOrReset};
 
 use pool_parts::clean::Clean;
 use pool_parts::closures::{Init, Reset};
@@ -15,5 +16,6 @@ pub struct KeptPlace<I, R, K> {
 }
 
 impl<T, I: Init<T, K>, R: Reset<T, K>, K: Clean<T>> Clean<Option<T>> for KeptPlace<I, R, K> {
-    ghost meets = { λ place. IsKeptPlace K.meets I.answers R.leaves place };
+    ghost meets = { λ place.
+        IfSome place (λ value. K.meets value × IsMadeOrReset I.answers R.leaves value) };
 }

@@ -1,5 +1,5 @@
 //! A place at which one user of a lazy pool begins its pulls.
-ghost use Rattle.std.specs.Prelude.{◌≡◌, ◌*◌, None, IfOk, IfErr};
+ghost use Rattle.std.specs.Prelude.{◌≡◌, ◌*◌, None, IfOk, IfErr, ◌+◌, ⊤};
 
 use super::LazyObjectPool;
 use crate::lazy_reusable::LazyReusable;
@@ -28,16 +28,12 @@ pub struct Near<'p, T, I: Init<T, K>, R: Reset<T, K>, K: Clean<T> = AnyValue> {
 }
 
 impl<'p, T: Drop, I: Init<T, K>, R: Reset<T, K>, K: Clean<T>> Near<'p, T, I, R, K> {
-    ghost use Rattle.pool_parts.specs.Answers.{IsMadeOrReset};
-    ghost use Rattle.fixed_pools.specs.StepCount.{IsWithin, passes_to_take};
-    ghost use Rattle.lazy_pools.specs.LazyAnswer.{IsPulledLazily, RefusesLazily};
-    ghost use Rattle.lazy_pools.specs.LazyPool.{lazy_identity, lazy_pages, lazy_opening, lazy_init};
-    ghost use Rattle.lazy_pools.specs.LazyReusable.{lazy_pool, lazy_place, lazy_value, lazy_view};
-    ghost use Rattle.fixed_pools.specs.FixedAnswer.{returns_since};
-    ghost use Rattle.lazy_pools.specs.LazyNear.{lazy_near_pool};
+    ghost use Rattle.pool_parts.specs.Answers.{IsMadeOrReset, Refuses};
+    ghost use Rattle.fixed_pools.specs.FixedPool.{returns_since, IsWithin};
+    ghost use Rattle.lazy_pools.specs.LazyPool.{IsPulledLazily, lazy_init, lazy_view, lazy_item};
 
     pub(super) fn new(pool: &'p LazyObjectPool<T, I, R, K>, page: usize) -> Near<'p, T, I, R, K>
-        ensures { lazy_near_pool result ≡ pool.now }
+        ensures { result.pool.now ≡ pool.now }
     {
         Near { pool, page }
     }
@@ -49,19 +45,20 @@ impl<'p, T: Drop, I: Init<T, K>, R: Reset<T, K>, K: Clean<T>> Near<'p, T, I, R, 
     ///
     /// As of [`LazyObjectPool::pull`].
     pub fn pull(&self) -> Result<LazyReusable<'p, T, I, R, K>, PullError>
-        ensures pool { IfOk result (λ item. (lazy_pool item).now ≡ lazy_near_pool self.now) }
+        ensures pool { IfOk result (λ item. (lazy_item item).pool.now ≡ self.now.pool.now) }
         ensures pulled { IfOk result (λ item.
-            IsPulledLazily (lazy_identity (lazy_near_pool self.now))
-            (lazy_opening (lazy_near_pool self.now))
-            (I.answers (lazy_init (lazy_near_pool self.now))) (lazy_place item) (lazy_value item)) }
-        ensures meets { IfOk result (λ item. K.meets (lazy_value item)) }
+            IsPulledLazily (lazy_view self.now.pool.now).identity
+            (lazy_view self.now.pool.now).opening
+            (I.answers (lazy_init self.now.pool.now)) (lazy_item item).item
+            (lazy_item item).value) }
+        ensures meets { IfOk result (λ item. K.meets (lazy_item item).value) }
         ensures made_or_reset { IfOk result (λ item.
-            IsMadeOrReset I.answers R.leaves (lazy_value item)) }
+            IsMadeOrReset I.answers R.leaves (lazy_item item).value) }
         ensures brief { IfOk result (λ item.
-            IsWithin (lazy_pages (lazy_near_pool self.now) * passes_to_take (returns_since (lazy_view item)))
-            (lazy_view item)) }
+            IsWithin ((lazy_view self.now.pool.now).pages * (returns_since (lazy_item item).known
+            + 1)) 0 0 (lazy_item item).known) }
         ensures refused { IfErr result
-            (RefusesLazily (I.answers (lazy_init (lazy_near_pool self.now)) None)) }
+            (Refuses ⊥ (I.answers (lazy_init self.now.pool.now) None) ⊤) }
     {
         let pool = self.pool;
         match pool.places.pull_near(pool.places.page_round(self.page)) {

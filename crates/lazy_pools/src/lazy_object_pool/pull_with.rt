@@ -1,27 +1,21 @@
 //! Pulls that make their item by a closure of the call, whose error reaches the caller.
-ghost use Rattle.std.specs.Prelude.{◌≡◌, ◌*◌, ⊤, Ok, Err, IfOk, IfErr};
+ghost use Rattle.std.specs.Prelude.{◌≡◌, ◌*◌, ⊤, Ok, Err, IfOk, IfErr, ◌+◌, IfSome};
+ghost use Rattle.pool_parts.specs.Answers.{IsMadeOrReset};
 ghost use Rattle.std.specs.Arc.{arc_value};
 
-use super::LazyObjectPool;
-use super::lazy_item::LazyItem;
 use super::lazy_refused::PullWithError;
+use super::{LazyItem, LazyObjectPool};
 use crate::lazy_owned_reusable::LazyOwnedReusable;
 use crate::lazy_reusable::LazyReusable;
-use fixed_pools::fixed_object_pool::items::pulled_item::PulledItem;
+use fixed_pools::fixed_object_pool::items::PulledItem;
 use pool_parts::clean::Clean;
 use pool_parts::closures::{Init, Reset};
 use std::sync::Arc;
 
 impl<T: Drop, I: Init<T, K>, R: Reset<T, K>, K: Clean<T>> LazyObjectPool<T, I, R, K> {
-    ghost use Rattle.lazy_pools.specs.Inside.LazyItem.{IsKeptPlace};
-    ghost use Rattle.lazy_pools.specs.LazyAnswer.{IsPulledLazily, MakesValue, RefusesWith};
-    ghost use Rattle.lazy_pools.specs.LazyPool.{lazy_identity, lazy_opening, lazy_pages};
-    ghost use Rattle.lazy_pools.specs.LazyReusable.{lazy_pool, lazy_place, lazy_value, lazy_view};
-    ghost use Rattle.lazy_pools.specs.Inside.LazyItem.{lazy_item_place};
-    ghost use Rattle.fixed_pools.specs.StepCount.{IsWithin, passes_to_take};
-    ghost use Rattle.fixed_pools.specs.FixedAnswer.{returns_since};
-    ghost use Rattle.fixed_pools.specs.FixedAnswer.{IsPulledFrom};
-    ghost use Rattle.fixed_pools.specs.Inside.FixedItem.{pulled_item};
+    ghost use Rattle.lazy_pools.specs.LazyPool.{IsPulledLazily, RefusesWith, lazy_view, lazy_item};
+    ghost use Rattle.pool_parts.specs.Page.{held_item};
+    ghost use Rattle.fixed_pools.specs.FixedPool.{returns_since, IsPulledFrom, IsWithin};
 
     /// Pulls a free item as `pull` does. If its place is empty, `make` makes the value in place of
     /// the pool's `init`. It runs under no lock, and the item is in use meanwhile.
@@ -37,16 +31,17 @@ impl<T: Drop, I: Init<T, K>, R: Reset<T, K>, K: Clean<T>> LazyObjectPool<T, I, R
     ) -> Result<LazyReusable<'_, T, I, R, K>, PullWithError<T, E>>
         requires may_call { F.pre make }
         requires each_meets { (value : T) → F.post make (Ok value) → K.meets value }
-        ensures pool { IfOk result (λ item. (lazy_pool item).now ≡ self.now) }
+        ensures pool { IfOk result (λ item. (lazy_item item).pool.now ≡ self.now) }
         ensures pulled { IfOk result (λ item.
-            IsPulledLazily (lazy_identity self.now) (lazy_opening self.now)
-            (MakesValue (F.post make)) (lazy_place item) (lazy_value item)) }
-        ensures meets { IfOk result (λ item. K.meets (lazy_value item)) }
+            IsPulledLazily (lazy_view self.now).identity (lazy_view self.now).opening
+            (λ made. IfSome made (λ value. F.post make (Ok value))) (lazy_item item).item
+            (lazy_item item).value) }
+        ensures meets { IfOk result (λ item. K.meets (lazy_item item).value) }
         ensures brief { IfOk result (λ item.
-            IsWithin (lazy_pages self.now * passes_to_take (returns_since (lazy_view item)))
-            (lazy_view item)) }
+            IsWithin ((lazy_view self.now).pages * (returns_since (lazy_item item).known + 1)) 0 0
+            (lazy_item item).known) }
         ensures refused { IfErr result
-            (RefusesWith (lazy_identity self.now) (lazy_opening self.now) ⊥
+            (RefusesWith (lazy_view self.now).identity (lazy_view self.now).opening ⊥
             (λ cause. F.post make (Err cause))) }
     {
         match self.places.pull() {
@@ -70,17 +65,19 @@ impl<T: Drop, I: Init<T, K>, R: Reset<T, K>, K: Clean<T>> LazyObjectPool<T, I, R
     ) -> Result<LazyOwnedReusable<T, I, R, K>, PullWithError<T, E>>
         requires may_call { F.pre make }
         requires each_meets { (value : T) → F.post make (Ok value) → K.meets value }
-        ensures pool { IfOk result (λ item. arc_value (lazy_pool item) ≡ arc_value self.now) }
+        ensures pool { IfOk result (λ item. arc_value (lazy_item item).pool ≡ arc_value self.now) }
         ensures pulled { IfOk result (λ item.
-            IsPulledLazily (lazy_identity (arc_value self.now)) (lazy_opening (arc_value self.now))
-            (MakesValue (F.post make)) (lazy_place item) (lazy_value item)) }
-        ensures meets { IfOk result (λ item. K.meets (lazy_value item)) }
+            IsPulledLazily (lazy_view (arc_value self.now)).identity
+            (lazy_view (arc_value self.now)).opening
+            (λ made. IfSome made (λ value. F.post make (Ok value))) (lazy_item item).item
+            (lazy_item item).value) }
+        ensures meets { IfOk result (λ item. K.meets (lazy_item item).value) }
         ensures brief { IfOk result (λ item.
-            IsWithin
-            (lazy_pages (arc_value self.now) * passes_to_take (returns_since (lazy_view item)))
-            (lazy_view item)) }
+            IsWithin ((lazy_view (arc_value self.now)).pages * (returns_since (lazy_item item).known
+            + 1)) 0 0 (lazy_item item).known) }
         ensures refused { IfErr result
-            (RefusesWith (lazy_identity (arc_value self.now)) (lazy_opening (arc_value self.now)) ⊤
+            (RefusesWith (lazy_view (arc_value self.now)).identity
+            (lazy_view (arc_value self.now)).opening ⊤
             (λ cause. F.post make (Err cause))) }
     {
         let Ok(owner) = Arc::try_clone(self) else {
@@ -102,18 +99,20 @@ impl<T: Drop, I: Init<T, K>, R: Reset<T, K>, K: Clean<T>> LazyObjectPool<T, I, R
         pulled: PulledItem<Option<T>>,
         make: F,
     ) -> Result<LazyItem<T>, PullWithError<T, E>>
-        requires pulled { IsPulledFrom (lazy_identity self.now) (lazy_opening self.now)
-            (pulled_item pulled) }
-        requires kept { IsKeptPlace K.meets I.answers R.leaves pulled.value }
+        requires pulled { IsPulledFrom (lazy_view self.now).identity (lazy_view self.now).opening
+            (held_item pulled.holding pulled.value) }
+        requires kept { IfSome pulled.value (λ value.
+            K.meets value × IsMadeOrReset I.answers R.leaves value) }
         requires may_call { F.pre make }
         requires each_meets { (value : T) → F.post make (Ok value) → K.meets value }
         ensures same { IfOk result (λ item. item.holding ≡ pulled.holding) }
         ensures pulled { IfOk result (λ item.
-            IsPulledLazily (lazy_identity self.now) (lazy_opening self.now)
-            (MakesValue (F.post make)) (lazy_item_place item) item.value) }
+            IsPulledLazily (lazy_view self.now).identity (lazy_view self.now).opening
+            (λ made. IfSome made (λ value. F.post make (Ok value)))
+            (held_item item.holding (Some item.value)) item.value) }
         ensures meets { IfOk result (λ item. K.meets item.value) }
         ensures refused { IfErr result
-            (RefusesWith (lazy_identity self.now) (lazy_opening self.now) ⊥
+            (RefusesWith (lazy_view self.now).identity (lazy_view self.now).opening ⊥
             (λ cause. F.post make (Err cause))) }
     {
         let PulledItem { holding, value } = pulled;

@@ -1,24 +1,25 @@
 //! How a pull of a lazy pool waits for a place to be returned.
 ghost use Rattle.std.specs.Prelude.{IfSome};
+ghost use Rattle.pool_parts.specs.Answers.{IsMadeOrReset};
 
 use super::LazyObjectPool;
-use fixed_pools::fixed_object_pool::items::pulled_item::PulledItem;
+use fixed_pools::fixed_object_pool::items::PulledItem;
 use pool_parts::clean::Clean;
 use pool_parts::closures::{Init, Reset};
 use std::sync::Wait;
 use std::time::{Clock, Duration, Instant};
 
 impl<T: Drop, I: Init<T, K>, R: Reset<T, K>, K: Clean<T>> LazyObjectPool<T, I, R, K> {
-    ghost use Rattle.lazy_pools.specs.Inside.LazyItem.{IsKeptPlace};
-    ghost use Rattle.lazy_pools.specs.LazyPool.{lazy_identity, lazy_opening};
-    ghost use Rattle.fixed_pools.specs.FixedAnswer.{IsPulledFrom};
-    ghost use Rattle.fixed_pools.specs.Inside.FixedItem.{pulled_item};
+    ghost use Rattle.lazy_pools.specs.LazyPool.{lazy_view};
+    ghost use Rattle.fixed_pools.specs.FixedPool.{IsPulledFrom};
+    ghost use Rattle.pool_parts.specs.Page.{held_item};
 
     /// Takes a free place, or waits until one is returned.
     pub(super) fn place_waiting<W: Wait>(&self, rt: &W) -> PulledItem<Option<T>>
-        ensures pulled { IsPulledFrom (lazy_identity self.now) (lazy_opening self.now)
-            (pulled_item result) }
-        ensures kept { IsKeptPlace K.meets I.answers R.leaves result.value }
+        ensures pulled { IsPulledFrom (lazy_view self.now).identity (lazy_view self.now).opening
+            (held_item result.holding result.value) }
+        ensures kept { IfSome result.value (λ value.
+            K.meets value × IsMadeOrReset I.answers R.leaves value) }
     {
         match self.place_now() {
             Some(pulled) => pulled,
@@ -34,9 +35,11 @@ impl<T: Drop, I: Init<T, K>, R: Reset<T, K>, K: Clean<T>> LazyObjectPool<T, I, R
         time: Duration,
     ) -> Option<PulledItem<Option<T>>>
         ensures pulled { IfSome result (λ pulled.
-            IsPulledFrom (lazy_identity self.now) (lazy_opening self.now) (pulled_item pulled)) }
+            IsPulledFrom (lazy_view self.now).identity (lazy_view self.now).opening
+            (held_item pulled.holding pulled.value)) }
         ensures kept { IfSome result (λ pulled.
-            IsKeptPlace K.meets I.answers R.leaves pulled.value) }
+            IfSome pulled.value (λ value.
+            K.meets value × IsMadeOrReset I.answers R.leaves value)) }
     {
         match self.place_now() {
             Some(pulled) => Some(pulled),
@@ -48,9 +51,11 @@ impl<T: Drop, I: Init<T, K>, R: Reset<T, K>, K: Clean<T>> LazyObjectPool<T, I, R
     #[inline(always)]
     fn place_now(&self) -> Option<PulledItem<Option<T>>>
         ensures pulled { IfSome result (λ pulled.
-            IsPulledFrom (lazy_identity self.now) (lazy_opening self.now) (pulled_item pulled)) }
+            IsPulledFrom (lazy_view self.now).identity (lazy_view self.now).opening
+            (held_item pulled.holding pulled.value)) }
         ensures kept { IfSome result (λ pulled.
-            IsKeptPlace K.meets I.answers R.leaves pulled.value) }
+            IfSome pulled.value (λ value.
+            K.meets value × IsMadeOrReset I.answers R.leaves value)) }
     {
         self.places.pull().ok()
     }
@@ -58,9 +63,10 @@ impl<T: Drop, I: Init<T, K>, R: Reset<T, K>, K: Clean<T>> LazyObjectPool<T, I, R
     /// Waits for a place: the thread counts as waiting, and tries again each time that a return
     /// wakes it.
     fn place_later<W: Wait>(&self, rt: &W) -> PulledItem<Option<T>>
-        ensures pulled { IsPulledFrom (lazy_identity self.now) (lazy_opening self.now)
-            (pulled_item result) }
-        ensures kept { IsKeptPlace K.meets I.answers R.leaves result.value }
+        ensures pulled { IsPulledFrom (lazy_view self.now).identity (lazy_view self.now).opening
+            (held_item result.holding result.value) }
+        ensures kept { IfSome result.value (λ value.
+            K.meets value × IsMadeOrReset I.answers R.leaves value) }
     {
         self.waiters.enter();
         for _ in rt.forever() {
@@ -77,9 +83,11 @@ impl<T: Drop, I: Init<T, K>, R: Reset<T, K>, K: Clean<T>> LazyObjectPool<T, I, R
     /// Waits for a place as `place_later` does, for `time` at most.
     fn place_soon<W: Wait + Clock>(&self, rt: &W, time: Duration) -> Option<PulledItem<Option<T>>>
         ensures pulled { IfSome result (λ pulled.
-            IsPulledFrom (lazy_identity self.now) (lazy_opening self.now) (pulled_item pulled)) }
+            IsPulledFrom (lazy_view self.now).identity (lazy_view self.now).opening
+            (held_item pulled.holding pulled.value)) }
         ensures kept { IfSome result (λ pulled.
-            IsKeptPlace K.meets I.answers R.leaves pulled.value) }
+            IfSome pulled.value (λ value.
+            K.meets value × IsMadeOrReset I.answers R.leaves value)) }
     {
         let start = Instant::now(rt).ok();
         self.waiters.enter();

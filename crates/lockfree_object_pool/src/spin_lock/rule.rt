@@ -14,7 +14,7 @@ pub enum Visitor {
 pub struct OneHolder;
 
 impl<T> TableRule<Option<T>, Visitor, ()> for OneHolder {
-    ghost use Rattle.lockfree_object_pool.specs.Inside.Lock.{IsLock};
+    ghost use Rattle.lockfree_object_pool.specs.Lock.{IsLock};
     ghost use Rattle.lockfree_object_pool.specs.declared.spin_lock.rule.Visitor.TheVariants.{Passing};
 
     ghost holds = { λ _. IsLock };
@@ -22,20 +22,25 @@ impl<T> TableRule<Option<T>, Visitor, ()> for OneHolder {
     ghost first = { λ _. Passing };
 }
 
-/// An exchange by which the word is taken.
+/// An exchange by which the word is taken: the visitor has the value if the word was free, and
+/// nothing otherwise.
 pub struct Take;
 
 impl<T> Play<Option<T>, Visitor> for Take {
-    ghost use Rattle.lockfree_object_pool.specs.Inside.Lock.{TakesIfFree};
+    ghost use Rattle.std.specs.Prelude.{◌≡◌, ◌≢◌, []};
+    ghost use Rattle.lockfree_object_pool.specs.Lock.{HasValue};
+    ghost use Rattle.lockfree_object_pool.specs.declared.spin_lock.rule.Visitor.TheVariants.{Passing};
 
-    ghost then = { λ _ _ word after. TakesIfFree word after };
+    ghost then = { λ _ _ word after.
+        (word ≡ 0 → HasValue after) × (word ≢ 0 → after ≡ (Passing, [])) };
 }
 
-/// A store of free.
+/// A store of free, after which the visitor has nothing.
 pub struct Free;
 
 impl<T> Play<Option<T>, Visitor> for Free {
-    ghost use Rattle.lockfree_object_pool.specs.Inside.Lock.{HasNothing};
+    ghost use Rattle.std.specs.Prelude.{◌≡◌, []};
+    ghost use Rattle.lockfree_object_pool.specs.declared.spin_lock.rule.Visitor.TheVariants.{Passing};
 
-    ghost then = { λ _ _ _ after. HasNothing after };
+    ghost then = { λ _ _ _ after. after ≡ (Passing, []) };
 }

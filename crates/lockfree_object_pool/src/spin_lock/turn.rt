@@ -1,6 +1,5 @@
 //! The turn of a lock's one holder, while the value is out.
 ghost use Rattle.std.specs.Prelude.{◌≡◌};
-ghost use Rattle.lockfree_object_pool.specs.Inside.Lock.{HasNothing};
 
 use crate::spin_lock::rule::{Free, Visitor};
 use crate::spin_lock::{FREE, PLACE, SpinLock, WORD};
@@ -29,10 +28,13 @@ impl<'s, T> Model for Turn<'s, T> {
 }
 
 impl<'s, T> Turn<'s, T> {
+    ghost use Rattle.std.specs.Prelude.{[]};
+    ghost use Rattle.lockfree_object_pool.specs.declared.spin_lock.rule.Visitor.TheVariants.{Passing};
+
     /// Puts the value back, and then frees the lock.
     pub(super) fn end(self, value: T) -> Seat<Option<T>, Visitor>
         ensures same { (result.table_id ≡ self.entry.0) × (result.id ≡ self.entry.1) }
-        ensures over { HasNothing result.me }
+        ensures over { result.me ≡ (Passing, []) }
     {
         let Turn { lock, mut seat } = self;
         let shared = &lock.table.shared;

@@ -10,7 +10,7 @@ use Rattle.object_pool_cores.specs.declared.sequential.item.Item.{Item}
 use Rattle.object_pool_cores.specs.declared.sequential.stack_core.StackCore.{StackCore}
 use Rattle.object_pool_cores.specs.Item.{item_value, has_room, with_value}
 use Rattle.object_pool_cores.specs.Bag.{PullsFromBag, ReturnsToBag, pulled_value}
-use Rattle.kept_values.specs.LastIn.{TakesFirst, StaysEmpty}
+use Rattle.object_pool_cores.specs.LastIn.{TakesFirst, StaysEmpty}
 use Rattle.object_pool_cores.specs.LastIn.{PullsLast}
 use Rattle.object_pool_cores.specs.Stack.{StackPulls, StackGives, HoldRooms, kept_of}
 use Rattle.object_pool_cores.specs.Laws.HeldItems.{slice_get-from_set, slice_get-from_push}

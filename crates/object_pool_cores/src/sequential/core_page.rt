@@ -1,10 +1,9 @@
 //! A sequential page of 32 items.
-ghost use Rattle.std.specs.Prelude.{◌≡◌, ◌↔◌, Option, Some, None, MatchOption, IsTrue, IfOk, IfErr};
+ghost use Rattle.std.specs.Prelude.{◌≡◌, ◌↔◌, Option, Some, None, MatchOption, IsTrue, IfOk, IfErr, ⊤};
 ghost use Rattle.std.specs.Prelude.{IfSome, slice_set};
 ghost use Rattle.object_pool_cores.specs.OnePage.{IsMadePage, HasNoFreeId, IsMask, IsOutId};
 ghost use Rattle.object_pool_cores.specs.OnePage.{TakesLeastId};
-ghost use Rattle.pool_parts.specs.Answers.{MayMake};
-ghost use Rattle.pool_parts.specs.Refusal.{RefusesMaking};
+ghost use Rattle.pool_parts.specs.Answers.{MayMake, Refuses};
 
 use pool_parts::PullError;
 use pool_parts::clean::Clean;
@@ -57,7 +56,7 @@ impl<T: Drop, K: Clean<T>> CorePage<T, K> {
     pub fn new<I: Fn() -> Option<T>>(alloc: Global, init: &I) -> Result<CorePage<T, K>, PullError>
         requires { MayMake I.pre I.post K.meets init.now }
         ensures made { IfOk result (IsMadePage (λ answer. I.post init.now answer) K.meets) }
-        ensures refused { IfErr result (RefusesMaking (I.post init.now None)) }
+        ensures refused { IfErr result (Refuses ⊤ (I.post init.now None) ⊥) }
     {
         Ok(CorePage {
             word: u32::MAX,
@@ -128,7 +127,7 @@ fn made_items<T: Drop, I: Fn() -> Option<T>, K: Clean<T>>(
     requires { MayMake I.pre I.post K.meets init.now }
     ensures made { IfOk result
         (λ page. IsMadePage (λ answer. I.post init.now answer) K.meets page.items) }
-    ensures refused { IfErr result (RefusesMaking (I.post init.now None)) }
+    ensures refused { IfErr result (Refuses ⊤ (I.post init.now None) ⊥) }
 {
     let mut page = Vec::with_capacity(alloc, PAGE_ITEMS)?;
     for _id in 0..PAGE_ITEMS {

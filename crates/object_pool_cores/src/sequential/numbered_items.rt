@@ -1,12 +1,12 @@
 //! The items of a sequential linear pool, by their numbers.
-ghost use Rattle.std.specs.Prelude.{◌≡◌, ◌≤◌, ◌↔◌, ◌*◌, ◌+◌, ◌-◌, ◌/◌, min, [], Some, None, Err};
+ghost use Rattle.std.specs.Prelude.{◌≡◌, ◌≤◌, ◌↔◌, ◌*◌, ◌+◌, ◌-◌, ◌/◌, min, [], Some, None, Err, ⊤};
 ghost use Rattle.std.specs.Prelude.{OnOk, OnErr, IfSome, IfNone, IsTrue, IfOk, IfErr, ℕ, nat_lt};
 ghost use Rattle.std.specs.Prelude.{length, slice_get, is_some, if◌then◌else◌};
 ghost use Rattle.object_pool_cores.specs.Item.{item_value, item_number};
 ghost use Rattle.object_pool_cores.specs.PageProbes.{ProbesEach};
 ghost use Rattle.object_pool_cores.specs.OnePage.{IsMadePage, HasNoFreeId};
 ghost use Rattle.object_pool_cores.specs.Inside.Numbered.{AreWhole, HasNoneBelow, laid_out};
-ghost use Rattle.pool_parts.specs.Refusal.{RefusesMaking};
+ghost use Rattle.pool_parts.specs.Answers.{Refuses};
 ghost use Rattle.pool_world.specs.Pool.{Free, Out, IsPool, IsSame, with_place};
 
 use crate::sequential::{CorePage, Item};
@@ -174,7 +174,7 @@ fn made_page<T: Drop, I: Init<T, K>, K: Clean<T>>(
     init: &I,
 ) -> Result<CorePage<T, K>, PullError>
     ensures ok { IfOk result (IsMadePage (I.answers init.now) K.meets) }
-    ensures refused { IfErr result (RefusesMaking (I.answers init.now None)) }
+    ensures refused { IfErr result (Refuses ⊤ (I.answers init.now None) ⊥) }
 {
     CorePage::new(alloc, &|| init.make())
 }

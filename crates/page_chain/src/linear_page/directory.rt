@@ -2,9 +2,9 @@
 //!
 //! Row `b` has the links to the pages `2^b` to `2^(b+1) - 1`, and is made when the first of them is
 //! needed. Beside its link each page has a hint, which is set if the page may have a free item.
-ghost use Rattle.std.specs.Prelude.{◌≡◌, ◌^◌, ◌<◌, length, IfOk, IfErr, IfSome};
+ghost use Rattle.std.specs.Prelude.{◌≡◌, ◌^◌, ◌<◌, length, IfOk, IfErr, IfSome, ⊤};
 ghost use Rattle.once_cell.specs.Once.{cell_name};
-ghost use Rattle.pool_parts.specs.Refusal.{RefusesMaking};
+ghost use Rattle.pool_parts.specs.Answers.{Refuses};
 
 use super::hints::{HINTS, HintWord};
 use super::opened_page::OpenedPage;
@@ -32,7 +32,7 @@ impl<T: Drop, K: Clean<T>, O: Clean<T>> Row<T, K, O> {
     fn new(alloc: Global, number: u32) -> Result<Box<Row<T, K, O>>, PullError>
         requires { number < 64 }
         ensures len { IfOk result (λ row. length row.value.links.items ≡ 2 ^ number) }
-        ensures refused { IfErr result (RefusesMaking ⊥) }
+        ensures refused { IfErr result (Refuses ⊤ ⊥ ⊥) }
     {
         let len = 1 << number;
         let links = empty_cells(alloc, len)?;
@@ -54,7 +54,7 @@ impl<T: Drop, K: Clean<T>, O: Clean<T>> Row<T, K, O> {
 /// Returns set-once cells in which nothing is set.
 fn empty_cells<X: Drop>(alloc: Global, count: usize) -> Result<Vec<OnceBox<X>>, PullError>
     ensures len { IfOk result (λ cells. length cells.items ≡ count) }
-    ensures refused { IfErr result (RefusesMaking ⊥) }
+    ensures refused { IfErr result (Refuses ⊤ ⊥ ⊥) }
 {
     let mut cells = Vec::with_capacity(alloc, count)?;
     for _ in 0..count {
@@ -65,7 +65,7 @@ fn empty_cells<X: Drop>(alloc: Global, count: usize) -> Result<Vec<OnceBox<X>>, 
 
 /// Returns words in which no hint is set.
 fn no_hints(alloc: Global, words: usize) -> Result<Vec<HintWord>, PullError>
-    ensures refused { IfErr result (RefusesMaking ⊥) }
+    ensures refused { IfErr result (Refuses ⊤ ⊥ ⊥) }
 {
     let mut hints = Vec::with_capacity(alloc, words)?;
     for _ in 0..words {
@@ -97,11 +97,9 @@ impl<T, K: Clean<T>, O: Clean<T>> Model for Directory<T, K, O> {
 
 impl<T: Drop, K: Clean<T>, O: Clean<T>> Directory<T, K, O> {
     ghost use Rattle.std.specs.Arc.{arc_value};
-    ghost use Rattle.page_chain.specs.LinkNote.{known_link};
-    ghost use Rattle.page_chain.specs.LinkRow.{IsLinkTo, link_at};
+    ghost use Rattle.page_chain.specs.Walk.{known_link, IsLinkedAt};
+    ghost use Rattle.page_chain.specs.Links.{IsLinkTo};
     ghost use Rattle.pool_parts.specs.Page.{page_identity};
-    ghost use Rattle.pool_parts.specs.Holding.{holding_page};
-    ghost use Rattle.page_chain.specs.Walk.{IsLinkedAt};
 
     /// Creates a directory of no links.
     ///
@@ -109,7 +107,7 @@ impl<T: Drop, K: Clean<T>, O: Clean<T>> Directory<T, K, O> {
     ///
     /// `Memory`.
     pub(super) fn new(alloc: Global) -> Result<Directory<T, K, O>, PullError>
-        ensures refused { IfErr result (RefusesMaking ⊥) }
+        ensures refused { IfErr result (Refuses ⊤ ⊥ ⊥) }
     {
         Ok(Directory {
             alloc,
@@ -129,8 +127,8 @@ impl<T: Drop, K: Clean<T>, O: Clean<T>> Directory<T, K, O> {
         number: PageNumber<T, K, O>,
         holding: &Holding<T>,
     ) -> &OpenedPage<T, K, O>
-        requires { ∥ IsLinkedAt self.now number (holding_page holding.now) ∥₁ }
-        ensures { page_identity (arc_value result.now) ≡ holding_page holding.now }
+        requires { ∥ IsLinkedAt self.now number holding.now.seat.table_id ∥₁ }
+        ensures { page_identity (arc_value result.now) ≡ holding.now.seat.table_id }
     {
         let place = self.place(number.get());
         let mut note = number.into_note(&place);
@@ -142,7 +140,8 @@ impl<T: Drop, K: Clean<T>, O: Clean<T>> Directory<T, K, O> {
 
     /// Returns the link to the first page that a hint names.
     pub(super) fn hinted(&self) -> Option<HintedLink<'_, T, K, O>>
-        ensures { IfSome result (λ hinted. IsLinkTo self.now hinted.number (known_link hinted.note)) }
+        ensures { IfSome result (λ hinted. IsLinkTo self.now hinted.number
+            (known_link hinted.note)) }
     {
         let mut from = 0;
         while from < u64::BITS {
@@ -162,7 +161,8 @@ impl<T: Drop, K: Clean<T>, O: Clean<T>> Directory<T, K, O> {
     /// Returns the link to the first page of a row that a hint names.
     fn hinted_in(&self, row_number: u32) -> Option<HintedLink<'_, T, K, O>>
         requires { row_number < 64 }
-        ensures { IfSome result (λ hinted. IsLinkTo self.now hinted.number (known_link hinted.note)) }
+        ensures { IfSome result (λ hinted. IsLinkTo self.now hinted.number
+            (known_link hinted.note)) }
     {
         let cell = &self.rows[row_number as usize];
         let first = 1usize << row_number;
@@ -210,7 +210,7 @@ impl<T: Drop, K: Clean<T>, O: Clean<T>> Directory<T, K, O> {
     /// Returns where the link to a page lies.
     pub(super) fn place(&self, number: usize) -> LinkPlace<'_, T, K, O>
         requires { 0 < number }
-        ensures { IsLinkTo self.now number (link_at result) }
+        ensures { IsLinkTo self.now number (cell_name result.row.now, result.offset) }
     {
         let row_number = number.ilog2();
         LinkPlace {
@@ -258,9 +258,7 @@ impl<T, K: Clean<T>, O: Clean<T>> Clone for LinkPlace<'_, T, K, O> {
 impl<'c, T: Drop, K: Clean<T>, O: Clean<T>> LinkPlace<'c, T, K, O> {
     ghost use Rattle.std.specs.Prelude.{None, Some, IfNone};
     ghost use Rattle.std.specs.Arc.{arc_value};
-    ghost use Rattle.page_chain.specs.LinkRow.{link_at};
-    ghost use Rattle.page_chain.specs.LinkNote.{IsNewNoteOf, known_link, known_next};
-    ghost use Rattle.page_chain.specs.Inside.Links.{link_cell};
+    ghost use Rattle.page_chain.specs.Walk.{known_link, known_next};
     ghost use Rattle.pool_parts.specs.Page.{page_identity};
 
     /// Returns the word of the page's hint, if the row exists.
@@ -277,7 +275,10 @@ impl<'c, T: Drop, K: Clean<T>, O: Clean<T>> LinkPlace<'c, T, K, O> {
 
     /// Returns a note of the link, if the row exists.
     pub(super) fn known_row(&self) -> Option<LinkNote<T, K, O>>
-        ensures { IfSome result (IsNewNoteOf (link_at self.now)) }
+        ensures { IfSome result (λ note. (known_link note ≡ (
+          cell_name self.now.row.now,
+          self.now.offset,
+        )) × (known_next note ≡ None)) }
     {
         let mut row = self.row.note();
         let links = &self.row.get_as(&mut row)?.links;
@@ -295,8 +296,11 @@ impl<'c, T: Drop, K: Clean<T>, O: Clean<T>> LinkPlace<'c, T, K, O> {
     ///
     /// `Memory`.
     pub(super) fn new_note(&self) -> Result<LinkNote<T, K, O>, PullError>
-        ensures note { IfOk result (IsNewNoteOf (link_at self.now)) }
-        ensures refused { IfErr result (RefusesMaking ⊥) }
+        ensures note { IfOk result (λ note. (known_link note ≡ (
+          cell_name self.now.row.now,
+          self.now.offset,
+        )) × (known_next note ≡ None)) }
+        ensures refused { IfErr result (Refuses ⊤ ⊥ ⊥) }
     {
         match self.known_row() {
             Some(note) => Ok(note),
@@ -307,8 +311,11 @@ impl<'c, T: Drop, K: Clean<T>, O: Clean<T>> LinkPlace<'c, T, K, O> {
     /// Makes the row, and returns a note of the link.
     #[cold]
     fn made_row(&self) -> Result<LinkNote<T, K, O>, PullError>
-        ensures note { IfOk result (IsNewNoteOf (link_at self.now)) }
-        ensures refused { IfErr result (RefusesMaking ⊥) }
+        ensures note { IfOk result (λ note. (known_link note ≡ (
+          cell_name self.now.row.now,
+          self.now.offset,
+        )) × (known_next note ≡ None)) }
+        ensures refused { IfErr result (Refuses ⊤ ⊥ ⊥) }
     {
         let (alloc, number) = (self.alloc, self.row_number);
         self.row.get_or_try_init(move || Row::new(alloc, number))?;
@@ -318,7 +325,7 @@ impl<'c, T: Drop, K: Clean<T>, O: Clean<T>> LinkPlace<'c, T, K, O> {
 
     /// Returns the page that is linked here, if one is. Then the note knows it.
     pub(super) fn get_as(&self, note: &mut LinkNote<T, K, O>) -> Option<&'c OpenedPage<T, K, O>>
-        requires { known_link note.old ≡ link_at self.now }
+        requires { known_link note.old ≡ (cell_name self.now.row.now, self.now.offset) }
         ensures link { known_link note.new ≡ known_link note.old }
         ensures none { IfNone result (known_next note.old ≡ None) }
         ensures unlearned { IfNone result (known_next note.new ≡ known_next note.old) }
@@ -333,11 +340,11 @@ impl<'c, T: Drop, K: Clean<T>, O: Clean<T>> LinkPlace<'c, T, K, O> {
 
     /// Returns the link, by a note of it.
     pub(super) fn link(&self, note: &mut LinkNote<T, K, O>) -> &'c OnceBox<OpenedPage<T, K, O>>
-        requires { known_link note.old ≡ link_at self.now }
+        requires { known_link note.old ≡ (cell_name self.now.row.now, self.now.offset) }
         ensures row { note.new.row.cell ≡ note.old.row.cell }
         ensures rest { (note.new.link ≡ note.old.link)
             × (note.new.offset.value ≡ note.old.offset.value) }
-        ensures cell { cell_name result.now ≡ link_cell note.old }
+        ensures cell { cell_name result.now ≡ note.old.link.cell }
     {
         let Some(row) = self.row.get_as(&mut note.row) else {
             unreachable!()

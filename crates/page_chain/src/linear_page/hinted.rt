@@ -11,18 +11,13 @@
 //! Until then a hint may be missing, which costs a walk, or be left over, which costs a look.
 //! Neither decides anything. Only the walk links a page or ends at a limit, with the evidence of
 //! each page that it was full in this very pull.
-ghost use Rattle.std.specs.Prelude.{◌≡◌, ◌≤◌, ◌<◌, None, IfSome, IsSome, IfOk, IfErr};
+ghost use Rattle.std.specs.Prelude.{◌≡◌, ◌≤◌, ◌<◌, None, IfSome, IsSome, IfOk, IfErr, ⊤};
 ghost use Rattle.std.specs.Arc.{arc_value};
-ghost use Rattle.pool_parts.specs.Answers.{MayOpen};
-ghost use Rattle.pool_parts.specs.FullSeen.{full_page, IsAnswerAfter};
-ghost use Rattle.pool_parts.specs.Note.{note_page};
-ghost use Rattle.page_chain.specs.LinearPage.{first_page};
-ghost use Rattle.page_chain.specs.Inside.Links.{first_opening};
+ghost use Rattle.pool_parts.specs.Answers.{MayMake, Refuses};
+ghost use Rattle.pool_parts.specs.Slot.{IsAnswerAfter, slot_item};
+ghost use Rattle.page_chain.specs.Walk.{first_page, IsTaken, IsRefusedBy, cause_of};
+ghost use Rattle.page_chain.specs.WalkSteps.{IsAnsweredBy, IsKnownAt};
 ghost use Rattle.pool_parts.specs.Page.{page_identity};
-ghost use Rattle.pool_parts.specs.Refusal.{RefusesPull};
-ghost use Rattle.pool_parts.specs.Slot.{slot_item};
-ghost use Rattle.page_chain.specs.Walk.{start_of, number_of, IsTaken, IsRefusedBy, cause_of};
-ghost use Rattle.page_chain.specs.Inside.Walk.{IsAnsweredBy, IsOpenedWith, IsKnownAt};
 
 use super::directory::HintedLink;
 use super::opened_page::OpenedPage;
@@ -34,8 +29,8 @@ use pool_parts::page::{Allocated, FullSeen, Page, PageNote, PullPass};
 impl<T: Drop, K: Clean<T>, O: Clean<T>> Chain<T, K, O> {
     /// Pulls from the first page.
     pub fn ask_first<'s, 'p>(&'s self, pass: &'p PullPass) -> Allocated<'s, 'p, T, K>
-        ensures answer { IsAnsweredBy K.meets O.meets (first_page self.now) result }
-        ensures opening { IsOpenedWith (first_opening self.now) result }
+        ensures { IsAnsweredBy K.meets O.meets (first_page self.now).page
+            (first_page self.now).opening result }
     {
         self.first.take(pass).answer
     }
@@ -47,8 +42,8 @@ impl<T: Drop, K: Clean<T>, O: Clean<T>> Chain<T, K, O> {
         pass: &'p PullPass,
         note: PageNote<T>,
     ) -> Allocated<'s, 'p, T, K>
-        requires { note_page note ≡ first_page self.now }
-        ensures { IsAnswerAfter K.meets (first_page self.now) note result }
+        requires { note.seat.table_id ≡ (first_page self.now).page }
+        ensures { IsAnswerAfter K.meets (first_page self.now).page note result }
     {
         let Ok(answer) = self.first.owner().try_alloc_from(pass, note) else {
             unreachable!()
@@ -58,7 +53,7 @@ impl<T: Drop, K: Clean<T>, O: Clean<T>> Chain<T, K, O> {
 
     /// Returns the number of the first page.
     pub fn first_number(&self) -> PageNumber<T, K, O>
-        ensures { number_of result ≡ 0 }
+        ensures { result.number ≡ 0 }
     {
         PageNumber::of_start(self.directory.allocator(), 0)
     }
@@ -75,16 +70,18 @@ impl<T: Drop, K: Clean<T>, O: Clean<T>> Chain<T, K, O> {
         limit: Option<usize>,
         init: &I,
     ) -> Result<WalkEnd<'s, T, K, O>, WalkRefusal<'p, T, K, O>>
-        requires of_first { full_page seen ≡ first_page self.now }
+        requires of_first { seen.seat.table_id ≡ (first_page self.now).page }
         requires some_page { IfSome limit (λ pages. 1 ≤ pages) }
-        requires opens { MayOpen I.pre I.post K.meets O.meets init.now }
+        requires may_make { MayMake I.pre I.post K.meets init.now }
+        requires opens { MayMake I.pre I.post O.meets init.now }
         ensures taken { IfOk result (λ reached.
-            IsTaken K.meets O.meets (start_of self.now) limit reached.number (slot_item reached.slot)) }
-        ensures past_first { IfOk result (λ reached. 0 < number_of reached.number) }
+            IsTaken K.meets O.meets (first_page self.now) limit reached.number
+            (slot_item reached.slot)) }
+        ensures past_first { IfOk result (λ reached. 0 < reached.number.number) }
         ensures evidence { IfErr result
-            (IsRefusedBy (start_of self.now) limit (I.post init.now None)) }
+            (IsRefusedBy (first_page self.now) limit (I.post init.now None)) }
         ensures refused { IfErr result (λ refusal.
-            RefusesPull (IsSome limit) (I.post init.now None) (cause_of refusal)) }
+            Refuses ⊤ (I.post init.now None) (IsSome limit) (cause_of refusal)) }
     {
         let mut known = None;
         if let Some((number, page, note)) = self.hinted_page(limit) {

@@ -1,7 +1,7 @@
 //! What a caller has learned of the link from a page to the next.
 ghost use Rattle.std.specs.Prelude.{◌≡◌, Some, IfSome};
-ghost use Rattle.page_chain.specs.LinkRow.{cell_in_row};
-ghost use Rattle.pool_parts.specs.Inside.OneProof.{same_holding};
+ghost use Rattle.page_chain.specs.Links.{cell_in_row};
+ghost use Rattle.pool_parts.specs.Item.{same_holding};
 
 use super::directory::Row;
 use super::opened_page::OpenedPage;
@@ -26,7 +26,7 @@ pub struct LinkNote<T, K: Clean<T>, O: Clean<T> = AnyValue> {
 }
 
 impl<T, K: Clean<T>, O: Clean<T>> LinkNote<T, K, O> {
-    ghost use Rattle.page_chain.specs.LinkNote.{known_link, known_next};
+    ghost use Rattle.page_chain.specs.Walk.{known_link, known_next};
 
     /// Compares this note with another of the same link: if both know a page, it is the same one.
     pub fn compare(&mut self, other: LinkNote<T, K, O>)

@@ -1,8 +1,10 @@
 //! A page of a chain, and the condition that its first values met.
 ghost use Rattle.std.specs.Prelude.{◌≡◌};
 ghost use Rattle.std.specs.Arc.{arc_value};
-ghost use Rattle.pool_parts.specs.Page.{page_identity, page_opening, OpensWith};
-ghost use Rattle.page_chain.specs.Inside.Walk.{IsAnsweredBy, IsOpenedWith};
+ghost use Rattle.pool_parts.specs.Item.{IsFilled};
+ghost use Rattle.pool_parts.specs.declared.page.word.TheConstants.{PAGE_ITEMS};
+ghost use Rattle.pool_parts.specs.Page.{page_identity, page_opening};
+ghost use Rattle.page_chain.specs.WalkSteps.{IsAnsweredBy};
 
 use atomic_table::Badge;
 use pool_parts::clean::Clean;
@@ -23,20 +25,23 @@ impl<T, K: Clean<T>, O: Clean<T>> Model for OpenedPage<T, K, O> {
     ghost use Rattle.std.specs.Arc.{arc_value};
     ghost use Rattle.std.specs.declared.alloc.Global.{Global};
     ghost use Rattle.std.specs.declared.sync.Arc.{Arc};
-    ghost use Rattle.pool_parts.specs.Page.{OpensWith};
+    ghost use Rattle.pool_parts.specs.Page.{page_opening};
+    ghost use Rattle.pool_parts.specs.Item.{IsFilled};
     ghost use Rattle.pool_parts.specs.declared.page.Page.{Page};
+    ghost use Rattle.pool_parts.specs.declared.page.word.TheConstants.{PAGE_ITEMS};
 
     ghost Value = { Arc (Page T K) Global };
 
     ghost view = { λ opened. opened.page };
 
-    ghost invariant = { λ opened. OpensWith O.meets (arc_value opened.page) };
+    ghost invariant = { λ opened. IsFilled PAGE_ITEMS O.meets
+        (page_opening (arc_value opened.page)) };
 }
 
 impl<T, K: Clean<T>, O: Clean<T>> OpenedPage<T, K, O> {
     /// Records that the page opened with values that meet the condition.
     pub(super) fn new(page: Arc<Page<T, K>>) -> OpenedPage<T, K, O>
-        requires { OpensWith O.meets (arc_value page) }
+        requires { IsFilled PAGE_ITEMS O.meets (page_opening (arc_value page)) }
         ensures { result ≡ page }
     {
         OpenedPage {
@@ -48,15 +53,15 @@ impl<T, K: Clean<T>, O: Clean<T>> OpenedPage<T, K, O> {
     /// Returns the page, with its owners.
     pub(super) fn owner(&self) -> &Arc<Page<T, K>>
         ensures page { result.now ≡ self.now }
-        ensures opened { OpensWith O.meets (arc_value result.now) }
+        ensures opened { IsFilled PAGE_ITEMS O.meets (page_opening (arc_value result.now)) }
     {
         &self.page
     }
 
     /// Pulls from the page.
     pub(super) fn take<'s, 'p>(&'s self, pass: &'p PullPass) -> Taken<'s, 'p, T, K>
-        ensures answer { IsAnsweredBy K.meets O.meets (page_identity (arc_value self.now)) result.answer }
-        ensures opening { IsOpenedWith (page_opening (arc_value self.now)) result.answer }
+        ensures { IsAnsweredBy K.meets O.meets (page_identity (arc_value self.now))
+            (page_opening (arc_value self.now)) result.answer }
     {
         self.owner().take(pass)
     }

@@ -4,11 +4,10 @@ ghost use Rattle.std.specs.Arc.{arc_value};
 ghost use Rattle.std.specs.Option.{option_map};
 ghost use Rattle.std.specs.declared.alloc.Global.{Global};
 ghost use Rattle.atomic_table.specs.Seated.{TableId};
-ghost use Rattle.page_chain.specs.LinkNote.{known_link, known_next};
-ghost use Rattle.page_chain.specs.LinkRow.{cell_in_row};
+ghost use Rattle.page_chain.specs.Walk.{known_link, known_next, IsLinkedAt};
+ghost use Rattle.page_chain.specs.Links.{cell_in_row};
 ghost use Rattle.pool_parts.specs.Page.{page_identity};
-ghost use Rattle.page_chain.specs.Walk.{number_of, IsLinkedAt};
-ghost use Rattle.page_chain.specs.Inside.Walk.{IsKnownAt};
+ghost use Rattle.page_chain.specs.WalkSteps.{IsKnownAt};
 
 use super::LinkNote;
 use super::directory::{LinkPlace, Row};
@@ -22,7 +21,8 @@ use std::snapshot::Snapshot;
 /// only the number.
 #[derive(Drop)]
 pub struct PageNumber<T, K: Clean<T>, O: Clean<T>> {
-    number: usize,
+    /// How many links lead to the page from the first page of its chain.
+    pub number: usize,
     row: Note<Row<T, K, O>>,
     link: Note<OpenedPage<T, K, O>>,
 }
@@ -34,7 +34,7 @@ unsafe impl<T, K: Clean<T>, O: Clean<T>> Sync for PageNumber<T, K, O> {}
 impl<T: Drop, K: Clean<T>, O: Clean<T>> PageNumber<T, K, O> {
     /// Returns the number of a page at which a walk starts. Its notes are of no link of a chain.
     pub(super) fn of_start(alloc: Global, number: usize) -> PageNumber<T, K, O>
-        ensures { number_of result ≡ number }
+        ensures { result.number ≡ number }
     {
         PageNumber {
             number,
@@ -45,7 +45,7 @@ impl<T: Drop, K: Clean<T>, O: Clean<T>> PageNumber<T, K, O> {
 
     /// Returns the number of the page to which the link of this note leads.
     pub(super) fn of_link(number: usize, note: LinkNote<T, K, O>) -> PageNumber<T, K, O>
-        ensures number { number_of result ≡ number }
+        ensures number { result.number ≡ number }
         ensures linked { (links : List (Global × ℕ)) (page : TableId) →
             IsKnownAt links number note page → IsLinkedAt links result page }
     {
@@ -92,7 +92,7 @@ impl<T: Drop, K: Clean<T>, O: Clean<T>> PageNumber<T, K, O> {
 
     /// Returns how many links lead to the page from the first page of its chain.
     pub fn get(&self) -> usize
-        ensures { result ≡ number_of self.now }
+        ensures { result ≡ self.now.number }
     {
         self.number
     }

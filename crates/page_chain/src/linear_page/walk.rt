@@ -1,17 +1,12 @@
 //! The walk from page to page for an item.
 ghost use Rattle.std.specs.Prelude.{◌≡◌, ◌+◌, ◌-◌, ◌^◌, ◌≤◌, ◌<◌, ⊤, Option, None, Some, IfSome, IsSome, IsTrue, IsFalse, IfOk, IfErr};
 ghost use Rattle.std.specs.Arc.{arc_value};
-ghost use Rattle.pool_parts.specs.Answers.{MayOpen};
-ghost use Rattle.pool_parts.specs.FullSeen.{full_page};
-ghost use Rattle.pool_parts.specs.Item.{IsPulled};
-ghost use Rattle.pool_parts.specs.Items.{IsFilled};
-ghost use Rattle.page_chain.specs.LinearPage.{shown_page, page_number, IsItemFrom};
-ghost use Rattle.pool_parts.specs.OwnedSlot.{owned_slot_item};
-ghost use Rattle.pool_parts.specs.Page.{page_identity};
-ghost use Rattle.pool_parts.specs.Refusal.{RefusesMaking, RefusesPull};
-ghost use Rattle.pool_parts.specs.Slot.{slot_item};
-ghost use Rattle.page_chain.specs.Walk.{start_at, number_of, IsTaken, IsRefusedBy, cause_of};
-ghost use Rattle.page_chain.specs.Inside.Walk.{IsAnsweredBy, IsFullAt, IsKnownAt};
+ghost use Rattle.pool_parts.specs.Answers.{MayMake, Refuses};
+ghost use Rattle.pool_parts.specs.Item.{IsItemOf, IsPulled, IsFilled};
+ghost use Rattle.page_chain.specs.Walk.{shown_page, IsTaken, IsRefusedBy, cause_of};
+ghost use Rattle.pool_parts.specs.Slot.{owned_slot_item, slot_item};
+ghost use Rattle.pool_parts.specs.Page.{page_identity, page_opening};
+ghost use Rattle.page_chain.specs.WalkSteps.{IsAnsweredBy, IsKnownAt};
 ghost use Rattle.page_chain.specs.declared.linear_page.walk.WalkRefusal.TheVariants.{Making};
 ghost use Rattle.pool_parts.specs.declared.page.word.TheConstants.{PAGE_ITEMS};
 
@@ -70,7 +65,7 @@ impl<T, K: Clean<T>, O: Clean<T>> Drop for KnownFull<'_, T, K, O> {
 }
 
 impl<'p, T, K: Clean<T>, O: Clean<T>> KnownFull<'p, T, K, O> {
-    ghost use Rattle.page_chain.specs.LinkNote.{known_link, known_next};
+    ghost use Rattle.page_chain.specs.Walk.{known_link, known_next};
 
     /// Returns the evidence that the page was full, and compares another note of its link.
     fn into_seen(self, note: &mut LinkNote<T, K, O>) -> FullSeen<'p, T>
@@ -125,13 +120,16 @@ impl<'c, T: Drop, K: Clean<T>, O: Clean<T>> LinearPage<'c, T, K, O> {
         &self,
         init: &I,
     ) -> Result<(PageSlot<'c, T, K>, usize), PullError>
-        requires { MayOpen I.pre I.post K.meets O.meets init.now }
+        requires may_make { MayMake I.pre I.post K.meets init.now }
+        requires opens { MayMake I.pre I.post O.meets init.now }
         ensures item { IfOk result
-            (λ reached. IsItemFrom K.meets (shown_page self.now) (slot_item reached.0) reached.1) }
+            (λ reached. IsItemOf K.meets (slot_item reached.0).page (slot_item reached.0)) }
+        ensures of_start { IfOk result (λ reached.
+            reached.1 ≡ 0 → (slot_item reached.0).page ≡ (shown_page self.now).page) }
         ensures opened { IfOk result
             (λ reached. IsFilled PAGE_ITEMS O.meets (slot_item reached.0).opening) }
         ensures pulled { IfOk result (λ reached. IsPulled (slot_item reached.0)) }
-        ensures refused { IfErr result (RefusesPull ⊥ (I.post init.now None)) }
+        ensures refused { IfErr result (Refuses ⊤ (I.post init.now None) ⊥) }
     {
         let reached = self.walk(None, init)?;
         let passed = reached.number.get() - self.number;
@@ -150,14 +148,17 @@ impl<'c, T: Drop, K: Clean<T>, O: Clean<T>> LinearPage<'c, T, K, O> {
         init: &I,
     ) -> Result<(PageSlot<'c, T, K>, usize), PullError>
         requires some_page { 1 ≤ pages }
-        requires opens { MayOpen I.pre I.post K.meets O.meets init.now }
+        requires may_make { MayMake I.pre I.post K.meets init.now }
+        requires opens { MayMake I.pre I.post O.meets init.now }
         ensures item { IfOk result
-            (λ reached. IsItemFrom K.meets (shown_page self.now) (slot_item reached.0) reached.1) }
+            (λ reached. IsItemOf K.meets (slot_item reached.0).page (slot_item reached.0)) }
+        ensures of_start { IfOk result (λ reached.
+            reached.1 ≡ 0 → (slot_item reached.0).page ≡ (shown_page self.now).page) }
         ensures opened { IfOk result
             (λ reached. IsFilled PAGE_ITEMS O.meets (slot_item reached.0).opening) }
         ensures pulled { IfOk result (λ reached. IsPulled (slot_item reached.0)) }
         ensures within { IfOk result (λ reached. reached.1 < pages) }
-        ensures refused { IfErr result (RefusesPull ⊤ (I.post init.now None)) }
+        ensures refused { IfErr result (Refuses ⊤ (I.post init.now None) ⊤) }
     {
         let reached = self.walk(Some(pages), init)?;
         let passed = reached.number.get() - self.number;
@@ -174,14 +175,17 @@ impl<'c, T: Drop, K: Clean<T>, O: Clean<T>> LinearPage<'c, T, K, O> {
         &self,
         init: &I,
     ) -> Result<(OwnedSlot<T, K>, usize), PullError>
-        requires { MayOpen I.pre I.post K.meets O.meets init.now }
+        requires may_make { MayMake I.pre I.post K.meets init.now }
+        requires opens { MayMake I.pre I.post O.meets init.now }
         ensures item { IfOk result
-            (λ reached. IsItemFrom K.meets (shown_page self.now)
-            (owned_slot_item reached.0) reached.1) }
+            (λ reached. IsItemOf K.meets (owned_slot_item reached.0).page
+            (owned_slot_item reached.0)) }
+        ensures of_start { IfOk result (λ reached.
+            reached.1 ≡ 0 → (owned_slot_item reached.0).page ≡ (shown_page self.now).page) }
         ensures opened { IfOk result
             (λ reached. IsFilled PAGE_ITEMS O.meets (owned_slot_item reached.0).opening) }
         ensures pulled { IfOk result (λ reached. IsPulled (owned_slot_item reached.0)) }
-        ensures refused { IfErr result (RefusesPull ⊥ (I.post init.now None)) }
+        ensures refused { IfErr result (Refuses ⊤ (I.post init.now None) ⊥) }
     {
         let (slot, number) = self.walk(None, init)?.into_owned()?;
         Ok((slot, number.get() - self.number))
@@ -199,15 +203,18 @@ impl<'c, T: Drop, K: Clean<T>, O: Clean<T>> LinearPage<'c, T, K, O> {
         init: &I,
     ) -> Result<(OwnedSlot<T, K>, usize), PullError>
         requires some_page { 1 ≤ pages }
-        requires opens { MayOpen I.pre I.post K.meets O.meets init.now }
+        requires may_make { MayMake I.pre I.post K.meets init.now }
+        requires opens { MayMake I.pre I.post O.meets init.now }
         ensures item { IfOk result
-            (λ reached. IsItemFrom K.meets (shown_page self.now)
-            (owned_slot_item reached.0) reached.1) }
+            (λ reached. IsItemOf K.meets (owned_slot_item reached.0).page
+            (owned_slot_item reached.0)) }
+        ensures of_start { IfOk result (λ reached.
+            reached.1 ≡ 0 → (owned_slot_item reached.0).page ≡ (shown_page self.now).page) }
         ensures opened { IfOk result
             (λ reached. IsFilled PAGE_ITEMS O.meets (owned_slot_item reached.0).opening) }
         ensures pulled { IfOk result (λ reached. IsPulled (owned_slot_item reached.0)) }
         ensures within { IfOk result (λ reached. reached.1 < pages) }
-        ensures refused { IfErr result (RefusesPull ⊤ (I.post init.now None)) }
+        ensures refused { IfErr result (Refuses ⊤ (I.post init.now None) ⊤) }
     {
         let (slot, number) = self.walk(Some(pages), init)?.into_owned()?;
         Ok((slot, number.get() - self.number))
@@ -224,12 +231,14 @@ impl<'c, T: Drop, K: Clean<T>, O: Clean<T>> LinearPage<'c, T, K, O> {
         init: &I,
     ) -> Result<WalkEnd<'c, T, K, O>, PullError>
         requires some_page { IfSome limit (λ pages. 1 ≤ pages) }
-        requires opens { MayOpen I.pre I.post K.meets O.meets init.now }
+        requires may_make { MayMake I.pre I.post K.meets init.now }
+        requires opens { MayMake I.pre I.post O.meets init.now }
         ensures taken { IfOk result (λ reached.
-            IsTaken K.meets O.meets (start_at self.now) limit reached.number (slot_item reached.slot)) }
+            IsTaken K.meets O.meets (shown_page self.now) limit reached.number
+            (slot_item reached.slot)) }
         ensures page { IfOk result (λ reached.
             (slot_item reached.slot).page ≡ page_identity (arc_value reached.page.now)) }
-        ensures refused { IfErr result (RefusesPull (IsSome limit) (I.post init.now None)) }
+        ensures refused { IfErr result (Refuses ⊤ (I.post init.now None) (IsSome limit)) }
     {
         let pass = PullPass::new();
         match self.page.take(&pass).answer {
@@ -263,18 +272,23 @@ impl<'c, T: Drop, K: Clean<T>, O: Clean<T>> LinearPage<'c, T, K, O> {
         limit: Option<usize>,
         init: &I,
     ) -> Result<WalkEnd<'c, T, K, O>, WalkRefusal<'p, T, K, O>>
-        requires of_page { full_page seen ≡ shown_page self.now }
-        requires hinted { IfSome hinted.old (IsFullAt self.now.directory.now) }
+        requires of_page { seen.seat.table_id ≡ (shown_page self.now).page }
+        requires hinted { IfSome hinted.old (λ full. IsKnownAt self.now.directory.now
+            full.number full.note full.seen.seat.table_id) }
         requires some_page { IfSome limit (λ pages. 1 ≤ pages) }
-        requires opens { MayOpen I.pre I.post K.meets O.meets init.now }
+        requires may_make { MayMake I.pre I.post K.meets init.now }
+        requires opens { MayMake I.pre I.post O.meets init.now }
         ensures taken { IfOk result (λ reached.
-            IsTaken K.meets O.meets (start_at self.now) limit reached.number (slot_item reached.slot)) }
+            IsTaken K.meets O.meets (shown_page self.now) limit reached.number
+            (slot_item reached.slot)) }
         ensures page { IfOk result (λ reached.
             (slot_item reached.slot).page ≡ page_identity (arc_value reached.page.now)) }
-        ensures further { IfOk result (λ reached. page_number self.now < number_of reached.number) }
-        ensures evidence { IfErr result (IsRefusedBy (start_at self.now) limit (I.post init.now None)) }
+        ensures further { IfOk result (λ reached. (shown_page self.now).number
+            < reached.number.number) }
+        ensures evidence { IfErr result (IsRefusedBy (shown_page self.now) limit
+            (I.post init.now None)) }
         ensures refused { IfErr result (λ refusal.
-            RefusesPull (IsSome limit) (I.post init.now None) (cause_of refusal)) }
+            Refuses ⊤ (I.post init.now None) (IsSome limit) (cause_of refusal)) }
     {
         let pass = seen.pass;
         let mut page: &'c OpenedPage<T, K, O> = self.page;
@@ -316,13 +330,14 @@ impl<'c, T: Drop, K: Clean<T>, O: Clean<T>> LinearPage<'c, T, K, O> {
         seen: FullSeen<'_, T>,
         init: &I,
     ) -> Result<(&'c OpenedPage<T, K, O>, LinkNote<T, K, O>), PullError>
-        requires of_page { full_page seen ≡ page_identity (arc_value before.now) }
-        requires opens { MayOpen I.pre I.post K.meets O.meets init.now }
+        requires of_page { seen.seat.table_id ≡ page_identity (arc_value before.now) }
+        requires may_make { MayMake I.pre I.post K.meets init.now }
+        requires opens { MayMake I.pre I.post O.meets init.now }
         ensures fits { IfOk result (λ _. number + 1 < 2 ^ 64) }
         ensures known { IfOk result
             (λ next. IsKnownAt self.now.directory.now (number + 1) next.1
             (page_identity (arc_value next.0.now))) }
-        ensures refused { IfErr result (RefusesMaking (I.post init.now None)) }
+        ensures refused { IfErr result (Refuses ⊤ (I.post init.now None) ⊥) }
     {
         let before = LinearPage::new(self.directory, before, number);
         let (next, note) = before.get_or_create_next(seen, init)?;
@@ -341,11 +356,14 @@ impl<'c, T: Drop, K: Clean<T>, O: Clean<T>> LinearPage<'c, T, K, O> {
     ) -> Allocated<'c, 'p, T, K>
         requires linked { IsKnownAt self.now.directory.now number note.old
             (page_identity (arc_value page.now)) }
-        requires full { IfSome hinted.old (IsFullAt self.now.directory.now) }
-        ensures full { IfSome hinted.new (IsFullAt self.now.directory.now) }
+        requires full { IfSome hinted.old (λ full. IsKnownAt self.now.directory.now
+            full.number full.note full.seen.seat.table_id) }
+        ensures full { IfSome hinted.new (λ full. IsKnownAt self.now.directory.now
+            full.number full.note full.seen.seat.table_id) }
         ensures linked { IsKnownAt self.now.directory.now number note.new
             (page_identity (arc_value page.now)) }
-        ensures answer { IsAnsweredBy K.meets O.meets (page_identity (arc_value page.now)) result }
+        ensures answer { IsAnsweredBy K.meets O.meets (page_identity (arc_value page.now))
+            (page_opening (arc_value page.now)) result }
     {
         match known_at(hinted, number) {
             Some(known) => Allocated::Full(known.into_seen(note)),
@@ -395,7 +413,7 @@ impl<T: Drop, K: Clean<T>, O: Clean<T>> WalkEnd<'_, T, K, O> {
         ensures item { IfOk result
             (λ reached. owned_slot_item reached.0 ≡ slot_item self.entry.slot) }
         ensures number { IfOk result (λ reached. reached.1 ≡ self.entry.number) }
-        ensures refused { IfErr result (RefusesMaking ⊥) }
+        ensures refused { IfErr result (Refuses ⊤ ⊥ ⊥) }
     {
         let WalkEnd { slot, page, number } = self;
         match Arc::try_clone(page) {

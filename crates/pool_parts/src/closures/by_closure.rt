@@ -1,7 +1,7 @@
 //! Closures as initializers and resets: two traits that every fitting closure implements, and an
 //! adapter for each, which keeps what a pool has to know of it.
 ghost use Rattle.std.specs.Prelude.{◌≡◌, Option, IfSome};
-ghost use Rattle.pool_parts.specs.Answers.{LeavesByLoan};
+ghost use Rattle.std.specs.Borrow.{MutBor};
 
 use crate::clean::Clean;
 use crate::closures::{Init, Reset};
@@ -73,7 +73,9 @@ pub trait ResetBy<T>: Drop {
 impl<T, F: Fn(&mut T)> ResetBy<T> for F {
     ghost may_reset = { λ f. F.IsAlwaysCallable f };
 
-    ghost resets = { λ f old new. LeavesByLoan F.post f old new };
+    ghost resets = { λ f old new.
+        (before after : MutBor T) × F.post f before tt after × (before.now ≡ old)
+        × (after.now ≡ new) };
 
     fn reset_by(&self, value: &mut T) {
         self(value);

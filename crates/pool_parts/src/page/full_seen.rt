@@ -1,6 +1,6 @@
 //! What a pull has once it has seen each item of a page, or of a fixed pool, in use.
 ghost use Rattle.std.specs.Prelude.{ℕ, ◌<◌};
-ghost use Rattle.pool_parts.specs.Inside.PageRule.{KnowsOut};
+ghost use Rattle.pool_parts.specs.Ledger.{WasOutBetween};
 
 use super::PageSlot;
 use super::user_view::UserSeat;
@@ -58,7 +58,8 @@ pub struct FullSeen<'p, T> {
     pub seat: UserSeat<T>,
     /// Only its lifetime is needed.
     pub pass: &'p PullPass,
-    ghost found: { ∥ ((id : ℕ) → id < seat.table_id.slots → KnowsOut seat.me.0 id) ∥₁ },
+    ghost found: { ∥ ((id : ℕ) → id < seat.table_id.slots → WasOutBetween seat.me.0.opening
+        seat.me.0.since seat.me.0.operations id) ∥₁ },
 }
 
 /// What a page answers to a pull.

@@ -1,6 +1,6 @@
 //! What a user has that took an item.
 ghost use Rattle.std.specs.Prelude.{◌≡◌, [], ◌∷◌, Some, None, false};
-ghost use Rattle.pool_parts.specs.Inside.OneProof.{same_holding, same_carrying};
+ghost use Rattle.pool_parts.specs.Item.{same_holding, same_carrying};
 
 use super::items::Items;
 use super::user_view::UserSeat;
@@ -19,18 +19,16 @@ pub struct Holding<T> {
 }
 
 impl<T> Holding<T> {
-    ghost use Rattle.pool_parts.specs.Holding.{holding_page, holding_view};
-    ghost use Rattle.pool_parts.specs.Inside.Items.{items_identity};
-    ghost use Rattle.pool_parts.specs.Note.{witness_page, witness_history};
-    ghost use Rattle.pool_parts.specs.Page.{page_identity};
+    ghost use Rattle.pool_parts.specs.Page.{view_of, page_identity};
+    ghost use Rattle.pool_parts.specs.PageItems.{items_view};
 
     /// Returns a witness of what the holder knows.
     pub fn witness<K: Clean<T>>(&mut self, items: &Items<T, K>) -> Witness<T>
-        requires { holding_page self.old ≡ items_identity items.now }
-        ensures page { witness_page result ≡ holding_page self.old }
-        ensures history { witness_history result ≡ (holding_view self.old).operations }
-        ensures same_page { holding_page self.new ≡ holding_page self.old }
-        ensures same_view { holding_view self.new ≡ holding_view self.old }
+        requires { self.old.seat.table_id ≡ (items_view items.now).identity }
+        ensures page { result.seat.table_id ≡ self.old.seat.table_id }
+        ensures history { (view_of result.seat).operations ≡ (view_of self.old.seat).operations }
+        ensures same_page { self.new.seat.table_id ≡ self.old.seat.table_id }
+        ensures same_view { view_of self.new.seat ≡ view_of self.old.seat }
         ensures same_number { self.new.number ≡ self.old.number }
     {
         items.witness(&mut self.seat)
@@ -38,11 +36,11 @@ impl<T> Holding<T> {
 
     /// Returns the same of an item of this page.
     pub fn witness_of<K: Clean<T>>(&mut self, page: &Page<T, K>) -> Witness<T>
-        requires { holding_page self.old ≡ page_identity page.now }
-        ensures page { witness_page result ≡ holding_page self.old }
-        ensures history { witness_history result ≡ (holding_view self.old).operations }
-        ensures same_page { holding_page self.new ≡ holding_page self.old }
-        ensures same_view { holding_view self.new ≡ holding_view self.old }
+        requires { self.old.seat.table_id ≡ page_identity page.now }
+        ensures page { result.seat.table_id ≡ self.old.seat.table_id }
+        ensures history { (view_of result.seat).operations ≡ (view_of self.old.seat).operations }
+        ensures same_page { self.new.seat.table_id ≡ self.old.seat.table_id }
+        ensures same_view { view_of self.new.seat ≡ view_of self.old.seat }
         ensures same_number { self.new.number ≡ self.old.number }
     {
         self.witness(&page.items)

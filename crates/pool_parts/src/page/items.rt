@@ -1,6 +1,6 @@
 //! The items of a page, or of a fixed pool: words with a bit for each item, and a place for each
 //! item's value.
-ghost use Rattle.std.specs.Prelude.{◌≡◌, ◌+◌, ◌*◌, ◌/◌, ◌^◌, ◌<◌, ◌≤◌, ℕ, [], None, Some, IfOk, IfErr, MatchOption, false, length, All, IsSomeAnd};
+ghost use Rattle.std.specs.Prelude.{◌≡◌, ◌+◌, ◌*◌, ◌/◌, ◌^◌, ◌<◌, ◌≤◌, ℕ, [], None, Some, IfOk, IfErr, MatchOption, false, length, All, IsSomeAnd, ⊤};
 ghost use Rattle.pool_parts.specs.declared.pull_error.PullError.TheVariants.{Memory};
 ghost use Rattle.std.specs.Int.{bit_at};
 
@@ -35,14 +35,11 @@ pub struct Items<T, K: Clean<T>> {
 }
 
 impl<T, K: Clean<T>> Items<T, K> {
-    ghost use Rattle.pool_parts.specs.Answers.{MayMake};
-    ghost use Rattle.pool_parts.specs.Inside.Taking.{MissesAll, TakesOne};
-    ghost use Rattle.pool_parts.specs.Inside.Items.{items_identity, items_opening, items_raise};
-    ghost use Rattle.pool_parts.specs.Items.{IsFilled};
-    ghost use Rattle.pool_parts.specs.Note.{note_page, witness_page, witness_history, IsNoteOf, HasLearned};
-    ghost use Rattle.pool_parts.specs.Inside.PageRule.{IsOutNow, IsSound, item_of};
-    ghost use Rattle.pool_parts.specs.Refusal.{RefusesMaking};
-    ghost use Rattle.pool_parts.specs.Inside.Word.{IsAllFree};
+    ghost use Rattle.pool_parts.specs.Answers.{MayMake, Refuses};
+    ghost use Rattle.pool_parts.specs.PageRule.{MissesAll, TakesOne, IsOutNow, IsSound, IsAllFree};
+    ghost use Rattle.pool_parts.specs.PageItems.{items_view};
+    ghost use Rattle.pool_parts.specs.Item.{IsFilled};
+    ghost use Rattle.pool_parts.specs.Page.{IsNoteOf, HasLearned, view_of};
 
     /// Creates so many free items, as the words say: item `i` is the answer of call `i` of `init`,
     /// counted from 0. A return raises its word's count by `raise`.
@@ -63,11 +60,12 @@ impl<T, K: Clean<T>> Items<T, K> {
         requires small { count + 31 < 2 ^ 64 }
         requires all_free { IsAllFree count words.now }
         requires may_make { MayMake I.pre I.post K.meets init.now }
-        ensures refused { IfErr result (RefusesMaking (I.post init.now None)) }
-        ensures count { IfOk result (λ items. (items_identity items).slots ≡ count) }
-        ensures raise { IfOk result (λ items. items_raise items ≡ raise) }
+        ensures refused { IfErr result (Refuses ⊤ (I.post init.now None) ⊥) }
+        ensures count { IfOk result (λ items. (items_view items).identity.slots ≡ count) }
+        ensures raise { IfOk result (λ items. (items_view items).raise ≡ raise) }
         ensures opened { IfOk result
-            (λ items. IsFilled count (λ made. I.post init.now (Some made)) (items_opening items)) }
+            (λ items. IsFilled count (λ made. I.post init.now (Some made))
+            (items_view items).opening) }
     {
         let items = Items::<T, K>::make_items(alloc, count, init)?;
         Items::open(alloc, words, raise, items)
@@ -92,9 +90,9 @@ impl<T, K: Clean<T>> Items<T, K> {
         requires meets { All (λ item. IsSomeAnd item K.meets) items.items }
         ensures refused { IfErr result (λ error. error ≡ Memory) }
         ensures count { IfOk result
-            (λ opened. (items_identity opened).slots ≡ length items.items) }
-        ensures raise { IfOk result (λ opened. items_raise opened ≡ raise) }
-        ensures opened { IfOk result (λ opened. items_opening opened ≡ items.items) }
+            (λ opened. (items_view opened).identity.slots ≡ length items.items) }
+        ensures raise { IfOk result (λ opened. (items_view opened).raise ≡ raise) }
+        ensures opened { IfOk result (λ opened. (items_view opened).opening ≡ items.items) }
     {
         let opening = Opening {
             values: Snapshot::of(&items),
@@ -117,7 +115,7 @@ impl<T, K: Clean<T>> Items<T, K> {
         ensures all { IfOk result (λ items. IsFilled count K.meets items.items) }
         ensures answers { IfOk result
             (λ items. IsFilled count (λ made. I.post init.now (Some made)) items.items) }
-        ensures refused { IfErr result (RefusesMaking (I.post init.now None)) }
+        ensures refused { IfErr result (Refuses ⊤ (I.post init.now None) ⊥) }
     {
         let mut items = Vec::with_capacity(alloc, count)?;
         for _ in 0..count {
@@ -131,7 +129,7 @@ impl<T, K: Clean<T>> Items<T, K> {
 
     /// Returns a note, by a user that did nothing, which knows some prefix of the history.
     pub fn note(&self) -> PageNote<T>
-        ensures { IsNoteOf (items_identity self.now) (items_opening self.now) result }
+        ensures { IsNoteOf (items_view self.now).identity (items_view self.now).opening result }
     {
         PageNote {
             seat: self.look(0).1,
@@ -140,8 +138,8 @@ impl<T, K: Clean<T>> Items<T, K> {
 
     /// Adds what a witness knows to what a note knows. The histories of both are prefixes of one.
     pub fn tell(&self, note: &mut PageNote<T>, other: Witness<T>)
-        requires note { note_page note.old ≡ items_identity self.now }
-        requires other { witness_page other ≡ items_identity self.now }
+        requires note { note.old.seat.table_id ≡ (items_view self.now).identity }
+        requires other { other.seat.table_id ≡ (items_view self.now).identity }
         ensures { HasLearned note.old other note.new }
     {
         let Witness { seat: other } = other;
@@ -151,9 +149,9 @@ impl<T, K: Clean<T>> Items<T, K> {
 
     /// Returns a witness of what a user knows.
     pub fn witness(&self, seat: &mut UserSeat<T>) -> Witness<T>
-        requires { seat.old.table_id ≡ items_identity self.now }
-        ensures items { witness_page result ≡ items_identity self.now }
-        ensures history { witness_history result ≡ seat.old.me.0.operations }
+        requires { seat.old.table_id ≡ (items_view self.now).identity }
+        ensures items { result.seat.table_id ≡ (items_view self.now).identity }
+        ensures history { (view_of result.seat).operations ≡ seat.old.me.0.operations }
         ensures same_items { seat.new.table_id ≡ seat.old.table_id }
         ensures same_user { seat.new.me ≡ seat.old.me }
     {
@@ -170,20 +168,21 @@ impl<T, K: Clean<T>> Items<T, K> {
         page: usize,
         word: u32,
     ) -> Option<TakenValue<T>>
-        requires items { seat.old.table_id ≡ items_identity self.now }
-        requires in_items { page < (items_identity self.now).words }
+        requires items { seat.old.table_id ≡ (items_view self.now).identity }
+        requires in_items { page < (items_view self.now).identity.words }
         requires carries_none { seat.old.me.1 ≡ [] }
         requires holds_none { seat.old.me.0.held ≡ None }
         requires here { seat.old.me.0.gone ≡ false }
         requires sound { IsSound seat.old.me.0 }
         requires found { (bit : ℕ) → bit < 32 → bit_at word bit ≡ 0
-            → IsOutNow seat.old.me.0 (item_of page bit) }
+            → IsOutNow seat.old.me.0 (32 * page + bit) }
         ensures items { seat.new.table_id ≡ seat.old.table_id }
         ensures steps { (seat.new.me.0.loads ≡ seat.old.me.0.loads)
             × (seat.new.me.0.tries ≤ seat.old.me.0.tries + 32) }
         ensures outcome { MatchOption result
             (MissesAll (32 * page) (32 * page + 32) seat.old.me seat.new.me) (λ taken.
-            TakesOne K.meets (items_identity self.now).slots taken.number taken.value seat.old.me
+            TakesOne K.meets (items_view self.now).identity.slots taken.number taken.value None
+            seat.old.me
             seat.new.me) }
     {
         let mut untried = word;

@@ -1,7 +1,7 @@
 //! What somebody knows of a page's history while no item is held: a note, which may pull on from
 //! there, and a witness.
 ghost use Rattle.std.specs.Prelude.{◌≡◌, [], None, false};
-ghost use Rattle.pool_parts.specs.Inside.OneProof.{same_holding, same_carrying};
+ghost use Rattle.pool_parts.specs.Item.{same_holding, same_carrying};
 
 use super::user_view::UserSeat;
 
@@ -52,12 +52,12 @@ pub struct Returned<T> {
 }
 
 impl<T> PageNote<T> {
-    ghost use Rattle.pool_parts.specs.Note.{note_page, witness_page, witness_history, note_view};
+    ghost use Rattle.pool_parts.specs.Page.{view_of};
 
     /// Returns what the note knows, for another to be told.
     pub fn into_witness(self) -> Witness<T>
-        ensures page { witness_page result ≡ note_page self }
-        ensures history { witness_history result ≡ (note_view self).operations }
+        ensures page { result.seat.table_id ≡ self.seat.table_id }
+        ensures history { (view_of result.seat).operations ≡ (view_of self.seat).operations }
     {
         let PageNote { seat } = self;
         Witness { seat }

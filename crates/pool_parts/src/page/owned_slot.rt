@@ -1,8 +1,7 @@
 //! A slot that owns its page with others, in place of a borrow.
 ghost use Rattle.std.specs.Prelude.{◌≡◌, ◌≢◌, ◌<◌};
 ghost use Rattle.std.specs.Arc.{arc_value};
-ghost use Rattle.pool_parts.specs.Inside.OneProof.{same_page};
-ghost use Rattle.pool_parts.specs.Holding.{holding_page};
+ghost use Rattle.pool_parts.specs.Item.{same_page};
 ghost use Rattle.pool_parts.specs.Page.{page_identity};
 ghost use Rattle.pool_parts.specs.declared.page.word.TheConstants.{PAGE_ITEMS};
 
@@ -18,7 +17,7 @@ use std::sync::Arc;
 pub(super) struct OwnedTakenId<T, K: Clean<T>> {
     pub(super) page: Arc<Page<T, K>>,
     pub(super) holding: Holding<T>,
-    ghost of_page: { holding_page holding ≡ page_identity (arc_value page) } by { same_page _ _ },
+    ghost of_page: { holding.seat.table_id ≡ page_identity (arc_value page) } by { same_page _ _ },
     ghost in_page: { holding.number < PAGE_ITEMS },
 }
 
@@ -40,8 +39,8 @@ pub struct OwnedSlot<T, K: Clean<T>> {
 }
 
 impl<T, K: Clean<T>> OwnedSlot<T, K> {
-    ghost use Rattle.pool_parts.specs.Note.{IsReturned};
-    ghost use Rattle.pool_parts.specs.OwnedSlot.{owned_slot_item};
+    ghost use Rattle.pool_parts.specs.Page.{IsReturned};
+    ghost use Rattle.pool_parts.specs.Slot.{owned_slot_item};
 
     /// Returns the number of the item in its page.
     pub fn id(&self) -> PageId
@@ -83,7 +82,7 @@ impl<T, K: Clean<T>> OwnedSlot<T, K> {
 impl<T, K: Clean<T>> Deref for OwnedSlot<T, K> {
     type Target = T;
 
-    ghost use Rattle.pool_parts.specs.OwnedSlot.{owned_slot_item};
+    ghost use Rattle.pool_parts.specs.Slot.{owned_slot_item};
 
     ghost deref_gives = { λ slot value. value ≡ (owned_slot_item slot).value };
 
@@ -94,8 +93,7 @@ impl<T, K: Clean<T>> Deref for OwnedSlot<T, K> {
 
 impl<T, K: Clean<T>> DerefMut for OwnedSlot<T, K> {
     ghost use Rattle.std.specs.Borrow.{sem};
-    ghost use Rattle.pool_parts.specs.Lends.{LendsOwnedSlotValue};
-    ghost use Rattle.pool_parts.specs.OwnedSlot.{owned_slot_item};
+    ghost use Rattle.pool_parts.specs.Slot.{LendsOwnedSlotValue, owned_slot_item};
 
     ghost deref_mut_gives = { λ slot value. value ≡ (owned_slot_item slot).value };
 

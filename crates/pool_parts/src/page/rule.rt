@@ -24,20 +24,22 @@ pub struct PageRule<K> {
 }
 
 impl<T, K: Clean<T>> TableRule<Option<T>, UserView<T>, Opening<T>> for PageRule<K> {
-    ghost use Rattle.pool_parts.specs.Inside.PageRule.{IsKept, first_view};
+    ghost use Rattle.pool_parts.specs.PageRule.{IsKept, first_view};
 
     ghost holds = { λ key. IsKept K.meets key.raise.value key.values.value.items };
 
     ghost first = { λ key. first_view key.values.value.items };
 }
 
-/// A load of one word by a new user.
+/// A load of one word by a new user, which had known nothing.
 pub struct Look;
 
 impl<T> Play<Option<T>, UserView<T>> for Look {
-    ghost use Rattle.pool_parts.specs.Inside.PageRule.{Loads};
+    ghost use Rattle.std.specs.Prelude.{[]};
+    ghost use Rattle.pool_parts.specs.PageRule.{Loads};
 
-    ghost then = { λ step first word new. Loads first.0 step.word word new };
+    ghost then = { λ step first word new.
+        Loads step.word (record first.0 { user = new.0.user }, []) word new };
 }
 
 /// A load of one word by a user that knows something already: what it finds out from there on
@@ -45,90 +47,106 @@ impl<T> Play<Option<T>, UserView<T>> for Look {
 pub struct LookAgain;
 
 impl<T> Play<Option<T>, UserView<T>> for LookAgain {
-    ghost use Rattle.pool_parts.specs.Inside.PageRule.{LoadsAgain};
+    ghost use Rattle.pool_parts.specs.PageRule.{Loads};
 
-    ghost then = { λ step old word new. LoadsAgain step.word old word new };
-}
-
-/// A load of a further word by the same call: what it finds out goes on from its first load.
-pub struct LookOn;
-
-impl<T> Play<Option<T>, UserView<T>> for LookOn {
-    ghost use Rattle.pool_parts.specs.Inside.PageRule.{LoadsOn};
-
-    ghost then = { λ step old word new. LoadsOn step.word old word new };
+    ghost then = { λ step old word new. Loads step.word old word new };
 }
 
 /// A load of a further word by the same call, of words that count their returns.
 pub struct Count;
 
 impl<T> Play<Option<T>, UserView<T>> for Count {
-    ghost use Rattle.pool_parts.specs.Inside.PageRule.{Counts};
-    ghost use Rattle.pool_parts.specs.Inside.Word.{count_in};
+    ghost use Rattle.std.specs.Prelude.{◌/◌, ◌^◌};
+    ghost use Rattle.pool_parts.specs.PageRule.{Counts};
 
     ghost then = { λ step old word new.
-        Counts step.slots step.word old word (count_in word) new };
+        Counts step.slots step.word old word (word / 2 ^ 32) new };
 }
 
 /// A user leaves a witness of what it knows.
 pub struct Witnesses;
 
 impl<T> Split<UserView<T>> for Witnesses {
-    ghost use Rattle.pool_parts.specs.Inside.PageRule.{witness_of};
+    ghost use Rattle.std.specs.Prelude.{true};
+    ghost use Rattle.pool_parts.specs.PageRule.{first_view};
 
     ghost left = { λ known. known };
 
-    ghost right = { witness_of };
+    ghost right = { λ known.
+        record (first_view known.opening) { operations = known.operations; gone = true } };
 }
 
 /// A user tells another what it knows, and is gone.
 pub struct Tells;
 
 impl<T> Join<UserView<T>> for Tells {
-    ghost use Rattle.pool_parts.specs.Inside.PageRule.{told_of, gone_view};
+    ghost use Rattle.std.specs.Prelude.{[], true};
+    ghost use Rattle.pool_parts.specs.PageRule.{first_view};
 
-    ghost both = { told_of };
+    ghost both = { λ known other. record known { told = other.operations; met = other.met } };
 
-    ghost spent = { gone_view };
+    ghost spent = { record (first_view []) { gone = true } };
 }
 
-/// A user introduces itself to another.
+/// A user introduces itself to another: what it was told, its number, and how often it has met.
 pub struct Introduces;
 
 impl<T> Split<UserView<T>> for Introduces {
-    ghost use Rattle.pool_parts.specs.Inside.Meeting.{introduction_of};
+    ghost use Rattle.std.specs.Prelude.{Some, true};
+    ghost use Rattle.pool_parts.specs.PageRule.{first_view};
 
     ghost left = { λ known. known };
 
-    ghost right = { introduction_of };
+    ghost right = { λ known.
+        record (first_view known.opening) {
+          operations = known.told;
+          gone = true;
+          met = Some (known.user, known.meetings);
+        } };
 }
 
 /// A load of one word by a user to whom another was introduced.
 pub struct Meet;
 
 impl<T> Play<Option<T>, UserView<T>> for Meet {
-    ghost use Rattle.pool_parts.specs.Inside.Meeting.{Meets};
+    ghost use Rattle.pool_parts.specs.PageRule.{Meets};
 
     ghost then = { λ _ old _ new. Meets old new };
 }
 
-/// A step that clears one bit of the word.
+/// A step that clears one bit of the word: the one that the operand leaves out. If it was set, the
+/// user has its item, whose value is still at home.
 pub struct ClearBit<K> {
     condition: PhantomData<K>,
 }
 
 impl<T, K: Clean<T>> Play<Option<T>, UserView<T>> for ClearBit<K> {
-    ghost use Rattle.pool_parts.specs.Inside.PageRule.{Clears};
+    ghost use Rattle.std.specs.Prelude.{◌≡◌, ℕ, ◌+◌, ◌-◌, ◌*◌, ◌^◌, ◌<◌, Some};
+    ghost use Rattle.std.specs.Int.{bit_at};
+    ghost use Rattle.pool_parts.specs.PageRule.{TakesOne, Misses};
+    ghost use Rattle.pool_parts.specs.Word.{ClearsBit};
 
     ghost then = { λ step old word new.
-        Clears K.meets step.slots step.word step.first old word new };
+        ((bit : ℕ) → bit < 32 → ClearsBit (2 ^ 64 - 1) bit step.first → bit_at word bit ≡ 1
+        → (value : T) × TakesOne K.meets step.slots (32 * step.word + bit) value (Some value) old
+        new
+        × (new.0.loads ≡ old.0.loads) × (new.0.tries ≡ old.0.tries + 1))
+        × ((bit : ℕ) → bit < 32 → ClearsBit (2 ^ 64 - 1) bit step.first → bit_at word bit ≡ 0
+        → Misses (32 * step.word + bit) old new) };
 }
 
-/// A step that sets one bit of the word, once its value is back home.
+/// A step that sets one bit of the word, once its value is back home: the user holds nothing any
+/// more.
 pub struct SetBit;
 
 impl<T> Play<Option<T>, UserView<T>> for SetBit {
-    ghost use Rattle.pool_parts.specs.Inside.PageRule.{GivesBack};
+    ghost use Rattle.std.specs.Prelude.{◌≡◌, ℕ, [], ◌∷◌, Some, None};
+    ghost use Rattle.atomic_table.specs.Table.{rest};
+    ghost use Rattle.pool_parts.specs.PageRule.{GoesOn};
+    ghost use Rattle.pool_parts.specs.declared.page.history.Operation.TheVariants.{Return};
 
-    ghost then = { λ _ old _ new. GivesBack old new };
+    ghost then = { λ _ old _ new.
+        (new.0.held ≡ None) × (new.1 ≡ rest old.1)
+        × ((id : ℕ) (value : T) → old.0.held ≡ Some id → old.1 ≡ (id, Some value) ∷ []
+        → GoesOn (Return new.0.user id value ∷ []) old.0 new.0) };
 }

@@ -1,8 +1,7 @@
 //! A slot: an item in use, with a borrow of its page.
 ghost use Rattle.std.specs.Prelude.{◌≡◌, ◌≢◌, ◌<◌};
 ghost use Rattle.std.specs.Arc.{arc_value};
-ghost use Rattle.pool_parts.specs.Inside.OneProof.{same_page};
-ghost use Rattle.pool_parts.specs.Holding.{holding_page};
+ghost use Rattle.pool_parts.specs.Item.{same_page};
 ghost use Rattle.pool_parts.specs.Page.{page_identity};
 ghost use Rattle.pool_parts.specs.declared.page.word.TheConstants.{PAGE_ITEMS};
 
@@ -19,18 +18,17 @@ use std::sync::Arc;
 #[derive(Drop)]
 pub struct TakenId<'s, T, K: Clean<T>> {
     pub(super) page: &'s Page<T, K>,
-    pub(super) holding: Holding<T>,
-    ghost of_page: { holding_page holding ≡ page_identity page.now } by { same_page _ _ },
+    pub holding: Holding<T>,
+    ghost of_page: { holding.seat.table_id ≡ page_identity page.now } by { same_page _ _ },
     ghost in_page: { holding.number < PAGE_ITEMS },
 }
 
 impl<'s, T, K: Clean<T>> TakenId<'s, T, K> {
-    ghost use Rattle.pool_parts.specs.Slot.{taken_id, taken_page, taken_view, taken_item};
-    ghost use Rattle.pool_parts.specs.Note.{note_page, witness_page, witness_history, IsNoteOf, IsReturned, HasLearned, note_view};
+    ghost use Rattle.pool_parts.specs.Page.{view_of, held_item, IsNoteOf, IsReturned, HasLearned};
 
     /// Returns the number of the item in its page.
     pub fn id(&self) -> PageId
-        ensures value { result ≡ taken_id self.now }
+        ensures value { result ≡ self.now.holding.number }
         ensures in_page { result < PAGE_ITEMS }
     {
         self.holding.number as PageId
@@ -38,11 +36,12 @@ impl<'s, T, K: Clean<T>> TakenId<'s, T, K> {
 
     /// Returns what the holder knows of the page, for another user. It costs one load.
     pub fn witness(&mut self) -> Witness<T>
-        ensures page { witness_page result ≡ taken_page self.old }
-        ensures history { witness_history result ≡ (taken_view self.old).operations }
-        ensures same_page { taken_page self.new ≡ taken_page self.old }
-        ensures same_view { taken_view self.new ≡ taken_view self.old }
-        ensures same_id { taken_id self.new ≡ taken_id self.old }
+        ensures page { result.seat.table_id ≡ self.old.holding.seat.table_id }
+        ensures history { (view_of result.seat).operations
+            ≡ (view_of self.old.holding.seat).operations }
+        ensures same_page { self.new.holding.seat.table_id ≡ self.old.holding.seat.table_id }
+        ensures same_view { view_of self.new.holding.seat ≡ view_of self.old.holding.seat }
+        ensures same_id { self.new.holding.number ≡ self.old.holding.number }
     {
         let page = self.page;
         self.holding.witness(&page.items)
@@ -50,10 +49,12 @@ impl<'s, T, K: Clean<T>> TakenId<'s, T, K> {
 
     /// Ensures that this id and another of the page are two. It costs seven loads.
     pub fn differs_from(&mut self, other: &mut TakenId<'_, T, K>)
-        requires page { taken_page other.old ≡ taken_page self.old }
-        ensures differ { taken_id self.old ≢ taken_id other.old }
-        ensures same_item { (value : T) → taken_item self.new value ≡ taken_item self.old value }
-        ensures same_other { (value : T) → taken_item other.new value ≡ taken_item other.old value }
+        requires page { other.old.holding.seat.table_id ≡ self.old.holding.seat.table_id }
+        ensures differ { self.old.holding.number ≢ other.old.holding.number }
+        ensures same_item { (value : T) → held_item self.new.holding value ≡ held_item
+            self.old.holding value }
+        ensures same_other { (value : T) → held_item other.new.holding value ≡ held_item
+            other.old.holding value }
     {
         let page = self.page;
         page.items.are_two(&mut self.holding, &mut other.holding);
@@ -61,7 +62,7 @@ impl<'s, T, K: Clean<T>> TakenId<'s, T, K> {
 
     /// Returns a note of the page, by a user that did nothing. It costs one load.
     pub fn note(&self) -> PageNote<T>
-        ensures { IsNoteOf (taken_page self.now) (note_view result).opening result }
+        ensures { IsNoteOf self.now.holding.seat.table_id (view_of result.seat).opening result }
     {
         self.page.note()
     }
@@ -69,8 +70,8 @@ impl<'s, T, K: Clean<T>> TakenId<'s, T, K> {
     /// Adds what a witness knows to what a note knows, as [`Page::tell`] does, of the page that the
     /// id was taken from.
     pub fn tell(&self, note: &mut PageNote<T>, other: Witness<T>)
-        requires note { note_page note.old ≡ taken_page self.now }
-        requires other { witness_page other ≡ taken_page self.now }
+        requires note { note.old.seat.table_id ≡ self.now.holding.seat.table_id }
+        requires other { other.seat.table_id ≡ self.now.holding.seat.table_id }
         ensures { HasLearned note.old other note.new }
     {
         self.page.tell(note, other);
@@ -79,7 +80,7 @@ impl<'s, T, K: Clean<T>> TakenId<'s, T, K> {
     /// Returns the item to its page, with this value.
     pub fn free(self, value: T) -> Returned<T>
         requires { K.meets value }
-        ensures { IsReturned (taken_item self.entry value) result.note }
+        ensures { IsReturned (held_item self.entry.holding value) result.note }
     {
         let TakenId { page, holding } = self;
         page.give(holding, value)
@@ -106,14 +107,13 @@ pub struct PageSlot<'s, T, K: Clean<T>> {
 }
 
 impl<'s, T, K: Clean<T>> PageSlot<'s, T, K> {
-    ghost use Rattle.pool_parts.specs.Holding.{held_item};
-    ghost use Rattle.pool_parts.specs.Note.{witness_page, witness_history};
-    ghost use Rattle.pool_parts.specs.OwnedSlot.{owned_slot_item};
-    ghost use Rattle.pool_parts.specs.Slot.{slot_item, slot_view, taken_item, taken_view};
+    ghost use Rattle.pool_parts.specs.Page.{held_item, view_of};
+    ghost use Rattle.pool_parts.specs.Slot.{owned_slot_item, slot_item, answer_view};
+    ghost use Rattle.pool_parts.specs.declared.page.full_seen.Allocated.TheVariants.{Slot};
 
     pub(super) fn new(taken: TakenId<'s, T, K>, value: T) -> PageSlot<'s, T, K>
-        ensures item { slot_item result ≡ taken_item taken.entry value }
-        ensures view { slot_view result ≡ taken_view taken.entry }
+        ensures item { slot_item result ≡ held_item taken.entry.holding value }
+        ensures view { answer_view (Slot result) ≡ view_of taken.entry.holding.seat }
     {
         PageSlot {
             lender: Lender,
@@ -132,8 +132,8 @@ impl<'s, T, K: Clean<T>> PageSlot<'s, T, K> {
 
     /// Returns what the holder knows of the page, for another user. It costs one load.
     pub fn witness(&mut self) -> Witness<T>
-        ensures page { witness_page result ≡ (slot_item self.old).page }
-        ensures history { witness_history result ≡ (slot_item self.old).history }
+        ensures page { result.seat.table_id ≡ (slot_item self.old).page }
+        ensures history { (view_of result.seat).operations ≡ (slot_item self.old).history }
         ensures same_item { slot_item self.new ≡ slot_item self.old }
     {
         self.taken.witness()
@@ -166,7 +166,7 @@ impl<'s, T, K: Clean<T>> PageSlot<'s, T, K> {
 
     /// Splits the slot into its id and its value.
     pub fn into_parts(self) -> (TakenId<'s, T, K>, T)
-        ensures { taken_item result.0 result.1 ≡ slot_item self.entry }
+        ensures { held_item result.0.holding result.1 ≡ slot_item self.entry }
     {
         let PageSlot {
             lender: _,
@@ -212,8 +212,7 @@ impl<T, K: Clean<T>> Deref for PageSlot<'_, T, K> {
 
 impl<T, K: Clean<T>> DerefMut for PageSlot<'_, T, K> {
     ghost use Rattle.std.specs.Borrow.{sem};
-    ghost use Rattle.pool_parts.specs.Lends.{LendsSlotValue};
-    ghost use Rattle.pool_parts.specs.Slot.{slot_item};
+    ghost use Rattle.pool_parts.specs.Slot.{LendsSlotValue, slot_item};
 
     ghost deref_mut_gives = { λ slot value. value ≡ (slot_item slot).value };
 

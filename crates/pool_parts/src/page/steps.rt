@@ -1,10 +1,10 @@
 //! The steps on the words of a page or of a fixed pool, and the move of a value out and back.
-ghost use Rattle.std.specs.Prelude.{◌≡◌, ◌<◌, ◌≤◌, [], ◌∷◌, Some, None, MatchOption, false};
+ghost use Rattle.std.specs.Prelude.{◌≡◌, ◌<◌, ◌≤◌, [], ◌∷◌, Some, None, MatchOption, false, ◌*◌, ◌+◌};
 ghost use Rattle.pool_parts.specs.declared.page.history.Operation.TheVariants.{Return};
 
 use super::holding::Holding;
 use super::items::Items;
-use super::rule::{ClearBit, Count, Look, LookAgain, LookOn, SetBit};
+use super::rule::{ClearBit, Count, Look, LookAgain, SetBit};
 use super::user_view::UserSeat;
 use super::word::{
     PAGE_ITEMS, PageId, all_but, count_of, is_bit_set, low_half, with_bit, without_bit,
@@ -12,51 +12,46 @@ use super::word::{
 use crate::clean::Clean;
 
 impl<T, K: Clean<T>> Items<T, K> {
-    ghost use Rattle.pool_parts.specs.Holding.{holding_page, holding_view};
-    ghost use Rattle.pool_parts.specs.Inside.Items.{items_identity, items_opening, items_raise};
-    ghost use Rattle.pool_parts.specs.Inside.PageRule.{Loads, LoadsAgain, LoadsOn, Counts, Misses, MovesOut, GoesOn, first_view, item_of};
+    ghost use Rattle.pool_parts.specs.Page.{view_of};
+    ghost use Rattle.pool_parts.specs.PageItems.{items_view};
+    ghost use Rattle.pool_parts.specs.PageRule.{Loads, Counts, Misses, TakesOne, GoesOn, first_view};
 
     /// Reads the bits of a word, by a new user, which then knows the items of it that are in use.
     pub fn look(&self, page: usize) -> (u32, UserSeat<T>)
-        requires { page < (items_identity self.now).words }
-        ensures items { result.1.table_id ≡ items_identity self.now }
-        ensures found { Loads (first_view (items_opening self.now)) page result.0 result.1.me }
+        requires { page < (items_view self.now).identity.words }
+        ensures items { result.1.table_id ≡ (items_view self.now).identity }
+        ensures found { Loads page (
+          record (first_view (items_view self.now).opening) {
+            user = result.1.me.0.user;
+          },
+          [],
+        ) result.0 result.1.me }
         ensures carries_none { result.1.me.1 ≡ [] }
     {
         let (word, seat) = self.table.shared.load_new_seat::<Look>(page);
         (low_half(word), seat)
     }
 
-    /// Reads the bits of a further word, by the same user.
-    pub fn look_on(&self, seat: &mut UserSeat<T>, page: usize) -> u32
-        requires items { seat.old.table_id ≡ items_identity self.now }
-        requires in_items { page < (items_identity self.now).words }
-        requires here { seat.old.me.0.gone ≡ false }
-        ensures items { seat.new.table_id ≡ seat.old.table_id }
-        ensures found { LoadsOn page seat.old.me result seat.new.me }
-    {
-        low_half(self.table.shared.load::<LookOn>(seat, page))
-    }
-
     /// Reads the bits of a word, by a user that knows something of the items already.
     pub fn look_again(&self, seat: &mut UserSeat<T>, page: usize) -> u32
-        requires items { seat.old.table_id ≡ items_identity self.now }
-        requires in_items { page < (items_identity self.now).words }
+        requires items { seat.old.table_id ≡ (items_view self.now).identity }
+        requires in_items { page < (items_view self.now).identity.words }
         requires here { seat.old.me.0.gone ≡ false }
         ensures items { seat.new.table_id ≡ seat.old.table_id }
-        ensures found { LoadsAgain page seat.old.me result seat.new.me }
+        ensures found { Loads page seat.old.me result seat.new.me }
     {
         low_half(self.table.shared.load::<LookAgain>(seat, page))
     }
 
     /// Reads the bits and the count of a further word, by the same user.
     pub fn count(&self, seat: &mut UserSeat<T>, page: usize) -> (u32, u32)
-        requires items { seat.old.table_id ≡ items_identity self.now }
-        requires in_items { page < (items_identity self.now).words }
-        requires counts { items_raise self.now ≡ 1 }
+        requires items { seat.old.table_id ≡ (items_view self.now).identity }
+        requires in_items { page < (items_view self.now).identity.words }
+        requires counts { (items_view self.now).raise ≡ 1 }
         requires here { seat.old.me.0.gone ≡ false }
         ensures items { seat.new.table_id ≡ seat.old.table_id }
-        ensures found { Counts (items_identity self.now).slots page seat.old.me result.0 result.1
+        ensures found { Counts (items_view self.now).identity.slots page seat.old.me result.0
+            result.1
             seat.new.me }
     {
         let word = self.table.shared.load::<Count>(seat, page);
@@ -66,15 +61,17 @@ impl<T, K: Clean<T>> Items<T, K> {
     /// Clears one bit. If it was set, it takes the value of that item out, and returns the bits of
     /// the word that stay set.
     pub fn clear(&self, seat: &mut UserSeat<T>, page: usize, bit: PageId) -> Option<(T, usize)>
-        requires items { seat.old.table_id ≡ items_identity self.now }
-        requires in_items { page < (items_identity self.now).words }
+        requires items { seat.old.table_id ≡ (items_view self.now).identity }
+        requires in_items { page < (items_view self.now).identity.words }
         requires in_word { bit < 32 }
         requires holds_none { seat.old.me.0.held ≡ None }
         requires here { seat.old.me.0.gone ≡ false }
         ensures items { seat.new.table_id ≡ seat.old.table_id }
-        ensures outcome { MatchOption result (Misses (item_of page bit) seat.old.me seat.new.me)
-            (λ taken. (item_of page bit < (items_identity self.now).slots) × K.meets taken.0
-            × MovesOut (item_of page bit) taken.0 seat.old.me seat.new.me) }
+        ensures outcome { MatchOption result (Misses (32 * page + bit) seat.old.me seat.new.me)
+            (λ taken. TakesOne K.meets (items_view self.now).identity.slots (32 * page + bit)
+            taken.0 None
+            seat.old.me seat.new.me × (seat.new.me.0.loads ≡ seat.old.me.0.loads)
+            × (seat.new.me.0.tries ≡ seat.old.me.0.tries + 1)) }
     {
         let words = &self.table.shared;
         let found = words.fetch_and::<ClearBit<K>>(seat, page, all_but(bit));
@@ -93,17 +90,17 @@ impl<T, K: Clean<T>> Items<T, K> {
     /// The bit of an item in use is clear, so adding it sets it. An addition that returns the old
     /// word is one locked instruction, while an `or` that does is a loop.
     pub fn give(&self, holding: Holding<T>, value: T, raise: u64) -> (UserSeat<T>, bool)
-        requires items { holding_page holding ≡ items_identity self.now }
-        requires in_items { holding.number < (items_identity self.now).slots }
+        requires items { holding.seat.table_id ≡ (items_view self.now).identity }
+        requires in_items { holding.number < (items_view self.now).identity.slots }
         requires meets { K.meets value }
-        requires raise { raise ≡ items_raise self.now }
+        requires raise { raise ≡ (items_view self.now).raise }
         requires by_one { raise ≤ 1 }
-        ensures items { result.0.table_id ≡ holding_page holding }
+        ensures items { result.0.table_id ≡ holding.seat.table_id }
         ensures carries_none { result.0.me.1 ≡ [] }
         ensures holds_none { result.0.me.0.held ≡ None }
         ensures here { result.0.me.0.gone ≡ false }
         ensures returned { GoesOn (Return result.0.me.0.user holding.number value ∷ [])
-            (holding_view holding) result.0.me.0 }
+            (view_of holding.seat) result.0.me.0 }
     {
         let words = &self.table.shared;
         let Holding { mut seat, number } = holding;

@@ -1,9 +1,8 @@
 //! The pure steps on the word of a page: it has a bit for each item, which is set if the item is
 //! free, and may have a count above them.
-ghost use Rattle.std.specs.Prelude.{◌≡◌, ◌==◌, ◌-◌, ◌^◌, ◌<◌, ◌↔◌, IsTrue, IsNone, IfSome, bit_and, bit_or};
+ghost use Rattle.std.specs.Prelude.{◌≡◌, ℕ, ◌==◌, ◌-◌, ◌^◌, ◌<◌, ◌↔◌, IsTrue, IsNone, IfSome, bit_and, bit_or, ◌/◌};
 ghost use Rattle.std.specs.Int.{w32, bit_at, bit_not};
 ghost use Rattle.pool_parts.specs.Word.{IsLeastBit, SetsBit, ClearsBit};
-ghost use Rattle.pool_parts.specs.Inside.Word.{IsLowHalf, whole_word, count_in};
 ghost use Rattle.pool_parts.specs.declared.page.word.TheConstants.{PAGE_ITEMS};
 
 /// The number of an item in its page, below 32.
@@ -70,14 +69,14 @@ pub(super) fn is_none_free(word: u32) -> bool
 
 /// Returns the lower half of a word: the bits of its items, without the count above them.
 pub(super) fn low_half(word: u64) -> u32
-    ensures { IsLowHalf word result }
+    ensures { (i : ℕ) → i < 32 → bit_at result i ≡ bit_at word i }
 {
     (word & u32::MAX as u64) as u32
 }
 
 /// Returns the count in the upper half of a word.
 pub(super) fn count_of(word: u64) -> u32
-    ensures { result ≡ count_in word }
+    ensures { result ≡ (word / 2 ^ 32) }
 {
     (word >> 32) as u32
 }
@@ -85,7 +84,7 @@ pub(super) fn count_of(word: u64) -> u32
 /// Returns a word in which each bit is set but this one, those of the count too.
 pub(super) fn all_but(id: PageId) -> u64
     requires { id < PAGE_ITEMS }
-    ensures { ClearsBit whole_word id result }
+    ensures { ClearsBit (2 ^ 64 - 1) id result }
 {
     u64::MAX & !(1 << id)
 }

@@ -1,10 +1,8 @@
 //! Callers that rest on a pool's history: what stands before what, what a refusal shows, and which
 //! refusals may come.
 ghost use Rattle.std.specs.Prelude.{◌≡◌, ◌<◌, ◌⊎◌, ◌↔◌, ℕ, ◌∷◌, IfSome, IfErr, IsTrue};
-ghost use Rattle.lockfree_object_pool.specs.FullSeen.{full_view};
-ghost use Rattle.lockfree_object_pool.specs.FixedPool.{pool_identity, pool_items, pool_opening};
-ghost use Rattle.lockfree_object_pool.specs.FixedReusable.{reusable_item};
-ghost use Rattle.lockfree_object_pool.specs.Note.{note_page, note_view};
+ghost use Rattle.pool_parts.specs.Page.{view_of};
+ghost use Rattle.fixed_pools.specs.FixedPool.{fixed_view, fixed_item};
 ghost use Rattle.lockfree_object_pool.specs.Ledger.{History, IsPrefixOf, WasOutBetween};
 ghost use Rattle.pool_parts.specs.declared.page.history.Operation.TheVariants.{Return};
 ghost use Rattle.pool_parts.specs.declared.pull_error.PullError.TheVariants.{Limit};
@@ -22,10 +20,11 @@ use std::thread::Threads;
 
 /// Pulls by a note. The pull comes after all that the note knew.
 pub fn pulled_after<'p>(pool: &'p NumberPool, note: PoolNote<usize>) -> Option<NumberItem<'p>>
-    requires { note_page note ≡ pool_identity pool.now }
-    ensures pool { IfSome result (λ item. (reusable_item item).page ≡ pool_identity pool.now) }
+    requires { note.seat.table_id ≡ (fixed_view pool.now).identity }
+    ensures pool { IfSome result (λ item. (fixed_item item).item.page
+        ≡ (fixed_view pool.now).identity) }
     ensures after { IfSome result (λ item.
-        IsPrefixOf (note_view note).operations (reusable_item item).history) }
+        IsPrefixOf (view_of note.seat).operations (fixed_item item).item.history) }
 {
     let pass = PullPass::new();
     match pool.try_pull_from(&pass, note) {
@@ -37,8 +36,8 @@ pub fn pulled_after<'p>(pool: &'p NumberPool, note: PoolNote<usize>) -> Option<N
 /// Writes a number to an item near a page and returns it: the return of that number is the last
 /// operation that the note knows.
 pub fn returned_near(pool: &NumberPool, page: usize, number: usize) -> Option<PoolNote<usize>>
-    ensures pool { IfSome result (λ note. note_page note ≡ pool_identity pool.now) }
-    ensures last { IfSome result (λ note. EndsWithReturn number (note_view note).operations) }
+    ensures pool { IfSome result (λ note. note.seat.table_id ≡ (fixed_view pool.now).identity) }
+    ensures last { IfSome result (λ note. EndsWithReturn number (view_of note.seat).operations) }
 {
     let mut item = pool.pull_near(page).ok()?;
     *item = number;
@@ -48,9 +47,10 @@ pub fn returned_near(pool: &NumberPool, page: usize, number: usize) -> Option<Po
 /// Writes a number to the item of a pool of one and returns it: this return is the last operation
 /// that the note knows.
 fn returned_alone(pool: &NumberPool, number: usize) -> Option<PoolNote<usize>>
-    requires { pool_items pool.now ≡ 1 }
-    ensures pool { IfSome result (λ note. note_page note ≡ pool_identity pool.now) }
-    ensures last { IfSome result (λ note. EndsWithReturnOf 0 number (note_view note).operations) }
+    requires { (fixed_view pool.now).items ≡ 1 }
+    ensures pool { IfSome result (λ note. note.seat.table_id ≡ (fixed_view pool.now).identity) }
+    ensures last { IfSome result (λ note. EndsWithReturnOf 0 number
+        (view_of note.seat).operations) }
 {
     let mut item = pool.pull().ok()?;
     *item = number;
@@ -65,15 +65,15 @@ fn pulled_again<'p>(
     note: PoolNote<usize>,
     number: usize,
 ) -> Option<(NumberItem<'p>, bool)>
-    requires of_pool { note_page note ≡ pool_identity pool.now }
-    requires one_item { pool_items pool.now ≡ 1 }
-    requires returned { EndsWithReturnOf 0 number (note_view note).operations }
-    ensures returned { IfSome result (λ pulled. WasReturnedBefore (reusable_item pulled.0)) }
+    requires of_pool { note.seat.table_id ≡ (fixed_view pool.now).identity }
+    requires one_item { (fixed_view pool.now).items ≡ 1 }
+    requires returned { EndsWithReturnOf 0 number (view_of note.seat).operations }
+    ensures returned { IfSome result (λ pulled. WasReturnedBefore (fixed_item pulled.0).item) }
     ensures same { IfSome result (λ pulled.
-        IsTrue pulled.1 ↔ ((reusable_item pulled.0).value ≡ number)) }
+        IsTrue pulled.1 ↔ ((fixed_item pulled.0).item.value ≡ number)) }
     ensures unless_used { IfSome result (λ pulled.
-        ((reusable_item pulled.0).value ≡ number)
-        ⊎ WasUsedSince (note_view note).operations (reusable_item pulled.0)) }
+        ((fixed_item pulled.0).item.value ≡ number)
+        ⊎ WasUsedSince (view_of note.seat).operations (fixed_item pulled.0).item) }
 {
     let pass = PullPass::new();
     match pool.try_pull_from(&pass, note) {
@@ -91,9 +91,10 @@ fn refused_while_out<'p>(
     pass: &'p PullPass,
     number: usize,
 ) -> Option<BusySeen<'p, usize>>
-    requires { number < pool_items pool.now }
+    requires { number < (fixed_view pool.now).items }
     ensures { IfSome result (λ busy.
-        WasOutBetween (pool_opening pool.now) (full_view busy).since (full_view busy).operations number) }
+        WasOutBetween (fixed_view pool.now).opening (view_of busy.seat).since
+        (view_of busy.seat).operations number) }
 {
     match pool.try_pull(pass) {
         Ok(_) => None,
@@ -118,19 +119,21 @@ fn work(pool: &NumberPool, rounds: usize) -> Result<usize, PullError>
 /// then told the second, stands after both returns.
 fn handed_on<'p, R: Threads + Sync>(rt: &R, pool: &'p NumberPool) -> Option<NumberItem<'p>>
     ensures first { IfSome result (λ item. (user id : ℕ) × (before : History ℕ)
-        × IsPrefixOf (Return user id 5 ∷ before) (reusable_item item).history) }
+        × IsPrefixOf (Return user id 5 ∷ before) (fixed_item item).item.history) }
     ensures second { IfSome result (λ item. (user id : ℕ) × (before : History ℕ)
-        × IsPrefixOf (Return user id 6 ∷ before) (reusable_item item).history) }
+        × IsPrefixOf (Return user id 6 ∷ before) (fixed_item item).item.history) }
 {
     let (first, second) = thread::join(
         rt,
         || -> Option<PoolNote<usize>>
-            ensures pool { IfSome result (λ note. note_page note ≡ pool_identity pool.entry.now) }
-            ensures last { IfSome result (λ note. EndsWithReturn 5 (note_view note).operations) }
+            ensures pool { IfSome result (λ note. note.seat.table_id
+                ≡ (fixed_view pool.entry.now).identity) }
+            ensures last { IfSome result (λ note. EndsWithReturn 5 (view_of note.seat).operations) }
         { returned_near(pool, 0, 5) },
         || -> Option<PoolNote<usize>>
-            ensures pool { IfSome result (λ note. note_page note ≡ pool_identity pool.entry.now) }
-            ensures last { IfSome result (λ note. EndsWithReturn 6 (note_view note).operations) }
+            ensures pool { IfSome result (λ note. note.seat.table_id
+                ≡ (fixed_view pool.entry.now).identity) }
+            ensures last { IfSome result (λ note. EndsWithReturn 6 (view_of note.seat).operations) }
         { returned_near(pool, 2, 6) },
     );
     pulled_after_both(pool, first?, second?)
@@ -142,12 +145,12 @@ pub fn pulled_after_both<'p>(
     first: PoolNote<usize>,
     second: PoolNote<usize>,
 ) -> Option<NumberItem<'p>>
-    requires first { note_page first ≡ pool_identity pool.now }
-    requires second { note_page second ≡ pool_identity pool.now }
+    requires first { first.seat.table_id ≡ (fixed_view pool.now).identity }
+    requires second { second.seat.table_id ≡ (fixed_view pool.now).identity }
     ensures after_first { IfSome result (λ item.
-        IsPrefixOf (note_view first).operations (reusable_item item).history) }
+        IsPrefixOf (view_of first.seat).operations (fixed_item item).item.history) }
     ensures after_second { IfSome result (λ item.
-        IsPrefixOf (note_view second).operations (reusable_item item).history) }
+        IsPrefixOf (view_of second.seat).operations (fixed_item item).item.history) }
 {
     let mut both = first;
     pool.tell(&mut both, second.into_witness());

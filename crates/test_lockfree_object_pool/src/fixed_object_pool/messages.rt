@@ -1,9 +1,9 @@
 //! Notes of a pool that go from thread to thread as messages. Each wait has a limit.
 ghost use Rattle.std.specs.Prelude.{◌≡◌, IfSome};
 ghost use Rattle.std.specs.Arc.{arc_value};
-ghost use Rattle.lockfree_object_pool.specs.FixedPool.{pool_identity};
-ghost use Rattle.lockfree_object_pool.specs.Note.{note_page, note_view};
-ghost use Rattle.pool_parts.specs.Inside.OneProof.{same_page};
+ghost use Rattle.fixed_pools.specs.FixedPool.{fixed_view};
+ghost use Rattle.pool_parts.specs.Page.{view_of};
+ghost use Rattle.pool_parts.specs.Item.{same_page};
 ghost use Rattle.lockfree_object_pool.specs.Ledger.{IsPrefixOf};
 
 use super::callers::{pulled_after, returned_near};
@@ -23,16 +23,17 @@ use std::thread::Threads;
 struct Message {
     pool: Arc<NumberPool>,
     note: PoolNote<usize>,
-    ghost of_pool: { note_page note ≡ pool_identity (arc_value pool) } by { same_page _ _ },
+    ghost of_pool: { note.seat.table_id ≡ (fixed_view (arc_value pool)).identity } by { same_page _ _ },
 }
 
 /// Pulls after all that the sender of a message knew, returns the item, and tells so by a message
 /// of its own.
 fn answered(message: Message) -> Option<Message>
     ensures pool { IfSome result (λ answer.
-        pool_identity (arc_value answer.pool) ≡ pool_identity (arc_value message.pool)) }
+        (fixed_view (arc_value answer.pool)).identity
+        ≡ (fixed_view (arc_value message.pool)).identity) }
     ensures after { IfSome result (λ answer.
-        IsPrefixOf (note_view message.note).operations (note_view answer.note).operations) }
+        IsPrefixOf (view_of message.note.seat).operations (view_of answer.note.seat).operations) }
 {
     let Message { pool, note } = message;
     let Some(item) = pulled_after(&pool, note) else {

@@ -1,6 +1,6 @@
 //! The pools of numbers that most tests are of: each number is the call that made it.
 ghost use Rattle.std.specs.Prelude.{◌≡◌, ◌≤◌};
-ghost use Rattle.lockfree_object_pool.specs.FixedPool.{pool_items};
+ghost use Rattle.fixed_pools.specs.FixedPool.{fixed_view};
 
 use crate::made::count_of_calls;
 use lockfree_object_pool::clean::AnyValue;
@@ -42,7 +42,7 @@ pub type NumberOwnedItem = FixedOwnedReusable<usize, Numbers, Keep, AnyValue>;
 /// Creates a pool of so many numbers, of which item `i` is `i`. The test ends if memory is refused.
 pub fn opened(rt: &impl Abort, alloc: Global, items: usize) -> NumberPool
     requires { 1 ≤ items }
-    ensures { pool_items result ≡ items }
+    ensures { (fixed_view result).items ≡ items }
 {
     counted_pool(rt, alloc, &count_of_calls(rt, alloc), items)
 }
@@ -55,7 +55,7 @@ pub fn counted_pool(
     items: usize,
 ) -> NumberPool
     requires { 1 ≤ items }
-    ensures { pool_items result ≡ items }
+    ensures { (fixed_view result).items ≡ items }
 {
     let calls = Arc::try_clone(calls).expect(rt, "memory is left");
     FixedObjectPool::new(alloc, Numbers { calls }, Keep, items).expect(rt, "a pool is made")

@@ -2,8 +2,7 @@
 //! Pulls of an item apart from its pool.
 ghost use Rattle.std.specs.Prelude.{◌≡◌, IfErr};
 ghost use Rattle.std.specs.Arc.{arc_value};
-ghost use Rattle.lockfree_object_pool.specs.FixedPool.{pool_identity};
-ghost use Rattle.lockfree_object_pool.specs.Note.{note_page};
+ghost use Rattle.fixed_pools.specs.FixedPool.{fixed_view};
 
 use super::numbers::{NumberOwnedItem, NumberPool, hold, opened_shared};
 use crate::assert_equal::assert_equal;
@@ -15,7 +14,8 @@ fn pulled_by(
     owner: Arc<NumberPool>,
     page: usize,
 ) -> Result<NumberOwnedItem, (Arc<NumberPool>, PoolNote<usize>)>
-    ensures { IfErr result (λ kept. note_page kept.1 ≡ pool_identity (arc_value kept.0)) }
+    ensures { IfErr result (λ kept. kept.1.seat.table_id
+        ≡ (fixed_view (arc_value kept.0)).identity) }
 {
     let note = owner.note();
     owner.pull_by_owner(page, note)
@@ -23,7 +23,7 @@ fn pulled_by(
 
 /// The number of an item that an owner pulls near a page, by a note.
 fn number_by_note(owner: Arc<NumberPool>, page: usize, note: PoolNote<usize>) -> Option<usize>
-    requires { note_page note ≡ pool_identity (arc_value owner) }
+    requires { note.seat.table_id ≡ (fixed_view (arc_value owner)).identity }
 {
     Some(owner.pull_by_owner(page, note).ok()?.number())
 }

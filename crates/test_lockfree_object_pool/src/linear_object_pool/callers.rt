@@ -1,7 +1,6 @@
 //! Proved callers: what they know of a pulled value, of its place, and of a refusal.
 ghost use Rattle.std.specs.Prelude.{◌≡◌, ◌<◌, ℕ, Option, None, Some, IfOk, IfErr, IfSome};
-ghost use Rattle.lockfree_object_pool.specs.LinearPool.{pool_first_page, pool_limit, reusable_item, reusable_with, owned_with, reusable_page};
-ghost use Rattle.lockfree_object_pool.specs.Walk.{number_of};
+ghost use Rattle.linear_pools.specs.LinearPool.{linear_view, linear_item};
 ghost use Rattle.pool_parts.specs.declared.pull_error.PullError.TheVariants.{Memory};
 
 use super::*;
@@ -32,7 +31,7 @@ fn write<K: Clean<u32>, I: Init<u32, K>, R: Reset<u32, K>>(
     item: &mut LinearReusable<'_, u32, I, R, K>,
     value: u32,
 )
-    ensures { item.new ≡ reusable_with item.old value }
+    ensures { item.new ≡ record item.old { value = value } }
 {
     **item = value;
 }
@@ -41,7 +40,7 @@ fn write_owned<K: Clean<u32>, I: Init<u32, K>, R: Reset<u32, K>>(
     item: &mut LinearOwnedReusable<u32, I, R, K>,
     value: u32,
 )
-    ensures { item.new ≡ owned_with item.old value }
+    ensures { item.new ≡ record item.old { value = value } }
 {
     **item = value;
 }
@@ -50,8 +49,8 @@ fn write_owned<K: Clean<u32>, I: Init<u32, K>, R: Reset<u32, K>>(
 fn read_back<K: Clean<u32>, I: Init<u32, K>, R: Reset<u32, K>>(
     mut item: LinearReusable<'_, u32, I, R, K>,
 ) -> (usize, u8, u32)
-    ensures number { result.0 ≡ number_of (reusable_page item.entry) }
-    ensures id { result.1 ≡ (reusable_item item.entry).id }
+    ensures number { result.0 ≡ (linear_item item.entry).number.number }
+    ensures id { result.1 ≡ (linear_item item.entry).item.id }
     ensures value { result.2 ≡ 9 }
 {
     *item = 8;
@@ -63,7 +62,8 @@ fn read_back<K: Clean<u32>, I: Init<u32, K>, R: Reset<u32, K>>(
 fn of_first<'p>(
     pool: &'p LinearObjectPool<u32, CountedZeros, ToZero, Zero>,
 ) -> Option<LinearReusable<'p, u32, CountedZeros, ToZero, Zero>>
-    ensures { IfSome result (λ item. (reusable_item item).page ≡ pool_first_page pool.now) }
+    ensures { IfSome result (λ item. (linear_item item).item.page
+        ≡ (linear_view pool.now).start.page) }
 {
     let item = pool.pull().ok()?;
     if item.page_number() == 0 {
@@ -75,7 +75,7 @@ fn of_first<'p>(
 
 /// Where there is no limit and `init` always has an answer, a pull is refused for memory alone.
 fn refusal(pool: &LinearObjectPool<u32, CountedZeros, ToZero, Zero>) -> Option<PullError>
-    requires { pool_limit pool.now ≡ None }
+    requires { (linear_view pool.now).limit ≡ None }
     ensures { IfSome result (λ error. error ≡ Memory) }
 {
     pool.pull().err()

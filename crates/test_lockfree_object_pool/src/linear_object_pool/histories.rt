@@ -1,7 +1,7 @@
 //! Callers that rest on the history of the first page: what one thread returned, it pulls again.
 ghost use Rattle.std.specs.Prelude.{◌≡◌, ◌⊎◌, ◌↔◌, IfSome, IsTrue};
-ghost use Rattle.lockfree_object_pool.specs.LinearPool.{pool_first_page, reusable_item};
-ghost use Rattle.lockfree_object_pool.specs.Note.{note_page, note_view};
+ghost use Rattle.linear_pools.specs.LinearPool.{linear_view, linear_item};
+ghost use Rattle.pool_parts.specs.Page.{view_of};
 ghost use Rattle.test_lockfree_object_pool.specs.Returned.{EndsWithReturnOf, WasReturnedBefore, WasUsedSince};
 
 use super::*;
@@ -18,8 +18,9 @@ type NumberItem<'p> = LinearReusable<'p, u32, Copied<u32, AnyValue>, Keep>;
 /// Writes a number to item 0 of the first page and returns it: this return is the last operation
 /// that the note knows.
 fn returned_first(pool: &NumberPool, number: u32) -> Option<PageNote<u32>>
-    ensures page { IfSome result (λ note. note_page note ≡ pool_first_page pool.now) }
-    ensures last { IfSome result (λ note. EndsWithReturnOf 0 number (note_view note).operations) }
+    ensures page { IfSome result (λ note. note.seat.table_id ≡ (linear_view pool.now).start.page) }
+    ensures last { IfSome result (λ note. EndsWithReturnOf 0 number
+        (view_of note.seat).operations) }
 {
     let mut item = pool.pull().ok()?;
     if item.page_number() != 0 || item.page_id() != 0 {
@@ -37,14 +38,14 @@ fn pulled_again<'p>(
     note: PageNote<u32>,
     number: u32,
 ) -> Option<(NumberItem<'p>, bool)>
-    requires of_page { note_page note ≡ pool_first_page pool.now }
-    requires returned { EndsWithReturnOf 0 number (note_view note).operations }
-    ensures returned { IfSome result (λ pulled. WasReturnedBefore (reusable_item pulled.0)) }
+    requires of_page { note.seat.table_id ≡ (linear_view pool.now).start.page }
+    requires returned { EndsWithReturnOf 0 number (view_of note.seat).operations }
+    ensures returned { IfSome result (λ pulled. WasReturnedBefore (linear_item pulled.0).item) }
     ensures same { IfSome result (λ pulled.
-        IsTrue pulled.1 ↔ ((reusable_item pulled.0).value ≡ number)) }
+        IsTrue pulled.1 ↔ ((linear_item pulled.0).item.value ≡ number)) }
     ensures unless_used { IfSome result (λ pulled.
-        ((reusable_item pulled.0).value ≡ number)
-        ⊎ WasUsedSince (note_view note).operations (reusable_item pulled.0)) }
+        ((linear_item pulled.0).item.value ≡ number)
+        ⊎ WasUsedSince (view_of note.seat).operations (linear_item pulled.0).item) }
 {
     let pass = PullPass::new();
     let Ok(item) = pool.try_pull_from(&pass, note) else {

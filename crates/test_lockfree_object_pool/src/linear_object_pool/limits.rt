@@ -1,6 +1,6 @@
 //! Pools that may have so many pages and no more.
 ghost use Rattle.std.specs.Prelude.{◌≡◌, ℕ, ◌+◌, ◌≤◌, Some, IfSome};
-ghost use Rattle.lockfree_object_pool.specs.LinearPool.{pool_limit, pool_start};
+ghost use Rattle.linear_pools.specs.LinearPool.{linear_view};
 ghost use Rattle.lockfree_object_pool.specs.Walk.{WasFull};
 ghost use Rattle.pool_parts.specs.declared.made_or_reset.MadeOrReset.{MadeOrReset};
 ghost use Rattle.linear_pools.specs.declared.linear_object_pool.AnswerOf.{AnswerOf};
@@ -30,10 +30,10 @@ fn a_limit_is_told(rt: HostRuntime) {
 /// The number of the last page, where a pull is refused at the limit: each page up to it was found
 /// full.
 fn last_full_page(pool: &ClearedPool) -> Option<usize>
-    ensures limit { IfSome result (λ last. pool_limit pool.now ≡ Some (last + 1)) }
+    ensures limit { IfSome result (λ last. (linear_view pool.now).limit ≡ Some (last + 1)) }
     ensures each_full { IfSome result (λ last. (number : ℕ) → number ≤ last
         → WasFull ℕ (MadeOrReset CountedZeros ToZero Zero) (AnswerOf CountedZeros Zero)
-        (pool_start pool.now) number) }
+        (linear_view pool.now).start number) }
 {
     let pass = PullPass::new();
     match pool.try_pull(&pass) {

@@ -1,6 +1,6 @@
 //! Where a pulled value comes from, concluded from the contract of a pull alone.
 ghost use Rattle.std.specs.Prelude.{◌≡◌, ◌⊎◌, ℕ, ◌∷◌, ⊤, Some, IfSome};
-ghost use Rattle.lockfree_object_pool.specs.LinearPool.{reusable_item};
+ghost use Rattle.linear_pools.specs.LinearPool.{linear_item};
 ghost use Rattle.lockfree_object_pool.specs.Ledger.{History, WasReturned};
 ghost use Rattle.pool_parts.specs.declared.page.history.Operation.TheVariants.{Pull};
 
@@ -27,12 +27,13 @@ type SevenPool<R> = LinearObjectPool<u32, Sevens, R, AnyValue>;
 fn pulled<'p, R: Reset<u32, AnyValue>>(
     pool: &'p SevenPool<R>,
 ) -> Option<LinearReusable<'p, u32, Sevens, R, AnyValue>>
-    ensures { IfSome result (λ item. ((reusable_item item).value ≡ 7)
+    ensures { IfSome result (λ item. ((linear_item item).item.value ≡ 7)
         ⊎ ((before : History ℕ)
-        × ((reusable_item item).history
-        ≡ Pull (reusable_item item).holder (reusable_item item).id (reusable_item item).value
+        × ((linear_item item).item.history
+        ≡ Pull (linear_item item).item.holder (linear_item item).item.id
+        (linear_item item).item.value
         ∷ before)
-        × WasReturned before (reusable_item item).id (reusable_item item).value)) }
+        × WasReturned before (linear_item item).item.id (linear_item item).item.value)) }
 {
     match pool.pull() {
         Ok(item) => Some(item),

@@ -1,7 +1,7 @@
 //! Links: a link is set once, whoever asks, a chain may be long, and what two notes of one link
 //! say.
 ghost use Rattle.std.specs.Prelude.{◌≡◌, IfSome};
-ghost use Rattle.page_chain.specs.LinearPage.{shown_page};
+ghost use Rattle.page_chain.specs.Walk.{shown_page};
 
 use super::*;
 use crate::assert_equal::assert_equal;
@@ -14,7 +14,7 @@ use std::thread::Threads;
 /// Two answers for one page are the same page, whichever threads asked: their notes are of one
 /// link.
 fn both_next<'c>(page: &ZeroPage<'c>) -> Option<(ZeroPage<'c>, ZeroPage<'c>)>
-    ensures { IfSome result (λ both. shown_page both.0 ≡ shown_page both.1) }
+    ensures { IfSome result (λ both. (shown_page both.0).page ≡ (shown_page both.1).page) }
 {
     let (first, mut note) = page.next()?;
     let (second, other) = page.next()?;
@@ -25,7 +25,7 @@ fn both_next<'c>(page: &ZeroPage<'c>) -> Option<(ZeroPage<'c>, ZeroPage<'c>)>
 /// The page that a call links or finds is the page that a note of the same link knows, whichever
 /// thread asked.
 fn linked_and_found<'c>(page: &ZeroPage<'c>) -> Option<(ZeroPage<'c>, ZeroPage<'c>)>
-    ensures { IfSome result (λ both. shown_page both.0 ≡ shown_page both.1) }
+    ensures { IfSome result (λ both. (shown_page both.0).page ≡ (shown_page both.1).page) }
 {
     let pass = PullPass::new();
     let Allocated::Full(seen) = page.page().try_alloc(&pass).ok()? else {

@@ -1,11 +1,10 @@
 //! Callers that need a page's history: what comes before what, and that two histories are of one
 //! page.
 ghost use Rattle.std.specs.Prelude.{◌≡◌, ◌⊎◌, ℕ, ◌∷◌, IfSome};
-ghost use Rattle.page_chain.specs.Note.{note_page, note_view};
-ghost use Rattle.page_chain.specs.OwnedSlot.{owned_slot_item};
+ghost use Rattle.pool_parts.specs.Page.{view_of};
+ghost use Rattle.page_chain.specs.Slot.{owned_slot_item, slot_item};
 ghost use Rattle.page_chain.specs.Page.{page_identity};
 ghost use Rattle.page_chain.specs.Ledger.{History, IsPrefixOf};
-ghost use Rattle.page_chain.specs.Slot.{slot_item};
 ghost use Rattle.pool_parts.specs.declared.page.history.Operation.TheVariants.{Return};
 
 use super::sharing::{sent, threes};
@@ -30,10 +29,10 @@ fn pulled_after<'s>(
     page: &'s NumberPage,
     note: PageNote<u32>,
 ) -> Option<PageSlot<'s, u32, AnyValue>>
-    requires { note_page note ≡ page_identity page.now }
+    requires { note.seat.table_id ≡ page_identity page.now }
     ensures page { IfSome result (λ slot. (slot_item slot).page ≡ page_identity page.now) }
     ensures after { IfSome result (λ slot.
-        IsPrefixOf (note_view note).operations (slot_item slot).history) }
+        IsPrefixOf (view_of note.seat).operations (slot_item slot).history) }
 {
     let pass = PullPass::new();
     match page.try_alloc_from(&pass, note) {
@@ -44,9 +43,10 @@ fn pulled_after<'s>(
 
 /// Returns 5, and tells it by a note: the return is the last operation that the note knows.
 fn returned_five(page: &NumberPage) -> Option<PageNote<u32>>
-    ensures page { IfSome result (λ note. note_page note ≡ page_identity page.now) }
+    ensures page { IfSome result (λ note. note.seat.table_id ≡ page_identity page.now) }
     ensures last { IfSome result (λ note.
-        (user id : ℕ) × (before : History ℕ) × ((note_view note).operations ≡ Return user id 5 ∷ before)) }
+        (user id : ℕ) × (before : History ℕ) × ((view_of note.seat).operations ≡ Return user id 5 ∷
+        before)) }
 {
     let mut slot = page.alloc().ok()??;
     *slot = 5;
@@ -63,17 +63,19 @@ fn handed_on<'s, R: Threads + Sync>(
     ensures after { IfSome result (λ seen. (user id : ℕ) × (before : History ℕ)
         × IsPrefixOf (Return user id 5 ∷ before) (slot_item seen.0).history) }
     ensures slot_page { IfSome result (λ seen. (slot_item seen.0).page ≡ page_identity page.now) }
-    ensures note_page { IfSome result (λ seen. note_page seen.1 ≡ page_identity page.now) }
+    ensures note_page { IfSome result (λ seen. seen.1.seat.table_id ≡ page_identity page.now) }
 {
     let (first, second) = thread::join(
         rt,
         || -> Option<PageNote<u32>>
-            ensures page { IfSome result (λ note. note_page note ≡ page_identity page.entry.now) }
+            ensures page { IfSome result (λ note. note.seat.table_id ≡ page_identity
+                page.entry.now) }
             ensures last { IfSome result (λ note. (user id : ℕ) × (before : History ℕ)
-                × ((note_view note).operations ≡ Return user id 5 ∷ before)) }
+                × ((view_of note.seat).operations ≡ Return user id 5 ∷ before)) }
         { returned_five(page) },
         || -> Option<PageNote<u32>>
-            ensures page { IfSome result (λ note. note_page note ≡ page_identity page.entry.now) }
+            ensures page { IfSome result (λ note. note.seat.table_id ≡ page_identity
+                page.entry.now) }
         { returned_five(page) },
     );
     let slot = pulled_after(page, first?)?;
@@ -83,11 +85,11 @@ fn handed_on<'s, R: Threads + Sync>(
 /// What two users of one page know are prefixes of one history, so one of them is a prefix of the
 /// other.
 fn compared(page: &NumberPage, one: PageNote<u32>, other: PageNote<u32>) -> PageNote<u32>
-    requires one { note_page one ≡ page_identity page.now }
-    requires other { note_page other ≡ page_identity page.now }
-    ensures page { note_page result ≡ page_identity page.now }
-    ensures compared { IsPrefixOf (note_view one).operations (note_view other).operations
-        ⊎ IsPrefixOf (note_view other).operations (note_view one).operations }
+    requires one { one.seat.table_id ≡ page_identity page.now }
+    requires other { other.seat.table_id ≡ page_identity page.now }
+    ensures page { result.seat.table_id ≡ page_identity page.now }
+    ensures compared { IsPrefixOf (view_of one.seat).operations (view_of other.seat).operations
+        ⊎ IsPrefixOf (view_of other.seat).operations (view_of one.seat).operations }
 {
     let mut both = one;
     page.tell(&mut both, other.into_witness());
@@ -98,8 +100,8 @@ fn compared(page: &NumberPage, one: PageNote<u32>, other: PageNote<u32>) -> Page
 /// history.
 fn told_of_pull(page: &NumberPage, slot: &mut PageSlot<'_, u32, AnyValue>) -> PageNote<u32>
     requires { (slot_item slot.old).page ≡ page_identity page.now }
-    ensures page { note_page result ≡ page_identity page.now }
-    ensures knows { IsPrefixOf (slot_item slot.old).history (note_view result).operations }
+    ensures page { result.seat.table_id ≡ page_identity page.now }
+    ensures knows { IsPrefixOf (slot_item slot.old).history (view_of result.seat).operations }
     ensures same_item { slot_item slot.new ≡ slot_item slot.old }
 {
     let mut note = page.note();
@@ -110,7 +112,7 @@ fn told_of_pull(page: &NumberPage, slot: &mut PageSlot<'_, u32, AnyValue>) -> Pa
 /// An owned slot's return is told alike.
 fn owned_returned<K: Clean<u32>>(slot: OwnedSlot<u32, K>) -> PageNote<u32>
     requires { K.meets (owned_slot_item slot).value }
-    ensures { IsPrefixOf (owned_slot_item slot).history (note_view result).operations }
+    ensures { IsPrefixOf (owned_slot_item slot).history (view_of result.seat).operations }
 {
     slot.free()
 }

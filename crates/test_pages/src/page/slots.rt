@@ -1,9 +1,7 @@
 //! What a caller knows of a slot by public contracts alone.
 ghost use Rattle.std.specs.Prelude.{◌≡◌, IfOk, IfSome};
-ghost use Rattle.page_chain.specs.FullSeen.{IsAllOut};
-ghost use Rattle.page_chain.specs.OwnedSlot.{owned_slot_with};
+ghost use Rattle.page_chain.specs.Slot.{IsAllOut, slot_item};
 ghost use Rattle.page_chain.specs.Page.{page_identity, page_opening};
-ghost use Rattle.page_chain.specs.Slot.{slot_item, slot_with};
 ghost use Rattle.pool_parts.specs.declared.page.word.TheConstants.{PAGE_ITEMS};
 
 use super::{item, owned_item};
@@ -22,13 +20,13 @@ impl Clean<u32> for Zero {
 
 /// A write through a slot changes the value alone.
 fn write<K: Clean<u32>>(slot: &mut PageSlot<'_, u32, K>, value: u32)
-    ensures { slot.new ≡ slot_with slot.old value }
+    ensures { slot.new ≡ record slot.old { value = value } }
 {
     **slot = value;
 }
 
 fn write_owned<K: Clean<u32>>(slot: &mut OwnedSlot<u32, K>, value: u32)
-    ensures { slot.new ≡ owned_slot_with slot.old value }
+    ensures { slot.new ≡ record slot.old { value = value } }
 {
     **slot = value;
 }

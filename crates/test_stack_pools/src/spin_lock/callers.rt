@@ -1,7 +1,6 @@
 //! Proved callers: what a guard shows and writes, and that the facts of the element's type hold
 //! whenever the lock is taken.
 ghost use Rattle.std.specs.Prelude.{◌≡◌, ◌%◌, IfSome};
-ghost use Rattle.lockfree_object_pool.specs.Guard.{guard_with};
 
 use super::*;
 use lockfree_object_pool::clean::Clean;
@@ -26,7 +25,7 @@ fn written<W: Wait>(rt: &W, lock: &SpinLock<u32>, value: u32) -> u32
 
 /// A write through a guard changes its value alone.
 fn overwritten(guard: &mut SpinLockGuard<'_, u32>, value: u32)
-    ensures { guard.new ≡ guard_with guard.old value }
+    ensures { guard.new ≡ record guard.old { value = value } }
 {
     **guard = value;
 }

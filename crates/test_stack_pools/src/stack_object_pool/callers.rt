@@ -1,6 +1,5 @@
 //! Proved callers: what they know of a pulled value, of an attached one, and of a refusal.
 ghost use Rattle.std.specs.Prelude.{◌≡◌, IfOk, IfErr, IfSome};
-ghost use Rattle.lockfree_object_pool.specs.StackPool.{stack_with};
 ghost use Rattle.pool_parts.specs.declared.pull_error.PullError.TheVariants.{Memory};
 
 use super::*;
@@ -38,7 +37,7 @@ pub fn write<P: SharedStackPool<u32>, W: Wait + Copy>(
     item: &mut StackReusable<u32, P, W>,
     value: u32,
 )
-    ensures { item.new ≡ stack_with item.old value }
+    ensures { item.new ≡ record item.old { value = value } }
 {
     **item = value;
 }

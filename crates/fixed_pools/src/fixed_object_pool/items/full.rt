@@ -11,11 +11,10 @@ use pool_parts::page::user_view::UserSeat;
 use std::snapshot::Snapshot;
 
 impl<T, K: Clean<T>> FixedItems<T, K> {
-    ghost use Rattle.fixed_pools.specs.FixedAnswer.{returns_between};
-    ghost use Rattle.fixed_pools.specs.Inside.FixedCount.{FindsFull, Tallies, is_beside, passes_of};
-    ghost use Rattle.fixed_pools.specs.Inside.FixedItem.{fixed_identity};
-    ghost use Rattle.pool_parts.specs.Inside.PageRule.{IsOutNow, IsSound, item_of};
-    ghost use Rattle.pool_parts.specs.Inside.Taking.{MissesAll, TakesOne};
+    ghost use Rattle.fixed_pools.specs.FixedPool.{returns_between, IsFullSince};
+    ghost use Rattle.fixed_pools.specs.FixedCount.{Tallies, is_beside, passes_of, ReadsOn};
+    ghost use Rattle.pool_parts.specs.PageItems.{items_view};
+    ghost use Rattle.pool_parts.specs.PageRule.{IsOutNow, IsSound, MissesAll, TakesOne};
 
     /// Takes an item that is free, by a user that has read the first word. `None` if no item was
     /// free at one moment. Most pulls take one of the first word, so that is inlined.
@@ -27,24 +26,27 @@ impl<T, K: Clean<T>> FixedItems<T, K> {
         word: u32,
         order: Option<Order>,
     ) -> Option<TakenValue<T>>
-        requires pool { seat.old.table_id ≡ fixed_identity self.now }
-        requires in_pool { start < (fixed_identity self.now).words }
+        requires pool { seat.old.table_id ≡ (items_view self.now.shared).identity }
+        requires in_pool { start < (items_view self.now.shared).identity.words }
         requires carries_none { seat.old.me.1 ≡ [] }
         requires holds_none { seat.old.me.0.held ≡ None }
         requires here { seat.old.me.0.gone ≡ false }
         requires sound { IsSound seat.old.me.0 }
         requires found { (bit : ℕ) → bit < 32 → bit_at word bit ≡ 0
-            → IsOutNow seat.old.me.0 (item_of start bit) }
+            → IsOutNow seat.old.me.0 (32 * start + bit) }
         ensures pool { seat.new.table_id ≡ seat.old.table_id }
         ensures loads { seat.new.me.0.loads + 1 ≤ seat.old.me.0.loads +
-            (fixed_identity self.now).words * passes_of result
+            (items_view self.now.shared).identity.words * passes_of result
             (returns_between seat.old.me.0.operations seat.new.me.0.operations) }
         ensures tries { seat.new.me.0.tries ≤ seat.old.me.0.tries + 32 *
-            ((fixed_identity self.now).words * passes_of result
+            ((items_view self.now.shared).identity.words * passes_of result
             (returns_between seat.old.me.0.operations seat.new.me.0.operations)) }
         ensures outcome { MatchOption result
-            (FindsFull (fixed_identity self.now).slots seat.old.me seat.new.me) (λ taken.
-            TakesOne K.meets (fixed_identity self.now).slots taken.number taken.value seat.old.me
+            (ReadsOn seat.old.me seat.new.me × IsFullSince
+            (items_view self.now.shared).identity.slots seat.old.me.0.operations seat.new.me.0)
+            (λ taken.
+            TakesOne K.meets (items_view self.now.shared).identity.slots taken.number taken.value
+            None seat.old.me
             seat.new.me) }
     {
         let first = Snapshot::of(&*seat);
@@ -68,8 +70,8 @@ impl<T, K: Clean<T>> FixedItems<T, K> {
         order: Option<Order>,
         first: Snapshot<UserSeat<T>>,
     ) -> Option<TakenValue<T>>
-        requires pool { seat.old.table_id ≡ fixed_identity self.now }
-        requires in_pool { start < (fixed_identity self.now).words }
+        requires pool { seat.old.table_id ≡ (items_view self.now.shared).identity }
+        requires in_pool { start < (items_view self.now.shared).identity.words }
         requires carries_none { first.value.me.1 ≡ [] }
         requires holds_none { first.value.me.0.held ≡ None }
         requires here { first.value.me.0.gone ≡ false }
@@ -79,14 +81,17 @@ impl<T, K: Clean<T>> FixedItems<T, K> {
         requires tries { seat.old.me.0.tries ≤ first.value.me.0.tries + 32 }
         ensures pool { seat.new.table_id ≡ seat.old.table_id }
         ensures loads { seat.new.me.0.loads + 1 ≤ first.value.me.0.loads +
-            (fixed_identity self.now).words * passes_of result
+            (items_view self.now.shared).identity.words * passes_of result
             (returns_between first.value.me.0.operations seat.new.me.0.operations) }
         ensures tries { seat.new.me.0.tries ≤ first.value.me.0.tries + 32 *
-            ((fixed_identity self.now).words * passes_of result
+            ((items_view self.now.shared).identity.words * passes_of result
             (returns_between first.value.me.0.operations seat.new.me.0.operations)) }
         ensures outcome { MatchOption result
-            (FindsFull (fixed_identity self.now).slots first.value.me seat.new.me) (λ taken.
-            TakesOne K.meets (fixed_identity self.now).slots taken.number taken.value
+            (ReadsOn first.value.me seat.new.me × IsFullSince
+            (items_view self.now.shared).identity.slots first.value.me.0.operations seat.new.me.0)
+            (λ taken.
+            TakesOne K.meets (items_view self.now.shared).identity.slots taken.number taken.value
+            None
             first.value.me seat.new.me) }
     {
         match self.take_beside(seat, start, order) {
@@ -111,29 +116,34 @@ impl<T, K: Clean<T>> FixedItems<T, K> {
         returns: u32,
         first: Snapshot<UserSeat<T>>,
     ) -> Option<TakenValue<T>>
-        requires pool { seat.old.table_id ≡ fixed_identity self.now }
-        requires in_pool { start < (fixed_identity self.now).words }
+        requires pool { seat.old.table_id ≡ (items_view self.now.shared).identity }
+        requires in_pool { start < (items_view self.now.shared).identity.words }
         requires carries_none { first.value.me.1 ≡ [] }
         requires holds_none { first.value.me.0.held ≡ None }
         requires here { first.value.me.0.gone ≡ false }
         requires sound { IsSound first.value.me.0 }
-        requires missed { MissesAll 0 (fixed_identity self.now).slots first.value.me seat.old.me }
-        requires counted { Tallies (is_beside 0 (fixed_identity self.now).words start) returns
+        requires missed { MissesAll 0 (items_view self.now.shared).identity.slots first.value.me
+            seat.old.me }
+        requires counted { Tallies (is_beside 0 (items_view self.now.shared).identity.words start)
+            returns
             first.value.me.0 seat.old.me.0 }
         requires loads { seat.old.me.0.loads + 1 ≤ first.value.me.0.loads +
-            (fixed_identity self.now).words }
+            (items_view self.now.shared).identity.words }
         requires tries { seat.old.me.0.tries ≤ first.value.me.0.tries + 32 *
-            (fixed_identity self.now).words }
+            (items_view self.now.shared).identity.words }
         ensures pool { seat.new.table_id ≡ seat.old.table_id }
         ensures loads { seat.new.me.0.loads + 1 ≤ first.value.me.0.loads +
-            (fixed_identity self.now).words * passes_of result
+            (items_view self.now.shared).identity.words * passes_of result
             (returns_between first.value.me.0.operations seat.new.me.0.operations) }
         ensures tries { seat.new.me.0.tries ≤ first.value.me.0.tries + 32 *
-            ((fixed_identity self.now).words * passes_of result
+            ((items_view self.now.shared).identity.words * passes_of result
             (returns_between first.value.me.0.operations seat.new.me.0.operations)) }
         ensures outcome { MatchOption result
-            (FindsFull (fixed_identity self.now).slots first.value.me seat.new.me) (λ taken.
-            TakesOne K.meets (fixed_identity self.now).slots taken.number taken.value
+            (ReadsOn first.value.me seat.new.me × IsFullSince
+            (items_view self.now.shared).identity.slots first.value.me.0.operations seat.new.me.0)
+            (λ taken.
+            TakesOne K.meets (items_view self.now.shared).identity.slots taken.number taken.value
+            None
             first.value.me seat.new.me) }
     {
         let mut before = returns;

@@ -11,11 +11,10 @@ use pool_parts::page::items::TakenValue;
 use pool_parts::page::user_view::UserSeat;
 
 impl<T, K: Clean<T>> FixedItems<T, K> {
-    ghost use Rattle.fixed_pools.specs.Inside.FixedCount.{PassesOver, Tallies, is_beside};
-    ghost use Rattle.fixed_pools.specs.Inside.FixedItem.{fixed_identity};
-    ghost use Rattle.fixed_pools.specs.StepCount.{IsWithinSince};
-    ghost use Rattle.pool_parts.specs.Inside.PageRule.{IsOutNow, IsSound, item_of};
-    ghost use Rattle.pool_parts.specs.Inside.Taking.{MissesAll, TakesOne};
+    ghost use Rattle.fixed_pools.specs.FixedCount.{PassesOver, Tallies, is_beside};
+    ghost use Rattle.pool_parts.specs.PageItems.{items_view};
+    ghost use Rattle.fixed_pools.specs.FixedPool.{IsWithin};
+    ghost use Rattle.pool_parts.specs.PageRule.{IsOutNow, IsSound, MissesAll, TakesOne};
 
     /// Takes an item that is free, by a user that has read the first word. It hints at a page
     /// behind the first one.
@@ -31,26 +30,28 @@ impl<T, K: Clean<T>> FixedItems<T, K> {
         word: u32,
         order: Option<Order>,
     ) -> Result<TakenValue<T>, u32>
-        requires pool { seat.old.table_id ≡ fixed_identity self.now }
-        requires in_pool { start < (fixed_identity self.now).words }
+        requires pool { seat.old.table_id ≡ (items_view self.now.shared).identity }
+        requires in_pool { start < (items_view self.now.shared).identity.words }
         requires carries_none { seat.old.me.1 ≡ [] }
         requires holds_none { seat.old.me.0.held ≡ None }
         requires here { seat.old.me.0.gone ≡ false }
         requires sound { IsSound seat.old.me.0 }
         requires found { (bit : ℕ) → bit < 32 → bit_at word bit ≡ 0
-            → IsOutNow seat.old.me.0 (item_of start bit) }
+            → IsOutNow seat.old.me.0 (32 * start + bit) }
         ensures pool { seat.new.table_id ≡ seat.old.table_id }
         ensures loads { seat.new.me.0.loads + 1 ≤ seat.old.me.0.loads +
-            (fixed_identity self.now).words }
+            (items_view self.now.shared).identity.words }
         ensures tries { seat.new.me.0.tries ≤ seat.old.me.0.tries + 32 *
-            (fixed_identity self.now).words }
+            (items_view self.now.shared).identity.words }
         ensures taken { IfOk result (λ taken.
-            TakesOne K.meets (fixed_identity self.now).slots taken.number taken.value seat.old.me
+            TakesOne K.meets (items_view self.now.shared).identity.slots taken.number taken.value
+            None seat.old.me
             seat.new.me) }
         ensures missed { IfErr result (λ _.
-            MissesAll 0 (fixed_identity self.now).slots seat.old.me seat.new.me) }
+            MissesAll 0 (items_view self.now.shared).identity.slots seat.old.me seat.new.me) }
         ensures counted { IfErr result (λ returns.
-            Tallies (is_beside 0 (fixed_identity self.now).words start) returns seat.old.me.0
+            Tallies (is_beside 0 (items_view self.now.shared).identity.words start) returns
+            seat.old.me.0
             seat.new.me.0) }
     {
         if let Some(taken) = self.shared.take_lowest(seat, start, word) {
@@ -72,20 +73,22 @@ impl<T, K: Clean<T>> FixedItems<T, K> {
         start: usize,
         order: Option<Order>,
     ) -> Result<TakenValue<T>, u32>
-        requires pool { seat.old.table_id ≡ fixed_identity self.now }
-        requires in_pool { start < (fixed_identity self.now).words }
+        requires pool { seat.old.table_id ≡ (items_view self.now.shared).identity }
+        requires in_pool { start < (items_view self.now.shared).identity.words }
         requires carries_none { seat.old.me.1 ≡ [] }
         requires holds_none { seat.old.me.0.held ≡ None }
         requires here { seat.old.me.0.gone ≡ false }
         requires sound { IsSound seat.old.me.0 }
         ensures pool { seat.new.table_id ≡ seat.old.table_id }
-        ensures steps { IsWithinSince ((fixed_identity self.now).words - 1) seat.old.me.0
-            seat.new.me.0 }
+        ensures steps { IsWithin ((items_view self.now.shared).identity.words - 1)
+            seat.old.me.0.loads seat.old.me.0.tries seat.new.me.0 }
         ensures taken { IfOk result (λ taken.
-            TakesOne K.meets (fixed_identity self.now).slots taken.number taken.value seat.old.me
+            TakesOne K.meets (items_view self.now.shared).identity.slots taken.number taken.value
+            None seat.old.me
             seat.new.me) }
         ensures missed { IfErr result (λ returns.
-            PassesOver (is_beside 0 (fixed_identity self.now).words start) returns seat.old.me
+            PassesOver (is_beside 0 (items_view self.now.shared).identity.words start) returns
+            seat.old.me
             seat.new.me) }
     {
         let next = match order.unwrap_or(self.order) {
@@ -111,21 +114,23 @@ impl<T, K: Clean<T>> FixedItems<T, K> {
         start: usize,
         next: usize,
     ) -> Result<TakenValue<T>, u32>
-        requires pool { seat.old.table_id ≡ fixed_identity self.now }
-        requires in_pool { start < (fixed_identity self.now).words }
-        requires next_in_pool { next ≤ (fixed_identity self.now).words }
+        requires pool { seat.old.table_id ≡ (items_view self.now.shared).identity }
+        requires in_pool { start < (items_view self.now.shared).identity.words }
+        requires next_in_pool { next ≤ (items_view self.now.shared).identity.words }
         requires carries_none { seat.old.me.1 ≡ [] }
         requires holds_none { seat.old.me.0.held ≡ None }
         requires here { seat.old.me.0.gone ≡ false }
         requires sound { IsSound seat.old.me.0 }
         ensures pool { seat.new.table_id ≡ seat.old.table_id }
-        ensures steps { IsWithinSince ((fixed_identity self.now).words - 1) seat.old.me.0
-            seat.new.me.0 }
+        ensures steps { IsWithin ((items_view self.now.shared).identity.words - 1)
+            seat.old.me.0.loads seat.old.me.0.tries seat.new.me.0 }
         ensures taken { IfOk result (λ taken.
-            TakesOne K.meets (fixed_identity self.now).slots taken.number taken.value seat.old.me
+            TakesOne K.meets (items_view self.now.shared).identity.slots taken.number taken.value
+            None seat.old.me
             seat.new.me) }
         ensures missed { IfErr result (λ returns.
-            PassesOver (is_beside 0 (fixed_identity self.now).words start) returns seat.old.me
+            PassesOver (is_beside 0 (items_view self.now.shared).identity.words start) returns
+            seat.old.me
             seat.new.me) }
     {
         let behind = match self.scan(seat, next, self.pages, start) {
@@ -152,19 +157,20 @@ impl<T, K: Clean<T>> FixedItems<T, K> {
         to: usize,
         skipped: usize,
     ) -> Result<TakenValue<T>, u32>
-        requires pool { seat.old.table_id ≡ fixed_identity self.now }
+        requires pool { seat.old.table_id ≡ (items_view self.now.shared).identity }
         requires ordered { from ≤ to }
-        requires in_pool { to ≤ (fixed_identity self.now).words }
+        requires in_pool { to ≤ (items_view self.now.shared).identity.words }
         requires carries_none { seat.old.me.1 ≡ [] }
         requires holds_none { seat.old.me.0.held ≡ None }
         requires here { seat.old.me.0.gone ≡ false }
         requires sound { IsSound seat.old.me.0 }
         ensures pool { seat.new.table_id ≡ seat.old.table_id }
-        ensures steps { IsWithinSince (to - from) seat.old.me.0 seat.new.me.0 }
+        ensures steps { IsWithin (to - from) seat.old.me.0.loads seat.old.me.0.tries seat.new.me.0 }
         ensures fewer_steps { from ≤ skipped → skipped < to
-            → IsWithinSince (to - from - 1) seat.old.me.0 seat.new.me.0 }
+            → IsWithin (to - from - 1) seat.old.me.0.loads seat.old.me.0.tries seat.new.me.0 }
         ensures taken { IfOk result (λ taken.
-            TakesOne K.meets (fixed_identity self.now).slots taken.number taken.value seat.old.me
+            TakesOne K.meets (items_view self.now.shared).identity.slots taken.number taken.value
+            None seat.old.me
             seat.new.me) }
         ensures missed { IfErr result (λ returns.
             PassesOver (is_beside from to skipped) returns seat.old.me seat.new.me) }

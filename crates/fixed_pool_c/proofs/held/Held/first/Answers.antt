@@ -1,6 +1,6 @@
 use Rattle.std.proofs.Common.{◌≡◌, Some, sym, ap, ◌∙◌, subst}
-use Rattle.fixed_pools.specs.FixedPool.{pool_items, pool_pages, pool_opening}
-use Rattle.pool_parts.specs.Items.{IsFilled}
+use Rattle.fixed_pools.specs.FixedPool.{fixed_view}
+use Rattle.pool_parts.specs.Item.{IsFilled}
 use Rattle.fixed_pool_c.specs.Shows.{PlacePool}
 use Rattle.fixed_pool_c.proofs.held.Held.first.Goals as goal
 
@@ -11,8 +11,8 @@ returns-in-Some c =
     record {
       pool = _;
       opens = c.in-Some.ensures;
-      count = ap (λ (pool : PlacePool). pool_items pool) same ∙ made.items;
-      pages = ap (λ (pool : PlacePool). pool_pages pool) same ∙ made.pages;
+      count = ap (λ (pool : PlacePool). (fixed_view pool).items) same ∙ made.items;
+      pages = ap (λ (pool : PlacePool). (fixed_view pool).pages) same ∙ made.pages;
       free = subst (λ (pool : PlacePool). IsFilled c.args.items
-          (λ value. Some value ≡ Some tt) (pool_opening pool)) (sym same) made.opened;
+          (λ value. Some value ≡ Some tt) (fixed_view pool).opening) (sym same) made.opened;
     }

@@ -1,6 +1,6 @@
 use Rattle.std.proofs.Common.{refl, ap, subst}
-use Rattle.fixed_pools.specs.FixedPool.{pool_identity, pool_opening}
-use Rattle.pool_parts.specs.Note.{IsNoteOf}
+use Rattle.fixed_pools.specs.FixedPool.{fixed_view}
+use Rattle.pool_parts.specs.Page.{IsNoteOf}
 use Rattle.fixed_pool_c.specs.Shows.{PlacePool}
 use Rattle.fixed_pool_c.specs.declared.held.Held.{Held}
 use Rattle.fixed_pool_c.proofs.held.Held.open.Goals as goal
@@ -10,6 +10,6 @@ returns-in-Ok c = record {
   idle = _;
   holds_none = ap (λ (held : Held). held.hand) c.in-Ok.ensures.ok;
   same_pool = refl;
-  note = subst (λ (pool : PlacePool). IsNoteOf (pool_identity pool) (pool_opening pool) c.note-note.result)
+  note = subst (λ (pool : PlacePool). IsNoteOf (fixed_view pool).identity (fixed_view pool).opening c.note-note.result)
       c.deref-3.ensures c.note-note.ensures;
 }

@@ -1,5 +1,5 @@
 use Rattle.std.proofs.Common.{refl, sym, ap, ◌∙◌, subst, inl}
-use Rattle.fixed_pools.specs.FixedPool.{pool_identity}
+use Rattle.fixed_pools.specs.FixedPool.{fixed_view}
 use Rattle.fixed_pool_c.specs.Places.{ReturnsPlace}
 use Rattle.fixed_pool_c.specs.Shows.{PlacePool}
 use Rattle.fixed_pool_c.proofs.Numbers.{of_pool}
@@ -19,7 +19,7 @@ returns c =
           holding = had.holding;
           held_one = had.ensures.taken;
           of_pool = of_pool _ c.args.self.now had.holding owner.0 c.requires had.ensures.taken owner.1
-              ∙ ap (λ (pool : PlacePool). pool_identity pool) (sym same);
+              ∙ ap (λ (pool : PlacePool). (fixed_view pool).identity) (sym same);
           note = c.give-note.result;
           left = ((c.keep.ensures.number, c.keep.ensures.held), c.keep.ensures.last);
           given_back = c.give-note.ensures;

@@ -1,7 +1,5 @@
-use Rattle.std.proofs.Common.{◌*◌, subst, sym}
-use Rattle.fixed_pools.specs.FixedAnswer.{PullsFixed, returns_since}
-use Rattle.fixed_pools.specs.FixedPool.{pool_pages}
-use Rattle.fixed_pools.specs.StepCount.{IsWithin, passes_to_take}
+use Rattle.std.proofs.Common.{◌*◌, subst, sym, ◌+◌}
+use Rattle.fixed_pools.specs.FixedPool.{PullsFixed, returns_since, fixed_view, IsWithin}
 use Rattle.fixed_pools.proofs.fixed_object_pool.FixedObjectPool.pull.Goals as goal
 
 pub returns-in-Ok-clause-pulled : goal.returns-in-Ok-clause-pulled
@@ -15,5 +13,6 @@ returns-in-Ok-clause-pulled g c =
 
 pub returns-in-Ok-clause-brief : goal.returns-in-Ok-clause-brief
 returns-in-Ok-clause-brief g c =
-    let pages = pool_pages c.args.self.now in
-    subst (λ known. IsWithin (pages * passes_to_take (returns_since known)) known) (sym c.new.ensures.view) c.in-Ok.ensures.brief
+    let pages = (fixed_view c.args.self.now).pages in
+    subst (λ known. IsWithin (pages * (returns_since known + 1)) 0 0 known) (sym c.new.ensures.view)
+    c.in-Ok.ensures.brief

@@ -1,7 +1,5 @@
 use Rattle.std.proofs.Common.{subst, sym}
-use Rattle.fixed_pools.specs.FixedAnswer.{PullsFixed}
-use Rattle.fixed_pools.specs.FixedPool.{pool_pages}
-use Rattle.fixed_pools.specs.StepCount.{IsWithin}
+use Rattle.fixed_pools.specs.FixedPool.{PullsFixed, fixed_view, IsWithin}
 use Rattle.fixed_pools.proofs.fixed_object_pool.FixedObjectPool.try_pull.Goals as goal
 
 pub returns-clause-pulled : goal.returns-clause-pulled
@@ -15,5 +13,5 @@ returns-clause-pulled g c =
 
 pub returns-clause-brief : goal.returns-clause-brief
 returns-clause-brief g c =
-    let pages = pool_pages c.args.self.now in
-    subst (λ known. IsWithin pages known) (sym c.new.ensures.view) c.in_ok-try_pull.ensures.brief
+    let pages = (fixed_view c.args.self.now).pages in
+    subst (λ known. IsWithin pages 0 0 known) (sym c.new.ensures.view) c.in_ok-try_pull.ensures.brief

@@ -1,8 +1,6 @@
 use Rattle.std.proofs.Common.{subst, sym}
-use Rattle.fixed_pools.specs.FixedAnswer.{PullsFixedAfter}
-use Rattle.fixed_pools.specs.FixedPool.{pool_pages}
-use Rattle.fixed_pools.specs.StepCount.{IsWithinSince}
-use Rattle.pool_parts.specs.Note.{note_view}
+use Rattle.fixed_pools.specs.FixedPool.{PullsFixedAfter, fixed_view, IsWithin}
+use Rattle.pool_parts.specs.Page.{view_of}
 use Rattle.fixed_pools.proofs.fixed_object_pool.FixedObjectPool.try_pull_from.Goals as goal
 
 pub returns-clause-pulled : goal.returns-clause-pulled
@@ -16,5 +14,6 @@ returns-clause-pulled g c =
 
 pub returns-clause-brief : goal.returns-clause-brief
 returns-clause-brief g c =
-    subst (IsWithinSince (pool_pages c.args.self.now) (note_view c.args.note)) (sym c.new.ensures.view)
+    let known = view_of c.args.note.seat in
+    subst (IsWithin (fixed_view c.args.self.now).pages known.loads known.tries) (sym c.new.ensures.view)
     c.in_ok-pulled.ensures.brief

@@ -1,5 +1,6 @@
 use Rattle.std.proofs.Common.{◌≡◌, ℕ, ◌+◌, ◌-◌, ◌*◌, ◌/◌, ◌^◌, replicate, set, subst, arith}
-use Rattle.pool_parts.specs.Inside.Word.{all_bits, IsAllFree}
+use Rattle.pool_parts.proofs.WordBits.{all_bits}
+use Rattle.pool_parts.specs.PageRule.{IsAllFree}
 use Rattle.pool_parts.proofs.WordBits.{all_free}
 use Rattle.fixed_pools.proofs.fixed_object_pool.items.free_words.Goals as goal
 

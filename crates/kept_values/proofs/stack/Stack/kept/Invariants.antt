@@ -1,5 +1,5 @@
 use Rattle.std.proofs.Common.{◌≡◌, length, min, ◌+◌, ◌≤◌}
-use Rattle.kept_values.specs.Inside.Kept.{kept_values, IsFullChain}
+use Rattle.kept_values.specs.Kept.{kept_values, IsFullChain}
 use Rattle.kept_values.proofs.stack.Stack.kept.Given as goal
 
 -- the counted places and those to come are all, up to the count's end

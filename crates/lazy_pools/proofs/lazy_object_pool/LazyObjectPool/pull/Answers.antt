@@ -1,12 +1,9 @@
-use Rattle.std.proofs.Common.{◌*◌, subst, sym}
+use Rattle.std.proofs.Common.{◌+◌, ◌*◌, subst, sym}
 use Rattle.std.specs.Prelude.{Option}
-use Rattle.fixed_pools.specs.FixedAnswer.{returns_since}
-use Rattle.fixed_pools.specs.StepCount.{IsWithin, passes_to_take}
-use Rattle.lazy_pools.specs.LazyAnswer.{IsPulledLazily}
-use Rattle.lazy_pools.specs.LazyPool.{lazy_identity, lazy_init, lazy_opening, lazy_pages}
-use Rattle.lazy_pools.specs.LazyReusable.{lazy_place}
+use Rattle.fixed_pools.specs.FixedPool.{returns_since, IsWithin}
+use Rattle.lazy_pools.specs.LazyPool.{IsPulledLazily, lazy_init, lazy_view, lazy_item}
 use Rattle.pool_parts.specs.Answers.{IsMadeOrReset}
-use Rattle.pool_parts.specs.Holding.{holding_view}
+use Rattle.pool_parts.specs.Page.{view_of}
 use Rattle.pool_parts.specs.declared.page.user_view.UserView.{UserView}
 use Rattle.lazy_pools.proofs.lazy_object_pool.LazyObjectPool.pull.Goals as goal
 
@@ -14,9 +11,9 @@ pub returns-in-Ok-clause-pulled : goal.returns-in-Ok-clause-pulled
 returns-in-Ok-clause-pulled g c =
     let words = c.args.self.now in
     let answers = g.I.Init.answers in
-    let of_pool = IsPulledLazily (lazy_identity words) (lazy_opening words) (answers (lazy_init words)) in
+    let of_pool = IsPulledLazily (lazy_view words).identity (lazy_view words).opening (answers (lazy_init words)) in
     let item = c.in_ok-item-in-Ok.item in
-    let place = lazy_place c.new.result in
+    let place = (lazy_item c.new.result).item in
     subst (of_pool place) (sym c.new.ensures.value)
     (subst (λ placed. of_pool placed item.value) (sym c.new.ensures.place) c.in_ok-item-in-Ok.ensures.pulled)
 
@@ -31,8 +28,8 @@ returns-in-Ok-clause-made_or_reset g c =
 
 pub returns-in-Ok-clause-brief : goal.returns-in-Ok-clause-brief
 returns-in-Ok-clause-brief g c =
-    let pages = lazy_pages c.args.self.now in
+    let pages = (lazy_view c.args.self.now).pages in
     let brief = λ (known : UserView (Option g.row.T.Denot)).
-    IsWithin (pages * passes_to_take (returns_since known)) known in
+    IsWithin (pages * (returns_since known + 1)) 0 0 known in
     subst brief (sym c.new.ensures.view)
-    (subst (λ held. brief (holding_view held)) (sym c.in_ok-item-in-Ok.ensures.same) c.in-Ok.ensures.brief)
+    (subst (λ held. brief (view_of held.seat)) (sym c.in_ok-item-in-Ok.ensures.same) c.in-Ok.ensures.brief)

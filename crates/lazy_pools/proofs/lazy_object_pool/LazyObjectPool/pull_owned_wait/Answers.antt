@@ -1,7 +1,5 @@
 use Rattle.std.proofs.Common.{subst, sym}
-use Rattle.lazy_pools.specs.LazyAnswer.{IsPulledLazily}
-use Rattle.lazy_pools.specs.LazyPool.{lazy_identity, lazy_init, lazy_opening}
-use Rattle.lazy_pools.specs.LazyReusable.{lazy_place, lazy_value}
+use Rattle.lazy_pools.specs.LazyPool.{IsPulledLazily, lazy_init, lazy_view, lazy_item}
 use Rattle.pool_parts.specs.Answers.{IsMadeOrReset}
 use Rattle.lazy_pools.proofs.lazy_object_pool.LazyObjectPool.pull_owned_wait.Goals as goal
 
@@ -9,11 +7,12 @@ pub returns-clause-pulled : goal.returns-clause-pulled
 returns-clause-pulled g c =
     let words = c.deref.result.now in
     let answers = g.I.Init.answers in
-    let of_pool = IsPulledLazily (lazy_identity words) (lazy_opening words) (answers (lazy_init words)) in
+    let of_pool = IsPulledLazily (lazy_view words).identity (lazy_view words).opening (answers (lazy_init words)) in
     let item = c.in_ok-item.item in
-    let place = lazy_place c.new.result in
-    let value = lazy_value c.new.result in
-    subst (λ pool. IsPulledLazily (lazy_identity pool) (lazy_opening pool) (answers (lazy_init pool)) place value)
+    let place = (lazy_item c.new.result).item in
+    let value = (lazy_item c.new.result).value in
+    subst (λ pool. IsPulledLazily (lazy_view pool).identity (lazy_view pool).opening (answers (lazy_init pool)) place
+    value)
     c.deref.ensures
     (subst (of_pool place) (sym c.new.ensures.value)
     (subst (λ placed. of_pool placed item.value) (sym c.new.ensures.place) c.in_ok-item.ensures.pulled))

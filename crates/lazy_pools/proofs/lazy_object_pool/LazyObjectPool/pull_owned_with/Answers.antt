@@ -1,23 +1,20 @@
-use Rattle.std.proofs.Common.{◌*◌, subst, sym}
+use Rattle.std.proofs.Common.{◌+◌, ◌*◌, subst, sym, IfSome, Ok}
 use Rattle.std.specs.Prelude.{Option}
-use Rattle.fixed_pools.specs.FixedAnswer.{returns_since}
-use Rattle.fixed_pools.specs.StepCount.{IsWithin, passes_to_take}
-use Rattle.lazy_pools.specs.LazyAnswer.{IsPulledLazily, MakesValue}
-use Rattle.lazy_pools.specs.LazyPool.{lazy_identity, lazy_opening, lazy_pages}
-use Rattle.lazy_pools.specs.LazyReusable.{lazy_place, lazy_value, lazy_view}
-use Rattle.pool_parts.specs.Holding.{holding_view}
+use Rattle.fixed_pools.specs.FixedPool.{returns_since, IsWithin}
+use Rattle.lazy_pools.specs.LazyPool.{IsPulledLazily, lazy_view, lazy_item}
+use Rattle.pool_parts.specs.Page.{view_of}
 use Rattle.pool_parts.specs.declared.page.user_view.UserView.{UserView}
 use Rattle.lazy_pools.proofs.lazy_object_pool.LazyObjectPool.pull_owned_with.Goals as goal
 
 pub returns-in-Ok-item_with-clause-pulled : goal.returns-in-Ok-item_with-clause-pulled
 returns-in-Ok-item_with-clause-pulled g c =
     let words = c.deref-in-Ok-pull.result.now in
-    let answers = MakesValue (g.F.FnOnce.post c.args.make tt) in
-    let of_pool = IsPulledLazily (lazy_identity words) (lazy_opening words) answers in
+    let answers = λ (made : Option g.row.T.Denot). IfSome made (λ value. g.F.FnOnce.post c.args.make tt (Ok value)) in
+    let of_pool = IsPulledLazily (lazy_view words).identity (lazy_view words).opening answers in
     let item = c.in-Ok-item_with.item in
-    let place = lazy_place c.new.result in
-    let value = lazy_value c.new.result in
-    subst (λ pool. IsPulledLazily (lazy_identity pool) (lazy_opening pool) answers place value)
+    let place = (lazy_item c.new.result).item in
+    let value = (lazy_item c.new.result).value in
+    subst (λ pool. IsPulledLazily (lazy_view pool).identity (lazy_view pool).opening answers place value)
     c.deref-in-Ok-pull.ensures
     (subst (of_pool place) (sym c.new.ensures.value)
     (subst (λ placed. of_pool placed item.value) (sym c.new.ensures.place) c.in-Ok-item_with.ensures.pulled))
@@ -28,11 +25,11 @@ returns-in-Ok-item_with-clause-meets g c =
 
 pub returns-in-Ok-item_with-clause-brief : goal.returns-in-Ok-item_with-clause-brief
 returns-in-Ok-item_with-clause-brief g c =
-    let pages = lazy_pages c.deref.result.now in
+    let pages = (lazy_view c.deref.result.now).pages in
     let brief = λ (known : UserView (Option g.row.T.Denot)).
-    IsWithin (pages * passes_to_take (returns_since known)) known in
-    let view = lazy_view c.new.result in
-    subst (λ pool. IsWithin (lazy_pages pool * passes_to_take (returns_since view)) view)
+    IsWithin (pages * (returns_since known + 1)) 0 0 known in
+    let view = (lazy_item c.new.result).known in
+    subst (λ pool. IsWithin ((lazy_view pool).pages * (returns_since view + 1)) 0 0 view)
     c.deref.ensures
     (subst brief (sym c.new.ensures.view)
-    (subst (λ held. brief (holding_view held)) (sym c.in-Ok-item_with.ensures.same) c.in-Ok-pull.ensures.brief))
+    (subst (λ held. brief (view_of held.seat)) (sym c.in-Ok-item_with.ensures.same) c.in-Ok-pull.ensures.brief))

@@ -1,21 +1,18 @@
-use Rattle.std.proofs.Common.{◌*◌, subst, sym}
+use Rattle.std.proofs.Common.{◌+◌, ◌*◌, subst, sym, IfSome, Ok}
 use Rattle.std.specs.Prelude.{Option}
-use Rattle.fixed_pools.specs.FixedAnswer.{returns_since}
-use Rattle.fixed_pools.specs.StepCount.{IsWithin, passes_to_take}
-use Rattle.lazy_pools.specs.LazyAnswer.{IsPulledLazily, MakesValue}
-use Rattle.lazy_pools.specs.LazyPool.{lazy_identity, lazy_opening, lazy_pages}
-use Rattle.lazy_pools.specs.LazyReusable.{lazy_place}
-use Rattle.pool_parts.specs.Holding.{holding_view}
+use Rattle.fixed_pools.specs.FixedPool.{returns_since, IsWithin}
+use Rattle.lazy_pools.specs.LazyPool.{IsPulledLazily, lazy_view, lazy_item}
+use Rattle.pool_parts.specs.Page.{view_of}
 use Rattle.pool_parts.specs.declared.page.user_view.UserView.{UserView}
 use Rattle.lazy_pools.proofs.lazy_object_pool.LazyObjectPool.pull_with.Goals as goal
 
 pub returns-in_ok-item-in-Ok-clause-pulled : goal.returns-in_ok-item-in-Ok-clause-pulled
 returns-in_ok-item-in-Ok-clause-pulled g c =
     let words = c.args.self.now in
-    let answers = MakesValue (g.F.FnOnce.post c.args.make tt) in
-    let of_pool = IsPulledLazily (lazy_identity words) (lazy_opening words) answers in
+    let answers = λ (made : Option g.row.T.Denot). IfSome made (λ value. g.F.FnOnce.post c.args.make tt (Ok value)) in
+    let of_pool = IsPulledLazily (lazy_view words).identity (lazy_view words).opening answers in
     let item = c.in_ok-item-in-Ok.item in
-    let place = lazy_place c.new.result in
+    let place = (lazy_item c.new.result).item in
     subst (of_pool place) (sym c.new.ensures.value)
     (subst (λ placed. of_pool placed item.value) (sym c.new.ensures.place) c.in_ok-item-in-Ok.ensures.pulled)
 
@@ -25,8 +22,8 @@ returns-in_ok-item-in-Ok-clause-meets g c =
 
 pub returns-in_ok-item-in-Ok-clause-brief : goal.returns-in_ok-item-in-Ok-clause-brief
 returns-in_ok-item-in-Ok-clause-brief g c =
-    let pages = lazy_pages c.args.self.now in
+    let pages = (lazy_view c.args.self.now).pages in
     let brief = λ (known : UserView (Option g.row.T.Denot)).
-    IsWithin (pages * passes_to_take (returns_since known)) known in
+    IsWithin (pages * (returns_since known + 1)) 0 0 known in
     subst brief (sym c.new.ensures.view)
-    (subst (λ held. brief (holding_view held)) (sym c.in_ok-item-in-Ok.ensures.same) c.in-Ok.ensures.brief)
+    (subst (λ held. brief (view_of held.seat)) (sym c.in_ok-item-in-Ok.ensures.same) c.in-Ok.ensures.brief)

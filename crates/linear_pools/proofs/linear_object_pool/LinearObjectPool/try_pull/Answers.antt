@@ -3,9 +3,9 @@ use Rattle.linear_pools.proofs.linear_object_pool.LinearObjectPool.try_pull.Goal
 
 pub returns-in-Slot-clause-pulled : goal.returns-in-Slot-clause-pulled
 returns-in-Slot-clause-pulled g c =
-    let answer = c.in-Slot.ensures.answer in
+    let answer = c.in-Slot.ensures in
     first_pulls _ _ _ _ _ _ _ c.new.ensures.item (rw c.new.ensures.page c.first_number-number.ensures) answer.0 answer.1
-    answer.2 c.in-Slot.ensures.opening
+    answer.2 answer.3
 
 pub returns-in-Ok-clause-pulled : goal.returns-in-Ok-clause-pulled
 returns-in-Ok-clause-pulled g c =

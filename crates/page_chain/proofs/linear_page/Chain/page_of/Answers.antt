@@ -1,9 +1,9 @@
 use Rattle.std.proofs.Common.{ap, inl, inr, sym, ◌∙◌}
 use Rattle.std.specs.Arc.{arc_value}
 use Rattle.std.proofs.Math.Logic.{∥∥₁_elim, ∥∥₁_map}
-use Rattle.pool_parts.specs.Inside.OneProof.{same_page}
+use Rattle.pool_parts.specs.Item.{same_page}
 use Rattle.pool_parts.specs.Page.{page_identity}
-use Rattle.page_chain.specs.FirstPage.{no_link_to_first}
+use Rattle.page_chain.specs.Walk.{no_link_to_first}
 use Rattle.page_chain.proofs.linear_page.Chain.page_of.Goals as goal
 
 pub returns-then-get-eq0 : goal.returns-then-get-eq0

@@ -1,7 +1,7 @@
+use Rattle.page_chain.proofs.FullPages.{IsFullAt}
 use Rattle.std.proofs.Common.{subst}
-use Rattle.page_chain.specs.LinkNote.{known_link}
-use Rattle.page_chain.specs.LinkRow.{IsLinkTo}
-use Rattle.page_chain.specs.Inside.Walk.{IsFullAt}
+use Rattle.page_chain.specs.Walk.{known_link}
+use Rattle.page_chain.specs.Links.{IsLinkTo}
 use Rattle.page_chain.proofs.LinkPlaces.{one_link}
 use Rattle.page_chain.proofs.linear_page.LinearPage.ask.Goals as goal
 

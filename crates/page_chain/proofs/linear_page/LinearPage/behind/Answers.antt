@@ -1,5 +1,5 @@
 use Rattle.std.proofs.Common.{◌≡◌, ◌+◌, ◌^◌, ◌<◌, subst, sym, rules}
-use Rattle.page_chain.specs.LinkRow.{IsLinkTo}
+use Rattle.page_chain.specs.Links.{IsLinkTo}
 use Rattle.page_chain.proofs.linear_page.LinearPage.behind.Goals as goal
 
 pub returns-clause-known : goal.returns-clause-known

@@ -2,7 +2,7 @@ use Rattle.std.proofs.Common.{◌∙◌, ◌∷◌, [], None, sym, ap, subst, ar
 use Rattle.atomic_table.specs.Seated.{TableId}
 use Rattle.pool_parts.specs.Item.{Item, IsItemOf}
 use Rattle.pool_parts.specs.Page.{page_identity}
-use Rattle.pool_parts.specs.Inside.PageRule.{GoesOn}
+use Rattle.pool_parts.specs.PageRule.{GoesOn}
 use Rattle.pool_parts.specs.declared.page.history.Operation.TheVariants.{Pull}
 use Rattle.pool_parts.specs.declared.page.user_view.UserView.{UserView}
 use Rattle.pool_parts.proofs.PageAnswers.{item_known, was_out_from, knows_out}

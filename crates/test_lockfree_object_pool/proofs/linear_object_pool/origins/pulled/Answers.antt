@@ -1,6 +1,6 @@
 use Rattle.std.proofs.Common.{◌≡◌, ℕ, Some, inl, inr}
 use Rattle.pool_parts.proofs.FilledItems.{filled_at}
-use Rattle.lockfree_object_pool.specs.Origin.{pulled_from}
+use Rattle.lockfree_object_pool.specs.Ledger.{pulled_from}
 use Rattle.test_lockfree_object_pool.proofs.linear_object_pool.origins.pulled.Goals as goal
 
 seven : (value : ℕ) → Some value ≡ Some 7 → value ≡ 7
@@ -11,5 +11,5 @@ returns-in-Ok g c =
     let is = c.in-Ok.ensures.pulled in
     elim (pulled_from _ _ _ _ _ _ is.pulled.legal is.pulled.last) [
       | inl was ↦ inr (is.pulled.before, is.pulled.last, was)
-      | inr first ↦ inl (seven _ (filled_at _ _ _ _ _ is.opened first.opened).1)
+      | inr first ↦ inl (seven _ (filled_at _ _ _ _ _ is.opened first.1).1)
     ]

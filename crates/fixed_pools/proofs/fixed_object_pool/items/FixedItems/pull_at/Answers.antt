@@ -8,7 +8,7 @@ returns-clause-pulled g c =
     let took = c.in_ok-value.ensures.outcome in
     record {
       of_pool = c.clear.ensures.items ∙ c.look-word.ensures.items;
-      in_pool = took.0;
-      same_opening = took.2.goes_on.same_opening ∙ looked.same_opening;
-      pulled = pulled _ _ _ _ _ took.2.goes_on looked.did_nothing;
+      in_pool = took.0.in_pool;
+      same_opening = took.0.goes_on.same_opening ∙ looked.same_opening;
+      pulled = pulled _ _ _ _ _ took.0.goes_on looked.own_same;
     }

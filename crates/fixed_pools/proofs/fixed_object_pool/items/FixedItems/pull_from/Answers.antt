@@ -1,3 +1,4 @@
+use Rattle.pool_parts.proofs.Views.{starts_from}
 use Rattle.std.proofs.Common.{◌∙◌, ap, arith}
 use Rattle.atomic_table.specs.Seated.{TableId}
 use Rattle.fixed_pools.proofs.FixedAnswers.{item_pulled_with, found_all_out, knows_all_out}
@@ -6,22 +7,24 @@ use Rattle.fixed_pools.proofs.fixed_object_pool.items.FixedItems.pull_from.Goals
 
 pub returns-clause-pulled : goal.returns-clause-pulled
 returns-clause-pulled g c =
-    item_pulled_with g.K.Clean.meets _ _ _ _ _ _ _ c.look_again-word.ensures.found.starts c.in-Ok.ensures.taken
+    item_pulled_with g.K.Clean.meets _ _ _ _ _ _ _ (starts_from _ _ _ _ c.look_again-word.ensures.found)
+    c.in-Ok.ensures.taken
     (c.take.ensures.pool ∙ c.look_again-word.ensures.items ∙ c.requires)
 
 pub returns-in_default-clause-busy : goal.returns-in_default-clause-busy
 returns-in_default-clause-busy g c =
-    let starts = c.look_again-word.ensures.found.starts in
-    let missed = c.in_default.ensures.missed in
-    record {
-      all_out = found_all_out _ _ _ _ _ (c.take.ensures.pool ∙ c.look_again-word.ensures.items ∙ c.requires)
-          starts.same_opening c.look_again-word.ensures.found.sound missed;
-      after_note = after_known _ _ _ starts missed.goes_on;
-    }
+    let starts = starts_from _ _ _ _ c.look_again-word.ensures.found in
+    found_all_out _ _ _ _ _ (c.take.ensures.pool ∙ c.look_again-word.ensures.items ∙ c.requires)
+    starts.same_opening c.look_again-word.ensures.found.sound c.in_default.ensures.missed
+
+pub returns-in_default-clause-after_note : goal.returns-in_default-clause-after_note
+returns-in_default-clause-after_note g c =
+    after_known _ _ _ (starts_from _ _ _ _ c.look_again-word.ensures.found) c.in_default.ensures.missed.goes_on
 
 pub invariant_of-result : goal.invariant_of-result
 invariant_of-result g c =
-    let same = ap (λ (pool : TableId). pool.slots) (c.take.ensures.pool ∙ c.look_again-word.ensures.items ∙ c.requires) in
+    let same = ap (λ (pool : TableId). pool.slots) (c.take.ensures.pool ∙ c.look_again-word.ensures.items
+    ∙ c.requires) in
     record {
       found = ∣ (λ id within. knows_all_out _ _ _ c.look_again-word.ensures.found.sound c.in_default.ensures.missed id
           (omega arith)) ∣₁;

@@ -1,5 +1,4 @@
-use Rattle.std.proofs.Common.{◌∙◌}
-use Rattle.fixed_pools.specs.StepCount.{passes_to_take, passes_to_refuse}
+use Rattle.std.proofs.Common.{◌∙◌, ◌+◌}
 use Rattle.fixed_pools.proofs.FixedAnswers.{found_full, within_passes}
 use Rattle.pool_parts.proofs.PageAnswers.{pulled}
 use Rattle.fixed_pools.proofs.fixed_object_pool.items.FixedItems.pull_in_order.Goals as goal
@@ -12,26 +11,25 @@ returns-in-Some-clause-pulled g c =
       of_pool = c.take_or_full.ensures.pool ∙ c.look-word.ensures.items;
       in_pool = taken.in_pool;
       same_opening = taken.goes_on.same_opening ∙ looked.same_opening;
-      pulled = pulled _ _ _ _ _ taken.goes_on looked.did_nothing;
+      pulled = pulled _ _ _ _ _ taken.goes_on looked.own_same;
     }
 
 pub returns-in-Some-clause-brief : goal.returns-in-Some-clause-brief
 returns-in-Some-clause-brief g c =
     let looked = c.look-word.ensures.found in
-    within_passes passes_to_take _ c.look-word.result.1.me.0 c.take_or_full.new.seat.me.0 (c.in-Some.ensures.outcome.goes_on.same_since ∙ looked.from_now)
+    within_passes (λ returns. returns + 1) _ c.look-word.result.1.me.0 c.take_or_full.new.seat.me.0
+    (c.in-Some.ensures.outcome.goes_on.same_since ∙ looked.from_now)
     looked.loads looked.tries c.in-Some.ensures.loads c.in-Some.ensures.tries
 
 pub returns-in-None-clause-full : goal.returns-in-None-clause-full
 returns-in-None-clause-full g c =
     let looked = c.look-word.ensures.found in
-    record {
-      of_pool = c.take_or_full.ensures.pool ∙ c.look-word.ensures.items;
-      found = found_full _ _ _ _ looked.same_opening looked.from_now c.in-None.ensures.outcome;
-    }
+    found_full _ _ _ _ (c.take_or_full.ensures.pool ∙ c.look-word.ensures.items) looked.same_opening looked.from_now
+    c.in-None.ensures.outcome
 
 pub returns-in-None-clause-full_brief : goal.returns-in-None-clause-full_brief
 returns-in-None-clause-full_brief g c =
     let looked = c.look-word.ensures.found in
-    within_passes passes_to_refuse _ c.look-word.result.1.me.0 c.take_or_full.new.seat.me.0
-    (c.in-None.ensures.outcome.reads_on.goes_on.same_since ∙ looked.from_now)
+    within_passes (λ returns. returns + 2) _ c.look-word.result.1.me.0 c.take_or_full.new.seat.me.0
+    (c.in-None.ensures.outcome.0.goes_on.same_since ∙ looked.from_now)
     looked.loads looked.tries c.in-None.ensures.loads c.in-None.ensures.tries

@@ -1,32 +1,32 @@
-use Rattle.std.proofs.Common.{◌∙◌, sym}
-use Rattle.pool_parts.specs.Note.{note_view}
-use Rattle.fixed_pools.specs.StepCount.{passes_to_take, passes_to_refuse}
+use Rattle.pool_parts.proofs.Views.{starts_from}
+use Rattle.std.proofs.Common.{◌∙◌, sym, ◌+◌}
+use Rattle.pool_parts.specs.Page.{view_of}
 use Rattle.fixed_pools.proofs.FixedAnswers.{item_pulled_with, found_full, within_passes_since}
 use Rattle.pool_parts.proofs.PageAnswers.{after_known}
 use Rattle.fixed_pools.proofs.fixed_object_pool.items.FixedItems.pull_onward.Goals as goal
 
 pub returns-in-Some-clause-pulled : goal.returns-in-Some-clause-pulled
 returns-in-Some-clause-pulled g c =
-    item_pulled_with g.K.Clean.meets _ _ _ _ _ _ _ c.look_again-word.ensures.found.starts c.in-Some.ensures.outcome
+    item_pulled_with g.K.Clean.meets _ _ _ _ _ _ _ (starts_from _ _ _ _ c.look_again-word.ensures.found)
+    c.in-Some.ensures.outcome
     (c.take_or_full.ensures.pool ∙ c.look_again-word.ensures.items ∙ c.requires.note)
 
 pub returns-in-Some-clause-brief : goal.returns-in-Some-clause-brief
 returns-in-Some-clause-brief g c =
     let looked = c.look_again-word.ensures.found in
-    within_passes_since passes_to_take _ (note_view c.args.note) c.look_again-word.new.seat.me.0 c.take_or_full.new.seat.me.0
-    (c.in-Some.ensures.outcome.goes_on.same_since ∙ looked.starts.from_now)
+    within_passes_since (λ returns. returns + 1) _ (view_of c.args.note.seat) c.look_again-word.new.seat.me.0
+    c.take_or_full.new.seat.me.0
+    (c.in-Some.ensures.outcome.goes_on.same_since ∙ looked.from_now)
     looked.loads looked.tries c.in-Some.ensures.loads c.in-Some.ensures.tries
 
 pub returns-in-None-clause-full : goal.returns-in-None-clause-full
 returns-in-None-clause-full g c =
-    let starts = c.look_again-word.ensures.found.starts in
+    let starts = starts_from _ _ _ _ c.look_again-word.ensures.found in
     let found = c.in-None.ensures.outcome in
-    let goes = found.reads_on.goes_on in
+    let goes = found.0.goes_on in
     record {
-      full = record {
-        of_pool = c.take_or_full.ensures.pool ∙ c.look_again-word.ensures.items ∙ c.requires.note;
-        found = found_full _ _ _ _ starts.same_opening starts.from_now found;
-      };
+      full = found_full _ _ _ _ (c.take_or_full.ensures.pool ∙ c.look_again-word.ensures.items ∙ c.requires.note)
+          starts.same_opening starts.from_now found;
       same_user = goes.same_user ∙ starts.same_user;
       after_note = after_known _ _ _ starts goes;
       same_operations = goes.sound.own_operations ∙ goes.own ∙ starts.own_same ∙ sym starts.own_before;
@@ -35,6 +35,7 @@ returns-in-None-clause-full g c =
 pub returns-in-None-clause-full_brief : goal.returns-in-None-clause-full_brief
 returns-in-None-clause-full_brief g c =
     let looked = c.look_again-word.ensures.found in
-    within_passes_since passes_to_refuse _ (note_view c.args.note) c.look_again-word.new.seat.me.0 c.take_or_full.new.seat.me.0
-    (c.in-None.ensures.outcome.reads_on.goes_on.same_since ∙ looked.starts.from_now)
+    within_passes_since (λ returns. returns + 2) _ (view_of c.args.note.seat) c.look_again-word.new.seat.me.0
+    c.take_or_full.new.seat.me.0
+    (c.in-None.ensures.outcome.0.goes_on.same_since ∙ looked.from_now)
     looked.loads looked.tries c.in-None.ensures.loads c.in-None.ensures.tries

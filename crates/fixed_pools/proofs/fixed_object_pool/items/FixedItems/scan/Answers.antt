@@ -1,5 +1,5 @@
 use Rattle.std.proofs.Common.{◌+◌, ◌<◌, refl, ◌∙◌, arith, sym, subst}
-use Rattle.fixed_pools.specs.Inside.FixedCount.{is_beside, PassesOver}
+use Rattle.fixed_pools.specs.FixedCount.{is_beside, PassesOver}
 use Rattle.fixed_pools.proofs.PoolWords.{one_behind, skipped_before}
 use Rattle.fixed_pools.proofs.FixedCounts.{reads_none, reads_further, loaded_reads, takes_later, passes_none}
 use Rattle.fixed_pools.proofs.FixedCounts.{passes_skip, passes_word, passes_join}
@@ -19,7 +19,7 @@ loop-page-init g c = record {
 pub returns-in-Some-clause-taken : goal.returns-in-Some-clause-taken
 returns-in-Some-clause-taken g c =
     let before = c.loop-page.invariant.missed.reads_on in
-    let read = loaded_reads _ _ _ _ c.count-word.ensures.found.loads_on in
+    let read = loaded_reads _ _ _ _ _ _ c.count-word.ensures.found in
     takes_later g.K.Clean.meets _ _ _ _ _ _ (reads_further _ _ _ before read) c.in-Some.ensures.outcome
 
 pub loop-page-preserved-then-page-skipped : goal.loop-page-preserved-then-page-skipped
@@ -46,7 +46,7 @@ loop-page-preserved g c =
     let before = c.loop-page.invariant in
     let steps = before.steps in
     let counted = c.count-word.ensures.found in
-    let loaded = counted.loads_on in
+    let loaded = counted in
     let own = c.in_default.ensures.outcome in
     let own_steps = c.take_lowest.ensures.steps in
     let here = c.loop-page.auto.page in

@@ -1,5 +1,5 @@
 use Rattle.std.proofs.Common.{◌+◌, ◌∙◌, refl, arith, subst}
-use Rattle.fixed_pools.specs.Inside.FixedCount.{is_beside, Tallies}
+use Rattle.fixed_pools.specs.FixedCount.{is_beside, Tallies}
 use Rattle.fixed_pools.proofs.FixedCounts.{reads_none, reads_further, loaded_reads, takes_later}
 use Rattle.fixed_pools.proofs.FixedRounds.{passed_once, passed_again, passed_reads, found_full_again, counts_came_round}
 use Rattle.fixed_pools.proofs.FixedRounds.{one_pass_more, taken_within, refused_within, rounds_within}
@@ -20,40 +20,42 @@ pub returns-in-Ok-clause-loads : goal.returns-in-Ok-clause-loads
 returns-in-Ok-clause-loads g c =
     let items = c.args.self.now in
     let before = c.loop.invariant in
-    let read = c.count-word.ensures.found.loads_on in
-    let within = taken_within g.K.Clean.meets _ _ _ _ c.loop.counter _ _ _ _ _ _ _ c.requires.in_pool
-    (omega (arith, items.shared.covered)) before.passed read c.in-Ok.ensures.taken in
+    let read = c.count-word.ensures.found in
+    let within = taken_within g.K.Clean.meets _ _ _ _ c.loop.counter _ _ _ _ _ _ c.requires.in_pool
+    (omega (arith, items.shared.covered)) before.passed (loaded_reads _ _ _ _ _ _ read) c.in-Ok.ensures.taken in
     omega (arith, within, before.loads, read.loads, c.take.ensures.loads)
 
 pub returns-in-Ok-clause-tries : goal.returns-in-Ok-clause-tries
 returns-in-Ok-clause-tries g c =
     let items = c.args.self.now in
     let before = c.loop.invariant in
-    let read = c.count-word.ensures.found.loads_on in
-    let within = taken_within g.K.Clean.meets _ _ _ _ c.loop.counter _ _ _ _ _ _ _ c.requires.in_pool
-    (omega (arith, items.shared.covered)) before.passed read c.in-Ok.ensures.taken in
+    let read = c.count-word.ensures.found in
+    let within = taken_within g.K.Clean.meets _ _ _ _ c.loop.counter _ _ _ _ _ _ c.requires.in_pool
+    (omega (arith, items.shared.covered)) before.passed (loaded_reads _ _ _ _ _ _ read) c.in-Ok.ensures.taken in
     omega (arith, within, before.tries, read.tries, c.take.ensures.tries)
 
 pub returns-in-Ok-clause-outcome : goal.returns-in-Ok-clause-outcome
 returns-in-Ok-clause-outcome g c =
-    let read = c.count-word.ensures.found.loads_on in
+    let read = c.count-word.ensures.found in
     takes_later g.K.Clean.meets _ _ _ _ _ _
-    (reads_further _ _ _ (passed_reads _ _ _ _ _ _ _ c.loop.invariant.passed) (loaded_reads _ _ _ _ read))
+    (reads_further _ _ _ (passed_reads _ _ _ _ _ _ _ c.loop.invariant.passed) (loaded_reads _ _ _ _ _ _ read))
     c.in-Ok.ensures.taken
 
 pub returns-then-after-before-clause-loads : goal.returns-then-after-before-clause-loads
 returns-then-after-before-clause-loads g c =
     let before = c.loop.invariant in
-    let read = c.count-word.ensures.found.loads_on in
-    let within = refused_within _ _ _ _ c.loop.counter _ _ _ _ _ c.requires.in_pool before.passed read
+    let read = c.count-word.ensures.found in
+    let within = refused_within _ _ _ _ c.loop.counter _ _ _ _ c.requires.in_pool before.passed
+    (loaded_reads _ _ _ _ _ _ read)
     c.in-Err.ensures.missed in
     omega (arith, within, before.loads, read.loads, c.take.ensures.loads)
 
 pub returns-then-after-before-clause-tries : goal.returns-then-after-before-clause-tries
 returns-then-after-before-clause-tries g c =
     let before = c.loop.invariant in
-    let read = c.count-word.ensures.found.loads_on in
-    let within = refused_within _ _ _ _ c.loop.counter _ _ _ _ _ c.requires.in_pool before.passed read
+    let read = c.count-word.ensures.found in
+    let within = refused_within _ _ _ _ c.loop.counter _ _ _ _ c.requires.in_pool before.passed
+    (loaded_reads _ _ _ _ _ _ read)
     c.in-Err.ensures.missed in
     omega (arith, within, before.tries, read.tries, c.take.ensures.tries)
 
@@ -80,8 +82,8 @@ loop-preserved g c =
             | else-word-eq0-via-then-word-eq0+else-after-before w ↦ w.if-after-before.false full.1
             | else-word-eq0-via-else-word-eq0 w ↦ w.if-word-eq0.false full.0
           ]);
-      loads = omega (arith, pass, before.loads, read.loads_on.loads, c.take.ensures.loads);
-      tries = omega (arith, pass, before.tries, read.loads_on.tries, c.take.ensures.tries);
+      loads = omega (arith, pass, before.loads, read.loads, c.take.ensures.loads);
+      tries = omega (arith, pass, before.tries, read.tries, c.take.ensures.tries);
     }
 
 pub returns-clause-loads : goal.returns-clause-loads

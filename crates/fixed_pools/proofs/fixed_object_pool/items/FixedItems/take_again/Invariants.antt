@@ -1,5 +1,5 @@
 use Rattle.std.proofs.Common.{◌≡◌, ◌+◌, ◌*◌, ◌≤◌}
-use Rattle.fixed_pools.specs.Inside.FixedItem.{fixed_identity}
+use Rattle.pool_parts.specs.PageItems.{items_view}
 use Rattle.fixed_pools.proofs.FixedRounds.{HasPassed}
 use Rattle.fixed_pools.proofs.fixed_object_pool.items.FixedItems.take_again.Given as goal
 
@@ -7,8 +7,11 @@ abbrev pub invariant-loop : goal.invariant-loop
 invariant-loop g l = record {
   same_pool : l.seat.table_id ≡ l.fn.seat.table_id;
   -- each pass but the first one was made after a return
-  passed : HasPassed l.start (fixed_identity l.self).words (fixed_identity l.self).slots l.before l.counter l.fn.first.value.me
+  passed : HasPassed l.start (items_view l.self.shared).identity.words (items_view l.self.shared).identity.slots
+      l.before l.counter l.fn.first.value.me
       l.seat.me;
-  loads : l.seat.me.0.loads + 1 ≤ l.fn.first.value.me.0.loads + (fixed_identity l.self).words * (l.counter + 1);
-  tries : l.seat.me.0.tries ≤ l.fn.first.value.me.0.tries + 32 * ((fixed_identity l.self).words * (l.counter + 1));
+  loads : l.seat.me.0.loads + 1 ≤ l.fn.first.value.me.0.loads + (items_view l.self.shared).identity.words
+      * (l.counter + 1);
+  tries : l.seat.me.0.tries ≤ l.fn.first.value.me.0.tries + 32 * ((items_view l.self.shared).identity.words
+      * (l.counter + 1));
 }

@@ -1,5 +1,5 @@
 use Rattle.std.proofs.Common.{subst}
-use Rattle.fixed_pools.specs.Inside.FixedCount.{is_beside, PassesOver}
+use Rattle.fixed_pools.specs.FixedCount.{is_beside, PassesOver}
 use Rattle.fixed_pools.proofs.PoolWords.{both_segments}
 use Rattle.fixed_pools.proofs.FixedCounts.{passes_join, takes_later}
 use Rattle.fixed_pools.proofs.fixed_object_pool.items.FixedItems.take_round.Goals as goal

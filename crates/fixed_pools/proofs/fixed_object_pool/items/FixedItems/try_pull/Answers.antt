@@ -12,7 +12,7 @@ returns-clause-pulled g c =
       of_pool = c.take.ensures.pool ∙ c.look-word.ensures.items;
       in_pool = taken.in_pool;
       same_opening = taken.goes_on.same_opening ∙ looked.same_opening;
-      pulled = pulled _ _ _ _ _ taken.goes_on looked.did_nothing;
+      pulled = pulled _ _ _ _ _ taken.goes_on looked.own_same;
     }
 
 pub returns-in_default-clause-busy : goal.returns-in_default-clause-busy

@@ -17,7 +17,4 @@ invariant_of-result g c =
 pub returns : goal.returns
 returns g c =
     let cell = c.in_ok-links.ensures.cell ∙ c.note-row.ensures.0 in
-    record {
-      of_link = λ i. (cell i, c.of.ensures i);
-      knows_none = ap (option_map (λ page. page_identity (arc_value page))) c.note-link.ensures.1;
-    }
+    (λ i. (cell i, c.of.ensures i), ap (option_map (λ page. page_identity (arc_value page))) c.note-link.ensures.1)

@@ -1,6 +1,6 @@
 use Rattle.std.proofs.Common.{◌≡◌, Some, ap, sym, ◌∙◌, arith}
 use Rattle.std.proofs.lemmas.Option.{none-some}
-use Rattle.page_chain.specs.LinkRow.{cell_in_row}
+use Rattle.page_chain.specs.Links.{cell_in_row}
 use Rattle.page_chain.proofs.RowCells.{cell_kept, cell_known, not_past, cell_read}
 use Rattle.page_chain.proofs.linear_page.directory.LinkPlace.link.Goals as goal
 

@@ -1,9 +1,9 @@
 use Rattle.std.proofs.Common.{◌∙◌, ap, sym, subst, Some}
 use Rattle.pool_parts.specs.declared.page.user_view.UserView.{UserView}
-use Rattle.pool_parts.specs.Inside.PageRule.{User}
-use Rattle.pool_parts.specs.Inside.Meeting.{Meets, introduced_to}
+use Rattle.pool_parts.specs.PageRule.{User, Meets}
 use Rattle.pool_parts.proofs.Meetings.{two_items}
 use Rattle.pool_parts.proofs.page.items.Items.are_two.Goals as goal
+use Rattle.pool_parts.proofs.Views.{introduced_to}
 
 pub returns-clause-differ : goal.returns-clause-differ
 returns-clause-differ g c same =
@@ -29,7 +29,7 @@ introduce-requires-clause-other g c = c.requires.other
 
 pub introduce-requires-clause-one_here : goal.introduce-requires-clause-one_here
 introduce-requires-clause-one_here g c =
-    ap (λ (known : UserView g.row.T.Denot). known.gone) c.meet.ensures.met.hears.knows ∙ c.args.one.now.here
+    ap (λ (known : UserView g.row.T.Denot). known.gone) c.meet.ensures.met.knows ∙ c.args.one.now.here
 
 pub introduce-requires-clause-other_here : goal.introduce-requires-clause-other_here
 introduce-requires-clause-other_here g c = c.args.other.now.here
@@ -42,9 +42,9 @@ introduce-requires-2-clause-other g c = c.introduce.ensures.one.0 ∙ c.meet.ens
 
 pub introduce-requires-2-clause-one_here : goal.introduce-requires-2-clause-one_here
 introduce-requires-2-clause-one_here g c =
-    ap (λ (known : UserView g.row.T.Denot). known.gone) c.introduce.ensures.met.hears.knows ∙ c.args.other.now.here
+    ap (λ (known : UserView g.row.T.Denot). known.gone) c.introduce.ensures.met.knows ∙ c.args.other.now.here
 
 pub introduce-requires-2-clause-other_here : goal.introduce-requires-2-clause-other_here
 introduce-requires-2-clause-other_here g c =
     ap (λ (me : User g.row.T.Denot). me.0.gone) c.introduce.ensures.one.1
-    ∙ ap (λ (known : UserView g.row.T.Denot). known.gone) c.meet.ensures.met.hears.knows ∙ c.args.one.now.here
+    ∙ ap (λ (known : UserView g.row.T.Denot). known.gone) c.meet.ensures.met.knows ∙ c.args.one.now.here

@@ -26,7 +26,7 @@ pub returns-then-not-is_bit_set-clause-outcome : goal.returns-then-not-is_bit_se
 returns-then-not-is_bit_set-clause-outcome g c =
     let low = bit_at-lt c.fetch_and-found.result c.args.bit in
     let zero : bit_at c.fetch_and-found.result c.args.bit ≡ 0 = grind (arith, low) in
-    c.fetch_and-found.ensures.2.missed c.args.bit c.requires.in_word c.all_but.ensures zero
+    c.fetch_and-found.ensures.2.1 c.args.bit c.requires.in_word c.all_but.ensures zero
 
 pub overflow_mul-page : goal.overflow_mul-page
 overflow_mul-page g c = omega (arith, c.args.self.now.covered, c.args.self.now.small, c.requires.in_items)
@@ -37,20 +37,21 @@ overflow_add-page g c =
 
 pub exchange-requires : goal.exchange-requires
 exchange-requires g c =
-    let took = (c.fetch_and-found.ensures.2.took c.args.bit c.requires.in_word c.all_but.ensures
-    (c.is_bit_set.ensures.0 c.if-not-is_bit_set.false)).value in (
+    let took = (c.fetch_and-found.ensures.2.0 c.args.bit c.requires.in_word c.all_but.ensures
+    (c.is_bit_set.ensures.0 c.if-not-is_bit_set.false)) in (
       c.fetch_and-found.ensures.0 ∙ c.requires.items,
       (
         Some took.0,
-        took.2 ∙ ap (λ carried. (32 * c.args.page + c.args.bit, Some took.0) ∷ rest carried) (sym took.2),
+        took.1.carries
+            ∙ ap (λ carried. (32 * c.args.page + c.args.bit, Some took.0) ∷ rest carried) (sym took.1.carries),
       ),
     )
 
 pub unreachable-unreachable : goal.unreachable-unreachable
 unreachable-unreachable g c =
-    let took = c.fetch_and-found.ensures.2.took c.args.bit c.requires.in_word c.all_but.ensures
+    let took = c.fetch_and-found.ensures.2.0 c.args.bit c.requires.in_word c.all_but.ensures
     (c.is_bit_set.ensures.0 c.if-not-is_bit_set.false) in
-    let out = came_out _ _ _ c.exchange.result _ _ took c.exchange.ensures.2 in
+    let out = came_out _ _ _ c.exchange.result _ _ _ took.1 c.exchange.ensures.2 in
     cc (out, c.in-None.is)
 
 pub returns-clause-items : goal.returns-clause-items
@@ -58,7 +59,8 @@ returns-clause-items g c = c.exchange.ensures.0 ∙ c.fetch_and-found.ensures.0
 
 pub returns-clause-outcome : goal.returns-clause-outcome
 returns-clause-outcome g c =
-    let took = c.fetch_and-found.ensures.2.took c.args.bit c.requires.in_word c.all_but.ensures
+    let took = c.fetch_and-found.ensures.2.0 c.args.bit c.requires.in_word c.all_but.ensures
     (c.is_bit_set.ensures.0 c.if-not-is_bit_set.false) in
-    moved_out _ _ _ c.exchange.result c.in-Some.value _ _ _ took c.exchange.ensures.2 c.exchange.ensures.3
+    moved_out _ _ _ c.exchange.result _ c.in-Some.value _ _ _ took.1 (took.2, took.3) c.exchange.ensures.2
+    c.exchange.ensures.3
     c.in-Some.is

@@ -20,7 +20,8 @@ fetch_add-word-requires g c = (
   omega (arith, c.args.self.now.covered, c.requires.in_items),
   gives_back _ _ _ _ _ c.with_bit-bit.result _ c.args.holding.number _ _ c.args.value c.requires.in_items
       (omega arith) (omega (arith, c.requires.raise, c.requires.by_one))
-      (omega (arith, c.requires.raise, c.requires.by_one)) c.with_bit-bit.ensures.bits c.args.holding.holds c.args.holding.here c.args.holding.carries
+      (omega (arith, c.requires.raise, c.requires.by_one)) c.with_bit-bit.ensures.bits c.args.holding.holds
+      c.args.holding.here c.args.holding.carries
       c.exchange.ensures.3 c.requires.meets,
 )
 
@@ -33,7 +34,7 @@ returns-clause-carries_none g c =
     c.fetch_add-word.ensures.2).0
 
 pub returns-clause-holds_none : goal.returns-clause-holds_none
-returns-clause-holds_none g c = c.fetch_add-word.ensures.2.holds_none
+returns-clause-holds_none g c = c.fetch_add-word.ensures.2.0
 
 pub returns-clause-here : goal.returns-clause-here
 returns-clause-here g c =

@@ -1,8 +1,8 @@
 use Rattle.std.proofs.Common.{arith, ◌∙◌, ap, subst}
 use Rattle.pool_parts.proofs.PageSteps.{introduces, tells}
-use Rattle.pool_parts.specs.Inside.PageRule.{User, told_of}
-use Rattle.pool_parts.specs.Inside.Meeting.{Meets}
+use Rattle.pool_parts.specs.PageRule.{User, Meets}
 use Rattle.pool_parts.proofs.page.items.Items.introduce.Goals as goal
+use Rattle.pool_parts.proofs.Views.{told_of}
 
 pub split_seat-introduction-requires : goal.split_seat-introduction-requires
 split_seat-introduction-requires g c = (

@@ -1,5 +1,5 @@
 use Rattle.std.proofs.Common.{◌≡◌, arith, Some, subst}
-use Rattle.pool_parts.specs.Items.{IsFilled}
+use Rattle.pool_parts.specs.Item.{IsFilled}
 use Rattle.pool_parts.proofs.FilledItems.{filled_none, filled_more}
 use Rattle.pool_parts.proofs.page.items.Items.make_items.Goals as goal
 

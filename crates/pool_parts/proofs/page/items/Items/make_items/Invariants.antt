@@ -1,5 +1,5 @@
 use Rattle.std.proofs.Common.{Some}
-use Rattle.pool_parts.specs.Items.{IsFilled}
+use Rattle.pool_parts.specs.Item.{IsFilled}
 use Rattle.pool_parts.proofs.page.items.Items.make_items.Given as goal
 
 abbrev pub invariant-loop : goal.invariant-loop

@@ -1,6 +1,6 @@
 use Rattle.std.proofs.Common.{◌≡◌, sym, subst, arith, IfOk}
-use Rattle.pool_parts.specs.Inside.Items.{items_identity}
-use Rattle.pool_parts.specs.Inside.Word.{IsAllFree}
+use Rattle.pool_parts.specs.PageItems.{items_view}
+use Rattle.pool_parts.specs.PageRule.{IsAllFree}
 use Rattle.pool_parts.proofs.FilledItems.{opened_filled, refuses_memory}
 use Rattle.pool_parts.proofs.page.items.Items.new.Goals as goal
 
@@ -30,7 +30,7 @@ returns-clause-refused g c = refuses_memory _ c.open.result c.open.ensures.refus
 pub returns-clause-count : goal.returns-clause-count
 returns-clause-count g c =
     let filled = c.in_ok-items.ensures.all in
-    subst (λ count. IfOk c.open.result (λ items. (items_identity items).slots ≡ count)) filled.all
+    subst (λ count. IfOk c.open.result (λ items. (items_view items).identity.slots ≡ count)) filled.all
     c.open.ensures.count
 
 pub returns-clause-raise : goal.returns-clause-raise

@@ -1,5 +1,5 @@
 use Rattle.std.proofs.Common.{arith, ◌∙◌, ap, sym}
-use Rattle.pool_parts.specs.Inside.PageRule.{User}
+use Rattle.pool_parts.specs.PageRule.{User}
 use Rattle.pool_parts.proofs.PageSteps.{tells}
 use Rattle.pool_parts.proofs.page.items.Items.tell.Goals as goal
 
@@ -27,12 +27,12 @@ returns g c =
     let found = rw c.join_seat.ensures.2 at c.look_again.ensures.found in
     record {
       of_page = c.look_again.ensures.items ∙ c.join_seat.ensures.0;
-      same_user = found.starts.same_user;
-      same_opening = found.starts.same_opening;
+      same_user = found.same_user;
+      same_opening = found.same_opening;
       legal = found.sound.legal;
-      from_own = found.starts.after_known;
-      from_told = found.starts.after_told;
-      same_operations = found.sound.own_operations ∙ found.starts.own_same ∙ sym found.starts.own_before;
+      from_own = found.after_known;
+      from_told = found.after_told;
+      same_operations = found.sound.own_operations ∙ found.own_same ∙ sym found.own_before;
     }
 
 pub look_again-requires-clause-items : goal.look_again-requires-clause-items

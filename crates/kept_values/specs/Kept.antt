@@ -1,4 +1,4 @@
--- The places of a stack's chain: what they keep, first place first.
+-- For the proofs: the places of a stack's chain: what they keep, first place first.
 use Rattle.std.specs.Prelude.{Option, None, Some, List, [], ◌∷◌, Box, box_value}
 use Rattle.std.specs.declared.alloc.Global.{Global}
 use Rattle.kept_values.specs.declared.stack.node.Node.{Node, Node', Held-Node-next, None', Some'}

@@ -1,11 +1,11 @@
--- A spin lock: one word, which is 0 where the lock is free and 1 where it is taken, and one place
+-- For the proofs. A spin lock: one word, which is 0 where the lock is free and 1 where it is taken, and one place
 -- for the value.
 use Rattle.std.specs.Prelude.{◌≡◌, ◌≢◌, ℕ, ◌<◌, [], ◌∷◌, length, slice_index, Option, Some}
 use mathlib.Core.Option.{some}
 use lib.ListN.{get_elem?}
 use Rattle.atomic_table.specs.Table.{State, Me}
 use Rattle.lockfree_object_pool.specs.declared.spin_lock.rule.Visitor.{Visitor}
-use Rattle.lockfree_object_pool.specs.declared.spin_lock.rule.Visitor.TheVariants.{Passing, Holder}
+use Rattle.lockfree_object_pool.specs.declared.spin_lock.rule.Visitor.TheVariants.{Holder}
 
 module _ {T : Type 0} where
   -- the lock is taken just where a visitor holds it, one holds it at a time, and where it is free
@@ -22,11 +22,3 @@ module _ {T : Type 0} where
   -- a visitor holds the lock, and has its value
   abbrev pub HasValue : Me (Option T) Visitor → Type 0
   HasValue me = (value : T) × (me ≡ (Holder, (0, Some value) ∷ []))
-
-  -- a visitor has nothing of the lock
-  abbrev pub HasNothing : Me (Option T) Visitor → Type 0
-  HasNothing me = me ≡ (Passing, [])
-
-  -- an exchange takes the value where the word was free, and nothing where it was taken
-  abbrev pub TakesIfFree : ℕ → Me (Option T) Visitor → Type 0
-  TakesIfFree word me = (word ≡ 0 → HasValue me) × (word ≢ 0 → HasNothing me)

@@ -3,18 +3,12 @@ use Rattle.std.specs.Prelude.{◌≡◌, ℕ, ◌+◌, ◌^◌, ◌<◌, List, O
 use Rattle.std.specs.Option.{option_map}
 use Rattle.std.specs.declared.alloc.Global.{Global}
 use Rattle.once_cell.specs.Once.{cell_name}
-use Rattle.pool_parts.specs.declared.clean.Clean.{Ghosts}
-use Rattle.page_chain.specs.declared.linear_page.directory.LinkPlace.{LinkPlace}
 use Rattle.page_chain.specs.declared.linear_page.directory.Row.{Row}
 
 -- which cell a row that is known has at a place
 abbrev pub cell_in_row : {T K O : Type 0} → Option (Row T K O) → ℕ → Option ℕ
 cell_in_row None offset = None
 cell_in_row (Some row) offset = option_map cell_name (slice_get row.links.items offset)
-
--- which link lies at a place
-abbrev pub link_at : {T K O : Type 0} {opens : Ghosts O T} → LinkPlace T K O opens → ℕ × ℕ
-link_at place = (cell_name place.row.now, place.offset)
 
 -- the link to a page, by its row's cell and its place there: row `b` begins with the link to page
 -- `2 ^ b` and has as many links

@@ -1,10 +1,9 @@
--- How a pull of a fixed pool finds that no item was free at one moment: two passes over its words count as many returns.
-use Rattle.std.specs.Prelude.{◌≡◌, ℕ, ◌/◌, ◌%◌, ◌^◌, ◌≤◌, nat_lt, not, ◌&&◌, ◌==◌, Bool, true, [], Option, None, Some}
+-- For the proofs: how a pull of a fixed pool finds that no item was free at one moment: two passes over its words
+-- count as many returns.
+use Rattle.std.specs.Prelude.{◌≡◌, ℕ, ◌/◌, ◌%◌, ◌^◌, ◌≤◌, nat_lt, not, ◌&&◌, ◌==◌, Bool, true, [], Option, None, Some, ◌+◌}
 use Rattle.pool_parts.specs.declared.page.user_view.UserView.{UserView}
 use Rattle.pool_parts.specs.Ledger.{WasOutBetween, returns_among}
-use Rattle.pool_parts.specs.Inside.PageRule.{User, GoesOn, IsOutNow}
-use Rattle.fixed_pools.specs.FixedAnswer.{IsFullSince}
-use Rattle.fixed_pools.specs.StepCount.{passes_to_take, passes_to_refuse}
+use Rattle.pool_parts.specs.PageRule.{User, GoesOn, IsOutNow}
 
 -- whether a number lies on one of these words: from one up to below another, but for one that is skipped
 abbrev pub is_beside : (from to skipped : ℕ) → ℕ → Bool
@@ -18,8 +17,9 @@ module _ {T : Type 0} where
     pub carries_same : new.1 ≡ old.1
     pub goes_on : GoesOn [] old.0 new.0
 
-  -- what some words count together that a user read one after the other, and of which it took nothing: no less than all
-  -- counted at the first reading, and no more than at the last; where it is what all count now, no item of them is free now
+  -- what some words count together that a user read one after the other, and of which it took nothing: no less than
+  -- all counted at the first reading, and no more than at the last; where it is what all count now, no item of them
+  -- is free now
   pub record Tallies (is_read : ℕ → Bool) (sum : ℕ) (old new : UserView T) : Type 0 where
     pub total : ℕ
     pub is_total : sum ≡ total % 2 ^ 32
@@ -34,13 +34,8 @@ module _ {T : Type 0} where
         → WasOutBetween new.0.opening old.0.operations new.0.operations id
     pub tallies : Tallies is_read sum old.0 new.0
 
-  -- the user has found that no item was free at one moment
-  pub record FindsFull (items : ℕ) (old new : User T) : Type 0 where
-    pub reads_on : ReadsOn old new
-    pub full : IsFullSince items old.0.operations new.0
-
 -- the bound in passes of a user that took an item or took none, where so many returns came since
 -- its first load
 abbrev pub passes_of : {A : Type 0} → Option A → ℕ → ℕ
-passes_of None returns = passes_to_refuse returns
-passes_of (Some taken) returns = passes_to_take returns
+passes_of None returns = returns + 2
+passes_of (Some taken) returns = returns + 1

@@ -1,2 +1,0 @@
--- What a stack keeps, as its places hold it.
-pub mod Kept

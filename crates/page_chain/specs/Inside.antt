@@ -1,4 +1,0 @@
--- What the types of the code show and keep, and what its steps do. What a contract of a pool says stands
--- in the files beside this folder.
-pub mod Links
-pub mod Walk

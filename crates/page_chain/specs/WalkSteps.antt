@@ -1,0 +1,29 @@
+-- For the proofs: what the pages of a walk answer to it.
+use Rattle.std.specs.Prelude.{◌≡◌, ℕ, List, Option, Some}
+use Rattle.std.specs.declared.alloc.Global.{Global}
+use Rattle.atomic_table.specs.Seated.{TableId}
+use Rattle.pool_parts.specs.Item.{IsItemOf, IsPulled, IsFilled}
+use Rattle.pool_parts.specs.Slot.{slot_item}
+use Rattle.pool_parts.specs.declared.clean.Clean.{Ghosts}
+use Rattle.pool_parts.specs.declared.page.full_seen.Allocated.{Allocated}
+use Rattle.pool_parts.specs.declared.page.full_seen.Allocated.TheVariants.{Slot, Full}
+use Rattle.pool_parts.specs.declared.page.word.TheConstants.{PAGE_ITEMS}
+use Rattle.page_chain.specs.Links.{IsLinkTo}
+use Rattle.page_chain.specs.Walk.{known_link, known_next}
+use Rattle.page_chain.specs.declared.linear_page.link_note.LinkNote.{LinkNote}
+
+module _ {T K : Type 0} where
+  -- what a page of a chain answers to a pull: an item of this page, which opened with these 32 values
+  -- of this kind, pulled as its history tells; or each of its ids was observed taken
+  abbrev pub IsAnsweredBy : (T → Type 0) → (T → Type 0) → TableId → List (Option T) → Allocated T K → Type 0
+  IsAnsweredBy meets may_open page opening (Slot slot) =
+      IsItemOf meets page (slot_item slot) × IsFilled PAGE_ITEMS may_open (slot_item slot).opening
+      × IsPulled (slot_item slot) × ((slot_item slot).opening ≡ opening)
+  IsAnsweredBy meets may_open page opening (Full seen) = seen.seat.table_id ≡ page
+
+module _ {T K O : Type 0} {opens : Ghosts O T} where
+  -- a note of the link to the page of this number knows that page
+  pub record IsKnownAt (links : List (Global × ℕ)) (number : ℕ) (note : LinkNote T K O opens) (page : TableId) : Type 0
+    where
+      pub is_link : IsLinkTo links number (known_link note)
+      pub knows : known_next note ≡ Some page
