@@ -5,7 +5,7 @@ use Rattle.std.specs.Global.{Vec}
 use Rattle.std.specs.Option.{option_map}
 use Rattle.std.specs.Ordering.{nat_cmp}
 use Rattle.std.specs.Arc.{arc_value}
-use Rattle.linear_pools.specs.LinearPool.{linear_owned_item, linear_view}
+use Rattle.linear_pools.specs.LinearPool.{linear_view}
 use Rattle.pool_parts.specs.declared.clean.Empty.{Empty}
 use Rattle.pool_parts.specs.declared.closures.vectors.Clear.{Clear}
 use Rattle.pool_parts.specs.declared.closures.vectors.WithCapacity.{WithCapacity}
@@ -18,7 +18,7 @@ Basket = LinearOwnedReusable (Vec ℕ) WithCapacity Clear Empty
 
 -- the products in a basket
 abbrev pub products_in : Basket → List ℕ
-products_in basket = (linear_owned_item basket).item.value.items
+products_in basket = basket.item.value.items
 
 -- the products of an open session
 abbrev pub basket_of : Sessions → ℕ → Option (List ℕ)

@@ -2,7 +2,7 @@
 //! again.
 ghost use Rattle.std.specs.Prelude.{◌≡◌, Err, IsSome, IfOk, vec_len, length};
 ghost use Rattle.std.specs.Arc.{arc_value};
-ghost use Rattle.linear_pools.specs.LinearPool.{linear_owned_item, linear_view};
+ghost use Rattle.linear_pools.specs.LinearPool.{linear_view};
 
 use lockfree_object_pool::clean::Empty;
 use lockfree_object_pool::closures::{Clear, WithCapacity};
@@ -20,7 +20,7 @@ type Sheet = LinearOwnedReusable<Vec<u8>, WithCapacity, Clear, Empty>;
 pub struct Letter {
     sheet: Sheet,
     len: usize,
-    ghost whole: { vec_len (linear_owned_item sheet).item.value ≡ len },
+    ghost whole: { vec_len sheet.item.value ≡ len },
 }
 
 impl Letter {

@@ -2,7 +2,7 @@
 -- is empty, or its pool and its hand.
 use Rattle.std.specs.Prelude.{◌≡◌, ℕ, ◌+◌, ◌*◌, ◌/◌, ◌⊎◌, ⊤, Option, Some, None}
 use Rattle.std.specs.Arc.{arc_value}
-use Rattle.fixed_pools.specs.FixedPool.{IsPulledWith, IsFullNoteAfter, returns_since, IsWithin, fixed_view, fixed_item}
+use Rattle.fixed_pools.specs.FixedPool.{IsPulledWith, IsFullNoteAfter, returns_since, IsWithin, fixed_view}
 use Rattle.pool_parts.specs.Page.{IsGivenBack, IsNoteOf, view_of}
 use Rattle.pool_parts.specs.Item.{IsFilled}
 use Rattle.pool_parts.specs.declared.page.note.PageNote.{PageNote}
@@ -22,13 +22,13 @@ pub record Pulls (old new : Held) (place : ℕ) : Type 0 where
   pub held_none : old.hand ≡ Some (Empty idle)
   pub out : OutPlace
   pub holds : new.hand ≡ Some (Full out)
-  pub same_pool : arc_value (fixed_item out).pool ≡ arc_value idle.pool
-  pub pulled : IsPulledWith (fixed_view (arc_value idle.pool)).identity idle.note (fixed_item out).item
-  pub number : place ≡ (fixed_item out).item.id
+  pub same_pool : arc_value out.pool ≡ arc_value idle.pool
+  pub pulled : IsPulledWith (fixed_view (arc_value idle.pool)).identity idle.note out.item
+  pub number : place ≡ out.item.id
   -- the pull's user made so many loads and tries at most in the first pass, and in a further one
   -- for each return meanwhile
-  pub brief : IsWithin ((fixed_view (arc_value idle.pool)).pages * (returns_since (fixed_item out).known + 1))
-      (view_of idle.note.seat).loads (view_of idle.note.seat).tries (fixed_item out).known
+  pub brief : IsWithin ((fixed_view (arc_value idle.pool)).pages * (returns_since out.known + 1))
+      (view_of idle.note.seat).loads (view_of idle.note.seat).tries out.known
 
 -- the handle held no place, and holds none: at one moment of the call all places were out (or 2^32
 -- returns and more came within it)
@@ -49,8 +49,8 @@ pub record Returns (old new : Held) : Type 0 where
   pub held_one : old.hand ≡ Some (Full out)
   pub idle : Idle
   pub holds_none : new.hand ≡ Some (Empty idle)
-  pub same_pool : arc_value idle.pool ≡ arc_value (fixed_item out).pool
-  pub given_back : IsGivenBack (λ old new. new ≡ old) (fixed_item out).item idle.note
+  pub same_pool : arc_value idle.pool ≡ arc_value out.pool
+  pub given_back : IsGivenBack (λ old new. new ≡ old) out.item idle.note
 
 -- a new handle of this pool: it holds no place, and knows some prefix of the pool's history
 pub record OpensOf (pool : PlacePool) (new : Held) : Type 0 where
@@ -149,7 +149,7 @@ abbrev pub LeavesNone : Option Hand → Option Last → Type 0
 LeavesNone None last = ⊤
 LeavesNone (Some (Empty idle)) last = last ≡ Some (last_of idle.note)
 LeavesNone (Some (Full out)) last =
-    (note : PageNote ⊤) × (last ≡ Some (last_of note)) × IsGivenBack (λ old new. new ≡ old) (fixed_item out).item note
+    (note : PageNote ⊤) × (last ≡ Some (last_of note)) × IsGivenBack (λ old new. new ≡ old) out.item note
 
 -- what the end of a handle answers
 abbrev pub IsDropAnswer : ℕ → Option Held → Option Held → Option Last → Type 0

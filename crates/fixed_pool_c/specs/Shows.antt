@@ -3,7 +3,6 @@ use Rattle.std.specs.Prelude.{⊤}
 use Rattle.std.specs.Arc.{arc_value}
 use Rattle.std.specs.declared.alloc.Global.{Global}
 use Rattle.std.specs.declared.sync.Arc.{Arc}
-use Rattle.fixed_pools.specs.FixedPool.{fixed_item}
 use Rattle.pool_parts.specs.declared.clean.AnyValue.{AnyValue}
 use Rattle.pool_parts.specs.declared.closures.ready.Copied.{Copied}
 use Rattle.pool_parts.specs.declared.closures.ready.Keep.{Keep}
@@ -25,7 +24,7 @@ OutPlace = FixedReusableOf ⊤ (Arc PlacePool Global)
 -- the pool of a handle, whether it holds a place or not
 abbrev pub hand_pool : Hand → PlacePool
 hand_pool (Empty idle) = arc_value idle.pool
-hand_pool (Full out) = arc_value (fixed_item out).pool
+hand_pool (Full out) = arc_value out.pool
 
 -- what a closed handle keeps that knew this at its end
 abbrev pub last_of : PageNote ⊤ → Last

@@ -12,7 +12,8 @@ use Rattle.pool_parts.specs.Slot.{IsAllOut}
 use Rattle.pool_parts.specs.PageRule.{User, IsSound, MissesAll, TakesOne}
 use Rattle.pool_parts.specs.Ledger.{WasOutBetween}
 use Rattle.pool_parts.proofs.Ledger.{legal_of}
-use Rattle.pool_parts.proofs.PageAnswers.{item_known, pulled_after, found_out, was_out_from, knows_out}
+use Rattle.pool_parts.proofs.PageAnswers.{pulled_after, found_out, was_out_from, knows_out}
+use Rattle.pool_parts.specs.Page.{item_known}
 
 module _ {T : Type 0} where
   -- the item that a pull by a note took

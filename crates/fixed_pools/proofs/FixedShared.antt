@@ -3,7 +3,7 @@ use mir.Syntax.{Lifetime}
 use base.Fml.{Lft}
 use denote.RattleType.{RattleType}
 use denote.Ref.{ShrRef}
-use denote.Param.Send.{IsSend, IsSync, shr_sync, view_sync, sendable}
+use denote.Param.Send.{IsSend, IsSync, shr_sync, view_sync}
 use denote.Param.SendFields.{as_row_sync, declared_sync}
 use denote.Struct.Field.{row_field}
 use Rattle.std.specs.Arc.{arc_value}
@@ -17,23 +17,18 @@ use Rattle.pool_parts.specs.declared.closures.Init as Init
 use Rattle.pool_parts.specs.declared.closures.Reset as Reset
 use Rattle.fixed_pools.specs.declared.fixed_reusable.SharedFixedPool.{Ghosts}
 use Rattle.fixed_pools.specs.contracts.fixed_object_pool.FixedObjectPool as FixedObjectPool
-use Rattle.fixed_pools.specs.contracts.fixed_reusable.TakenItem as TakenItem
 use Rattle.pool_parts.specs.contracts.page.holding.Holding as Holding
-use Rattle.fixed_pools.specs.contracts.fixed_reusable.TakenItem.TheInside as TakenInside
+use Rattle.fixed_pools.specs.contracts.fixed_reusable.FixedReusableOf.TheInside as Inside
 use Rattle.fixed_pools.specs.contracts.fixed_reusable.FixedReusableOf as FixedReusableOf
 use Rattle.fixed_pools.proofs.fixed_object_pool.FixedObjectPool.TheSendSync as fixed_pool
 use Rattle.pool_parts.proofs.SlotShared.{holding_sync}
 
 module _ (T P : RattleType) (pool : Ghosts P.Denot T.Denot) where
-  taken_sync : IsSend T → IsSync P → IsSync (TakenItem.the_row T P pool)
-  taken_sync sent pool_shared =
-      view_sync (TakenInside.the_row T P pool) _ _ _ _
-      (declared_sync (TakenInside.the_type T P pool)
-      (as_row_sync (row_field P) pool_shared, (as_row_sync (Holding.the_field T) (holding_sync T sent), tt)))
-
   pub reusable_sync : IsSend T → IsSync T → IsSync P → IsSync (FixedReusableOf.the_row T P pool)
-  reusable_sync sent shared pool_shared = declared_sync (FixedReusableOf.the_type T P pool)
-      (search sendable, (taken_sync sent pool_shared, (as_row_sync (row_field T) shared, tt)))
+  reusable_sync sent shared pool_shared =
+      view_sync (Inside.the_row T P pool) _ _ _ _
+      (declared_sync (Inside.the_type T P pool)
+      (as_row_sync (row_field P) pool_shared, (as_row_sync (Holding.the_field T) (holding_sync T sent), (as_row_sync (row_field T) shared, tt))))
 
 -- so a borrowed one may where its value may, and a reset of its pool; and an owned one
 module _ (T I R K : RattleType) (answers : Init.Ghosts I.Denot T.Denot K.Denot)

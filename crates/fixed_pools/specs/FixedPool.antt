@@ -3,14 +3,13 @@ use Rattle.std.specs.Prelude.{◌≡◌, ◌⊎◌, ℕ, ◌+◌, ◌-◌, ◌*�
 use Rattle.std.specs.Borrow.{Lends, Fml, RattleType, MutBor}
 use Rattle.atomic_table.specs.Seated.{TableId}
 use Rattle.pool_parts.specs.Answers.{IsMadeOrReset}
-use Rattle.pool_parts.specs.Item.{Item, IsPulled}
+use Rattle.pool_parts.specs.Item.{Item, PulledView, IsPulled}
 use Rattle.pool_parts.specs.Ledger.{History, operations_of, IsLegal, IsPrefixOf, WasFullBetween, returns_among}
-use Rattle.pool_parts.specs.Page.{view_of, held_item, IsPulledAfter}
+use Rattle.pool_parts.specs.Page.{view_of, IsPulledAfter}
 use Rattle.pool_parts.specs.declared.page.note.PageNote.{PageNote}
 use Rattle.pool_parts.specs.declared.page.user_view.UserView.{UserView}
 use Rattle.fixed_pools.specs.contracts.fixed_reusable.FixedReusableOf.{the_row}
 use Rattle.fixed_pools.specs.declared.fixed_object_pool.FixedObjectPool.{FixedObjectPool}
-use Rattle.fixed_pools.specs.declared.fixed_reusable.FixedReusableOf.{FixedReusableOf}
 use Rattle.fixed_pools.specs.declared.fixed_reusable.SharedFixedPool.{Ghosts}
 
 -- what a pool with one table shows
@@ -25,14 +24,6 @@ pub record FixedView (T R : Type 0) : Type 0 where
   -- what resets the pool's values
   pub reset : R
 
--- what a pulled value shows: the borrow or the owner of its pool, its item, the value, and what its user knows of the
--- pool
-pub record FixedItem (T V P : Type 0) : Type 0 where
-  pub pool : P
-  pub item : Item T
-  pub value : V
-  pub known : UserView T
-
 module _ {T I R K : Type 0} where
   -- what contracts see of a pool
   abbrev pub fixed_view : FixedObjectPool T I R K → FixedView T R
@@ -45,16 +36,6 @@ module _ {T I R K : Type 0} where
         opening = table.key.values.value.items;
         reset = pool.reset;
       }
-
-module _ {T P : Type 0} where
-  -- what contracts see of a pulled value
-  abbrev pub fixed_item : FixedReusableOf T P → FixedItem T T P
-  fixed_item reusable = record {
-    pool = reusable.taken.0;
-    item = held_item reusable.taken.1 reusable.value;
-    value = reusable.value;
-    known = view_of reusable.taken.1.seat;
-  }
 
 module _ {T : Type 0} where
   -- an item of this pool, pulled as the pool's one history tells, which begins with these values
@@ -125,6 +106,7 @@ module _ {T I R K : Type 0} where
 
 module _ (T P : RattleType) (pool : Ghosts P.Denot T.Denot) where
   -- a loan of a reusable's value ends with the reusable as it was, but for the value written last
-  abbrev pub LendsFixedValue : MutBor (FixedReusableOf T.Denot P.Denot) → MutBor T.Denot → Fml
+  abbrev pub LendsFixedValue : MutBor (PulledView P.Denot T.Denot T.Denot) → MutBor T.Denot → Fml
   LendsFixedValue reusable loan =
-      Lends (the_row T P pool) T reusable loan (λ value. record reusable.now { value = value })
+      Lends (the_row T P pool) T reusable loan
+      (λ value. record reusable.now { item = record reusable.now.item { value = value }; value = value })

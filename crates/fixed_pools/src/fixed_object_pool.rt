@@ -12,8 +12,7 @@ ghost use Rattle.pool_parts.specs.declared.pull_error.PullError.TheVariants.{Mem
 use crate::fixed_owned_reusable::FixedOwnedReusable;
 use crate::fixed_reusable::FixedReusable;
 use items::FixedItems;
-use items::order::Order;
-use near::Near;
+use order::Order;
 use pool_parts::PullError;
 use pool_parts::clean::{AnyValue, Clean};
 use pool_parts::closures::{Init, Reset};
@@ -24,8 +23,13 @@ use std::alloc::Global;
 use std::fmt::{self, Debug, Formatter, Write};
 use std::sync::Arc;
 
+mod at;
+mod full;
 pub mod items;
-pub mod near;
+pub mod order;
+mod pass;
+
+pub use crate::near::Near;
 
 /// What is known of a fixed pool's history while no item is held. It has no bytes.
 ///
@@ -89,7 +93,7 @@ impl<T: Drop, I: Init<T, K>, R: Reset<T, K>, K: Clean<T>> Drop for FixedObjectPo
 }
 
 impl<T: Drop, I: Init<T, K>, R: Reset<T, K>, K: Clean<T>> FixedObjectPool<T, I, R, K> {
-    ghost use Rattle.fixed_pools.specs.FixedPool.{PullsFixed, PullsFixedAfter, IsFullNote, IsFullNoteAfter, returns_since, IsWithin, fixed_view, fixed_item};
+    ghost use Rattle.fixed_pools.specs.FixedPool.{PullsFixed, PullsFixedAfter, IsFullNote, IsFullNoteAfter, returns_since, IsWithin, fixed_view};
     ghost use Rattle.pool_parts.specs.Page.{view_of, IsGivenBack, held_item, IsNoteOf, HasLearned};
     ghost use Rattle.pool_parts.specs.Ledger.{IsPrefixOf};
     ghost use Rattle.pool_parts.specs.Slot.{IsAllOut};
@@ -150,12 +154,12 @@ impl<T: Drop, I: Init<T, K>, R: Reset<T, K>, K: Clean<T>> FixedObjectPool<T, I, 
     /// it, which the counts of the words can't tell from none).
     #[inline(always)]
     pub fn pull(&self) -> Result<FixedReusable<'_, T, I, R, K>, PullError>
-        ensures pool { IfOk result (λ item. (fixed_item item).pool.now ≡ self.now) }
+        ensures pool { IfOk result (λ item. item.pool.now ≡ self.now) }
         ensures pulled { IfOk result (λ item.
-            PullsFixed K.meets I.answers R.leaves self.now (fixed_item item).item) }
+            PullsFixed K.meets I.answers R.leaves self.now item.item) }
         ensures brief { IfOk result (λ item.
-            IsWithin ((fixed_view self.now).pages * (returns_since (fixed_item item).known + 1)) 0 0
-            (fixed_item item).known) }
+            IsWithin ((fixed_view self.now).pages * (returns_since item.known + 1)) 0 0
+            item.known) }
         ensures refused { IfErr result (λ error. error ≡ Limit) }
     {
         match self.items.pull_in_order(self.items.hinted(), None) {
@@ -183,12 +187,12 @@ impl<T: Drop, I: Init<T, K>, R: Reset<T, K>, K: Clean<T>> FixedObjectPool<T, I, 
     /// ```
     #[inline(always)]
     pub fn pull_near(&self, page: usize) -> Result<FixedReusable<'_, T, I, R, K>, PullError>
-        ensures pool { IfOk result (λ item. (fixed_item item).pool.now ≡ self.now) }
+        ensures pool { IfOk result (λ item. item.pool.now ≡ self.now) }
         ensures pulled { IfOk result (λ item.
-            PullsFixed K.meets I.answers R.leaves self.now (fixed_item item).item) }
+            PullsFixed K.meets I.answers R.leaves self.now item.item) }
         ensures brief { IfOk result (λ item.
-            IsWithin ((fixed_view self.now).pages * (returns_since (fixed_item item).known + 1)) 0 0
-            (fixed_item item).known) }
+            IsWithin ((fixed_view self.now).pages * (returns_since item.known + 1)) 0 0
+            item.known) }
         ensures refused { IfErr result (λ error. error ≡ Limit) }
     {
         let start = self.items.page_round(page);
@@ -220,11 +224,10 @@ impl<T: Drop, I: Init<T, K>, R: Reset<T, K>, K: Clean<T>> FixedObjectPool<T, I, 
     ///
     /// The evidence that each item was out during this call.
     pub fn try_pull<'s, 'p>(&'s self, pass: &'p PullPass) -> FixedPulled<'s, 'p, T, I, R, K>
-        ensures pool { IfOk result (λ item. (fixed_item item).pool.now ≡ self.now) }
+        ensures pool { IfOk result (λ item. item.pool.now ≡ self.now) }
         ensures pulled { IfOk result (λ item.
-            PullsFixed K.meets I.answers R.leaves self.now (fixed_item item).item) }
-        ensures brief { IfOk result (λ item.
-            IsWithin (fixed_view self.now).pages 0 0 (fixed_item item).known) }
+            PullsFixed K.meets I.answers R.leaves self.now item.item) }
+        ensures brief { IfOk result (λ item. IsWithin (fixed_view self.now).pages 0 0 item.known) }
         ensures busy { IfErr result (IsAllOut (fixed_view self.now).identity.slots
             (fixed_view self.now).identity (fixed_view self.now).opening) }
         ensures busy_brief { IfErr result (λ busy.
@@ -245,12 +248,12 @@ impl<T: Drop, I: Init<T, K>, R: Reset<T, K>, K: Clean<T>> FixedObjectPool<T, I, 
         note: PoolNote<T>,
     ) -> FixedPulled<'s, 'p, T, I, R, K>
         requires { note.seat.table_id ≡ (fixed_view self.now).identity }
-        ensures pool { IfOk result (λ item. (fixed_item item).pool.now ≡ self.now) }
+        ensures pool { IfOk result (λ item. item.pool.now ≡ self.now) }
         ensures pulled { IfOk result (λ item.
-            PullsFixedAfter K.meets I.answers R.leaves self.now note (fixed_item item).item) }
+            PullsFixedAfter K.meets I.answers R.leaves self.now note item.item) }
         ensures brief { IfOk result (λ item.
             IsWithin (fixed_view self.now).pages (view_of note.seat).loads (view_of note.seat).tries
-            (fixed_item item).known) }
+            item.known) }
         ensures busy { IfErr result
             (IsAllOut (fixed_view self.now).identity.slots (fixed_view self.now).identity
             (view_of note.seat).opening) }
@@ -288,12 +291,11 @@ impl<T: Drop, I: Init<T, K>, R: Reset<T, K>, K: Clean<T>> FixedObjectPool<T, I, 
     ///
     /// `Limit`, as of `pull`, and `Memory` if the pool can have no more owners.
     pub fn pull_owned(self: &Arc<Self>) -> Result<FixedOwnedReusable<T, I, R, K>, PullError>
-        ensures pool { IfOk result (λ item. arc_value (fixed_item item).pool ≡ arc_value self.now) }
+        ensures pool { IfOk result (λ item. arc_value item.pool ≡ arc_value self.now) }
         ensures pulled { IfOk result (λ item.
-            PullsFixed K.meets I.answers R.leaves (arc_value self.now) (fixed_item item).item) }
-        ensures brief { IfOk result (λ item.
-            IsWithin ((fixed_view (arc_value self.now)).pages
-            * (returns_since (fixed_item item).known + 1)) 0 0 (fixed_item item).known) }
+            PullsFixed K.meets I.answers R.leaves (arc_value self.now) item.item) }
+        ensures brief { IfOk result (λ item. IsWithin ((fixed_view (arc_value self.now)).pages
+            * (returns_since item.known + 1)) 0 0 item.known) }
         ensures refused { IfErr result (λ error. (error ≡ Memory) ⊎ (error ≡ Limit)) }
     {
         let owner = Arc::try_clone(self)?;
@@ -318,13 +320,12 @@ impl<T: Drop, I: Init<T, K>, R: Reset<T, K>, K: Clean<T>> FixedObjectPool<T, I, 
         note: PoolNote<T>,
     ) -> Result<FixedOwnedReusable<T, I, R, K>, (Arc<Self>, PoolNote<T>)>
         requires { note.seat.table_id ≡ (fixed_view (arc_value self)).identity }
-        ensures pool { IfOk result (λ item. arc_value (fixed_item item).pool ≡ arc_value self) }
+        ensures pool { IfOk result (λ item. arc_value item.pool ≡ arc_value self) }
         ensures pulled { IfOk result (λ item.
-            PullsFixedAfter K.meets I.answers R.leaves (arc_value self) note
-            (fixed_item item).item) }
+            PullsFixedAfter K.meets I.answers R.leaves (arc_value self) note item.item) }
         ensures brief { IfOk result (λ item.
-            IsWithin ((fixed_view (arc_value self)).pages * (returns_since (fixed_item item).known
-            + 1)) (view_of note.seat).loads (view_of note.seat).tries (fixed_item item).known) }
+            IsWithin ((fixed_view (arc_value self)).pages * (returns_since item.known
+            + 1)) (view_of note.seat).loads (view_of note.seat).tries item.known) }
         ensures same_owner { IfErr result (λ kept. arc_value kept.0 ≡ arc_value self) }
         ensures full { IfErr result (λ kept.
             IsFullNoteAfter (fixed_view (arc_value self)).identity note kept.1) }

@@ -8,7 +8,6 @@ use crate::fixed_object_pool::items::PulledItem;
 use crate::fixed_object_pool::{FixedObjectPool, PoolNote};
 use pool_parts::clean::{AnyValue, Clean};
 use pool_parts::closures::{Init, Reset};
-use pool_parts::lender::Lender;
 use pool_parts::page::holding::Holding;
 use pool_parts::page::{PAGE_ITEMS, PageId, Witness};
 use std::fmt::{self, Debug, Formatter, Write};
@@ -104,31 +103,33 @@ impl<T: Drop, I: Init<T, K>, R: Reset<T, K>, K: Clean<T>> SharedFixedPool<T>
     }
 }
 
-/// An item that was taken from a pool, without its value.
-#[derive(Drop)]
-pub(crate) struct TakenItem<T, P: SharedFixedPool<T>> {
+/// A pulled value, with a shared pool. Its drop resets it and returns it to the pool.
+///
+/// In a clause it is the pool, the item, the value, and what its user knows.
+pub struct FixedReusableOf<T: Drop, P: SharedFixedPool<T>> {
     pool: P,
     holding: Holding<T>,
-}
-
-impl<T, P: SharedFixedPool<T>> Model for TakenItem<T, P> {
-    ghost use Rattle.std.specs.Prelude.{◌≡◌, ◌<◌};
-    ghost use Rattle.pool_parts.specs.declared.page.holding.Holding.{Holding};
-
-    ghost Value = { P × Holding T };
-
-    ghost view = { λ taken. (taken.pool, taken.holding) };
-
-    ghost invariant = { λ taken.
-        (taken.holding.seat.table_id ≡ P.identity taken.pool)
-        × (taken.holding.number < (P.identity taken.pool).slots) };
-}
-
-/// A pulled value, with a shared pool. Its drop resets it and returns it to the pool.
-pub struct FixedReusableOf<T: Drop, P: SharedFixedPool<T>> {
-    lender: Lender,
-    taken: TakenItem<T, P>,
     value: T,
+}
+
+impl<T: Drop, P: SharedFixedPool<T>> Model for FixedReusableOf<T, P> {
+    ghost use Rattle.std.specs.Prelude.{◌≡◌, ◌<◌};
+    ghost use Rattle.pool_parts.specs.Item.{PulledView};
+    ghost use Rattle.pool_parts.specs.Page.{held_item, view_of};
+
+    ghost Value = { PulledView P T T };
+
+    ghost view = { λ reusable.
+        record {
+          pool = reusable.pool;
+          item = held_item reusable.holding reusable.value;
+          value = reusable.value;
+          known = view_of reusable.holding.seat;
+        } };
+
+    ghost invariant = { λ reusable.
+        (reusable.holding.seat.table_id ≡ P.identity reusable.pool)
+        × (reusable.holding.number < (P.identity reusable.pool).slots) };
 }
 
 /// A pulled value, with a borrow of its pool. Its drop resets it and returns it.
@@ -147,109 +148,102 @@ pub type FixedReusable<'p, T, I, R, K = AnyValue> = FixedReusableOf<
 
 impl<T: Drop, P: SharedFixedPool<T>> FixedReusableOf<T, P> {
     ghost use Rattle.pool_parts.specs.Page.{IsGivenBack, held_item, view_of};
-    ghost use Rattle.fixed_pools.specs.FixedPool.{fixed_item};
     ghost use Rattle.pool_parts.specs.declared.page.word.TheConstants.{PAGE_ITEMS};
 
     pub(crate) fn new(pool: P, pulled: PulledItem<T>) -> FixedReusableOf<T, P>
         requires of_pool { pulled.holding.seat.table_id ≡ P.identity pool }
         requires in_pool { pulled.holding.number < (P.identity pool).slots }
-        ensures pool { (fixed_item result).pool ≡ pool }
-        ensures item { (fixed_item result).item ≡ held_item pulled.holding pulled.value }
-        ensures view { (fixed_item result).known ≡ view_of pulled.holding.seat }
+        ensures pool { result.pool ≡ pool }
+        ensures item { result.item ≡ held_item pulled.holding pulled.value }
+        ensures view { result.known ≡ view_of pulled.holding.seat }
     {
         let PulledItem { holding, value } = pulled;
         FixedReusableOf {
-            lender: Lender,
-            taken: TakenItem { pool, holding },
+            pool,
+            holding,
             value,
         }
     }
 
     /// Returns the number of the item in its pool, counted from 0.
     pub fn number(&self) -> usize
-        ensures value { result ≡ (fixed_item self.now).item.id }
-        ensures in_pool { result < (P.identity (fixed_item self.now).pool).slots }
-        ensures of_pool { (fixed_item self.now).item.page ≡ P.identity (fixed_item self.now).pool }
+        ensures value { result ≡ self.now.item.id }
+        ensures in_pool { result < (P.identity self.now.pool).slots }
+        ensures of_pool { self.now.item.page ≡ P.identity self.now.pool }
     {
-        self.taken.holding.number
+        self.holding.number
     }
 
     /// Returns the number of the item's page in the pool, counted from 0.
     pub fn page_number(&self) -> usize
-        ensures { result ≡ (fixed_item self.now).item.id / 32 }
+        ensures { result ≡ self.now.item.id / 32 }
     {
-        self.taken.holding.number / PAGE_ITEMS
+        self.holding.number / PAGE_ITEMS
     }
 
     /// Returns the number of the item in its page.
     pub fn page_id(&self) -> PageId
-        ensures value { result ≡ (fixed_item self.now).item.id % 32 }
+        ensures value { result ≡ self.now.item.id % 32 }
         ensures in_page { result < PAGE_ITEMS }
     {
-        (self.taken.holding.number % PAGE_ITEMS) as PageId
+        (self.holding.number % PAGE_ITEMS) as PageId
     }
 
     /// Returns what the holder knows of the pool, for another user. It costs one load.
     pub fn witness(&mut self) -> Witness<T>
-        ensures pool { result.seat.table_id ≡ (fixed_item self.old).item.page }
-        ensures history { (view_of result.seat).operations ≡ (fixed_item self.old).item.history }
-        ensures same_item { (fixed_item self.new).item ≡ (fixed_item self.old).item }
-        ensures same_pool { (fixed_item self.new).pool ≡ (fixed_item self.old).pool }
+        ensures pool { result.seat.table_id ≡ self.old.item.page }
+        ensures history { (view_of result.seat).operations ≡ self.old.item.history }
+        ensures same_item { self.new.item ≡ self.old.item }
+        ensures same_pool { self.new.pool ≡ self.old.pool }
     {
-        let taken = &mut self.taken;
-        taken.pool.witness(&mut taken.holding)
+        self.pool.witness(&mut self.holding)
     }
 
     /// Ensures that this item and another that is held of the pool are two: their numbers differ.
     ///
     /// It costs seven loads, and changes neither item.
     pub fn differs_from<Q: SharedFixedPool<T>>(&mut self, other: &mut FixedReusableOf<T, Q>)
-        requires pool { (fixed_item other.old).item.page ≡ (fixed_item self.old).item.page }
-        ensures differ { (fixed_item self.old).item.id ≢ (fixed_item other.old).item.id }
-        ensures same_item { (fixed_item self.new).item ≡ (fixed_item self.old).item }
-        ensures same_pool { (fixed_item self.new).pool ≡ (fixed_item self.old).pool }
-        ensures same_other { (fixed_item other.new).item ≡ (fixed_item other.old).item }
-        ensures same_others_pool { (fixed_item other.new).pool ≡ (fixed_item other.old).pool }
+        requires pool { other.old.item.page ≡ self.old.item.page }
+        ensures differ { self.old.item.id ≢ other.old.item.id }
+        ensures same_item { self.new.item ≡ self.old.item }
+        ensures same_pool { self.new.pool ≡ self.old.pool }
+        ensures same_other { other.new.item ≡ other.old.item }
+        ensures same_others_pool { other.new.pool ≡ other.old.pool }
     {
-        let taken = &mut self.taken;
-        let other = &mut other.taken;
-        taken.pool.are_two(&mut taken.holding, &mut other.holding);
+        self.pool.are_two(&mut self.holding, &mut other.holding);
     }
 
     /// Resets the value and returns it, as the drop does. The note knows the pool's history up to
     /// this return.
     pub fn give_back(self) -> PoolNote<T>
-        ensures { IsGivenBack (P.leaves (fixed_item self).pool) (fixed_item self).item result }
+        ensures { IsGivenBack (P.leaves self.pool) self.item result }
     {
         let FixedReusableOf {
-            lender: _,
-            taken,
+            pool,
+            holding,
             value,
         } = self;
-        let TakenItem { pool, holding } = taken;
         pool.give(holding, value)
     }
 
     /// Returns the borrow or the owner of the pool that the reusable keeps.
     pub fn owner(&self) -> &P
-        ensures { result.now ≡ (fixed_item self.now).pool }
+        ensures { result.now ≡ self.now.pool }
     {
-        &self.taken.pool
+        &self.pool
     }
 
     /// Returns the value as `give_back` does, and hands out the borrow or the owner of the pool
     /// too.
     pub fn give_back_with_owner(self) -> (P, PoolNote<T>)
-        ensures owner { result.0 ≡ (fixed_item self).pool }
-        ensures given_back { IsGivenBack (P.leaves (fixed_item self).pool)
-            (fixed_item self).item result.1 }
+        ensures owner { result.0 ≡ self.pool }
+        ensures given_back { IsGivenBack (P.leaves self.pool) self.item result.1 }
     {
         let FixedReusableOf {
-            lender: _,
-            taken,
+            pool,
+            holding,
             value,
         } = self;
-        let TakenItem { pool, holding } = taken;
         let note = pool.give(holding, value);
         (pool, note)
     }
@@ -258,9 +252,7 @@ impl<T: Drop, P: SharedFixedPool<T>> FixedReusableOf<T, P> {
 impl<T: Drop, P: SharedFixedPool<T>> Deref for FixedReusableOf<T, P> {
     type Target = T;
 
-    ghost use Rattle.fixed_pools.specs.FixedPool.{fixed_item};
-
-    ghost deref_gives = { λ reusable value. value ≡ (fixed_item reusable).item.value };
+    ghost deref_gives = { λ reusable value. value ≡ reusable.item.value };
 
     fn deref(&self) -> &T {
         &self.value
@@ -269,14 +261,14 @@ impl<T: Drop, P: SharedFixedPool<T>> Deref for FixedReusableOf<T, P> {
 
 impl<T: Drop, P: SharedFixedPool<T>> DerefMut for FixedReusableOf<T, P> {
     ghost use Rattle.std.specs.Borrow.{sem};
-    ghost use Rattle.fixed_pools.specs.FixedPool.{LendsFixedValue, fixed_item};
+    ghost use Rattle.fixed_pools.specs.FixedPool.{LendsFixedValue};
 
-    ghost deref_mut_gives = { λ reusable value. value ≡ (fixed_item reusable).item.value };
+    ghost deref_mut_gives = { λ reusable value. value ≡ reusable.item.value };
 
     fn deref_mut(&mut self) -> &mut T
         ensures* writes_back { sem 𝓛
             (LendsFixedValue T.row P.row P.SharedFixedPool self.entry result) }
-        ensures shows { result.now ≡ (fixed_item self.old).item.value }
+        ensures shows { result.now ≡ self.old.item.value }
     {
         &mut self.value
     }
@@ -289,9 +281,7 @@ impl<T: Drop, P: SharedFixedPool<T>> Drop for FixedReusableOf<T, P> {
 }
 
 impl<T: Debug + Drop, P: SharedFixedPool<T>> Debug for FixedReusableOf<T, P> {
-    ghost use Rattle.fixed_pools.specs.FixedPool.{fixed_item};
-
-    ghost debug_output = { λ reusable. T.debug_output (fixed_item reusable).item.value };
+    ghost debug_output = { λ reusable. T.debug_output reusable.item.value };
 
     fn fmt<W: Write>(&self, f: &mut Formatter<W>) -> fmt::Result {
         Debug::fmt(&self.value, f)

@@ -18,30 +18,25 @@ use Rattle.pool_parts.specs.declared.closures.Init as Init
 use Rattle.pool_parts.specs.declared.closures.Reset as Reset
 use Rattle.lazy_pools.specs.declared.lazy_reusable.SharedLazyPool.{Ghosts}
 use Rattle.lazy_pools.specs.contracts.lazy_object_pool.LazyObjectPool as LazyObjectPool
-use Rattle.lazy_pools.specs.contracts.lazy_reusable.TakenPlace as TakenPlace
 use Rattle.pool_parts.specs.contracts.page.holding.Holding as Holding
-use Rattle.lazy_pools.specs.contracts.lazy_reusable.TakenPlace.TheInside as TakenInside
+use Rattle.lazy_pools.specs.contracts.lazy_reusable.LazyReusableOf.TheInside as Inside
 use Rattle.lazy_pools.specs.contracts.lazy_reusable.LazyReusableOf as LazyReusableOf
 use Rattle.lazy_pools.proofs.lazy_object_pool.LazyObjectPool.TheSendSync as lazy_pool
 use Rattle.pool_parts.proofs.SlotShared.{holding_sync}
 
 module _ (T P : RattleType) (pool : Ghosts P.Denot T.Denot) where
-  taken_sync : IsSend T → IsSync P → IsSync (TakenPlace.the_row T P pool)
-  taken_sync sent pool_shared =
+  pub reusable_sync : IsSend T → IsSync T → IsSync P → IsSync (LazyReusableOf.the_row T P pool)
+  reusable_sync sent shared pool_shared =
       let place = OptionRow.the_row T in
       let place_sent : IsSend place = search (sendable, crosses) depth 20 in
-      view_sync (TakenInside.the_row T P pool) _ _ _ _
-      (declared_sync (TakenInside.the_type T P pool) (
+      view_sync (Inside.the_row T P pool) _ _ _ _
+      (declared_sync (Inside.the_type T P pool) (
         as_row_sync (row_field P) pool_shared,
         (
           as_row_sync (Holding.the_field place) (holding_sync place place_sent),
-          tt,
+          (as_row_sync (row_field T) shared, tt),
         ),
       ))
-
-  pub reusable_sync : IsSend T → IsSync T → IsSync P → IsSync (LazyReusableOf.the_row T P pool)
-  reusable_sync sent shared pool_shared = declared_sync (LazyReusableOf.the_type T P pool)
-      (search sendable, (taken_sync sent pool_shared, (as_row_sync (row_field T) shared, tt)))
 
 -- so a borrowed one may where its value may, and what makes and resets its pool's values; and an owned one
 module _ (T I R K : RattleType) (answers : Init.Ghosts I.Denot T.Denot K.Denot)

@@ -2,17 +2,15 @@
 use Rattle.std.specs.Prelude.{◌≡◌, List, Option, Some, MatchOption}
 use Rattle.std.specs.Borrow.{Lends, Fml, RattleType, MutBor}
 use Rattle.atomic_table.specs.Seated.{TableId}
-use Rattle.pool_parts.specs.Item.{Item}
-use Rattle.pool_parts.specs.Page.{view_of, held_item}
+use Rattle.pool_parts.specs.Item.{Item, PulledView}
 use Rattle.pool_parts.specs.Slot.{IsAllOut}
-use Rattle.fixed_pools.specs.FixedPool.{FixedView, FixedItem, IsPulledFrom, IsFullNote}
+use Rattle.fixed_pools.specs.FixedPool.{FixedView, IsPulledFrom, IsFullNote}
 use Rattle.lazy_pools.specs.contracts.lazy_reusable.LazyReusableOf.{the_row}
 use Rattle.lazy_pools.specs.declared.lazy_object_pool.LazyObjectPool.{LazyObjectPool}
 use Rattle.lazy_pools.specs.declared.lazy_object_pool.lazy_refused.LazyRefused.{LazyRefused}
 use Rattle.lazy_pools.specs.declared.lazy_object_pool.lazy_refused.LazyRefused.TheVariants.{Busy, NotMade}
 use Rattle.lazy_pools.specs.declared.lazy_object_pool.lazy_refused.PullWithError.{PullWithError}
 use Rattle.lazy_pools.specs.declared.lazy_object_pool.lazy_refused.PullWithError.TheVariants as With
-use Rattle.lazy_pools.specs.declared.lazy_reusable.LazyReusableOf.{LazyReusableOf}
 use Rattle.lazy_pools.specs.declared.lazy_reusable.SharedLazyPool.{Ghosts}
 
 module _ {T I R K : Type 0} where
@@ -31,16 +29,6 @@ module _ {T I R K : Type 0} where
   -- what makes the pool's values
   abbrev pub lazy_init : LazyObjectPool T I R K → I
   lazy_init pool = pool.init
-
-module _ {T P : Type 0} where
-  -- what contracts see of a pulled value: the item is its place with its value
-  abbrev pub lazy_item : LazyReusableOf T P → FixedItem (Option T) T P
-  lazy_item reusable = record {
-    pool = reusable.taken.0;
-    item = held_item reusable.taken.1 (Some reusable.value);
-    value = reusable.value;
-    known = view_of reusable.taken.1.seat;
-  }
 
 module _ {T : Type 0} where
   -- an item of this pool, pulled as the pool's one history tells, which begins with these places
@@ -66,6 +54,7 @@ RefusesWith pool opening may_lack_memory fails_with (With.Make cause) = fails_wi
 
 module _ (T P : RattleType) (pool : Ghosts P.Denot T.Denot) where
   -- a loan of a reusable's value ends with the reusable as it was, but for the value written last
-  abbrev pub LendsLazyValue : MutBor (LazyReusableOf T.Denot P.Denot) → MutBor T.Denot → Fml
+  abbrev pub LendsLazyValue : MutBor (PulledView P.Denot (Option T.Denot) T.Denot) → MutBor T.Denot → Fml
   LendsLazyValue reusable loan =
-      Lends (the_row T P pool) T reusable loan (λ value. record reusable.now { value = value })
+      Lends (the_row T P pool) T reusable loan
+      (λ value. record reusable.now { item = record reusable.now.item { value = Some value }; value = value })

@@ -21,11 +21,10 @@ use crate::lazy_owned_reusable::LazyOwnedReusable;
 use crate::lazy_reusable::LazyReusable;
 use crate::waiters::Waiters;
 use fixed_pools::fixed_object_pool::PoolNote;
-use fixed_pools::fixed_object_pool::items::order::Order;
 use fixed_pools::fixed_object_pool::items::{FixedItems, PulledItem};
+use fixed_pools::fixed_object_pool::order::Order;
 use kept_place::KeptPlace;
 use lazy_refused::LazyRefused;
-use near::Near;
 use pool_parts::PullError;
 use pool_parts::clean::{AnyValue, Clean};
 use pool_parts::closures::{Init, Reset};
@@ -38,12 +37,10 @@ use std::sync::atomic::Ordering::SeqCst;
 use std::sync::{Arc, Wait};
 use std::time::{Clock, Duration};
 
-mod counts;
 pub mod kept_place;
 pub mod lazy_refused;
-pub mod near;
-mod pull_with;
-mod waiting;
+
+pub use crate::near::Near;
 
 /// What [`LazyObjectPool::try_pull`] returns: an item, or why there is none.
 ///
@@ -61,14 +58,6 @@ pub type LazyPulled<'s, 'p, T, I, R, K = AnyValue> = Result<
     LazyRefused<'p, T>,
 >;
 
-/// A place that was taken, and the value that lay there or was made for it, before it is known how
-/// the pool is held.
-#[derive(Drop)]
-pub(crate) struct LazyItem<T> {
-    pub(crate) holding: Holding<Option<T>>,
-    pub(crate) value: T,
-}
-
 /// A pool of a set number of items, each made when it is first needed.
 ///
 /// # Examples
@@ -85,10 +74,10 @@ pub struct LazyObjectPool<T, I: Init<T, K>, R: Reset<T, K>, K: Clean<T> = AnyVal
     reset: R,
     pub(crate) places: FixedItems<Option<T>, KeptPlace<I, R, K>>,
     /// How many items there are, in use or free.
-    existing: AtomicUsize,
+    pub(crate) existing: AtomicUsize,
     /// The most items that there ever were at once.
-    made: AtomicUsize,
-    waiters: Waiters,
+    pub(crate) made: AtomicUsize,
+    pub(crate) waiters: Waiters,
 }
 
 /// Not derived: the proof of a caller that drops it has one call here, and a derived drop has that
@@ -111,7 +100,7 @@ impl<T: Drop, I: Init<T, K>, R: Reset<T, K>, K: Clean<T>> LazyObjectPool<T, I, R
     ghost use Rattle.fixed_pools.specs.FixedPool.{IsPulledFrom, returns_since, IsWithin};
     ghost use Rattle.pool_parts.specs.Page.{held_item, IsNoteOf, HasLearned, IsReturned, IsBroughtBack};
     ghost use Rattle.pool_parts.specs.Item.{IsFilled};
-    ghost use Rattle.lazy_pools.specs.LazyPool.{IsPulledLazily, RefusesOnePass, lazy_init, lazy_view, lazy_item};
+    ghost use Rattle.lazy_pools.specs.LazyPool.{IsPulledLazily, RefusesOnePass, lazy_init, lazy_view};
 
     /// Creates a pool of `items` empty places. It makes no item. A place takes the room of a `T`
     /// and two words.
@@ -170,16 +159,14 @@ impl<T: Drop, I: Init<T, K>, R: Reset<T, K>, K: Clean<T>> LazyObjectPool<T, I, R
     ///   within it, which the counts of the words can't tell from none).
     /// - `Init` if `init` returned `None`. The place is free again, and empty.
     pub fn pull(&self) -> Result<LazyReusable<'_, T, I, R, K>, PullError>
-        ensures pool { IfOk result (λ item. (lazy_item item).pool.now ≡ self.now) }
+        ensures pool { IfOk result (λ item. item.pool.now ≡ self.now) }
         ensures pulled { IfOk result (λ item.
             IsPulledLazily (lazy_view self.now).identity (lazy_view self.now).opening
-            (I.answers (lazy_init self.now)) (lazy_item item).item (lazy_item item).value) }
-        ensures meets { IfOk result (λ item. K.meets (lazy_item item).value) }
-        ensures made_or_reset { IfOk result (λ item.
-            IsMadeOrReset I.answers R.leaves (lazy_item item).value) }
+            (I.answers (lazy_init self.now)) item.item item.value) }
+        ensures meets { IfOk result (λ item. K.meets item.value) }
+        ensures made_or_reset { IfOk result (λ item. IsMadeOrReset I.answers R.leaves item.value) }
         ensures brief { IfOk result (λ item.
-            IsWithin ((lazy_view self.now).pages * (returns_since (lazy_item item).known + 1)) 0 0
-            (lazy_item item).known) }
+            IsWithin ((lazy_view self.now).pages * (returns_since item.known + 1)) 0 0 item.known) }
         ensures refused { IfErr result (Refuses ⊥ (I.answers (lazy_init self.now) None) ⊤) }
     {
         match self.places.pull() {
@@ -213,15 +200,13 @@ impl<T: Drop, I: Init<T, K>, R: Reset<T, K>, K: Clean<T>> LazyObjectPool<T, I, R
     /// - `Busy` with the evidence that each item was in use at some moment of the call.
     /// - `NotMade` if `init` returned `None`. The place is free again, and empty.
     pub fn try_pull<'s, 'p>(&'s self, pass: &'p PullPass) -> LazyPulled<'s, 'p, T, I, R, K>
-        ensures pool { IfOk result (λ item. (lazy_item item).pool.now ≡ self.now) }
+        ensures pool { IfOk result (λ item. item.pool.now ≡ self.now) }
         ensures pulled { IfOk result (λ item.
             IsPulledLazily (lazy_view self.now).identity (lazy_view self.now).opening
-            (I.answers (lazy_init self.now)) (lazy_item item).item (lazy_item item).value) }
-        ensures meets { IfOk result (λ item. K.meets (lazy_item item).value) }
-        ensures made_or_reset { IfOk result (λ item.
-            IsMadeOrReset I.answers R.leaves (lazy_item item).value) }
-        ensures brief { IfOk result (λ item.
-            IsWithin (lazy_view self.now).pages 0 0 (lazy_item item).known) }
+            (I.answers (lazy_init self.now)) item.item item.value) }
+        ensures meets { IfOk result (λ item. K.meets item.value) }
+        ensures made_or_reset { IfOk result (λ item. IsMadeOrReset I.answers R.leaves item.value) }
+        ensures brief { IfOk result (λ item. IsWithin (lazy_view self.now).pages 0 0 item.known) }
         ensures refused { IfErr result
             (RefusesOnePass (lazy_view self.now).identity (lazy_view self.now).opening
             (I.answers (lazy_init self.now) None)) }
@@ -242,18 +227,16 @@ impl<T: Drop, I: Init<T, K>, R: Reset<T, K>, K: Clean<T>> LazyObjectPool<T, I, R
     ///
     /// As `pull`, and `Memory` if the pool can have no more owners.
     pub fn pull_owned(self: &Arc<Self>) -> Result<LazyOwnedReusable<T, I, R, K>, PullError>
-        ensures pool { IfOk result (λ item. arc_value (lazy_item item).pool ≡ arc_value self.now) }
+        ensures pool { IfOk result (λ item. arc_value item.pool ≡ arc_value self.now) }
         ensures pulled { IfOk result (λ item.
             IsPulledLazily (lazy_view (arc_value self.now)).identity
             (lazy_view (arc_value self.now)).opening
-            (I.answers (lazy_init (arc_value self.now))) (lazy_item item).item
-            (lazy_item item).value) }
-        ensures meets { IfOk result (λ item. K.meets (lazy_item item).value) }
-        ensures made_or_reset { IfOk result (λ item.
-            IsMadeOrReset I.answers R.leaves (lazy_item item).value) }
+            (I.answers (lazy_init (arc_value self.now))) item.item item.value) }
+        ensures meets { IfOk result (λ item. K.meets item.value) }
+        ensures made_or_reset { IfOk result (λ item. IsMadeOrReset I.answers R.leaves item.value) }
         ensures brief { IfOk result (λ item.
-            IsWithin ((lazy_view (arc_value self.now)).pages * (returns_since (lazy_item item).known
-            + 1)) 0 0 (lazy_item item).known) }
+            IsWithin ((lazy_view (arc_value self.now)).pages * (returns_since item.known
+            + 1)) 0 0 item.known) }
         ensures refused { IfErr result
             (Refuses ⊤ (I.answers (lazy_init (arc_value self.now)) None) ⊤) }
     {
@@ -273,13 +256,12 @@ impl<T: Drop, I: Init<T, K>, R: Reset<T, K>, K: Clean<T>> LazyObjectPool<T, I, R
     ///
     /// `Init` if `init` returned `None`. The place is free again, and empty.
     pub fn pull_wait<W: Wait>(&self, rt: &W) -> Result<LazyReusable<'_, T, I, R, K>, PullError>
-        ensures pool { IfOk result (λ item. (lazy_item item).pool.now ≡ self.now) }
+        ensures pool { IfOk result (λ item. item.pool.now ≡ self.now) }
         ensures pulled { IfOk result (λ item.
             IsPulledLazily (lazy_view self.now).identity (lazy_view self.now).opening
-            (I.answers (lazy_init self.now)) (lazy_item item).item (lazy_item item).value) }
-        ensures meets { IfOk result (λ item. K.meets (lazy_item item).value) }
-        ensures made_or_reset { IfOk result (λ item.
-            IsMadeOrReset I.answers R.leaves (lazy_item item).value) }
+            (I.answers (lazy_init self.now)) item.item item.value) }
+        ensures meets { IfOk result (λ item. K.meets item.value) }
+        ensures made_or_reset { IfOk result (λ item. IsMadeOrReset I.answers R.leaves item.value) }
         ensures refused { IfErr result (Refuses ⊥ (I.answers (lazy_init self.now) None) ⊥) }
     {
         let item = self.item(self.place_waiting(rt))?;
@@ -298,13 +280,12 @@ impl<T: Drop, I: Init<T, K>, R: Reset<T, K>, K: Clean<T>> LazyObjectPool<T, I, R
         rt: &W,
         time: Duration,
     ) -> Result<LazyReusable<'_, T, I, R, K>, PullError>
-        ensures pool { IfOk result (λ item. (lazy_item item).pool.now ≡ self.now) }
+        ensures pool { IfOk result (λ item. item.pool.now ≡ self.now) }
         ensures pulled { IfOk result (λ item.
             IsPulledLazily (lazy_view self.now).identity (lazy_view self.now).opening
-            (I.answers (lazy_init self.now)) (lazy_item item).item (lazy_item item).value) }
-        ensures meets { IfOk result (λ item. K.meets (lazy_item item).value) }
-        ensures made_or_reset { IfOk result (λ item.
-            IsMadeOrReset I.answers R.leaves (lazy_item item).value) }
+            (I.answers (lazy_init self.now)) item.item item.value) }
+        ensures meets { IfOk result (λ item. K.meets item.value) }
+        ensures made_or_reset { IfOk result (λ item. IsMadeOrReset I.answers R.leaves item.value) }
         ensures refused { IfErr result (Refuses ⊥ (I.answers (lazy_init self.now) None) ⊤) }
     {
         match self.place_within(rt, time) {
@@ -325,15 +306,13 @@ impl<T: Drop, I: Init<T, K>, R: Reset<T, K>, K: Clean<T>> LazyObjectPool<T, I, R
         self: &Arc<Self>,
         rt: &W,
     ) -> Result<LazyOwnedReusable<T, I, R, K>, PullError>
-        ensures pool { IfOk result (λ item. arc_value (lazy_item item).pool ≡ arc_value self.now) }
+        ensures pool { IfOk result (λ item. arc_value item.pool ≡ arc_value self.now) }
         ensures pulled { IfOk result (λ item.
             IsPulledLazily (lazy_view (arc_value self.now)).identity
             (lazy_view (arc_value self.now)).opening
-            (I.answers (lazy_init (arc_value self.now))) (lazy_item item).item
-            (lazy_item item).value) }
-        ensures meets { IfOk result (λ item. K.meets (lazy_item item).value) }
-        ensures made_or_reset { IfOk result (λ item.
-            IsMadeOrReset I.answers R.leaves (lazy_item item).value) }
+            (I.answers (lazy_init (arc_value self.now))) item.item item.value) }
+        ensures meets { IfOk result (λ item. K.meets item.value) }
+        ensures made_or_reset { IfOk result (λ item. IsMadeOrReset I.answers R.leaves item.value) }
         ensures refused { IfErr result
             (Refuses ⊤ (I.answers (lazy_init (arc_value self.now)) None) ⊥) }
     {
@@ -352,15 +331,13 @@ impl<T: Drop, I: Init<T, K>, R: Reset<T, K>, K: Clean<T>> LazyObjectPool<T, I, R
         rt: &W,
         time: Duration,
     ) -> Result<LazyOwnedReusable<T, I, R, K>, PullError>
-        ensures pool { IfOk result (λ item. arc_value (lazy_item item).pool ≡ arc_value self.now) }
+        ensures pool { IfOk result (λ item. arc_value item.pool ≡ arc_value self.now) }
         ensures pulled { IfOk result (λ item.
             IsPulledLazily (lazy_view (arc_value self.now)).identity
             (lazy_view (arc_value self.now)).opening
-            (I.answers (lazy_init (arc_value self.now))) (lazy_item item).item
-            (lazy_item item).value) }
-        ensures meets { IfOk result (λ item. K.meets (lazy_item item).value) }
-        ensures made_or_reset { IfOk result (λ item.
-            IsMadeOrReset I.answers R.leaves (lazy_item item).value) }
+            (I.answers (lazy_init (arc_value self.now))) item.item item.value) }
+        ensures meets { IfOk result (λ item. K.meets item.value) }
+        ensures made_or_reset { IfOk result (λ item. IsMadeOrReset I.answers R.leaves item.value) }
         ensures refused { IfErr result
             (Refuses ⊤ (I.answers (lazy_init (arc_value self.now)) None) ⊤) }
     {
@@ -391,7 +368,10 @@ impl<T: Drop, I: Init<T, K>, R: Reset<T, K>, K: Clean<T>> LazyObjectPool<T, I, R
     }
 
     /// Returns the item of a place that was taken, and makes its value if the place is empty.
-    fn item(&self, pulled: PulledItem<Option<T>>) -> Result<LazyItem<T>, PullError>
+    pub(crate) fn item(
+        &self,
+        pulled: PulledItem<Option<T>>,
+    ) -> Result<PulledItem<Option<T>, T>, PullError>
         requires pulled { IsPulledFrom (lazy_view self.now).identity (lazy_view self.now).opening
             (held_item pulled.holding pulled.value) }
         requires kept { IfSome pulled.value (λ value.
@@ -407,14 +387,14 @@ impl<T: Drop, I: Init<T, K>, R: Reset<T, K>, K: Clean<T>> LazyObjectPool<T, I, R
     {
         let PulledItem { holding, value } = pulled;
         match value {
-            Some(value) => Ok(LazyItem { holding, value }),
+            Some(value) => Ok(PulledItem { holding, value }),
             None => self.make(holding),
         }
     }
 
     /// Makes the value of an empty place that was taken. If `init` refuses, the place is returned.
     #[cold]
-    fn make(&self, holding: Holding<Option<T>>) -> Result<LazyItem<T>, PullError>
+    fn make(&self, holding: Holding<Option<T>>) -> Result<PulledItem<Option<T>, T>, PullError>
         requires pulled { IsPulledFrom (lazy_view self.now).identity (lazy_view self.now).opening
             (held_item holding None) }
         ensures same { IfOk result (λ item. item.holding ≡ holding) }
@@ -429,10 +409,10 @@ impl<T: Drop, I: Init<T, K>, R: Reset<T, K>, K: Clean<T>> LazyObjectPool<T, I, R
         match self.init.make() {
             Some(value) => {
                 self.count_made();
-                Ok(LazyItem { holding, value })
+                Ok(PulledItem { holding, value })
             }
             None => {
-                self.bring_back(holding, None);
+                self.give_place(holding, None);
                 Err(PullError::Init)
             }
         }
@@ -443,26 +423,29 @@ impl<T: Drop, I: Init<T, K>, R: Reset<T, K>, K: Clean<T>> LazyObjectPool<T, I, R
         requires of_pool { holding.seat.table_id ≡ (lazy_view self.now).identity }
         requires in_pool { holding.number < (lazy_view self.now).items }
         ensures { IsBroughtBack (R.leaves (lazy_view self.now).reset)
-            (held_item holding (Some value)) value
-            result }
+            (held_item holding (Some value)) value result }
     {
         let mut left = value;
         self.reset.reset(&mut left);
-        self.bring_back(holding, Some(left))
+        self.give_place(holding, Some(left))
     }
 
     /// Returns the place of an item without its value, and wakes one that waits.
-    pub(crate) fn leave_empty(&self, holding: Holding<Option<T>>) -> PoolNote<Option<T>>
+    pub(crate) fn give_empty(&self, holding: Holding<Option<T>>) -> PoolNote<Option<T>>
         requires of_pool { holding.seat.table_id ≡ (lazy_view self.now).identity }
         requires in_pool { holding.number < (lazy_view self.now).items }
         ensures { IsReturned (held_item holding None) result }
     {
         self.existing.fetch_sub(1, SeqCst);
-        self.bring_back(holding, None)
+        self.give_place(holding, None)
     }
 
     /// Returns a place with what lies there, and wakes one that waits.
-    fn bring_back(&self, holding: Holding<Option<T>>, place: Option<T>) -> PoolNote<Option<T>>
+    pub(crate) fn give_place(
+        &self,
+        holding: Holding<Option<T>>,
+        place: Option<T>,
+    ) -> PoolNote<Option<T>>
         requires of_pool { holding.seat.table_id ≡ (lazy_view self.now).identity }
         requires in_pool { holding.number < (lazy_view self.now).items }
         requires kept { IfSome place (λ value.

@@ -4,11 +4,11 @@ ghost use Rattle.std.specs.Arc.{arc_value};
 ghost use Rattle.atomic_table.specs.Seated.{TableId};
 ghost use Rattle.pool_parts.specs.Page.{held_item, view_of, IsReturned};
 
-use crate::lazy_object_pool::{LazyItem, LazyObjectPool};
+use crate::lazy_object_pool::LazyObjectPool;
 use fixed_pools::fixed_object_pool::PoolNote;
+use fixed_pools::fixed_object_pool::items::PulledItem;
 use pool_parts::clean::{AnyValue, Clean};
 use pool_parts::closures::{Init, Reset};
-use pool_parts::lender::Lender;
 use pool_parts::page::holding::Holding;
 use pool_parts::page::{PAGE_ITEMS, PageId, Witness};
 use std::fmt::{self, Debug, Formatter, Write};
@@ -42,7 +42,7 @@ pub trait SharedLazyPool<T>: Drop {
         ensures { IsBroughtBack (leaves self.now) (held_item holding (Some value)) value result };
 
     /// Returns the place of an item without its value.
-    fn leave_empty(&self, holding: Holding<Option<T>>) -> PoolNote<Option<T>>
+    fn give_empty(&self, holding: Holding<Option<T>>) -> PoolNote<Option<T>>
         requires of_pool { holding.seat.table_id ≡ identity self.now }
         requires in_pool { holding.number < (identity self.now).slots }
         ensures { IsReturned (held_item holding None) result };
@@ -65,18 +65,17 @@ impl<T: Drop, I: Init<T, K>, R: Reset<T, K>, K: Clean<T>> SharedLazyPool<T>
         requires of_pool { holding.seat.table_id ≡ (lazy_view self.now.now).identity }
         requires in_pool { holding.number < (lazy_view self.now.now).identity.slots }
         ensures { IsBroughtBack (R.leaves (lazy_view self.now.now).reset)
-            (held_item holding (Some value))
-            value result }
+            (held_item holding (Some value)) value result }
     {
         LazyObjectPool::give(*self, holding, value)
     }
 
-    fn leave_empty(&self, holding: Holding<Option<T>>) -> PoolNote<Option<T>>
+    fn give_empty(&self, holding: Holding<Option<T>>) -> PoolNote<Option<T>>
         requires of_pool { holding.seat.table_id ≡ (lazy_view self.now.now).identity }
         requires in_pool { holding.number < (lazy_view self.now.now).identity.slots }
         ensures { IsReturned (held_item holding None) result }
     {
-        LazyObjectPool::leave_empty(*self, holding)
+        LazyObjectPool::give_empty(*self, holding)
     }
 }
 
@@ -102,40 +101,43 @@ impl<T: Drop, I: Init<T, K>, R: Reset<T, K>, K: Clean<T>> SharedLazyPool<T>
         (**self).give(holding, value)
     }
 
-    fn leave_empty(&self, holding: Holding<Option<T>>) -> PoolNote<Option<T>>
+    fn give_empty(&self, holding: Holding<Option<T>>) -> PoolNote<Option<T>>
         requires of_pool { holding.seat.table_id ≡ (lazy_view (arc_value self.now)).identity }
         requires in_pool { holding.number < (lazy_view (arc_value self.now)).identity.slots }
         ensures { IsReturned (held_item holding None) result }
     {
-        (**self).leave_empty(holding)
+        (**self).give_empty(holding)
     }
 }
 
-/// A place that was taken from a pool, without its value.
-#[derive(Drop)]
-pub(crate) struct TakenPlace<T, P: SharedLazyPool<T>> {
+/// A pulled value, with a shared pool. Its drop resets it and returns it to the pool.
+///
+/// In a clause it is the pool, the item (its place, with the value), the value, and what its user
+/// knows.
+pub struct LazyReusableOf<T: Drop, P: SharedLazyPool<T>> {
     pool: P,
     holding: Holding<Option<T>>,
-}
-
-impl<T, P: SharedLazyPool<T>> Model for TakenPlace<T, P> {
-    ghost use Rattle.pool_parts.specs.declared.page.holding.Holding.{Holding};
-    ghost use Rattle.std.specs.Prelude.{◌≡◌, ◌<◌, Option};
-
-    ghost Value = { P × Holding (Option T) };
-
-    ghost view = { λ taken. (taken.pool, taken.holding) };
-
-    ghost invariant = { λ taken.
-        (taken.holding.seat.table_id ≡ P.identity taken.pool)
-        × (taken.holding.number < (P.identity taken.pool).slots) };
-}
-
-/// A pulled value, with a shared pool. Its drop resets it and returns it to the pool.
-pub struct LazyReusableOf<T: Drop, P: SharedLazyPool<T>> {
-    lender: Lender,
-    taken: TakenPlace<T, P>,
     value: T,
+}
+
+impl<T: Drop, P: SharedLazyPool<T>> Model for LazyReusableOf<T, P> {
+    ghost use Rattle.std.specs.Prelude.{◌≡◌, ◌<◌, Option, Some};
+    ghost use Rattle.pool_parts.specs.Item.{PulledView};
+    ghost use Rattle.pool_parts.specs.Page.{held_item, view_of};
+
+    ghost Value = { PulledView P (Option T) T };
+
+    ghost view = { λ reusable.
+        record {
+          pool = reusable.pool;
+          item = held_item reusable.holding (Some reusable.value);
+          value = reusable.value;
+          known = view_of reusable.holding.seat;
+        } };
+
+    ghost invariant = { λ reusable.
+        (reusable.holding.seat.table_id ≡ P.identity reusable.pool)
+        × (reusable.holding.number < (P.identity reusable.pool).slots) };
 }
 
 /// A pulled value, under a borrow of its pool. Its drop resets it and returns it.
@@ -153,80 +155,76 @@ pub type LazyReusable<'p, T, I, R, K = AnyValue> = LazyReusableOf<
 >;
 
 impl<T: Drop, P: SharedLazyPool<T>> LazyReusableOf<T, P> {
-    ghost use Rattle.lazy_pools.specs.LazyPool.{lazy_item};
     ghost use Rattle.pool_parts.specs.Page.{IsBroughtBack, held_item, view_of};
     ghost use Rattle.pool_parts.specs.declared.page.word.TheConstants.{PAGE_ITEMS};
 
-    pub(crate) fn new(pool: P, item: LazyItem<T>) -> LazyReusableOf<T, P>
+    pub(crate) fn new(pool: P, item: PulledItem<Option<T>, T>) -> LazyReusableOf<T, P>
         requires of_pool { item.holding.seat.table_id ≡ P.identity pool }
         requires in_pool { item.holding.number < (P.identity pool).slots }
-        ensures pool { (lazy_item result).pool ≡ pool }
-        ensures place { (lazy_item result).item ≡ held_item item.holding (Some item.value) }
-        ensures value { (lazy_item result).value ≡ item.value }
-        ensures view { (lazy_item result).known ≡ view_of item.holding.seat }
+        ensures pool { result.pool ≡ pool }
+        ensures place { result.item ≡ held_item item.holding (Some item.value) }
+        ensures value { result.value ≡ item.value }
+        ensures view { result.known ≡ view_of item.holding.seat }
     {
-        let LazyItem { holding, value } = item;
+        let PulledItem { holding, value } = item;
         LazyReusableOf {
-            lender: Lender,
-            taken: TakenPlace { pool, holding },
+            pool,
+            holding,
             value,
         }
     }
 
     /// Returns the number of the item in its pool, counted from 0.
     pub fn number(&self) -> usize
-        ensures value { result ≡ (lazy_item self.now).item.id }
-        ensures in_pool { result < (P.identity (lazy_item self.now).pool).slots }
-        ensures of_pool { (lazy_item self.now).item.page ≡ P.identity (lazy_item self.now).pool }
+        ensures value { result ≡ self.now.item.id }
+        ensures in_pool { result < (P.identity self.now.pool).slots }
+        ensures of_pool { self.now.item.page ≡ P.identity self.now.pool }
     {
-        self.taken.holding.number
+        self.holding.number
     }
 
     /// Returns the number of the item's page in the pool, counted from 0.
     pub fn page_number(&self) -> usize
-        ensures { result ≡ (lazy_item self.now).item.id / 32 }
+        ensures { result ≡ self.now.item.id / 32 }
     {
-        self.taken.holding.number / PAGE_ITEMS
+        self.holding.number / PAGE_ITEMS
     }
 
     /// Returns the number of the item in its page.
     pub fn page_id(&self) -> PageId
-        ensures value { result ≡ (lazy_item self.now).item.id % 32 }
+        ensures value { result ≡ self.now.item.id % 32 }
         ensures in_page { result < PAGE_ITEMS }
     {
-        (self.taken.holding.number % PAGE_ITEMS) as PageId
+        (self.holding.number % PAGE_ITEMS) as PageId
     }
 
     /// Returns a witness of what the holder knows of the pool. It costs one load.
     pub fn witness(&mut self) -> Witness<Option<T>>
-        ensures pool { result.seat.table_id ≡ (lazy_item self.old).item.page }
-        ensures history { (view_of result.seat).operations ≡ (lazy_item self.old).item.history }
-        ensures same_place { (lazy_item self.new).item ≡ (lazy_item self.old).item }
-        ensures same_pool { (lazy_item self.new).pool ≡ (lazy_item self.old).pool }
+        ensures pool { result.seat.table_id ≡ self.old.item.page }
+        ensures history { (view_of result.seat).operations ≡ self.old.item.history }
+        ensures same_place { self.new.item ≡ self.old.item }
+        ensures same_pool { self.new.pool ≡ self.old.pool }
     {
-        let taken = &mut self.taken;
-        taken.pool.witness(&mut taken.holding)
+        self.pool.witness(&mut self.holding)
     }
 
     /// Resets the value and returns it, as the drop does. The note knows the pool's history up to
     /// this return.
     pub fn give_back(self) -> PoolNote<Option<T>>
-        ensures { IsBroughtBack (P.leaves (lazy_item self).pool) (lazy_item self).item
-            (lazy_item self).value result }
+        ensures { IsBroughtBack (P.leaves self.pool) self.item self.value result }
     {
         let LazyReusableOf {
-            lender: _,
-            taken,
+            pool,
+            holding,
             value,
         } = self;
-        let TakenPlace { pool, holding } = taken;
         pool.give(holding, value)
     }
 
     /// Drops the value without a reset. Its place is empty, and a later pull makes an item there.
     /// The note knows the pool's history up to this return.
     pub fn discard(self) -> PoolNote<Option<T>>
-        ensures { IsReturned (record (lazy_item self).item { value = None }) result }
+        ensures { IsReturned (record self.item { value = None }) result }
     {
         let (value, note) = self.take_out();
         drop(value);
@@ -236,23 +234,22 @@ impl<T: Drop, P: SharedLazyPool<T>> LazyReusableOf<T, P> {
     /// Takes the value out of its pool without a reset. Its place is empty, and a later pull makes
     /// an item there.
     pub fn detach(self) -> T
-        ensures { result ≡ (lazy_item self).value }
+        ensures { result ≡ self.value }
     {
         self.take_out().0
     }
 
     /// Takes the value out, and returns its place empty.
     fn take_out(self) -> (T, PoolNote<Option<T>>)
-        ensures value { result.0 ≡ (lazy_item self).value }
-        ensures returned { IsReturned (record (lazy_item self).item { value = None }) result.1 }
+        ensures value { result.0 ≡ self.value }
+        ensures returned { IsReturned (record self.item { value = None }) result.1 }
     {
         let LazyReusableOf {
-            lender: _,
-            taken,
+            pool,
+            holding,
             value,
         } = self;
-        let TakenPlace { pool, holding } = taken;
-        let note = pool.leave_empty(holding);
+        let note = pool.give_empty(holding);
         (value, note)
     }
 }
@@ -260,9 +257,7 @@ impl<T: Drop, P: SharedLazyPool<T>> LazyReusableOf<T, P> {
 impl<T: Drop, P: SharedLazyPool<T>> Deref for LazyReusableOf<T, P> {
     type Target = T;
 
-    ghost use Rattle.lazy_pools.specs.LazyPool.{lazy_item};
-
-    ghost deref_gives = { λ reusable value. value ≡ (lazy_item reusable).value };
+    ghost deref_gives = { λ reusable value. value ≡ reusable.value };
 
     fn deref(&self) -> &T {
         &self.value
@@ -271,14 +266,14 @@ impl<T: Drop, P: SharedLazyPool<T>> Deref for LazyReusableOf<T, P> {
 
 impl<T: Drop, P: SharedLazyPool<T>> DerefMut for LazyReusableOf<T, P> {
     ghost use Rattle.std.specs.Borrow.{sem};
-    ghost use Rattle.lazy_pools.specs.LazyPool.{LendsLazyValue, lazy_item};
+    ghost use Rattle.lazy_pools.specs.LazyPool.{LendsLazyValue};
 
-    ghost deref_mut_gives = { λ reusable value. value ≡ (lazy_item reusable).value };
+    ghost deref_mut_gives = { λ reusable value. value ≡ reusable.value };
 
     fn deref_mut(&mut self) -> &mut T
         ensures* writes_back { sem 𝓛
             (LendsLazyValue T.row P.row P.SharedLazyPool self.entry result) }
-        ensures shows { result.now ≡ (lazy_item self.old).value }
+        ensures shows { result.now ≡ self.old.value }
     {
         &mut self.value
     }
@@ -291,9 +286,7 @@ impl<T: Drop, P: SharedLazyPool<T>> Drop for LazyReusableOf<T, P> {
 }
 
 impl<T: Debug + Drop, P: SharedLazyPool<T>> Debug for LazyReusableOf<T, P> {
-    ghost use Rattle.lazy_pools.specs.LazyPool.{lazy_item};
-
-    ghost debug_output = { λ reusable. T.debug_output (lazy_item reusable).value };
+    ghost debug_output = { λ reusable. T.debug_output reusable.value };
 
     fn fmt<W: Write>(&self, f: &mut Formatter<W>) -> fmt::Result {
         Debug::fmt(&self.value, f)

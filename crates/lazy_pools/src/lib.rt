@@ -4,11 +4,15 @@
 //! isn't allowed to wait takes `nonblocking_pools`.
 #![tactic(auto)]
 
+mod counts;
 pub mod lazy_object_pool;
 pub mod lazy_owned_reusable;
 pub mod lazy_reusable;
+pub mod near;
+mod pull_with;
 pub mod recycling;
 mod waiters;
+mod waiting;
 
 pub use lazy_object_pool::LazyObjectPool;
 pub use lazy_owned_reusable::LazyOwnedReusable;

@@ -10,7 +10,6 @@ use Rattle.page_chain.specs.declared.linear_page.page_number.PageNumber.{PageNum
 use Rattle.page_chain.specs.declared.linear_page.walk.WalkEnd.{WalkEnd}
 use Rattle.page_chain.specs.declared.linear_page.walk.WalkRefusal.{WalkRefusal}
 use Rattle.page_chain.specs.declared.linear_page.walk.WalkRefusal.TheVariants.{Limit, Making}
-use Rattle.pool_parts.specs.Slot.{slot_item}
 use Rattle.pool_parts.specs.declared.pull_error.PullError.{PullError}
 use Rattle.pool_parts.specs.declared.pull_error.PullError.TheVariants.{Memory, Init, Limit as LimitCause}
 use Rattle.pool_parts.specs.declared.made_or_reset.MadeOrReset.{MadeOrReset}
@@ -66,9 +65,9 @@ module _ {T I R K : Type 0} (meets : T → Type 0) (answers : I → Option T →
       (result : Result (WalkEnd T (MadeOrReset I R K) (AnswerOf I K)) E) → limit ≡ (linear_view pool).limit
       → IfOk result (λ reached. IsTaken (λ value. meets value × IsMadeOrReset answers leaves value)
       (λ value. (initializer : I) × answers initializer (Some value))
-      (linear_view pool).start limit reached.number (slot_item reached.slot))
+      (linear_view pool).start limit reached.number reached.slot.item)
       → IfOk result (λ reached. 0 < reached.number.number)
-      → IfOk result (λ reached. Pulls meets answers leaves pool reached.number (slot_item reached.slot))
+      → IfOk result (λ reached. Pulls meets answers leaves pool reached.number reached.slot.item)
   further_pulls limit (Ok reached) same taken past = record {
     in_page = taken.is_item.in_page;
     on_page = taken.on_page;

@@ -1,7 +1,7 @@
 -- A linear reusable may be shared among threads where its value and its pool may.
 use denote.RattleType.{RattleType}
 use denote.Ref.{NamedLft}
-use denote.Param.Send.{IsSend, IsSync, struct_sync, shr_sync, sendable}
+use denote.Param.Send.{IsSend, IsSync, struct_sync, shr_sync, view_sync}
 use denote.Struct.Declared.{shape}
 use Rattle.std.proofs.Crossing.{Arc-sync}
 use Rattle.pool_parts.specs.declared.clean.Clean.{Ghosts}
@@ -10,28 +10,31 @@ use Rattle.pool_parts.specs.declared.closures.Reset as Reset
 use Rattle.linear_pools.specs.contracts.linear_object_pool.LinearObjectPool as LinearObjectPool
 use Rattle.linear_pools.specs.contracts.linear_object_pool.AnswerOf as AnswerOf
 use Rattle.linear_pools.specs.contracts.linear_reusable.LinearReusable as LinearReusable
+use Rattle.linear_pools.specs.contracts.linear_reusable.LinearReusable.TheInside as Inside
 use Rattle.pool_parts.specs.contracts.made_or_reset.MadeOrReset as MadeOrReset
-use Rattle.linear_pools.specs.contracts.linear_owned_reusable.OwnedTakenItem as OwnedTakenItem
 use Rattle.linear_pools.specs.contracts.linear_owned_reusable.LinearOwnedReusable as LinearOwnedReusable
+use Rattle.linear_pools.specs.contracts.linear_owned_reusable.LinearOwnedReusable.TheInside as OwnedInside
 use Rattle.linear_pools.proofs.linear_object_pool.LinearObjectPool.TheSendSync as pool
 use Rattle.page_chain.proofs.NumberShared.{number_sync}
-use Rattle.pool_parts.proofs.SlotShared.{taken_sync, holding_sync}
+use Rattle.pool_parts.proofs.page.shared_page.Page.TheSendSync as page
+use Rattle.pool_parts.proofs.SlotShared.{holding_sync}
 
 module _ (T I R K : RattleType) (answers : Init.Ghosts I.Denot T.Denot K.Denot)
     (leaves : Reset.Ghosts R.Denot T.Denot K.Denot) (clean : Ghosts K.Denot T.Denot) where
   pub reusable_sync : (κ : NamedLft) → IsSend T → IsSync T → IsSync I → IsSync R
       → IsSync (LinearReusable.the_row κ T I R K answers leaves clean)
   reusable_sync κ sent shared init reset =
-      let type = LinearReusable.the_type κ T I R K answers leaves clean in
+      let type = Inside.the_type κ T I R K answers leaves clean in
       let pool_shared = shr_sync _ _ _ (pool.the_sync T I R K answers leaves clean sent init reset) in
-      record {
+      let page_shared = shr_sync _ _ _ (page.the_sync T (MadeOrReset.the_row I R K) _ sent) in
+      view_sync (Inside.the_row κ T I R K answers leaves clean) _ _ _ _ (record {
         shared = λ reusable.
             (struct_sync (shape type) (
               pool_shared,
               (
-                search sendable,
+                page_shared,
                 (
-                  taken_sync T (MadeOrReset.the_row I R K) _ κ sent,
+                  holding_sync T sent,
                   (
                     number_sync T (MadeOrReset.the_row I R K) (AnswerOf.the_row I K) _ _,
                     (record { shared = shared.shared }, tt),
@@ -39,27 +42,25 @@ module _ (T I R K : RattleType) (answers : Init.Ghosts I.Denot T.Denot K.Denot)
                 ),
               ),
             )).shared (type.to reusable);
-      }
-
-  owned_taken_sync : IsSend T → IsSend I → IsSync I → IsSend R → IsSync R
-      → IsSync (OwnedTakenItem.the_field T I R K answers leaves clean).row
-  owned_taken_sync sent init_sent init_shared reset_sent reset_shared =
-      let owner = Arc-sync (LinearObjectPool.the_row T I R K answers leaves clean)
-      (pool.the_send T I R K answers leaves clean sent init_sent reset_sent)
-      (pool.the_sync T I R K answers leaves clean sent init_shared reset_shared) in
-      struct_sync (shape (OwnedTakenItem.the_type T I R K answers leaves clean)) (
-        record { shared = owner.shared },
-        (holding_sync T sent, (number_sync T (MadeOrReset.the_row I R K) (AnswerOf.the_row I K) _ _, tt)),
-      )
+      })
 
   pub owned_reusable_sync : IsSend T → IsSync T → IsSend I → IsSync I → IsSend R → IsSync R
       → IsSync (LinearOwnedReusable.the_row T I R K answers leaves clean)
   owned_reusable_sync sent shared init_sent init_shared reset_sent reset_shared =
-      let type = LinearOwnedReusable.the_type T I R K answers leaves clean in
-      record {
+      let type = OwnedInside.the_type T I R K answers leaves clean in
+      let owner = Arc-sync (LinearObjectPool.the_row T I R K answers leaves clean)
+      (pool.the_send T I R K answers leaves clean sent init_sent reset_sent)
+      (pool.the_sync T I R K answers leaves clean sent init_shared reset_shared) in
+      view_sync (OwnedInside.the_row T I R K answers leaves clean) _ _ _ _ (record {
         shared = λ reusable.
             (struct_sync (shape type) (
-              owned_taken_sync sent init_sent init_shared reset_sent reset_shared,
-              (record { shared = shared.shared }, tt),
+              record { shared = owner.shared },
+              (
+                holding_sync T sent,
+                (
+                  number_sync T (MadeOrReset.the_row I R K) (AnswerOf.the_row I K) _ _,
+                  (record { shared = shared.shared }, tt),
+                ),
+              ),
             )).shared (type.to reusable);
-      }
+      })

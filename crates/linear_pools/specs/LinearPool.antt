@@ -1,26 +1,23 @@
 -- What a linear pool and its reusables show, and what a pull gives.
 use mir.Syntax.{named}
-use Rattle.std.specs.Prelude.{◌≡◌, ℕ, ◌<◌, List, [], Option, None, IfSome, Some}
-use Rattle.std.specs.Arc.{arc_value}
+use Rattle.std.specs.Prelude.{◌≡◌, ℕ, ◌<◌, [], Option, IfSome, Some}
 use Rattle.std.specs.Borrow.{Lends, Fml, RattleType, MutBor}
 use Rattle.std.specs.Option.{option_map}
 use Rattle.pool_parts.specs.Answers.{IsMadeOrReset}
 use Rattle.pool_parts.specs.Item.{Item, IsPulled, IsFilled}
-use Rattle.pool_parts.specs.Page.{held_item, IsPulledAfter}
+use Rattle.pool_parts.specs.Page.{IsPulledAfter}
 use Rattle.pool_parts.specs.declared.clean.Clean as Clean
 use Rattle.pool_parts.specs.declared.closures.Init as Init
 use Rattle.pool_parts.specs.declared.closures.Reset as Reset
 use Rattle.pool_parts.specs.declared.made_or_reset.MadeOrReset.{MadeOrReset}
 use Rattle.pool_parts.specs.declared.page.note.PageNote.{PageNote}
 use Rattle.pool_parts.specs.declared.page.word.TheConstants.{PAGE_ITEMS}
-use Rattle.page_chain.specs.Walk.{ChainPage, first_page, IsWalkedTo}
+use Rattle.page_chain.specs.Walk.{ChainPage, ChainItem, first_page, IsWalkedTo}
 use Rattle.page_chain.specs.declared.linear_page.page_number.PageNumber.{PageNumber}
 use Rattle.linear_pools.specs.contracts.linear_owned_reusable.LinearOwnedReusable as Owned
 use Rattle.linear_pools.specs.contracts.linear_reusable.LinearReusable as Borrowed
 use Rattle.linear_pools.specs.declared.linear_object_pool.AnswerOf.{AnswerOf}
 use Rattle.linear_pools.specs.declared.linear_object_pool.LinearObjectPool.{LinearObjectPool}
-use Rattle.linear_pools.specs.declared.linear_owned_reusable.LinearOwnedReusable.{LinearOwnedReusable}
-use Rattle.linear_pools.specs.declared.linear_reusable.LinearReusable.{LinearReusable}
 
 -- what a linear pool shows
 pub record LinearView (T I R : Type 0) : Type 0 where
@@ -32,13 +29,6 @@ pub record LinearView (T I R : Type 0) : Type 0 where
   -- where a pull begins: at the pool's first page
   pub start : ChainPage T
 
--- what a pulled value shows: its pool, the number of its page with what the pull learned of the link to it, and its
--- item
-pub record LinearItem (T I R K : Type 0) : Type 0 where
-  pub pool : LinearObjectPool T I R K
-  pub number : PageNumber T (MadeOrReset I R K) (AnswerOf I K)
-  pub item : Item T
-
 module _ {T I R K : Type 0} where
   -- what contracts see of a pool
   abbrev pub linear_view : LinearObjectPool T I R K → LinearView T I R
@@ -47,22 +37,6 @@ module _ {T I R K : Type 0} where
     reset = pool.reset;
     limit = option_map (λ limit. limit.pages) pool.limit;
     start = first_page pool.chain;
-  }
-
-  -- what contracts see of a pulled value with a borrow of its pool
-  abbrev pub linear_item : LinearReusable T I R K → LinearItem T I R K
-  linear_item reusable = record {
-    pool = reusable.pool.now;
-    number = reusable.number;
-    item = held_item reusable.taken.holding reusable.value;
-  }
-
-  -- what contracts see of one with an owner of its pool
-  abbrev pub linear_owned_item : LinearOwnedReusable T I R K → LinearItem T I R K
-  linear_owned_item reusable = record {
-    pool = arc_value reusable.taken.pool;
-    number = reusable.taken.number;
-    item = held_item reusable.taken.holding reusable.value;
   }
 
   -- what a pull gives: an item of the pool's page of this number
@@ -95,13 +69,19 @@ module _ {T I R K : Type 0} where
 
 module _ (T I R K : RattleType) (init : Init.Ghosts I.Denot T.Denot K.Denot)
     (reset : Reset.Ghosts R.Denot T.Denot K.Denot) (clean : Clean.Ghosts K.Denot T.Denot) where
+  -- what contracts see of a pulled value
+  abbrev Shown : Type 0
+  Shown = ChainItem (LinearObjectPool T.Denot I.Denot R.Denot K.Denot) T.Denot (MadeOrReset I.Denot R.Denot K.Denot)
+      (AnswerOf I.Denot K.Denot)
+
   -- a loan of a linear reusable's value ends with the reusable as it was, but for the value written last
-  abbrev pub LendsLinearValue : MutBor (LinearReusable T.Denot I.Denot R.Denot K.Denot) → MutBor T.Denot → Fml
+  abbrev pub LendsLinearValue : MutBor Shown → MutBor T.Denot → Fml
   LendsLinearValue reusable loan =
       Lends (Borrowed.the_row (record { mir = named 1; lft = [] }) T I R K init reset clean) T reusable loan
-      (λ value. record reusable.now { value = value })
+      (λ value. record reusable.now { item = record reusable.now.item { value = value } })
 
   -- so it is of an owned linear reusable's value
-  abbrev pub LendsLinearOwnedValue : MutBor (LinearOwnedReusable T.Denot I.Denot R.Denot K.Denot) → MutBor T.Denot → Fml
+  abbrev pub LendsLinearOwnedValue : MutBor Shown → MutBor T.Denot → Fml
   LendsLinearOwnedValue reusable loan =
-      Lends (Owned.the_row T I R K init reset clean) T reusable loan (λ value. record reusable.now { value = value })
+      Lends (Owned.the_row T I R K init reset clean) T reusable loan
+      (λ value. record reusable.now { item = record reusable.now.item { value = value } })

@@ -53,15 +53,6 @@ pub type LinearPulled<'s, 'p, T, I, R, K = AnyValue> = Result<
     LinearRefusal<'p, T, I, R, K>,
 >;
 
-/// The slot of an item that was taken, with its page's number, or why none was.
-type LinearTaken<'s, 'p, T, I, R, K> = Result<
-    (
-        PageSlot<'s, T, MadeOrReset<I, R, K>>,
-        PageNumber<T, MadeOrReset<I, R, K>, AnswerOf<I, K>>,
-    ),
-    LinearRefusal<'p, T, I, R, K>,
->;
-
 /// The condition of the values with which a pool's pages open: an initializer of its type may
 /// answer them. Only contracts name it.
 pub struct AnswerOf<I, K> {
@@ -113,9 +104,8 @@ impl<T: Drop, I: Init<T, K>, R: Reset<T, K>, K: Clean<T>> Drop for LinearObjectP
 
 impl<T: Drop, I: Init<T, K>, R: Reset<T, K>, K: Clean<T>> LinearObjectPool<T, I, R, K> {
     ghost use Rattle.pool_parts.specs.Answers.{IsMadeOrReset, Refuses};
-    ghost use Rattle.linear_pools.specs.LinearPool.{linear_view, linear_item, Pulls, PullsAfter, linear_owned_item};
+    ghost use Rattle.linear_pools.specs.LinearPool.{linear_view, Pulls, PullsAfter};
     ghost use Rattle.page_chain.specs.Walk.{IsRefusedBy};
-    ghost use Rattle.pool_parts.specs.Slot.{slot_item};
 
     /// Creates a pool of one page, which grows by a page if each is full.
     ///
@@ -209,16 +199,14 @@ impl<T: Drop, I: Init<T, K>, R: Reset<T, K>, K: Clean<T>> LinearObjectPool<T, I,
     /// - `Limit` if each item of as many pages as the limit allows was seen in use in this call.
     /// - `Memory`, or `Init` at the first `None`, if it has to make a page. Then no page is linked.
     pub fn pull(&self) -> Result<LinearReusable<'_, T, I, R, K>, PullError>
-        ensures pool { IfOk result (λ item. (linear_item item).pool ≡ self.now) }
-        ensures pulled { IfOk result (λ item.
-            Pulls K.meets I.answers R.leaves self.now (linear_item item).number
-            (linear_item item).item) }
-        ensures refused { IfErr result
-            (Refuses ⊤ (I.answers (linear_view self.now).init None)
+        ensures pool { IfOk result (λ item. item.pool ≡ self.now) }
+        ensures pulled { IfOk result (λ item. Pulls K.meets I.answers R.leaves self.now item.number
+            item.item) }
+        ensures refused { IfErr result (Refuses ⊤ (I.answers (linear_view self.now).init None)
             (IsSome (linear_view self.now).limit)) }
     {
         let pass = PullPass::new();
-        match self.chain.ask_first(&pass) {
+        match self.chain.take_first(&pass) {
             Allocated::Slot(slot) => {
                 let number = self.chain.first_number();
                 Ok(LinearReusable::new(self, slot, number))
@@ -237,14 +225,13 @@ impl<T: Drop, I: Init<T, K>, R: Reset<T, K>, K: Clean<T>> LinearObjectPool<T, I,
     /// - `Limit`, with the evidence that each page up to the limit was full during this call.
     /// - `Making`, with the reason why no further page could be made.
     pub fn try_pull<'s, 'p>(&'s self, pass: &'p PullPass) -> LinearPulled<'s, 'p, T, I, R, K>
-        ensures pool { IfOk result (λ item. (linear_item item).pool ≡ self.now) }
-        ensures pulled { IfOk result (λ item.
-            Pulls K.meets I.answers R.leaves self.now (linear_item item).number
-            (linear_item item).item) }
+        ensures pool { IfOk result (λ item. item.pool ≡ self.now) }
+        ensures pulled { IfOk result (λ item. Pulls K.meets I.answers R.leaves self.now item.number
+            item.item) }
         ensures refused { IfErr result (IsRefusedBy (linear_view self.now).start
             (linear_view self.now).limit (I.answers (linear_view self.now).init None)) }
     {
-        match self.chain.ask_first(pass) {
+        match self.chain.take_first(pass) {
             Allocated::Slot(slot) => {
                 let number = self.chain.first_number();
                 Ok(LinearReusable::new(self, slot, number))
@@ -268,13 +255,13 @@ impl<T: Drop, I: Init<T, K>, R: Reset<T, K>, K: Clean<T>> LinearObjectPool<T, I,
         note: PageNote<T>,
     ) -> LinearPulled<'s, 'p, T, I, R, K>
         requires { note.seat.table_id ≡ (linear_view self.now).start.page }
-        ensures pool { IfOk result (λ item. (linear_item item).pool ≡ self.now) }
+        ensures pool { IfOk result (λ item. item.pool ≡ self.now) }
         ensures pulled { IfOk result (λ item. PullsAfter K.meets I.answers R.leaves self.now note
-            (linear_item item).number (linear_item item).item) }
+            item.number item.item) }
         ensures refused { IfErr result (IsRefusedBy (linear_view self.now).start
             (linear_view self.now).limit (I.answers (linear_view self.now).init None)) }
     {
-        match self.chain.ask_first_from(pass, note) {
+        match self.chain.take_first_from(pass, note) {
             Allocated::Slot(slot) => {
                 let number = self.chain.first_number();
                 Ok(LinearReusable::new(self, slot, number))
@@ -293,10 +280,9 @@ impl<T: Drop, I: Init<T, K>, R: Reset<T, K>, K: Clean<T>> LinearObjectPool<T, I,
     ///
     /// As `pull`, and `Memory` if the pool can have no more owners.
     pub fn pull_owned(self: &Arc<Self>) -> Result<LinearOwnedReusable<T, I, R, K>, PullError>
-        ensures pool { IfOk result (λ item. (linear_owned_item item).pool ≡ arc_value self.now) }
+        ensures pool { IfOk result (λ item. item.pool ≡ arc_value self.now) }
         ensures pulled { IfOk result (λ item.
-            Pulls K.meets I.answers R.leaves (arc_value self.now) (linear_owned_item item).number
-            (linear_owned_item item).item) }
+            Pulls K.meets I.answers R.leaves (arc_value self.now) item.number item.item) }
         ensures refused { IfErr result (Refuses ⊤ (I.answers (linear_view (arc_value self.now)).init
             None) (IsSome (linear_view (arc_value self.now)).limit)) }
     {
@@ -313,13 +299,22 @@ impl<T: Drop, I: Init<T, K>, R: Reset<T, K>, K: Clean<T>> LinearObjectPool<T, I,
     ///
     /// A borrowed pull doesn't go through it: the pair would be handed on through memory.
     #[inline(always)]
-    fn take<'s, 'p>(&'s self, pass: &'p PullPass) -> LinearTaken<'s, 'p, T, I, R, K>
+    fn take<'s, 'p>(
+        &'s self,
+        pass: &'p PullPass,
+    ) -> Result<
+        (
+            PageSlot<'s, T, MadeOrReset<I, R, K>>,
+            PageNumber<T, MadeOrReset<I, R, K>, AnswerOf<I, K>>,
+        ),
+        LinearRefusal<'p, T, I, R, K>,
+    >
         ensures pulled { IfOk result (λ taken.
-            Pulls K.meets I.answers R.leaves self.now taken.1 (slot_item taken.0)) }
+            Pulls K.meets I.answers R.leaves self.now taken.1 taken.0.item) }
         ensures refused { IfErr result (IsRefusedBy (linear_view self.now).start
             (linear_view self.now).limit (I.answers (linear_view self.now).init None)) }
     {
-        match self.chain.ask_first(pass) {
+        match self.chain.take_first(pass) {
             Allocated::Slot(slot) => Ok((slot, self.chain.first_number())),
             Allocated::Full(seen) => match self.pull_further(seen) {
                 Ok(reached) => Ok((reached.slot, reached.number)),
@@ -337,7 +332,7 @@ impl<T: Drop, I: Init<T, K>, R: Reset<T, K>, K: Clean<T>> LinearObjectPool<T, I,
     ) -> Result<WalkEnd<'s, T, MadeOrReset<I, R, K>, AnswerOf<I, K>>, LinearRefusal<'p, T, I, R, K>>
         requires { seen.seat.table_id ≡ (linear_view self.now).start.page }
         ensures pulled { IfOk result (λ reached.
-            Pulls K.meets I.answers R.leaves self.now reached.number (slot_item reached.slot)) }
+            Pulls K.meets I.answers R.leaves self.now reached.number reached.slot.item) }
         ensures past_first { IfOk result (λ reached. 0 < reached.number.number) }
         ensures refused { IfErr result (IsRefusedBy (linear_view self.now).start
             (linear_view self.now).limit (I.answers (linear_view self.now).init None)) }

@@ -6,8 +6,8 @@ use denote.Param.SendFields.{as_row_send, as_row_sync, declared_sync, variants_s
 use denote.Struct.Field.{row_field, shr_ref_field}
 use Rattle.std.specs.contracts.option.Option as Option
 use Rattle.pool_parts.proofs.SeatShared.{seat_sync}
-use Rattle.lockfree_object_pool.specs.contracts.spin_lock.turn.Turn as turn
-use Rattle.lockfree_object_pool.specs.contracts.spin_lock.turn.Turn.TheInside as inside
+use Rattle.lockfree_object_pool.specs.contracts.spin_lock.Turn as turn
+use Rattle.lockfree_object_pool.specs.contracts.spin_lock.Turn.TheInside as inside
 use Rattle.lockfree_object_pool.specs.contracts.spin_lock.SpinLockGuard as guard
 use Rattle.lockfree_object_pool.specs.contracts.spin_lock.SpinLock as lock
 use Rattle.lockfree_object_pool.proofs.spin_lock.SpinLock.TheSendSync.{the_sync as lock_sync}

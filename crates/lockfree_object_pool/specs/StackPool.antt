@@ -3,11 +3,11 @@ use mir.Syntax.{named}
 use Rattle.std.specs.Prelude.{[]}
 use Rattle.std.specs.Borrow.{Lends, Fml, RattleType, MutBor}
 use Rattle.atomic_table.specs.Seated.{TableId}
+use Rattle.pool_parts.specs.Item.{ValueView}
 use Rattle.lockfree_object_pool.specs.contracts.spin_lock.SpinLockGuard as Guard
 use Rattle.lockfree_object_pool.specs.contracts.stack_reusable.StackReusable as Reusable
 use Rattle.lockfree_object_pool.specs.declared.spin_lock.SpinLockGuard.{SpinLockGuard}
 use Rattle.lockfree_object_pool.specs.declared.stack_object_pool.StackObjectPool.{StackObjectPool}
-use Rattle.lockfree_object_pool.specs.declared.stack_reusable.StackReusable.{StackReusable}
 
 module _ {T I R K F : Type 0} where
   -- what makes the pool's values
@@ -18,18 +18,9 @@ module _ {T I R K F : Type 0} where
   abbrev pub stack_reset : StackObjectPool T I R K F → R
   stack_reset pool = pool.reset
 
-module _ {T P W : Type 0} where
-  -- the borrow or the owner of the pool that the value returns to
-  abbrev pub stack_pool : StackReusable T P W → P
-  stack_pool reusable = reusable.pool
-
-  -- the reusable's value
-  abbrev pub stack_value : StackReusable T P W → T
-  stack_value reusable = reusable.value
-
 module _ (T P W : RattleType) where
   -- once the loan of its value ends, the reusable has the value that was written last
-  abbrev pub LendsStackValue : MutBor (StackReusable T.Denot P.Denot W.Denot) → MutBor T.Denot → Fml
+  abbrev pub LendsStackValue : MutBor (ValueView P.Denot T.Denot) → MutBor T.Denot → Fml
   LendsStackValue reusable loan =
       Lends (Reusable.the_row T P W) T reusable loan (λ value. record reusable.now { value = value })
 

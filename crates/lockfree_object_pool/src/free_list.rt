@@ -11,12 +11,12 @@ use std::sync::{Mutex, Wait};
 /// for other threads.
 pub trait FreeList<T, K: Clean<T>>: Drop {
     /// Takes a kept value with its room, or returns `None` if nothing is kept. The two lists of
-    /// this crate take the value that was put last.
+    /// this crate take the value that was given last.
     fn take<W: Wait>(&self, rt: &W) -> Option<(T, Room<T>)>
         ensures { IfSome result (λ taken. K.meets taken.0) };
 
     /// Keeps a value in an empty room. The two lists of this crate need no memory for it.
-    fn put<W: Wait>(&self, rt: &W, room: Room<T>, value: T)
+    fn give<W: Wait>(&self, rt: &W, room: Room<T>, value: T)
         requires { K.meets value };
 
     /// Counts the values that are kept at this moment, up to `usize::MAX`. The two lists of this
@@ -34,7 +34,7 @@ impl<T: Drop, K: Clean<T>> FreeList<T, K> for Mutex<Stack<T, K>> {
         self.lock(rt).take()
     }
 
-    fn put<W: Wait>(&self, rt: &W, room: Room<T>, value: T)
+    fn give<W: Wait>(&self, rt: &W, room: Room<T>, value: T)
         requires { K.meets value }
     {
         self.lock(rt).put(room, value);
@@ -56,7 +56,7 @@ impl<T: Drop, K: Clean<T>> FreeList<T, K> for SpinLock<Stack<T, K>> {
         self.lock(rt).take()
     }
 
-    fn put<W: Wait>(&self, rt: &W, room: Room<T>, value: T)
+    fn give<W: Wait>(&self, rt: &W, room: Room<T>, value: T)
         requires { K.meets value }
     {
         self.lock(rt).put(room, value);

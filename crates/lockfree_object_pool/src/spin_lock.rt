@@ -7,9 +7,8 @@ ghost use Rattle.std.specs.Prelude.{◌≡◌, [], ◌∷◌, Some, IfErr, IfOk,
 ghost use Rattle.lockfree_object_pool.specs.StackPool.{lock_of, guard_value};
 ghost use Rattle.lockfree_object_pool.specs.Lock.{HasValue};
 
-use crate::spin_lock::rule::{OneHolder, Take, Visitor};
-use crate::spin_lock::turn::Turn;
 use atomic_table::{Refused, Seat, Table};
+use rule::{Free, OneHolder, Take, Visitor};
 use std::alloc::{AllocFailed, Global};
 use std::fmt::{self, Debug, Formatter, Write};
 use std::marker::Model;
@@ -18,7 +17,6 @@ use std::sync::Wait;
 use std::thread;
 
 mod rule;
-mod turn;
 
 // The lock's one word and its one place, by their numbers in the table.
 const WORD: usize = 0;
@@ -137,6 +135,47 @@ fn one_place<T: Drop>(alloc: Global, value: T) -> Result<Vec<Option<T>>, T>
         Ok(()) => Ok(places),
         Err(AllocFailed { value: Some(value) }) => Err(value),
         Err(AllocFailed { value: None }) => unreachable!(),
+    }
+}
+
+/// The right to one lock's place, which is empty. Only [`Turn::end`] takes it back.
+///
+/// In a clause it is the lock and the holder's number.
+struct Turn<'s, T> {
+    lock: &'s SpinLock<T>,
+    seat: Seat<Option<T>, Visitor>,
+}
+
+impl<'s, T> Model for Turn<'s, T> {
+    ghost use Rattle.std.specs.Prelude.{◌≡◌, ℕ, [], ◌∷◌, None};
+    ghost use Rattle.atomic_table.specs.Seated.{TableId};
+    ghost use Rattle.lockfree_object_pool.specs.declared.spin_lock.rule.Visitor.TheVariants.{Holder};
+
+    ghost Value = { TableId × ℕ };
+
+    ghost view = { λ turn. (turn.seat.table_id, turn.seat.id) };
+
+    ghost invariant = { λ turn.
+        (turn.seat.table_id ≡ turn.lock.now) × (turn.seat.me ≡ (Holder, (0, None) ∷ [])) };
+}
+
+impl<'s, T> Turn<'s, T> {
+    ghost use Rattle.std.specs.Prelude.{[]};
+    ghost use Rattle.lockfree_object_pool.specs.declared.spin_lock.rule.Visitor.TheVariants.{Passing};
+
+    /// Puts the value back, and then frees the lock.
+    fn end(self, value: T) -> Seat<Option<T>, Visitor>
+        ensures same { (result.table_id ≡ self.entry.0) × (result.id ≡ self.entry.1) }
+        ensures over { result.me ≡ (Passing, []) }
+    {
+        let Turn { lock, mut seat } = self;
+        let shared = &lock.table.shared;
+        match shared.exchange(&mut seat, PLACE, Some(value)) {
+            None => {}
+            Some(_) => unreachable!(),
+        }
+        shared.store::<Free>(&mut seat, WORD, FREE);
+        seat
     }
 }
 

@@ -65,7 +65,7 @@ impl<
     F: FreeList<T, MadeOrReset<I, R, K>>,
 > StackObjectPool<T, I, R, K, F> {
     ghost use Rattle.pool_parts.specs.Answers.{IsMadeOrReset, Refuses};
-    ghost use Rattle.lockfree_object_pool.specs.StackPool.{stack_init, stack_reset, stack_pool, stack_value};
+    ghost use Rattle.lockfree_object_pool.specs.StackPool.{stack_init, stack_reset};
 
     /// Creates a pool over this list.
     pub(crate) fn over(alloc: Global, init: I, reset: R, kept: F) -> StackObjectPool<T, I, R, K, F>
@@ -91,10 +91,9 @@ impl<
     /// - `Memory` if there is no memory for the room of its return. Then `init` isn't called.
     /// - `Init` if `init` returned `None`.
     pub fn pull<W: Wait + Copy>(&self, rt: &W) -> Result<StackReusable<T, &Self, W>, PullError>
-        ensures pool { IfOk result (λ item. (stack_pool item).now ≡ self.now) }
-        ensures meets { IfOk result (λ item. K.meets (stack_value item)) }
-        ensures made_or_reset { IfOk result (λ item.
-            IsMadeOrReset I.answers R.leaves (stack_value item)) }
+        ensures pool { IfOk result (λ item. item.pool.now ≡ self.now) }
+        ensures meets { IfOk result (λ item. K.meets item.value) }
+        ensures made_or_reset { IfOk result (λ item. IsMadeOrReset I.answers R.leaves item.value) }
         ensures refused { IfErr result (Refuses ⊤ (I.answers (stack_init self.now) None) ⊥) }
     {
         let (value, room) = self.item(rt)?;
@@ -111,10 +110,9 @@ impl<
         self: &Arc<Self>,
         rt: &W,
     ) -> Result<StackReusable<T, Arc<Self>, W>, PullError>
-        ensures pool { IfOk result (λ item. arc_value (stack_pool item) ≡ arc_value self.now) }
-        ensures meets { IfOk result (λ item. K.meets (stack_value item)) }
-        ensures made_or_reset { IfOk result (λ item.
-            IsMadeOrReset I.answers R.leaves (stack_value item)) }
+        ensures pool { IfOk result (λ item. arc_value item.pool ≡ arc_value self.now) }
+        ensures meets { IfOk result (λ item. K.meets item.value) }
+        ensures made_or_reset { IfOk result (λ item. IsMadeOrReset I.answers R.leaves item.value) }
         ensures refused { IfErr result
             (Refuses ⊤ (I.answers (stack_init (arc_value self.now)) None) ⊥) }
     {
@@ -160,7 +158,7 @@ impl<
     {
         for _ in 0..count {
             let (value, room) = self.made()?;
-            self.kept.put(rt, room, value);
+            self.kept.give(rt, room, value);
         }
         Ok(())
     }
@@ -191,6 +189,6 @@ impl<
     /// Resets a value and keeps it.
     pub(crate) fn give<W: Wait>(&self, rt: &W, room: Room<T>, mut value: T) {
         self.reset.reset(&mut value);
-        self.kept.put(rt, room, value);
+        self.kept.give(rt, room, value);
     }
 }

@@ -8,9 +8,9 @@ use kept_values::stack::Room;
 use pool_parts::PullError;
 use pool_parts::clean::Clean;
 use pool_parts::closures::{Init, Reset};
-use pool_parts::lender::Lender;
 use pool_parts::made_or_reset::MadeOrReset;
 use std::fmt::{self, Debug, Formatter, Write};
+use std::marker::Model;
 use std::ops::{Deref, DerefMut};
 use std::sync::{Arc, Wait};
 
@@ -81,6 +81,8 @@ impl<T: Drop, P: SharedStackPool<T>, W: Wait + Copy> ReturnPermission<T, P> for 
 /// A value with the room for its return. Its drop resets the value, waits for the pool's lock and
 /// returns the value to the pool. No other call of it waits.
 ///
+/// In a clause it is the pool and the value.
+///
 /// # Examples
 ///
 /// ```rust
@@ -89,15 +91,21 @@ impl<T: Drop, P: SharedStackPool<T>, W: Wait + Copy> ReturnPermission<T, P> for 
 /// ```
 pub struct StackReusable<T: Drop, P: SharedStackPool<T>, W: ReturnPermission<T, P>> {
     pool: P,
-    lender: Lender,
     rt: W,
     room: Room<T>,
     value: T,
 }
 
+impl<T: Drop, P: SharedStackPool<T>, W: ReturnPermission<T, P>> Model for StackReusable<T, P, W> {
+    ghost use Rattle.pool_parts.specs.Item.{ValueView};
+
+    ghost Value = { ValueView P T };
+
+    ghost view = { λ reusable. record { pool = reusable.pool; value = reusable.value } };
+}
+
 impl<T: Drop, P: SharedStackPool<T>, W: ReturnPermission<T, P>> StackReusable<T, P, W> {
     ghost use Rattle.std.specs.Prelude.{MatchResult};
-    ghost use Rattle.lockfree_object_pool.specs.StackPool.{stack_pool, stack_value};
 
     /// Attaches a value to a pool, as an item that `init` never made.
     ///
@@ -112,9 +120,8 @@ impl<T: Drop, P: SharedStackPool<T>, W: ReturnPermission<T, P>> StackReusable<T,
     /// let item = MutexReusable::new(&rt, &pool, 5)?; // its drop gives the pool a value
     /// ```
     pub fn new(rt: &W, pool: P, value: T) -> Result<StackReusable<T, P, W>, T>
-        ensures pool { IfOk result (λ item. stack_pool item ≡ pool) }
-        ensures attached { MatchResult result (λ item. stack_value item ≡ value)
-            (λ back. back ≡ value) }
+        ensures pool { IfOk result (λ item. item.pool ≡ pool) }
+        ensures attached { MatchResult result (λ item. item.value ≡ value) (λ back. back ≡ value) }
     {
         match pool.room() {
             Ok(room) => Ok(StackReusable::in_room(pool, *rt, room, value)),
@@ -125,11 +132,10 @@ impl<T: Drop, P: SharedStackPool<T>, W: ReturnPermission<T, P>> StackReusable<T,
     /// Takes the value out of its pool for good. No reset runs. Its room is dropped, and so is an
     /// owner of the pool.
     pub fn detach(self) -> T
-        ensures { result ≡ stack_value self }
+        ensures { result ≡ self.value }
     {
         let StackReusable {
             pool: _,
-            lender: _,
             rt: _,
             room: _,
             value,
@@ -139,12 +145,11 @@ impl<T: Drop, P: SharedStackPool<T>, W: ReturnPermission<T, P>> StackReusable<T,
 
     /// Makes the reusable of a value that has its room.
     pub(crate) fn in_room(pool: P, rt: W, room: Room<T>, value: T) -> StackReusable<T, P, W>
-        ensures pool { stack_pool result ≡ pool }
-        ensures value { stack_value result ≡ value }
+        ensures pool { result.pool ≡ pool }
+        ensures value { result.value ≡ value }
     {
         StackReusable {
             pool,
-            lender: Lender,
             rt,
             room,
             value,
@@ -155,9 +160,7 @@ impl<T: Drop, P: SharedStackPool<T>, W: ReturnPermission<T, P>> StackReusable<T,
 impl<T: Drop, P: SharedStackPool<T>, W: ReturnPermission<T, P>> Deref for StackReusable<T, P, W> {
     type Target = T;
 
-    ghost use Rattle.lockfree_object_pool.specs.StackPool.{stack_value};
-
-    ghost deref_gives = { λ reusable value. value ≡ stack_value reusable };
+    ghost deref_gives = { λ reusable value. value ≡ reusable.value };
 
     fn deref(&self) -> &T {
         &self.value
@@ -167,13 +170,13 @@ impl<T: Drop, P: SharedStackPool<T>, W: ReturnPermission<T, P>> Deref for StackR
 impl<T: Drop, P: SharedStackPool<T>, W: ReturnPermission<T, P>> DerefMut
     for StackReusable<T, P, W> {
     ghost use Rattle.std.specs.Borrow.{sem};
-    ghost use Rattle.lockfree_object_pool.specs.StackPool.{LendsStackValue, stack_value};
+    ghost use Rattle.lockfree_object_pool.specs.StackPool.{LendsStackValue};
 
-    ghost deref_mut_gives = { λ reusable value. value ≡ stack_value reusable };
+    ghost deref_mut_gives = { λ reusable value. value ≡ reusable.value };
 
     fn deref_mut(&mut self) -> &mut T
         ensures* writes_back { sem 𝓛 (LendsStackValue T.row P.row W.row self.entry result) }
-        ensures shows { result.now ≡ stack_value self.old }
+        ensures shows { result.now ≡ self.old.value }
     {
         &mut self.value
     }
@@ -185,7 +188,6 @@ impl<T: Drop, P: SharedStackPool<T>, W: ReturnPermission<T, P>> Drop for StackRe
     fn drop(self) {
         let StackReusable {
             pool,
-            lender: _,
             rt,
             room,
             value,
@@ -196,9 +198,7 @@ impl<T: Drop, P: SharedStackPool<T>, W: ReturnPermission<T, P>> Drop for StackRe
 
 impl<T: Debug + Drop, P: SharedStackPool<T>, W: ReturnPermission<T, P>> Debug
     for StackReusable<T, P, W> {
-    ghost use Rattle.lockfree_object_pool.specs.StackPool.{stack_value};
-
-    ghost debug_output = { λ reusable. T.debug_output (stack_value reusable) };
+    ghost debug_output = { λ reusable. T.debug_output reusable.value };
 
     fn fmt<O: Write>(&self, f: &mut Formatter<O>) -> fmt::Result {
         Debug::fmt(&self.value, f)

@@ -1,7 +1,7 @@
 //! A pool that keeps nothing: each pull makes an item, which is dropped with its reusable.
 ghost use Rattle.std.specs.Prelude.{◌≡◌, Some, None, IfOk, IfErr};
 ghost use Rattle.std.specs.Arc.{arc_value};
-ghost use Rattle.nonblocking_pools.specs.NonePool.{none_init, none_value};
+ghost use Rattle.nonblocking_pools.specs.NonePool.{none_init};
 ghost use Rattle.pool_parts.specs.declared.pull_error.PullError.TheVariants.{Init};
 
 use crate::none_reusable::NoneReusable;
@@ -43,7 +43,7 @@ impl<T, I: Fn() -> Option<T>> NoneObjectPool<T, I> {
     /// `Init` if `init` returns `None`.
     pub fn pull(&self) -> Result<NoneReusable<T>, PullError>
         requires callable { I.pre (none_init self.now) }
-        ensures made { IfOk result (λ item. I.post (none_init self.now) (Some (none_value item))) }
+        ensures made { IfOk result (λ item. I.post (none_init self.now) (Some item)) }
         ensures refused { IfErr result
             (λ error. (error ≡ Init) × I.post (none_init self.now) None) }
     {
@@ -61,8 +61,7 @@ impl<T, I: Fn() -> Option<T>> NoneObjectPool<T, I> {
     /// As `pull`.
     pub fn pull_owned(self: &Arc<Self>) -> Result<NoneReusable<T>, PullError>
         requires callable { I.pre (none_init (arc_value self.now)) }
-        ensures made { IfOk result
-            (λ item. I.post (none_init (arc_value self.now)) (Some (none_value item))) }
+        ensures made { IfOk result (λ item. I.post (none_init (arc_value self.now)) (Some item)) }
         ensures refused { IfErr result
             (λ error. (error ≡ Init) × I.post (none_init (arc_value self.now)) None) }
     {

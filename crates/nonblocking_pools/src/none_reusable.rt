@@ -2,9 +2,10 @@
 ghost use Rattle.std.specs.Prelude.{◌≡◌};
 
 use std::fmt::{self, Debug, Formatter, Write};
+use std::marker::Model;
 use std::ops::{Deref, DerefMut};
 
-/// A pulled value, which is dropped with it.
+/// A pulled value, which is dropped with it. In a clause it is the value.
 ///
 /// # Examples
 ///
@@ -17,9 +18,13 @@ pub struct NoneReusable<T> {
     value: T,
 }
 
-impl<T> NoneReusable<T> {
-    ghost use Rattle.nonblocking_pools.specs.NonePool.{none_value};
+impl<T> Model for NoneReusable<T> {
+    ghost Value = { T };
 
+    ghost view = { λ reusable. reusable.value };
+}
+
+impl<T> NoneReusable<T> {
     /// Creates a reusable of this value, of no pool.
     ///
     /// # Examples
@@ -28,7 +33,7 @@ impl<T> NoneReusable<T> {
     /// let mut item = NoneReusable::new(5);
     /// ```
     pub fn new(value: T) -> NoneReusable<T>
-        ensures { none_value result ≡ value }
+        ensures { result ≡ value }
     {
         NoneReusable { value }
     }
@@ -37,9 +42,7 @@ impl<T> NoneReusable<T> {
 impl<T> Deref for NoneReusable<T> {
     type Target = T;
 
-    ghost use Rattle.nonblocking_pools.specs.NonePool.{none_value};
-
-    ghost deref_gives = { λ reusable value. value ≡ none_value reusable };
+    ghost deref_gives = { λ reusable value. value ≡ reusable };
 
     fn deref(&self) -> &T {
         &self.value
@@ -48,22 +51,20 @@ impl<T> Deref for NoneReusable<T> {
 
 impl<T> DerefMut for NoneReusable<T> {
     ghost use Rattle.std.specs.Borrow.{sem};
-    ghost use Rattle.nonblocking_pools.specs.NonePool.{LendsNoneValue, none_value};
+    ghost use Rattle.nonblocking_pools.specs.NonePool.{LendsNoneValue};
 
-    ghost deref_mut_gives = { λ reusable value. value ≡ none_value reusable };
+    ghost deref_mut_gives = { λ reusable value. value ≡ reusable };
 
     fn deref_mut(&mut self) -> &mut T
         ensures* writes_back { sem 𝓛 (LendsNoneValue T.row self.entry result) }
-        ensures shows { result.now ≡ none_value self.old }
+        ensures shows { result.now ≡ self.old }
     {
         &mut self.value
     }
 }
 
 impl<T: Debug> Debug for NoneReusable<T> {
-    ghost use Rattle.nonblocking_pools.specs.NonePool.{none_value};
-
-    ghost debug_output = { λ reusable. T.debug_output (none_value reusable) };
+    ghost debug_output = { λ reusable. T.debug_output reusable };
 
     fn fmt<W: Write>(&self, f: &mut Formatter<W>) -> fmt::Result {
         Debug::fmt(&self.value, f)

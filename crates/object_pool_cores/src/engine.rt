@@ -94,8 +94,7 @@ fn run_linear<H: Wait, S: closures::Reset<u32, AnyValue>, R: Read, W: Write>(
 ) -> Result<(), EngineError>
     requires { IfSome limit (λ pages. 1 ≤ pages) }
     ensures { Ends (linear_kind limit) (S.leaves reset) result (R.remaining input.old)
-        (R.remaining input.new)
-        (W.contents output.old) (W.contents output.new) }
+        (R.remaining input.new) (W.contents output.old) (W.contents output.new) }
 {
     let Some(mut player) = player_of(alloc, limit, reset) else {
         return Err(EngineError::Memory);
@@ -135,8 +134,7 @@ fn run_stack<H: Wait, S: closures::Reset<u32, AnyValue>, R: Read, W: Write>(
     output: &mut W,
 ) -> Result<(), EngineError>
     ensures { Ends Kind.Stack (S.leaves reset) result (R.remaining input.old)
-        (R.remaining input.new)
-        (W.contents output.old) (W.contents output.new) }
+        (R.remaining input.new) (W.contents output.old) (W.contents output.new) }
 {
     let core = StackCore::<u32, _, _, AnyValue>::new(alloc, Copied::new(0), reset);
     serve(rt, &mut Player::new(alloc, core), input, output)

@@ -4,25 +4,23 @@ use Rattle.std.proofs.lemmas.Option.{IfSome_then}
 use Rattle.atomic_table.specs.Seated.{TableId}
 use Rattle.page_chain.specs.Walk.{IsLinkedAt, IsTaken, first_page}
 use Rattle.page_chain.specs.WalkSteps.{IsAnsweredBy}
-use Rattle.page_chain.specs.declared.linear_page.Chain.{Chain}
+use Rattle.page_chain.specs.declared.linear_page.chain.Chain.{Chain}
 use Rattle.page_chain.specs.declared.linear_page.page_number.PageNumber.{PageNumber}
-use Rattle.pool_parts.specs.Item.{IsItemOf}
-use Rattle.pool_parts.specs.Slot.{slot_item}
+use Rattle.pool_parts.specs.Item.{SlotView, IsItemOf}
 use Rattle.pool_parts.specs.declared.page.full_seen.Allocated.{Allocated}
 use Rattle.pool_parts.specs.declared.page.full_seen.Allocated.TheVariants.{Slot}
-use Rattle.pool_parts.specs.declared.page.slot.PageSlot.{PageSlot}
 
 -- an item of a linked page is what a walk from the chain's first page may take
 pub taken_there : {T K O : Type 0} (meets opens : T → Type 0) (chain : Chain T K O) (limit : Option ℕ) (number : ℕ)
     (known : PageNumber T K O) (page : TableId) (opening : List (Option T)) (answer : Allocated T K)
-    (slot : PageSlot T K)
+    (slot : SlotView T)
     → answer ≡ Slot slot → IsAnsweredBy meets opens page opening answer → known.number ≡ number → 0 < number
     → IsLinkedAt chain.directory known page → IfSome limit (λ pages. number < pages)
-    → IsTaken meets opens (first_page chain) limit known (slot_item slot)
+    → IsTaken meets opens (first_page chain) limit known slot.item
 taken_there meets opens chain limit number known page opening answer slot is answered same further linked within =
     let taken = subst (IsAnsweredBy meets opens page opening) is answered in
     record {
-      is_item = subst (λ page. IsItemOf meets page (slot_item slot)) (sym taken.0.of_page) taken.0;
+      is_item = subst (λ page. IsItemOf meets page slot.item) (sym taken.0.of_page) taken.0;
       opened = taken.1;
       pulled = taken.2;
       from_start = omega arith;

@@ -1,7 +1,7 @@
 -- A chain and its pages, a note of a link, and where a walk along the links came to.
 use Rattle.std.proofs.Common.{inl, inr, arith}
 use Rattle.std.proofs.lemmas.Nat.{pow_pos}
-use Rattle.std.specs.Prelude.{◌≡◌, ◌⊎◌, ℕ, ◌+◌, ◌-◌, ◌<◌, ◌≤◌, List, Option, Some, None, IfSome, ⊤}
+use Rattle.std.specs.Prelude.{◌≡◌, ◌⊎◌, ℕ, ◌+◌, ◌-◌, ◌<◌, ◌≤◌, List, Option, Some, IfSome, ⊤}
 use Rattle.std.specs.Arc.{arc_value}
 use Rattle.std.specs.Option.{option_map}
 use Rattle.std.specs.declared.alloc.Global.{Global}
@@ -16,8 +16,8 @@ use Rattle.pool_parts.specs.declared.page.word.TheConstants.{PAGE_ITEMS}
 use Rattle.pool_parts.specs.declared.pull_error.PullError.{PullError}
 use Rattle.pool_parts.specs.declared.pull_error.PullError.TheVariants.{Limit as LimitCause}
 use Rattle.page_chain.specs.Links.{IsLinkTo, cell_in_row}
-use Rattle.page_chain.specs.declared.linear_page.Chain.{Chain}
-use Rattle.page_chain.specs.declared.linear_page.LinearPage.{LinearPage}
+use Rattle.page_chain.specs.declared.linear_page.chain.Chain.{Chain}
+use Rattle.page_chain.specs.declared.linear_page.linked_page.LinearPage.{LinearPage}
 use Rattle.page_chain.specs.declared.linear_page.link_note.LinkNote.{LinkNote}
 use Rattle.page_chain.specs.declared.linear_page.page_number.PageNumber.{PageNumber}
 use Rattle.page_chain.specs.declared.linear_page.walk.LimitSeen.{LimitSeen}
@@ -85,6 +85,13 @@ module _ {T K O : Type 0} where
   abbrev pub IsWalkedTo : ChainPage T → PageNumber T K O → TableId → Type 0
   IsWalkedTo start known page =
       ((known.number ≡ start.number) × (page ≡ start.page)) ⊎ IsLinkedAt start.links known page
+
+-- what a value shows that was pulled from a chain: its pool, the number of its page with what the pull learned of the
+-- link to it, and its item
+pub record ChainItem (P T K O : Type 0) : Type 0 where
+  pub pool : P
+  pub number : PageNumber T K O
+  pub item : Item T
 
 -- the page of this number, as a walk comes to it, was found full in one pull
 pub record WasFull (T K O : Type 0) (start : ChainPage T) (number : ℕ) : Type 0 where

@@ -3,7 +3,6 @@ use Rattle.std.specs.Prelude.{◌≡◌, ℕ, List, Option, Some}
 use Rattle.std.specs.declared.alloc.Global.{Global}
 use Rattle.atomic_table.specs.Seated.{TableId}
 use Rattle.pool_parts.specs.Item.{IsItemOf, IsPulled, IsFilled}
-use Rattle.pool_parts.specs.Slot.{slot_item}
 use Rattle.pool_parts.specs.declared.clean.Clean.{Ghosts}
 use Rattle.pool_parts.specs.declared.page.full_seen.Allocated.{Allocated}
 use Rattle.pool_parts.specs.declared.page.full_seen.Allocated.TheVariants.{Slot, Full}
@@ -17,8 +16,8 @@ module _ {T K : Type 0} where
   -- of this kind, pulled as its history tells; or each of its ids was observed taken
   abbrev pub IsAnsweredBy : (T → Type 0) → (T → Type 0) → TableId → List (Option T) → Allocated T K → Type 0
   IsAnsweredBy meets may_open page opening (Slot slot) =
-      IsItemOf meets page (slot_item slot) × IsFilled PAGE_ITEMS may_open (slot_item slot).opening
-      × IsPulled (slot_item slot) × ((slot_item slot).opening ≡ opening)
+      IsItemOf meets page slot.item × IsFilled PAGE_ITEMS may_open slot.item.opening
+      × IsPulled slot.item × (slot.item.opening ≡ opening)
   IsAnsweredBy meets may_open page opening (Full seen) = seen.seat.table_id ≡ page
 
 module _ {T K O : Type 0} {opens : Ghosts O T} where

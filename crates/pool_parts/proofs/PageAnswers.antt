@@ -8,7 +8,7 @@ use Rattle.pool_parts.specs.declared.page.full_seen.FullSeen.{FullSeen}
 use Rattle.pool_parts.specs.declared.page.full_seen.Allocated.{Allocated}
 use Rattle.pool_parts.specs.declared.page.full_seen.Allocated.TheVariants.{Slot, Full}
 use Rattle.pool_parts.specs.Item.{Item, IsPulled}
-use Rattle.pool_parts.specs.Page.{IsReturned, IsPulledAfter, view_of}
+use Rattle.pool_parts.specs.Page.{item_known, IsReturned, IsPulledAfter, view_of}
 use Rattle.pool_parts.specs.Ledger.{History, operations_of, IsPrefixOf, WasOutBetween}
 use Rattle.pool_parts.specs.PageRule.{GoesOn}
 use Rattle.pool_parts.proofs.Views.{StartsFrom}
@@ -17,17 +17,6 @@ use Rattle.pool_parts.proofs.Ledger.{legal_of, prefix_further, out_longer}
 use Rattle.pool_parts.proofs.LedgerHolders.{spared_return}
 
 module _ {T : Type 0} where
-  -- an item, as the user tells it that took it
-  abbrev pub item_known : TableId → UserView T → ℕ → T → Item T
-  item_known page known id value = record {
-    page = page;
-    opening = known.opening;
-    id = id;
-    value = value;
-    holder = known.user;
-    history = known.operations;
-  }
-
   -- what was observed taken since a load, told of the user as it was then
   pub was_out_from : (start known : UserView T) (id : ℕ) → GoesOn [] start known
       → IsPrefixOf start.since start.operations
@@ -127,12 +116,14 @@ module _ {T K : Type 0} where
   pub answer_fresh : (meets : T → Type 0) (page : TableId) (opening : List (Option T)) (start : UserView T)
       (answer : Allocated T K) → start.opening ≡ opening → start.own ≡ [] → IsAnswerFrom meets page start answer
       → IsAnswerOf meets page opening answer
-  answer_fresh meets page opening start (Slot slot) same none is = (
-    is.0,
-    is.1.same_opening ∙ same,
-    pulled slot.taken.holding.seat.table_id start slot.taken.holding.seat.me.0 slot.taken.holding.number
-        slot.value is.1 none,
-  )
+  answer_fresh meets page opening start (Slot slot) same none is =
+      let item = slot.item in
+      let goes = subst (λ user. GoesOn (Pull user item.id item.value ∷ []) start slot.known)
+      (ap (λ (item : Item T). item.holder) is.1) is.2 in (
+        is.0,
+        ap (λ (item : Item T). item.opening) is.1 ∙ goes.same_opening ∙ same,
+        subst IsPulled (sym is.1) (pulled item.page start slot.known item.id item.value goes none),
+      )
   answer_fresh meets page opening start (Full seen) same none is =
       found_out _ page opening start seen is.0 same is.1 is.2
 
@@ -140,11 +131,11 @@ module _ {T K : Type 0} where
   pub answer_after : (meets : T → Type 0) (page : TableId) (note : PageNote T) (start : UserView T)
       (answer : Allocated T K) → StartsFrom (view_of note.seat) start → IsAnswerFrom meets page start answer
       → IsAnswerAfter meets page note answer
-  answer_after meets page note start (Slot slot) starts is = (
-    is.0,
-    pulled_after slot.taken.holding.seat.table_id start slot.taken.holding.seat.me.0 slot.taken.holding.number
-        slot.value is.1 note starts,
-  )
+  answer_after meets page note start (Slot slot) starts is =
+      let item = slot.item in
+      let goes = subst (λ user. GoesOn (Pull user item.id item.value ∷ []) start slot.known)
+      (ap (λ (item : Item T). item.holder) is.1) is.2 in
+      (is.0, subst (IsPulledAfter note) (sym is.1) (pulled_after item.page start slot.known item.id item.value goes note starts))
   answer_after meets page note start (Full seen) starts is = (
     found_out _ page (view_of note.seat).opening start seen is.0 starts.same_opening is.1 is.2,
     after_known (view_of note.seat) start (view_of seen.seat) starts is.1,

@@ -27,7 +27,7 @@ use Rattle.pool_parts.proofs.PageItems.{state, joins_page, takes_item, keeps_ite
 use Rattle.pool_parts.proofs.PageItems.{gives_item}
 use Rattle.pool_parts.proofs.PageHistories.{newcomer, told_page, acted, has_seen, joins_history, clear_out}
 use Rattle.pool_parts.proofs.PageHistories.{saw_history, after_load, acts_history, held_now}
-use Rattle.pool_parts.proofs.Views.{HasTried, Clears, GivesBack, AllHaveMet, told_of, gone_view, witness_of, introduction_of}
+use Rattle.pool_parts.proofs.Views.{Clears, GivesBack, AllHaveMet, told_of, gone_view, witness_of, introduction_of}
 
 module _ {T : Type 0} (meets : T → Type 0) (raise : ℕ) (opening : List (Option T)) where
   pub loads : (slots place : ℕ)

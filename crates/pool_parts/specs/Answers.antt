@@ -1,5 +1,5 @@
 -- What initializers and resets of values may do, what a call asks of an initializer, and why a call fails.
-use Rattle.std.specs.Prelude.{◌≡◌, ◌⊎◌, ⊤, Option, Some, IfSome}
+use Rattle.std.specs.Prelude.{◌⊎◌, Option, Some, IfSome}
 use Rattle.std.specs.declared.io.ErrorKind.{ErrorKind}
 use Rattle.std.specs.declared.io.ErrorKind.TheVariants.{OutOfMemory, Other, ResourceBusy}
 use Rattle.pool_parts.specs.declared.pull_error.PullError.{PullError}

@@ -3,6 +3,7 @@ use Rattle.std.specs.Prelude.{◌≡◌, ℕ, ◌<◌, List, [], ◌∷◌, Opti
 use Rattle.std.specs.Coded.{Coded, Coded-set, coded_ℕ, coded_option, coded_list, coded×}
 use Rattle.atomic_table.specs.Seated.{TableId, table_id_coded}
 use Rattle.pool_parts.specs.declared.page.history.Operation.TheVariants.{Pull}
+use Rattle.pool_parts.specs.declared.page.user_view.UserView.{UserView}
 use Rattle.pool_parts.specs.Ledger.{History, operations_of, IsLegal}
 use Rattle.pool_parts.specs.declared.page.word.TheConstants.{PAGE_ITEMS}
 
@@ -24,6 +25,24 @@ pub record Item (T : Type 0) : Type 0 where
   pub holder : ℕ
   -- what the users of the page did, up to this pull
   pub history : History T
+
+-- what a slot shows: its item, and what its user knows
+pub record SlotView (T : Type 0) : Type 0 where
+  pub item : Item T
+  pub known : UserView T
+
+-- what a pulled value shows that has no number: the borrow or the owner of its pool, and the value
+pub record ValueView (P T : Type 0) : Type 0 where
+  pub pool : P
+  pub value : T
+
+-- what a pulled value of a pool with one table shows: the borrow or the owner of the pool, its item, the value, and
+-- what its user knows
+pub record PulledView (P T V : Type 0) : Type 0 where
+  pub pool : P
+  pub item : Item T
+  pub value : V
+  pub known : UserView T
 
 module _ {T : Type 0} where
   -- an item of this page, with a value that meets the condition

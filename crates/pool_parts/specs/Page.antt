@@ -1,8 +1,8 @@
 -- What a page shows, and what somebody knows of its history: the holder of an item, a note, a witness.
-use Rattle.std.specs.Prelude.{◌≡◌, List, [], ◌∷◌, ◌++◌, Option, Some}
+use Rattle.std.specs.Prelude.{◌≡◌, ℕ, List, [], ◌∷◌, ◌++◌, Option, Some}
 use Rattle.atomic_table.specs.Seated.{TableId}
 use Rattle.atomic_table.specs.declared.shared.Seat.{Seat}
-use Rattle.pool_parts.specs.declared.page.Page.{Page}
+use Rattle.pool_parts.specs.declared.page.shared_page.Page.{Page}
 use Rattle.pool_parts.specs.declared.page.history.Operation.TheVariants.{Pull, Return}
 use Rattle.pool_parts.specs.declared.page.holding.Holding.{Holding}
 use Rattle.pool_parts.specs.declared.page.note.PageNote.{PageNote}
@@ -25,16 +25,20 @@ module _ {T : Type 0} where
   abbrev pub view_of : Seat (Option T) (UserView T) → UserView T
   view_of seat = seat.me.0
 
+  -- an item of this page with this number and value, as a user knows it that took it
+  abbrev pub item_known : TableId → UserView T → ℕ → T → Item T
+  item_known page known id value = record {
+    page = page;
+    opening = known.opening;
+    id = id;
+    value = value;
+    holder = known.user;
+    history = known.operations;
+  }
+
   -- the item that a holder has, with a value
   abbrev pub held_item : Holding T → T → Item T
-  held_item holding value = record {
-    page = holding.seat.table_id;
-    opening = (view_of holding.seat).opening;
-    id = holding.number;
-    value = value;
-    holder = (view_of holding.seat).user;
-    history = (view_of holding.seat).operations;
-  }
+  held_item holding value = item_known holding.seat.table_id (view_of holding.seat) holding.number value
 
   -- a holder has the item that it had, of the page that it was of
   pub record HoldsSame (old new : Holding T) : Type 0 where

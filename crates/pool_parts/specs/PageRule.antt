@@ -1,11 +1,11 @@
 -- For the proofs: the rule of a page, what holds between any two steps on it, and what each kind of step tells its
 -- user.
-use Rattle.std.specs.Prelude.{◌≡◌, ℕ, ◌+◌, ◌*◌, ◌%◌, ◌^◌, ◌<◌, ◌≤◌, List, [], ◌∷◌, ◌++◌, true, false, length, ◌/◌, ◌-◌, ◌==◌}
+use Rattle.std.specs.Prelude.{◌≡◌, ℕ, ◌+◌, ◌*◌, ◌%◌, ◌^◌, ◌<◌, ◌≤◌, List, [], ◌∷◌, ◌++◌, false, length, ◌/◌, ◌==◌}
 use Rattle.std.specs.Prelude.{slice_index, Option, Some, None}
 use mathlib.Core.Option.{some}
 use lib.ListN.{get_elem?}
 use Rattle.std.specs.Int.{bit_at}
-use Rattle.atomic_table.specs.Table.{State, Me, rest}
+use Rattle.atomic_table.specs.Table.{State, Me}
 use Rattle.pool_parts.specs.declared.page.history.Operation.TheVariants.{Pull}
 use Rattle.pool_parts.specs.declared.page.user_view.UserView.{UserView}
 use Rattle.pool_parts.specs.Ledger.{History, operations_of, held_id, value_at, IsLegal, IsPrefixOf, WasOutBetween, returns_among}

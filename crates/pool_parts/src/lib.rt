@@ -9,7 +9,6 @@
 
 pub mod clean;
 pub mod closures;
-pub mod lender;
 pub mod made_or_reset;
 pub mod page;
 pub mod pull_error;

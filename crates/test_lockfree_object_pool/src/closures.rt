@@ -1,5 +1,5 @@
 //! One proved caller of each kind.
-ghost use Rattle.std.specs.Prelude.{◌≡◌, ◌≤◌, ℕ, [], Option, IfSome, MatchOption};
+ghost use Rattle.std.specs.Prelude.{◌≡◌, ◌≤◌, ℕ, [], Option, IfSome};
 
 use crate::assert_equal::assert_equal;
 use crate::threads::is_shared;

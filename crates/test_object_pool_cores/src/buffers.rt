@@ -1,5 +1,5 @@
 //! Buffers in use: what one thread sees, what five threads see, and proved callers.
-ghost use Rattle.std.specs.Prelude.{◌≡◌, ◌≤◌, ◌++◌, ℕ, [], Option, IfOk, IfSome};
+ghost use Rattle.std.specs.Prelude.{◌≡◌, ◌++◌, ℕ, [], Option, IfOk, IfSome};
 ghost use Rattle.std.specs.Global.{Vec};
 ghost use Rattle.object_pool_cores.specs.Buffers.{bytes_of};
 

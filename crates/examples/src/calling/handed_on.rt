@@ -1,6 +1,5 @@
 //! A function of one's own that hands a pulled item on, and says what is known of it.
 ghost use Rattle.std.specs.Prelude.{◌≡◌, [], IfOk};
-ghost use Rattle.lockfree_object_pool.specs.LinearPool.{linear_owned_item};
 
 use lockfree_object_pool::PullError;
 use lockfree_object_pool::recycling::{OwnedReusable, Pool};
@@ -11,7 +10,7 @@ type Letter = OwnedReusable<Vec<u8>>;
 
 /// Pulls a letter, which comes empty.
 fn new_letter(letters: &Arc<Pool<Vec<u8>>>) -> Result<Letter, PullError>
-    ensures empty { IfOk result (λ letter. (linear_owned_item letter).item.value.items ≡ []) }
+    ensures empty { IfOk result (λ letter. letter.item.value.items ≡ []) }
 {
     letters.pull_owned()
 }

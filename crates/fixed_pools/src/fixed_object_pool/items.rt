@@ -1,33 +1,28 @@
 //! The items of a fixed pool: a word for each page, and what a pull and a return do there.
-ghost use Rattle.std.specs.Prelude.{◌≡◌, ◌+◌, ◌-◌, ◌*◌, ◌/◌, ◌^◌, ◌<◌, ◌≤◌, ℕ, [], ◌∷◌, Option, None, Some, IfOk, IfErr, MatchOption, false, vec_len, ⊤};
+ghost use Rattle.std.specs.Prelude.{◌≡◌, ◌+◌, ◌-◌, ◌*◌, ◌/◌, ◌^◌, ◌<◌, ◌≤◌, [], ◌∷◌, Option, None, Some, IfOk, IfErr, false, vec_len, ⊤};
 ghost use Rattle.pool_parts.specs.PageItems.{items_view};
 ghost use Rattle.pool_parts.specs.PageRule.{IsAllFree};
 
-use crate::fixed_object_pool::{BusySeen, PoolNote};
-use order::Order;
+use super::order::Order;
 use pool_parts::PullError;
 use pool_parts::clean::Clean;
 use pool_parts::page::holding::Holding;
 use pool_parts::page::items::{Items, TakenValue};
 use pool_parts::page::user_view::UserSeat;
-use pool_parts::page::{PAGE_ITEMS, PageNote, PullPass};
+use pool_parts::page::{FullSeen, PAGE_ITEMS, PageNote, PullPass};
 use std::alloc::{AllocError, Global};
 use std::sync::atomic::AtomicU64;
 use std::sync::atomic::Ordering::SeqCst;
 
-mod at;
-mod full;
-pub mod order;
-mod pass;
-
 /// How many words share a cache line.
 const WORDS_APART: usize = 8;
 
-/// An item that was taken, with its value, before it is known how the pool is held.
+/// An item that was pulled, with its value, before it is known how the pool is held. The value may
+/// be another than what lay in the item's place.
 #[derive(Drop)]
-pub struct PulledItem<T> {
+pub struct PulledItem<T, V = T> {
     pub holding: Holding<T>,
-    pub value: T,
+    pub value: V,
 }
 
 /// Returns the word of a page of which the first `count` items are free.
@@ -55,8 +50,8 @@ fn free_words(alloc: Global, count: usize) -> Result<Vec<u64>, AllocError>
 pub struct FixedItems<T, K: Clean<T>> {
     pub shared: Items<T, K>,
     count: usize,
-    pages: usize,
-    order: Order,
+    pub(super) pages: usize,
+    pub(super) order: Order,
     /// The page at which the next pull starts. It promises nothing.
     hint: AtomicU64,
     /// How many pages were named by `next_own_page`. It promises nothing.
@@ -94,8 +89,7 @@ impl<T, K: Clean<T>> FixedItems<T, K> {
         ensures count { IfOk result (λ fixed. (items_view fixed.shared).identity.slots ≡ count) }
         ensures pages { IfOk result (λ fixed. (items_view fixed.shared).identity.words
             ≡ (count + 31) / 32) }
-        ensures opened { IfOk result
-            (λ fixed. IsFilled count (λ made. I.post init.now (Some made))
+        ensures opened { IfOk result (λ fixed. IsFilled count (λ made. I.post init.now (Some made))
             (items_view fixed.shared).opening) }
     {
         let Some(_) = count.checked_add(PAGE_ITEMS - 1) else {
@@ -158,7 +152,7 @@ impl<T, K: Clean<T>> FixedItems<T, K> {
 
     /// Sets the hint to a page that may have a free item. If it names the page already, that costs
     /// only a load.
-    fn set_hint(&self, page: usize) {
+    pub(super) fn set_hint(&self, page: usize) {
         if self.hint.load(SeqCst) != page as u64 {
             self.hint.store(page as u64, SeqCst);
         }
@@ -169,11 +163,9 @@ impl<T, K: Clean<T>> FixedItems<T, K> {
     /// It begins at the hinted page, and goes on in the pool's order. Each word is read once at
     /// most, and each bit that was set in it is cleared, lowest first, until one was still set.
     /// Beyond its first page it hints at the page of its item.
-    pub fn try_pull<'p>(&self, pass: &'p PullPass) -> Result<PulledItem<T>, BusySeen<'p, T>>
-        ensures pulled { IfOk result
-            (λ pulled. IsPulledFrom (items_view self.now.shared).identity
-            (items_view self.now.shared).opening
-            (held_item pulled.holding pulled.value)) }
+    pub fn try_pull<'p>(&self, pass: &'p PullPass) -> Result<PulledItem<T>, FullSeen<'p, T>>
+        ensures pulled { IfOk result (λ pulled. IsPulledFrom (items_view self.now.shared).identity
+            (items_view self.now.shared).opening (held_item pulled.holding pulled.value)) }
         ensures meets { IfOk result (λ pulled. K.meets pulled.value) }
         ensures brief { IfOk result
             (λ pulled. IsWithin (items_view self.now.shared).identity.words 0 0
@@ -186,7 +178,7 @@ impl<T, K: Clean<T>> FixedItems<T, K> {
         let page = self.hinted();
         let (word, mut seat) = self.shared.look(page);
         let Ok(taken) = self.take(&mut seat, page, word, None) else {
-            return Err(BusySeen { seat, pass });
+            return Err(FullSeen { seat, pass });
         };
         Ok(PulledItem {
             holding: Holding {
@@ -202,18 +194,14 @@ impl<T, K: Clean<T>> FixedItems<T, K> {
     ///
     /// It isn't inlined, so that an owned or a lazy item isn't moved through memory.
     #[inline(never)]
-    pub fn pull(&self) -> Result<PulledItem<T>, PoolNote<T>>
-        ensures pulled { IfOk result
-            (λ pulled. IsPulledFrom (items_view self.now.shared).identity
-            (items_view self.now.shared).opening
-            (held_item pulled.holding pulled.value)) }
+    pub fn pull(&self) -> Result<PulledItem<T>, PageNote<T>>
+        ensures pulled { IfOk result (λ pulled. IsPulledFrom (items_view self.now.shared).identity
+            (items_view self.now.shared).opening (held_item pulled.holding pulled.value)) }
         ensures meets { IfOk result (λ pulled. K.meets pulled.value) }
-        ensures brief { IfOk result
-            (λ pulled. IsWithin ((items_view self.now.shared).identity.words
+        ensures brief { IfOk result (λ pulled. IsWithin ((items_view self.now.shared).identity.words
             * (returns_since (view_of pulled.holding.seat) + 1)) 0 0
             (view_of pulled.holding.seat)) }
-        ensures full { IfErr result
-            (IsFullNote (items_view self.now.shared).identity
+        ensures full { IfErr result (IsFullNote (items_view self.now.shared).identity
             (items_view self.now.shared).opening) }
         ensures full_brief { IfErr result
             (λ note. IsWithin ((items_view self.now.shared).identity.words
@@ -224,19 +212,15 @@ impl<T, K: Clean<T>> FixedItems<T, K> {
 
     /// Pulls an item as `pull` does, but begins at this page, and goes on at the hinted one. While
     /// this page has a free item it neither reads nor sets the hint.
-    pub fn pull_near(&self, start: usize) -> Result<PulledItem<T>, PoolNote<T>>
+    pub fn pull_near(&self, start: usize) -> Result<PulledItem<T>, PageNote<T>>
         requires { start < (items_view self.now.shared).identity.words }
-        ensures pulled { IfOk result
-            (λ pulled. IsPulledFrom (items_view self.now.shared).identity
-            (items_view self.now.shared).opening
-            (held_item pulled.holding pulled.value)) }
+        ensures pulled { IfOk result (λ pulled. IsPulledFrom (items_view self.now.shared).identity
+            (items_view self.now.shared).opening (held_item pulled.holding pulled.value)) }
         ensures meets { IfOk result (λ pulled. K.meets pulled.value) }
-        ensures brief { IfOk result
-            (λ pulled. IsWithin ((items_view self.now.shared).identity.words
+        ensures brief { IfOk result (λ pulled. IsWithin ((items_view self.now.shared).identity.words
             * (returns_since (view_of pulled.holding.seat) + 1)) 0 0
             (view_of pulled.holding.seat)) }
-        ensures full { IfErr result
-            (IsFullNote (items_view self.now.shared).identity
+        ensures full { IfErr result (IsFullNote (items_view self.now.shared).identity
             (items_view self.now.shared).opening) }
         ensures full_brief { IfErr result
             (λ note. IsWithin ((items_view self.now.shared).identity.words
@@ -251,19 +235,15 @@ impl<T, K: Clean<T>> FixedItems<T, K> {
         &self,
         start: usize,
         order: Option<Order>,
-    ) -> Result<PulledItem<T>, PoolNote<T>>
+    ) -> Result<PulledItem<T>, PageNote<T>>
         requires { start < (items_view self.now.shared).identity.words }
-        ensures pulled { IfOk result
-            (λ pulled. IsPulledFrom (items_view self.now.shared).identity
-            (items_view self.now.shared).opening
-            (held_item pulled.holding pulled.value)) }
+        ensures pulled { IfOk result (λ pulled. IsPulledFrom (items_view self.now.shared).identity
+            (items_view self.now.shared).opening (held_item pulled.holding pulled.value)) }
         ensures meets { IfOk result (λ pulled. K.meets pulled.value) }
-        ensures brief { IfOk result
-            (λ pulled. IsWithin ((items_view self.now.shared).identity.words
+        ensures brief { IfOk result (λ pulled. IsWithin ((items_view self.now.shared).identity.words
             * (returns_since (view_of pulled.holding.seat) + 1)) 0 0
             (view_of pulled.holding.seat)) }
-        ensures full { IfErr result
-            (IsFullNote (items_view self.now.shared).identity
+        ensures full { IfErr result (IsFullNote (items_view self.now.shared).identity
             (items_view self.now.shared).opening) }
         ensures full_brief { IfErr result
             (λ note. IsWithin ((items_view self.now.shared).identity.words
@@ -278,7 +258,7 @@ impl<T, K: Clean<T>> FixedItems<T, K> {
                 },
                 value: taken.value,
             }),
-            None => Err(PoolNote { seat }),
+            None => Err(PageNote { seat }),
         }
     }
 
@@ -287,18 +267,16 @@ impl<T, K: Clean<T>> FixedItems<T, K> {
     pub(super) fn pull_from<'p>(
         &self,
         pass: &'p PullPass,
-        note: PoolNote<T>,
-    ) -> Result<PulledItem<T>, BusySeen<'p, T>>
+        note: PageNote<T>,
+    ) -> Result<PulledItem<T>, FullSeen<'p, T>>
         requires { note.seat.table_id ≡ (items_view self.now.shared).identity }
         ensures pulled { IfOk result
             (λ pulled. IsPulledWith (items_view self.now.shared).identity note
             (held_item pulled.holding pulled.value)) }
         ensures meets { IfOk result (λ pulled. K.meets pulled.value) }
-        ensures brief { IfOk result
-            (λ pulled. IsWithin (items_view self.now.shared).identity.words
+        ensures brief { IfOk result (λ pulled. IsWithin (items_view self.now.shared).identity.words
             (view_of note.seat).loads (view_of note.seat).tries (view_of pulled.holding.seat)) }
-        ensures busy { IfErr result
-            (IsAllOut (items_view self.now.shared).identity.slots
+        ensures busy { IfErr result (IsAllOut (items_view self.now.shared).identity.slots
             (items_view self.now.shared).identity (view_of note.seat).opening) }
         ensures after_note { IfErr result
             (λ busy. IsPrefixOf (view_of note.seat).operations (view_of busy.seat).since) }
@@ -310,7 +288,7 @@ impl<T, K: Clean<T>> FixedItems<T, K> {
         let start = self.hinted();
         let word = self.shared.look_again(&mut seat, start);
         let Ok(taken) = self.take(&mut seat, start, word, None) else {
-            return Err(BusySeen { seat, pass });
+            return Err(FullSeen { seat, pass });
         };
         Ok(PulledItem {
             holding: Holding {
@@ -327,16 +305,15 @@ impl<T, K: Clean<T>> FixedItems<T, K> {
     pub(super) fn pull_onward(
         &self,
         page: usize,
-        note: PoolNote<T>,
-    ) -> Result<PulledItem<T>, PoolNote<T>>
+        note: PageNote<T>,
+    ) -> Result<PulledItem<T>, PageNote<T>>
         requires page { page < (items_view self.now.shared).identity.words }
         requires note { note.seat.table_id ≡ (items_view self.now.shared).identity }
         ensures pulled { IfOk result
             (λ pulled. IsPulledWith (items_view self.now.shared).identity note
             (held_item pulled.holding pulled.value)) }
         ensures meets { IfOk result (λ pulled. K.meets pulled.value) }
-        ensures brief { IfOk result
-            (λ pulled. IsWithin ((items_view self.now.shared).identity.words
+        ensures brief { IfOk result (λ pulled. IsWithin ((items_view self.now.shared).identity.words
             * (returns_since (view_of pulled.holding.seat) + 1)) (view_of note.seat).loads
             (view_of note.seat).tries (view_of pulled.holding.seat)) }
         ensures full { IfErr result (IsFullNoteAfter (items_view self.now.shared).identity note) }

@@ -131,8 +131,7 @@ fn feed<P: SequentialPool<u32>>(
         (rest ++ bytes.now) more player.new (Some replies.new.items)) }
     ensures err { OnErr result ((rest : List ℕ) → IsOpenLine rest line.old
         → ServesFrontLines P.pulls P.gives P.attaches Appends player.old (Some [])
-        (rest ++ bytes.now)
-        (Some replies.new.items)) }
+        (rest ++ bytes.now) (Some replies.new.items)) }
 {
     for byte in bytes {
         if *byte == LINE_FEED {

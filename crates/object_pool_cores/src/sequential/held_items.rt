@@ -85,7 +85,7 @@ impl<T: Drop> HeldItems<T> {
     }
 
     /// Takes the item at an index out of the table, if one is held there.
-    pub(crate) fn let_go(&mut self, index: usize) -> Option<Item<T>>
+    pub(crate) fn take(&mut self, index: usize) -> Option<Item<T>>
         ensures item { result ≡ held_at self.old.items index }
         ensures held { OnSome result (self.new.items ≡ slice_set self.old.items index None) }
         ensures none { IfNone result (self.new.items ≡ self.old.items) }

@@ -190,7 +190,7 @@ impl<T: Drop, I: Init<T, K>, R: Reset<T, K>, K: Clean<T>> SequentialPool<T>
         };
         let mut value = item.into_value();
         self.reset.reset(&mut value);
-        self.items.put(number, value);
+        self.items.give(number, value);
     }
 
     fn attach(&mut self, value: T) -> Result<Item<T>, AttachError<T>>

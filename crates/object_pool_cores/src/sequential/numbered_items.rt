@@ -122,7 +122,7 @@ impl<T: Drop, K: Clean<T>> NumberedItems<T, K> {
     }
 
     /// Puts a value at a number that is in use, which is free from then on.
-    pub(crate) fn put(&mut self, number: u128, value: T)
+    pub(crate) fn give(&mut self, number: u128, value: T)
         requires out { (listed_pool self.old).at number ≡ Out }
         requires meets { K.meets value }
         ensures returned { IsSame (listed_pool self.new)

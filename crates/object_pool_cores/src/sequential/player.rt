@@ -36,7 +36,6 @@ impl<T: Drop, P: SequentialPool<T> + Drop> Drop for Player<T, P> {
 }
 
 impl<T, P: SequentialPool<T>> Model for Player<T, P> {
-    ghost use Rattle.std.specs.Prelude.{◌≡◌};
     ghost use Rattle.object_pool_cores.specs.Held.{Playing};
 
     ghost Value = { Playing P T };
@@ -105,8 +104,7 @@ impl<T: Drop, P: SequentialPool<T>> Player<T, P> {
         replies: &mut Vec<Reply<T>>,
     ) -> Result<(), RunError>
         ensures ran { Ran P.pulls P.gives P.attaches self.old commands.items
-            replies.old.items result
-            replies.new.items self.new }
+            replies.old.items result replies.new.items self.new }
         ensures room_is_there { All (λ command. MayTakeMemory command → ⊥) commands.items
             → length replies.old.items + length commands.items ≤ vec_capacity replies.old
             → IsOk result }
@@ -123,8 +121,7 @@ impl<T: Drop, P: SequentialPool<T>> Player<T, P> {
 
     fn pull(&mut self) -> Result<Reply<T>, RunError>
         ensures ok { IfOk result
-            (λ reply. Plays P.pulls P.gives P.attaches self.old Command.Pull reply
-            self.new) }
+            (λ reply. Plays P.pulls P.gives P.attaches self.old Command.Pull reply self.new) }
         ensures err { OnErr result (self.new ≡ self.old) }
     {
         self.held.reserve()?;
@@ -164,7 +161,7 @@ impl<T: Drop, P: SequentialPool<T>> Player<T, P> {
     fn give(&mut self, index: usize) -> Reply<T>
         ensures { Plays P.pulls P.gives P.attaches self.old (Command.Return index) result self.new }
     {
-        match self.held.let_go(index) {
+        match self.held.take(index) {
             Some(item) => {
                 self.pool.give(item);
                 Reply::Returned
@@ -176,7 +173,7 @@ impl<T: Drop, P: SequentialPool<T>> Player<T, P> {
     fn forget(&mut self, index: usize) -> Reply<T>
         ensures { Plays P.pulls P.gives P.attaches self.old (Command.Forget index) result self.new }
     {
-        match self.held.let_go(index) {
+        match self.held.take(index) {
             Some(_) => Reply::Forgotten,
             None => Reply::NoSuchHolder,
         }

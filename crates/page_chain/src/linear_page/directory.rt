@@ -7,8 +7,9 @@ ghost use Rattle.once_cell.specs.Once.{cell_name};
 ghost use Rattle.pool_parts.specs.Answers.{Refuses};
 
 use super::hints::{HINTS, HintWord};
+use super::link_note::LinkNote;
 use super::opened_page::OpenedPage;
-use super::{LinkNote, PageNumber};
+use super::page_number::PageNumber;
 use once_cell::race::OnceBox;
 use pool_parts::PullError;
 use pool_parts::clean::Clean;
@@ -331,8 +332,7 @@ impl<'c, T: Drop, K: Clean<T>, O: Clean<T>> LinkPlace<'c, T, K, O> {
         ensures unlearned { IfNone result (known_next note.new ≡ known_next note.old) }
         ensures known { IfSome result
             (λ page. known_next note.new ≡ Some (page_identity (arc_value page.now))) }
-        ensures agrees { IfSome result
-            (λ page. IfSome (known_next note.old)
+        ensures agrees { IfSome result (λ page. IfSome (known_next note.old)
             (λ known. known ≡ page_identity (arc_value page.now))) }
     {
         self.link(note).get_as(&mut note.link)

@@ -1,14 +1,18 @@
 //! A page of a chain, and the condition that its first values met.
-ghost use Rattle.std.specs.Prelude.{◌≡◌};
+ghost use Rattle.std.specs.Prelude.{◌≡◌, None, IfErr, ⊤};
 ghost use Rattle.std.specs.Arc.{arc_value};
+ghost use Rattle.pool_parts.specs.Answers.{MayMake, Refuses};
 ghost use Rattle.pool_parts.specs.Item.{IsFilled};
 ghost use Rattle.pool_parts.specs.declared.page.word.TheConstants.{PAGE_ITEMS};
 ghost use Rattle.pool_parts.specs.Page.{page_identity, page_opening};
 ghost use Rattle.page_chain.specs.WalkSteps.{IsAnsweredBy};
 
 use atomic_table::Badge;
+use pool_parts::PullError;
 use pool_parts::clean::Clean;
-use pool_parts::page::{Page, PullPass, Taken};
+use pool_parts::page::{Page, PageAnswer, PullPass};
+use std::alloc::Global;
+use std::cell::Cell;
 use std::marker::{Model, PhantomData};
 use std::sync::{Arc, Mutex};
 
@@ -27,7 +31,7 @@ impl<T, K: Clean<T>, O: Clean<T>> Model for OpenedPage<T, K, O> {
     ghost use Rattle.std.specs.declared.sync.Arc.{Arc};
     ghost use Rattle.pool_parts.specs.Page.{page_opening};
     ghost use Rattle.pool_parts.specs.Item.{IsFilled};
-    ghost use Rattle.pool_parts.specs.declared.page.Page.{Page};
+    ghost use Rattle.pool_parts.specs.declared.page.shared_page.Page.{Page};
     ghost use Rattle.pool_parts.specs.declared.page.word.TheConstants.{PAGE_ITEMS};
 
     ghost Value = { Arc (Page T K) Global };
@@ -59,10 +63,38 @@ impl<T, K: Clean<T>, O: Clean<T>> OpenedPage<T, K, O> {
     }
 
     /// Pulls from the page.
-    pub(super) fn take<'s, 'p>(&'s self, pass: &'p PullPass) -> Taken<'s, 'p, T, K>
+    pub(super) fn take<'s, 'p>(&'s self, pass: &'p PullPass) -> PageAnswer<'s, 'p, T, K>
         ensures { IsAnsweredBy K.meets O.meets (page_identity (arc_value self.now))
             (page_opening (arc_value self.now)) result.answer }
     {
         self.owner().take(pass)
     }
+}
+
+/// Makes a page for a chain.
+pub(super) fn made_page<T: Drop, K: Clean<T>, O: Clean<T>, I: Fn() -> Option<T>>(
+    alloc: Global,
+    init: &I,
+) -> Result<OpenedPage<T, K, O>, PullError>
+    requires may_make { MayMake I.pre I.post K.meets init.now }
+    requires opens { MayMake I.pre I.post O.meets init.now }
+    ensures refused { IfErr result (Refuses ⊤ (I.post init.now None) ⊥) }
+{
+    let page = Arc::new(alloc, Page::new(alloc, init)?)?;
+    Ok(OpenedPage::new(page))
+}
+
+/// Makes a page as `made_page` does, and records that it was made.
+pub(super) fn told_page<T: Drop, K: Clean<T>, O: Clean<T>, I: Fn() -> Option<T>>(
+    alloc: Global,
+    init: &I,
+    made: &Cell<bool>,
+) -> Result<OpenedPage<T, K, O>, PullError>
+    requires may_make { MayMake I.pre I.post K.meets init.now }
+    requires opens { MayMake I.pre I.post O.meets init.now }
+    ensures refused { IfErr result (Refuses ⊤ (I.post init.now None) ⊥) }
+{
+    let page = made_page(alloc, init)?;
+    made.set(true);
+    Ok(page)
 }

@@ -9,8 +9,8 @@ ghost use Rattle.page_chain.specs.Links.{cell_in_row};
 ghost use Rattle.pool_parts.specs.Page.{page_identity};
 ghost use Rattle.page_chain.specs.WalkSteps.{IsKnownAt};
 
-use super::LinkNote;
 use super::directory::{LinkPlace, Row};
+use super::link_note::LinkNote;
 use super::opened_page::OpenedPage;
 use once_cell::race::{Note, OnceBox};
 use pool_parts::clean::Clean;

@@ -4,14 +4,15 @@ ghost use Rattle.std.specs.Arc.{arc_value};
 ghost use Rattle.pool_parts.specs.Answers.{MayMake, Refuses};
 ghost use Rattle.pool_parts.specs.Item.{IsItemOf, IsPulled, IsFilled};
 ghost use Rattle.page_chain.specs.Walk.{shown_page, IsTaken, IsRefusedBy, cause_of};
-ghost use Rattle.pool_parts.specs.Slot.{owned_slot_item, slot_item};
 ghost use Rattle.pool_parts.specs.Page.{page_identity, page_opening};
 ghost use Rattle.page_chain.specs.WalkSteps.{IsAnsweredBy, IsKnownAt};
 ghost use Rattle.page_chain.specs.declared.linear_page.walk.WalkRefusal.TheVariants.{Making};
 ghost use Rattle.pool_parts.specs.declared.page.word.TheConstants.{PAGE_ITEMS};
 
+use super::link_note::LinkNote;
+use super::linked_page::LinearPage;
 use super::opened_page::OpenedPage;
-use super::{LinearPage, LinkNote, PageNumber};
+use super::page_number::PageNumber;
 use pool_parts::PullError;
 use pool_parts::clean::Clean;
 use pool_parts::page::{Allocated, FullSeen, OwnedSlot, Page, PageSlot, PullPass};
@@ -123,12 +124,12 @@ impl<'c, T: Drop, K: Clean<T>, O: Clean<T>> LinearPage<'c, T, K, O> {
         requires may_make { MayMake I.pre I.post K.meets init.now }
         requires opens { MayMake I.pre I.post O.meets init.now }
         ensures item { IfOk result
-            (λ reached. IsItemOf K.meets (slot_item reached.0).page (slot_item reached.0)) }
+            (λ reached. IsItemOf K.meets reached.0.item.page reached.0.item) }
         ensures of_start { IfOk result (λ reached.
-            reached.1 ≡ 0 → (slot_item reached.0).page ≡ (shown_page self.now).page) }
+            reached.1 ≡ 0 → reached.0.item.page ≡ (shown_page self.now).page) }
         ensures opened { IfOk result
-            (λ reached. IsFilled PAGE_ITEMS O.meets (slot_item reached.0).opening) }
-        ensures pulled { IfOk result (λ reached. IsPulled (slot_item reached.0)) }
+            (λ reached. IsFilled PAGE_ITEMS O.meets reached.0.item.opening) }
+        ensures pulled { IfOk result (λ reached. IsPulled reached.0.item) }
         ensures refused { IfErr result (Refuses ⊤ (I.post init.now None) ⊥) }
     {
         let reached = self.walk(None, init)?;
@@ -151,12 +152,12 @@ impl<'c, T: Drop, K: Clean<T>, O: Clean<T>> LinearPage<'c, T, K, O> {
         requires may_make { MayMake I.pre I.post K.meets init.now }
         requires opens { MayMake I.pre I.post O.meets init.now }
         ensures item { IfOk result
-            (λ reached. IsItemOf K.meets (slot_item reached.0).page (slot_item reached.0)) }
+            (λ reached. IsItemOf K.meets reached.0.item.page reached.0.item) }
         ensures of_start { IfOk result (λ reached.
-            reached.1 ≡ 0 → (slot_item reached.0).page ≡ (shown_page self.now).page) }
+            reached.1 ≡ 0 → reached.0.item.page ≡ (shown_page self.now).page) }
         ensures opened { IfOk result
-            (λ reached. IsFilled PAGE_ITEMS O.meets (slot_item reached.0).opening) }
-        ensures pulled { IfOk result (λ reached. IsPulled (slot_item reached.0)) }
+            (λ reached. IsFilled PAGE_ITEMS O.meets reached.0.item.opening) }
+        ensures pulled { IfOk result (λ reached. IsPulled reached.0.item) }
         ensures within { IfOk result (λ reached. reached.1 < pages) }
         ensures refused { IfErr result (Refuses ⊤ (I.post init.now None) ⊤) }
     {
@@ -177,14 +178,13 @@ impl<'c, T: Drop, K: Clean<T>, O: Clean<T>> LinearPage<'c, T, K, O> {
     ) -> Result<(OwnedSlot<T, K>, usize), PullError>
         requires may_make { MayMake I.pre I.post K.meets init.now }
         requires opens { MayMake I.pre I.post O.meets init.now }
-        ensures item { IfOk result
-            (λ reached. IsItemOf K.meets (owned_slot_item reached.0).page
-            (owned_slot_item reached.0)) }
+        ensures item { IfOk result (λ reached. IsItemOf K.meets reached.0.item.page
+            reached.0.item) }
         ensures of_start { IfOk result (λ reached.
-            reached.1 ≡ 0 → (owned_slot_item reached.0).page ≡ (shown_page self.now).page) }
+            reached.1 ≡ 0 → reached.0.item.page ≡ (shown_page self.now).page) }
         ensures opened { IfOk result
-            (λ reached. IsFilled PAGE_ITEMS O.meets (owned_slot_item reached.0).opening) }
-        ensures pulled { IfOk result (λ reached. IsPulled (owned_slot_item reached.0)) }
+            (λ reached. IsFilled PAGE_ITEMS O.meets reached.0.item.opening) }
+        ensures pulled { IfOk result (λ reached. IsPulled reached.0.item) }
         ensures refused { IfErr result (Refuses ⊤ (I.post init.now None) ⊥) }
     {
         let (slot, number) = self.walk(None, init)?.into_owned()?;
@@ -205,14 +205,13 @@ impl<'c, T: Drop, K: Clean<T>, O: Clean<T>> LinearPage<'c, T, K, O> {
         requires some_page { 1 ≤ pages }
         requires may_make { MayMake I.pre I.post K.meets init.now }
         requires opens { MayMake I.pre I.post O.meets init.now }
-        ensures item { IfOk result
-            (λ reached. IsItemOf K.meets (owned_slot_item reached.0).page
-            (owned_slot_item reached.0)) }
+        ensures item { IfOk result (λ reached. IsItemOf K.meets reached.0.item.page
+            reached.0.item) }
         ensures of_start { IfOk result (λ reached.
-            reached.1 ≡ 0 → (owned_slot_item reached.0).page ≡ (shown_page self.now).page) }
+            reached.1 ≡ 0 → reached.0.item.page ≡ (shown_page self.now).page) }
         ensures opened { IfOk result
-            (λ reached. IsFilled PAGE_ITEMS O.meets (owned_slot_item reached.0).opening) }
-        ensures pulled { IfOk result (λ reached. IsPulled (owned_slot_item reached.0)) }
+            (λ reached. IsFilled PAGE_ITEMS O.meets reached.0.item.opening) }
+        ensures pulled { IfOk result (λ reached. IsPulled reached.0.item) }
         ensures within { IfOk result (λ reached. reached.1 < pages) }
         ensures refused { IfErr result (Refuses ⊤ (I.post init.now None) ⊤) }
     {
@@ -234,10 +233,9 @@ impl<'c, T: Drop, K: Clean<T>, O: Clean<T>> LinearPage<'c, T, K, O> {
         requires may_make { MayMake I.pre I.post K.meets init.now }
         requires opens { MayMake I.pre I.post O.meets init.now }
         ensures taken { IfOk result (λ reached.
-            IsTaken K.meets O.meets (shown_page self.now) limit reached.number
-            (slot_item reached.slot)) }
+            IsTaken K.meets O.meets (shown_page self.now) limit reached.number reached.slot.item) }
         ensures page { IfOk result (λ reached.
-            (slot_item reached.slot).page ≡ page_identity (arc_value reached.page.now)) }
+            reached.slot.item.page ≡ page_identity (arc_value reached.page.now)) }
         ensures refused { IfErr result (Refuses ⊤ (I.post init.now None) (IsSome limit)) }
     {
         let pass = PullPass::new();
@@ -279,10 +277,9 @@ impl<'c, T: Drop, K: Clean<T>, O: Clean<T>> LinearPage<'c, T, K, O> {
         requires may_make { MayMake I.pre I.post K.meets init.now }
         requires opens { MayMake I.pre I.post O.meets init.now }
         ensures taken { IfOk result (λ reached.
-            IsTaken K.meets O.meets (shown_page self.now) limit reached.number
-            (slot_item reached.slot)) }
+            IsTaken K.meets O.meets (shown_page self.now) limit reached.number reached.slot.item) }
         ensures page { IfOk result (λ reached.
-            (slot_item reached.slot).page ≡ page_identity (arc_value reached.page.now)) }
+            reached.slot.item.page ≡ page_identity (arc_value reached.page.now)) }
         ensures further { IfOk result (λ reached. (shown_page self.now).number
             < reached.number.number) }
         ensures evidence { IfErr result (IsRefusedBy (shown_page self.now) limit
@@ -303,7 +300,7 @@ impl<'c, T: Drop, K: Clean<T>, O: Clean<T>> LinearPage<'c, T, K, O> {
                 }));
             }
             let (linked, mut note) = self.behind(number, page, full, init)?;
-            let answer = self.ask(linked, number + 1, &mut note, hinted, pass);
+            let answer = self.take_at(linked, number + 1, &mut note, hinted, pass);
             at = PageNumber::of_link(number + 1, note);
             match answer {
                 Allocated::Slot(slot) => {
@@ -334,8 +331,7 @@ impl<'c, T: Drop, K: Clean<T>, O: Clean<T>> LinearPage<'c, T, K, O> {
         requires may_make { MayMake I.pre I.post K.meets init.now }
         requires opens { MayMake I.pre I.post O.meets init.now }
         ensures fits { IfOk result (λ _. number + 1 < 2 ^ 64) }
-        ensures known { IfOk result
-            (λ next. IsKnownAt self.now.directory.now (number + 1) next.1
+        ensures known { IfOk result (λ next. IsKnownAt self.now.directory.now (number + 1) next.1
             (page_identity (arc_value next.0.now))) }
         ensures refused { IfErr result (Refuses ⊤ (I.post init.now None) ⊥) }
     {
@@ -346,7 +342,7 @@ impl<'c, T: Drop, K: Clean<T>, O: Clean<T>> LinearPage<'c, T, K, O> {
 
     /// Pulls from a page that the walk came to. If it is the one that was asked by a hint, it
     /// returns what that page answered in this pull.
-    fn ask<'p>(
+    fn take_at<'p>(
         &self,
         page: &'c OpenedPage<T, K, O>,
         number: usize,
@@ -408,10 +404,9 @@ impl<T: Drop, K: Clean<T>, O: Clean<T>> WalkEnd<'_, T, K, O> {
     ///
     /// `Memory` if the page can have no more owners. Then the item is returned to its page.
     pub fn into_owned(self) -> Result<(OwnedSlot<T, K>, PageNumber<T, K, O>), PullError>
-        requires of_page { (slot_item self.slot).page ≡ page_identity (arc_value self.page.now) }
-        requires meets { K.meets (slot_item self.slot).value }
-        ensures item { IfOk result
-            (λ reached. owned_slot_item reached.0 ≡ slot_item self.entry.slot) }
+        requires of_page { self.slot.item.page ≡ page_identity (arc_value self.page.now) }
+        requires meets { K.meets self.slot.item.value }
+        ensures item { IfOk result (λ reached. reached.0.item ≡ self.entry.slot.item) }
         ensures number { IfOk result (λ reached. reached.1 ≡ self.entry.number) }
         ensures refused { IfErr result (Refuses ⊤ ⊥ ⊥) }
     {

@@ -2,7 +2,7 @@
 ghost use Rattle.std.specs.Prelude.{ℕ, ◌<◌};
 ghost use Rattle.pool_parts.specs.Ledger.{WasOutBetween};
 
-use super::PageSlot;
+use super::slot::PageSlot;
 use super::user_view::UserSeat;
 use crate::clean::Clean;
 
@@ -85,7 +85,7 @@ pub enum Allocated<'s, 'p, T, K: Clean<T>> {
 
 /// What a page answered, and what the last step on its word saw.
 #[derive(Drop)]
-pub struct Taken<'s, 'p, T, K: Clean<T>> {
+pub struct PageAnswer<'s, 'p, T, K: Clean<T>> {
     pub answer: Allocated<'s, 'p, T, K>,
     /// Whether no item was free after that step. It decides nothing.
     pub left_full: bool,

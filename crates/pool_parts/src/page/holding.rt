@@ -3,8 +3,8 @@ ghost use Rattle.std.specs.Prelude.{◌≡◌, [], ◌∷◌, Some, None, false}
 ghost use Rattle.pool_parts.specs.Item.{same_holding, same_carrying};
 
 use super::items::Items;
+use super::note::Witness;
 use super::user_view::UserSeat;
-use super::{Page, Witness};
 use crate::clean::Clean;
 
 /// The number of an item that was taken, and the seat of the user that has it.
@@ -19,7 +19,7 @@ pub struct Holding<T> {
 }
 
 impl<T> Holding<T> {
-    ghost use Rattle.pool_parts.specs.Page.{view_of, page_identity};
+    ghost use Rattle.pool_parts.specs.Page.{view_of};
     ghost use Rattle.pool_parts.specs.PageItems.{items_view};
 
     /// Returns a witness of what the holder knows.
@@ -32,17 +32,5 @@ impl<T> Holding<T> {
         ensures same_number { self.new.number ≡ self.old.number }
     {
         items.witness(&mut self.seat)
-    }
-
-    /// Returns the same of an item of this page.
-    pub fn witness_of<K: Clean<T>>(&mut self, page: &Page<T, K>) -> Witness<T>
-        requires { self.old.seat.table_id ≡ page_identity page.now }
-        ensures page { result.seat.table_id ≡ self.old.seat.table_id }
-        ensures history { (view_of result.seat).operations ≡ (view_of self.old.seat).operations }
-        ensures same_page { self.new.seat.table_id ≡ self.old.seat.table_id }
-        ensures same_view { view_of self.new.seat ≡ view_of self.old.seat }
-        ensures same_number { self.new.number ≡ self.old.number }
-    {
-        self.witness(&page.items)
     }
 }

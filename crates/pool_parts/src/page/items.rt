@@ -63,8 +63,7 @@ impl<T, K: Clean<T>> Items<T, K> {
         ensures refused { IfErr result (Refuses ⊤ (I.post init.now None) ⊥) }
         ensures count { IfOk result (λ items. (items_view items).identity.slots ≡ count) }
         ensures raise { IfOk result (λ items. (items_view items).raise ≡ raise) }
-        ensures opened { IfOk result
-            (λ items. IsFilled count (λ made. I.post init.now (Some made))
+        ensures opened { IfOk result (λ items. IsFilled count (λ made. I.post init.now (Some made))
             (items_view items).opening) }
     {
         let items = Items::<T, K>::make_items(alloc, count, init)?;
@@ -182,8 +181,7 @@ impl<T, K: Clean<T>> Items<T, K> {
         ensures outcome { MatchOption result
             (MissesAll (32 * page) (32 * page + 32) seat.old.me seat.new.me) (λ taken.
             TakesOne K.meets (items_view self.now).identity.slots taken.number taken.value None
-            seat.old.me
-            seat.new.me) }
+            seat.old.me seat.new.me) }
     {
         let mut untried = word;
         while let Some((rest, bit)) = take_least(untried) {

@@ -1,30 +1,22 @@
 //! A slot that owns its page with others, in place of a borrow.
 ghost use Rattle.std.specs.Prelude.{◌≡◌, ◌≢◌, ◌<◌};
-ghost use Rattle.std.specs.Arc.{arc_value};
-ghost use Rattle.pool_parts.specs.Item.{same_page};
-ghost use Rattle.pool_parts.specs.Page.{page_identity};
 ghost use Rattle.pool_parts.specs.declared.page.word.TheConstants.{PAGE_ITEMS};
 
 use super::holding::Holding;
+use super::note::PageNote;
+use super::shared_page::Page;
 use super::word::PageId;
-use super::{Page, PageNote};
 use crate::clean::Clean;
+use std::marker::Model;
 use std::ops::{Deref, DerefMut};
 use std::sync::Arc;
 
-/// An id that was taken from a page, without its value.
-#[derive(Drop)]
-pub(super) struct OwnedTakenId<T, K: Clean<T>> {
-    pub(super) page: Arc<Page<T, K>>,
-    pub(super) holding: Holding<T>,
-    ghost of_page: { holding.seat.table_id ≡ page_identity (arc_value page) } by { same_page _ _ },
-    ghost in_page: { holding.number < PAGE_ITEMS },
-}
-
-/// An item that is out of a page, with its value and an owner of the page.
+/// An item in use, with its value and an owner of its page.
 ///
-/// A slot that is dropped drops its value, and its id stays out. [`OwnedSlot::free`] brings both
-/// back.
+/// A slot that is dropped drops its value, and its item never becomes free again.
+/// [`OwnedSlot::free`] returns it.
+///
+/// In a clause it is the item, and what its user knows.
 ///
 /// # Examples
 ///
@@ -34,35 +26,52 @@ pub(super) struct OwnedTakenId<T, K: Clean<T>> {
 /// ```
 #[derive(Drop)]
 pub struct OwnedSlot<T, K: Clean<T>> {
-    pub(super) taken: OwnedTakenId<T, K>,
+    pub(super) page: Arc<Page<T, K>>,
+    pub(super) holding: Holding<T>,
     pub(super) value: T,
+}
+
+impl<T, K: Clean<T>> Model for OwnedSlot<T, K> {
+    ghost use Rattle.std.specs.Prelude.{◌≡◌, ◌<◌};
+    ghost use Rattle.std.specs.Arc.{arc_value};
+    ghost use Rattle.pool_parts.specs.Item.{SlotView};
+    ghost use Rattle.pool_parts.specs.Page.{page_identity, held_item, view_of};
+    ghost use Rattle.pool_parts.specs.declared.page.word.TheConstants.{PAGE_ITEMS};
+
+    ghost Value = { SlotView T };
+
+    ghost view = { λ slot.
+        record {
+          item = held_item slot.holding slot.value;
+          known = view_of slot.holding.seat;
+        } };
+
+    ghost invariant = { λ slot.
+        (slot.holding.seat.table_id ≡ page_identity (arc_value slot.page))
+        × (slot.holding.number < PAGE_ITEMS) };
 }
 
 impl<T, K: Clean<T>> OwnedSlot<T, K> {
     ghost use Rattle.pool_parts.specs.Page.{IsReturned};
-    ghost use Rattle.pool_parts.specs.Slot.{owned_slot_item};
 
     /// Returns the number of the item in its page.
     pub fn id(&self) -> PageId
-        ensures value { result ≡ (owned_slot_item self.now).id }
+        ensures value { result ≡ self.now.item.id }
         ensures in_page { result < PAGE_ITEMS }
     {
-        self.taken.holding.number as PageId
+        self.holding.number as PageId
     }
 
     /// Ensures that this item and another that is held of the page are two: their numbers differ.
     ///
     /// It costs seven loads, and changes neither item.
     pub fn differs_from(&mut self, other: &mut OwnedSlot<T, K>)
-        requires page { (owned_slot_item other.old).page ≡ (owned_slot_item self.old).page }
-        ensures differ { (owned_slot_item self.old).id ≢ (owned_slot_item other.old).id }
-        ensures same_item { owned_slot_item self.new ≡ owned_slot_item self.old }
-        ensures same_other { owned_slot_item other.new ≡ owned_slot_item other.old }
+        requires page { other.old.item.page ≡ self.old.item.page }
+        ensures differ { self.old.item.id ≢ other.old.item.id }
+        ensures same_item { self.new.item ≡ self.old.item }
+        ensures same_other { other.new.item ≡ other.old.item }
     {
-        let taken = &mut self.taken;
-        let other = &mut other.taken;
-        let items = &taken.page.items;
-        items.are_two(&mut taken.holding, &mut other.holding);
+        self.page.are_two(&mut self.holding, &mut other.holding);
     }
 
     /// Moves the value home, and the id is free again. The note knows the page's history up to the
@@ -70,11 +79,14 @@ impl<T, K: Clean<T>> OwnedSlot<T, K> {
     pub fn free(self) -> PageNote<T>
     where
         T: Drop,
-        requires { K.meets (owned_slot_item self).value }
-        ensures { IsReturned (owned_slot_item self) result }
+        requires { K.meets self.item.value }
+        ensures { IsReturned self.item result }
     {
-        let OwnedSlot { taken, value } = self;
-        let OwnedTakenId { page, holding } = taken;
+        let OwnedSlot {
+            page,
+            holding,
+            value,
+        } = self;
         page.give(holding, value).note
     }
 }
@@ -82,9 +94,7 @@ impl<T, K: Clean<T>> OwnedSlot<T, K> {
 impl<T, K: Clean<T>> Deref for OwnedSlot<T, K> {
     type Target = T;
 
-    ghost use Rattle.pool_parts.specs.Slot.{owned_slot_item};
-
-    ghost deref_gives = { λ slot value. value ≡ (owned_slot_item slot).value };
+    ghost deref_gives = { λ slot value. value ≡ slot.item.value };
 
     fn deref(&self) -> &T {
         &self.value
@@ -93,13 +103,13 @@ impl<T, K: Clean<T>> Deref for OwnedSlot<T, K> {
 
 impl<T, K: Clean<T>> DerefMut for OwnedSlot<T, K> {
     ghost use Rattle.std.specs.Borrow.{sem};
-    ghost use Rattle.pool_parts.specs.Slot.{LendsOwnedSlotValue, owned_slot_item};
+    ghost use Rattle.pool_parts.specs.Slot.{LendsOwnedSlotValue};
 
-    ghost deref_mut_gives = { λ slot value. value ≡ (owned_slot_item slot).value };
+    ghost deref_mut_gives = { λ slot value. value ≡ slot.item.value };
 
     fn deref_mut(&mut self) -> &mut T
         ensures* writes_back { sem 𝓛 (LendsOwnedSlotValue T.row K.row K.Clean self.entry result) }
-        ensures shows { result.now ≡ (owned_slot_item self.old).value }
+        ensures shows { result.now ≡ self.old.item.value }
     {
         &mut self.value
     }

@@ -51,8 +51,7 @@ impl<T, K: Clean<T>> Items<T, K> {
         requires here { seat.old.me.0.gone ≡ false }
         ensures items { seat.new.table_id ≡ seat.old.table_id }
         ensures found { Counts (items_view self.now).identity.slots page seat.old.me result.0
-            result.1
-            seat.new.me }
+            result.1 seat.new.me }
     {
         let word = self.table.shared.load::<Count>(seat, page);
         (low_half(word), count_of(word))
@@ -69,8 +68,7 @@ impl<T, K: Clean<T>> Items<T, K> {
         ensures items { seat.new.table_id ≡ seat.old.table_id }
         ensures outcome { MatchOption result (Misses (32 * page + bit) seat.old.me seat.new.me)
             (λ taken. TakesOne K.meets (items_view self.now).identity.slots (32 * page + bit)
-            taken.0 None
-            seat.old.me seat.new.me × (seat.new.me.0.loads ≡ seat.old.me.0.loads)
+            taken.0 None seat.old.me seat.new.me × (seat.new.me.0.loads ≡ seat.old.me.0.loads)
             × (seat.new.me.0.tries ≡ seat.old.me.0.tries + 1)) }
     {
         let words = &self.table.shared;

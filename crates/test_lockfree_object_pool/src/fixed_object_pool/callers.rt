@@ -2,7 +2,7 @@
 //! refusals may come.
 ghost use Rattle.std.specs.Prelude.{◌≡◌, ◌<◌, ◌⊎◌, ◌↔◌, ℕ, ◌∷◌, IfSome, IfErr, IsTrue};
 ghost use Rattle.pool_parts.specs.Page.{view_of};
-ghost use Rattle.fixed_pools.specs.FixedPool.{fixed_view, fixed_item};
+ghost use Rattle.fixed_pools.specs.FixedPool.{fixed_view};
 ghost use Rattle.lockfree_object_pool.specs.Ledger.{History, IsPrefixOf, WasOutBetween};
 ghost use Rattle.pool_parts.specs.declared.page.history.Operation.TheVariants.{Return};
 ghost use Rattle.pool_parts.specs.declared.pull_error.PullError.TheVariants.{Limit};
@@ -21,10 +21,9 @@ use std::thread::Threads;
 /// Pulls by a note. The pull comes after all that the note knew.
 pub fn pulled_after<'p>(pool: &'p NumberPool, note: PoolNote<usize>) -> Option<NumberItem<'p>>
     requires { note.seat.table_id ≡ (fixed_view pool.now).identity }
-    ensures pool { IfSome result (λ item. (fixed_item item).item.page
-        ≡ (fixed_view pool.now).identity) }
+    ensures pool { IfSome result (λ item. item.item.page ≡ (fixed_view pool.now).identity) }
     ensures after { IfSome result (λ item.
-        IsPrefixOf (view_of note.seat).operations (fixed_item item).item.history) }
+        IsPrefixOf (view_of note.seat).operations item.item.history) }
 {
     let pass = PullPass::new();
     match pool.try_pull_from(&pass, note) {
@@ -68,12 +67,10 @@ fn pulled_again<'p>(
     requires of_pool { note.seat.table_id ≡ (fixed_view pool.now).identity }
     requires one_item { (fixed_view pool.now).items ≡ 1 }
     requires returned { EndsWithReturnOf 0 number (view_of note.seat).operations }
-    ensures returned { IfSome result (λ pulled. WasReturnedBefore (fixed_item pulled.0).item) }
-    ensures same { IfSome result (λ pulled.
-        IsTrue pulled.1 ↔ ((fixed_item pulled.0).item.value ≡ number)) }
-    ensures unless_used { IfSome result (λ pulled.
-        ((fixed_item pulled.0).item.value ≡ number)
-        ⊎ WasUsedSince (view_of note.seat).operations (fixed_item pulled.0).item) }
+    ensures returned { IfSome result (λ pulled. WasReturnedBefore pulled.0.item) }
+    ensures same { IfSome result (λ pulled. IsTrue pulled.1 ↔ (pulled.0.item.value ≡ number)) }
+    ensures unless_used { IfSome result (λ pulled. (pulled.0.item.value ≡ number)
+        ⊎ WasUsedSince (view_of note.seat).operations pulled.0.item) }
 {
     let pass = PullPass::new();
     match pool.try_pull_from(&pass, note) {
@@ -119,9 +116,9 @@ fn work(pool: &NumberPool, rounds: usize) -> Result<usize, PullError>
 /// then told the second, stands after both returns.
 fn handed_on<'p, R: Threads + Sync>(rt: &R, pool: &'p NumberPool) -> Option<NumberItem<'p>>
     ensures first { IfSome result (λ item. (user id : ℕ) × (before : History ℕ)
-        × IsPrefixOf (Return user id 5 ∷ before) (fixed_item item).item.history) }
+        × IsPrefixOf (Return user id 5 ∷ before) item.item.history) }
     ensures second { IfSome result (λ item. (user id : ℕ) × (before : History ℕ)
-        × IsPrefixOf (Return user id 6 ∷ before) (fixed_item item).item.history) }
+        × IsPrefixOf (Return user id 6 ∷ before) item.item.history) }
 {
     let (first, second) = thread::join(
         rt,
@@ -148,9 +145,9 @@ pub fn pulled_after_both<'p>(
     requires first { first.seat.table_id ≡ (fixed_view pool.now).identity }
     requires second { second.seat.table_id ≡ (fixed_view pool.now).identity }
     ensures after_first { IfSome result (λ item.
-        IsPrefixOf (view_of first.seat).operations (fixed_item item).item.history) }
+        IsPrefixOf (view_of first.seat).operations item.item.history) }
     ensures after_second { IfSome result (λ item.
-        IsPrefixOf (view_of second.seat).operations (fixed_item item).item.history) }
+        IsPrefixOf (view_of second.seat).operations item.item.history) }
 {
     let mut both = first;
     pool.tell(&mut both, second.into_witness());

@@ -29,8 +29,7 @@ struct Message {
 /// Pulls after all that the sender of a message knew, returns the item, and tells so by a message
 /// of its own.
 fn answered(message: Message) -> Option<Message>
-    ensures pool { IfSome result (λ answer.
-        (fixed_view (arc_value answer.pool)).identity
+    ensures pool { IfSome result (λ answer. (fixed_view (arc_value answer.pool)).identity
         ≡ (fixed_view (arc_value message.pool)).identity) }
     ensures after { IfSome result (λ answer.
         IsPrefixOf (view_of message.note.seat).operations (view_of answer.note.seat).operations) }

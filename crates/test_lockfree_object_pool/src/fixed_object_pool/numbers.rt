@@ -5,7 +5,7 @@ ghost use Rattle.fixed_pools.specs.FixedPool.{fixed_view};
 use crate::made::count_of_calls;
 use lockfree_object_pool::clean::AnyValue;
 use lockfree_object_pool::closures::{Init, Keep};
-use lockfree_object_pool::fixed_object_pool::near::Near;
+use lockfree_object_pool::fixed_object_pool::Near;
 use lockfree_object_pool::fixed_reusable::{FixedReusableOf, SharedFixedPool};
 use lockfree_object_pool::{FixedObjectPool, FixedOwnedReusable, FixedReusable, PullError};
 use std::alloc::Global;

@@ -1,6 +1,6 @@
 //! Proved callers: what they know of a pulled value, of its place, and of a refusal.
-ghost use Rattle.std.specs.Prelude.{◌≡◌, ◌<◌, ℕ, Option, None, Some, IfOk, IfErr, IfSome};
-ghost use Rattle.linear_pools.specs.LinearPool.{linear_view, linear_item};
+ghost use Rattle.std.specs.Prelude.{◌≡◌, ◌<◌, ℕ, Option, None, Some, IfOk, IfSome};
+ghost use Rattle.linear_pools.specs.LinearPool.{linear_view};
 ghost use Rattle.pool_parts.specs.declared.pull_error.PullError.TheVariants.{Memory};
 
 use super::*;
@@ -49,8 +49,8 @@ fn write_owned<K: Clean<u32>, I: Init<u32, K>, R: Reset<u32, K>>(
 fn read_back<K: Clean<u32>, I: Init<u32, K>, R: Reset<u32, K>>(
     mut item: LinearReusable<'_, u32, I, R, K>,
 ) -> (usize, u8, u32)
-    ensures number { result.0 ≡ (linear_item item.entry).number.number }
-    ensures id { result.1 ≡ (linear_item item.entry).item.id }
+    ensures number { result.0 ≡ item.entry.number.number }
+    ensures id { result.1 ≡ item.entry.item.id }
     ensures value { result.2 ≡ 9 }
 {
     *item = 8;
@@ -62,8 +62,7 @@ fn read_back<K: Clean<u32>, I: Init<u32, K>, R: Reset<u32, K>>(
 fn of_first<'p>(
     pool: &'p LinearObjectPool<u32, CountedZeros, ToZero, Zero>,
 ) -> Option<LinearReusable<'p, u32, CountedZeros, ToZero, Zero>>
-    ensures { IfSome result (λ item. (linear_item item).item.page
-        ≡ (linear_view pool.now).start.page) }
+    ensures { IfSome result (λ item. item.item.page ≡ (linear_view pool.now).start.page) }
 {
     let item = pool.pull().ok()?;
     if item.page_number() == 0 {

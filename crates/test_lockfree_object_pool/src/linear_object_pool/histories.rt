@@ -1,6 +1,6 @@
 //! Callers that rest on the history of the first page: what one thread returned, it pulls again.
 ghost use Rattle.std.specs.Prelude.{◌≡◌, ◌⊎◌, ◌↔◌, IfSome, IsTrue};
-ghost use Rattle.linear_pools.specs.LinearPool.{linear_view, linear_item};
+ghost use Rattle.linear_pools.specs.LinearPool.{linear_view};
 ghost use Rattle.pool_parts.specs.Page.{view_of};
 ghost use Rattle.test_lockfree_object_pool.specs.Returned.{EndsWithReturnOf, WasReturnedBefore, WasUsedSince};
 
@@ -40,12 +40,10 @@ fn pulled_again<'p>(
 ) -> Option<(NumberItem<'p>, bool)>
     requires of_page { note.seat.table_id ≡ (linear_view pool.now).start.page }
     requires returned { EndsWithReturnOf 0 number (view_of note.seat).operations }
-    ensures returned { IfSome result (λ pulled. WasReturnedBefore (linear_item pulled.0).item) }
-    ensures same { IfSome result (λ pulled.
-        IsTrue pulled.1 ↔ ((linear_item pulled.0).item.value ≡ number)) }
-    ensures unless_used { IfSome result (λ pulled.
-        ((linear_item pulled.0).item.value ≡ number)
-        ⊎ WasUsedSince (view_of note.seat).operations (linear_item pulled.0).item) }
+    ensures returned { IfSome result (λ pulled. WasReturnedBefore pulled.0.item) }
+    ensures same { IfSome result (λ pulled. IsTrue pulled.1 ↔ (pulled.0.item.value ≡ number)) }
+    ensures unless_used { IfSome result (λ pulled. (pulled.0.item.value ≡ number)
+        ⊎ WasUsedSince (view_of note.seat).operations pulled.0.item) }
 {
     let pass = PullPass::new();
     let Ok(item) = pool.try_pull_from(&pass, note) else {

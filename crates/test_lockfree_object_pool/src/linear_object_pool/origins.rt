@@ -1,6 +1,5 @@
 //! Where a pulled value comes from, concluded from the contract of a pull alone.
 ghost use Rattle.std.specs.Prelude.{◌≡◌, ◌⊎◌, ℕ, ◌∷◌, ⊤, Some, IfSome};
-ghost use Rattle.linear_pools.specs.LinearPool.{linear_item};
 ghost use Rattle.lockfree_object_pool.specs.Ledger.{History, WasReturned};
 ghost use Rattle.pool_parts.specs.declared.page.history.Operation.TheVariants.{Pull};
 
@@ -27,13 +26,9 @@ type SevenPool<R> = LinearObjectPool<u32, Sevens, R, AnyValue>;
 fn pulled<'p, R: Reset<u32, AnyValue>>(
     pool: &'p SevenPool<R>,
 ) -> Option<LinearReusable<'p, u32, Sevens, R, AnyValue>>
-    ensures { IfSome result (λ item. ((linear_item item).item.value ≡ 7)
-        ⊎ ((before : History ℕ)
-        × ((linear_item item).item.history
-        ≡ Pull (linear_item item).item.holder (linear_item item).item.id
-        (linear_item item).item.value
-        ∷ before)
-        × WasReturned before (linear_item item).item.id (linear_item item).item.value)) }
+    ensures { IfSome result (λ item. (item.item.value ≡ 7) ⊎ ((before : History ℕ)
+        × (item.item.history ≡ Pull item.item.holder item.item.id item.item.value ∷ before)
+        × WasReturned before item.item.id item.item.value)) }
 {
     match pool.pull() {
         Ok(item) => Some(item),

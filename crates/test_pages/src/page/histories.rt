@@ -2,7 +2,6 @@
 //! page.
 ghost use Rattle.std.specs.Prelude.{◌≡◌, ◌⊎◌, ℕ, ◌∷◌, IfSome};
 ghost use Rattle.pool_parts.specs.Page.{view_of};
-ghost use Rattle.page_chain.specs.Slot.{owned_slot_item, slot_item};
 ghost use Rattle.page_chain.specs.Page.{page_identity};
 ghost use Rattle.page_chain.specs.Ledger.{History, IsPrefixOf};
 ghost use Rattle.pool_parts.specs.declared.page.history.Operation.TheVariants.{Return};
@@ -30,9 +29,9 @@ fn pulled_after<'s>(
     note: PageNote<u32>,
 ) -> Option<PageSlot<'s, u32, AnyValue>>
     requires { note.seat.table_id ≡ page_identity page.now }
-    ensures page { IfSome result (λ slot. (slot_item slot).page ≡ page_identity page.now) }
+    ensures page { IfSome result (λ slot. slot.item.page ≡ page_identity page.now) }
     ensures after { IfSome result (λ slot.
-        IsPrefixOf (view_of note.seat).operations (slot_item slot).history) }
+        IsPrefixOf (view_of note.seat).operations slot.item.history) }
 {
     let pass = PullPass::new();
     match page.try_alloc_from(&pass, note) {
@@ -61,8 +60,8 @@ fn handed_on<'s, R: Threads + Sync>(
     page: &'s NumberPage,
 ) -> Option<(PageSlot<'s, u32, AnyValue>, PageNote<u32>)>
     ensures after { IfSome result (λ seen. (user id : ℕ) × (before : History ℕ)
-        × IsPrefixOf (Return user id 5 ∷ before) (slot_item seen.0).history) }
-    ensures slot_page { IfSome result (λ seen. (slot_item seen.0).page ≡ page_identity page.now) }
+        × IsPrefixOf (Return user id 5 ∷ before) seen.0.item.history) }
+    ensures slot_page { IfSome result (λ seen. seen.0.item.page ≡ page_identity page.now) }
     ensures note_page { IfSome result (λ seen. seen.1.seat.table_id ≡ page_identity page.now) }
 {
     let (first, second) = thread::join(
@@ -99,10 +98,10 @@ fn compared(page: &NumberPage, one: PageNote<u32>, other: PageNote<u32>) -> Page
 /// A holder leaves a witness of what it knows, and a note is told: the pull stands in the note's
 /// history.
 fn told_of_pull(page: &NumberPage, slot: &mut PageSlot<'_, u32, AnyValue>) -> PageNote<u32>
-    requires { (slot_item slot.old).page ≡ page_identity page.now }
+    requires { slot.old.item.page ≡ page_identity page.now }
     ensures page { result.seat.table_id ≡ page_identity page.now }
-    ensures knows { IsPrefixOf (slot_item slot.old).history (view_of result.seat).operations }
-    ensures same_item { slot_item slot.new ≡ slot_item slot.old }
+    ensures knows { IsPrefixOf slot.old.item.history (view_of result.seat).operations }
+    ensures same_item { slot.new.item ≡ slot.old.item }
 {
     let mut note = page.note();
     page.tell(&mut note, slot.witness());
@@ -111,8 +110,8 @@ fn told_of_pull(page: &NumberPage, slot: &mut PageSlot<'_, u32, AnyValue>) -> Pa
 
 /// An owned slot's return is told alike.
 fn owned_returned<K: Clean<u32>>(slot: OwnedSlot<u32, K>) -> PageNote<u32>
-    requires { K.meets (owned_slot_item slot).value }
-    ensures { IsPrefixOf (owned_slot_item slot).history (view_of result.seat).operations }
+    requires { K.meets slot.item.value }
+    ensures { IsPrefixOf slot.item.history (view_of result.seat).operations }
 {
     slot.free()
 }

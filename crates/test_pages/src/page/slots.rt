@@ -1,6 +1,6 @@
 //! What a caller knows of a slot by public contracts alone.
-ghost use Rattle.std.specs.Prelude.{◌≡◌, IfOk, IfSome};
-ghost use Rattle.page_chain.specs.Slot.{IsAllOut, slot_item};
+ghost use Rattle.std.specs.Prelude.{◌≡◌, IfSome};
+ghost use Rattle.page_chain.specs.Slot.{IsAllOut};
 ghost use Rattle.page_chain.specs.Page.{page_identity, page_opening};
 ghost use Rattle.pool_parts.specs.declared.page.word.TheConstants.{PAGE_ITEMS};
 
@@ -33,7 +33,7 @@ fn write_owned<K: Clean<u32>>(slot: &mut OwnedSlot<u32, K>, value: u32)
 
 /// What is read is what was written last, and the item is the same one.
 fn read_back(mut slot: PageSlot<'_, u32, AnyValue>) -> (u8, u32)
-    ensures id { result.0 ≡ (slot_item slot.entry).id }
+    ensures id { result.0 ≡ slot.entry.item.id }
     ensures value { result.1 ≡ 9 }
 {
     *slot = 8;
@@ -78,8 +78,7 @@ fn own_first(page: Arc<Page<u32, Zero>>) -> Option<u32>
 
 /// What tells a pull that a page is full is of that page, and has all of its ids.
 fn full_of<'p>(page: &Page<u32, Zero>, pass: &'p PullPass) -> Option<FullSeen<'p, u32>>
-    ensures { IfSome result
-        (IsAllOut PAGE_ITEMS (page_identity page.now) (page_opening page.now)) }
+    ensures { IfSome result (IsAllOut PAGE_ITEMS (page_identity page.now) (page_opening page.now)) }
 {
     match page.try_alloc(pass) {
         Ok(Allocated::Full(seen)) => Some(seen),

@@ -113,7 +113,7 @@ fn put_meanwhile<
     let steps = Arc::new(alloc, Steps::new()).expect(rt, "memory is left");
     let holder = hold_elsewhere(rt, list, &steps).expect(rt, "a thread is made");
     assert!(rt; steps.begin());
-    list.put(rt, room, 6);
+    list.give(rt, room, 6);
     steps.end();
     holder.join(rt);
 }
@@ -142,7 +142,7 @@ fn waits_for_the_lock<
 >(rt: &W, alloc: Global) {
     let list = F::new_list(alloc).expect(rt, "memory is left");
     let list = Arc::new(alloc, list).expect(rt, "memory is left");
-    list.put(rt, Room::new(alloc).expect(rt, "memory is left"), 5);
+    list.give(rt, Room::new(alloc).expect(rt, "memory is left"), 5);
     let room = take_meanwhile(rt, alloc, &list);
     put_meanwhile(rt, alloc, &list, room);
     assert_equal(rt, list.take(rt).map(|taken| taken.0), Some(6));
@@ -160,7 +160,7 @@ fn counts_and_clears_under_the_lock<
 >(rt: &W, alloc: Global) {
     let list = F::new_list(alloc).expect(rt, "memory is left");
     let list = Arc::new(alloc, list).expect(rt, "memory is left");
-    list.put(rt, Room::new(alloc).expect(rt, "memory is left"), 5);
+    list.give(rt, Room::new(alloc).expect(rt, "memory is left"), 5);
     assert_equal(rt, count_meanwhile(rt, alloc, &list, false), 1);
     assert_equal(rt, count_meanwhile(rt, alloc, &list, true), 0);
 }

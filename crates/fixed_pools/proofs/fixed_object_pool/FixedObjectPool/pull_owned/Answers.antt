@@ -1,11 +1,11 @@
 use Rattle.std.proofs.Common.{◌*◌, subst, sym, ◌+◌}
-use Rattle.fixed_pools.specs.FixedPool.{PullsFixed, returns_since, fixed_view, fixed_item, IsWithin}
+use Rattle.fixed_pools.specs.FixedPool.{PullsFixed, returns_since, fixed_view, IsWithin}
 use Rattle.fixed_pools.proofs.fixed_object_pool.FixedObjectPool.pull_owned.Goals as goal
 
 pub returns-clause-pulled : goal.returns-clause-pulled
 returns-clause-pulled g c =
     let Pulled = PullsFixed g.K.Clean.meets g.I.Init.answers g.R.Reset.leaves in
-    subst (λ pool. Pulled pool (fixed_item c.new.result).item) c.deref.ensures
+    subst (λ pool. Pulled pool c.new.result.item) c.deref.ensures
     (subst (Pulled c.deref.result.now) (sym c.new.ensures.item) record {
       from_pool = c.in-Ok.ensures.pulled;
       meets_condition = c.in-Ok.ensures.meets.0;
@@ -14,7 +14,7 @@ returns-clause-pulled g c =
 
 pub returns-clause-brief : goal.returns-clause-brief
 returns-clause-brief g c =
-    let view = (fixed_item c.new.result).known in
+    let view = c.new.result.known in
     let words = c.deref.result.now in
     subst (λ pool. IsWithin ((fixed_view pool).pages * (returns_since view + 1)) 0 0 view) c.deref.ensures
     (subst (λ known. IsWithin ((fixed_view words).pages * (returns_since known + 1)) 0 0 known)

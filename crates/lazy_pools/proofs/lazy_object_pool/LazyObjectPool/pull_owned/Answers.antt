@@ -1,7 +1,7 @@
 use Rattle.std.proofs.Common.{◌+◌, ◌*◌, subst, sym}
 use Rattle.std.specs.Prelude.{Option}
 use Rattle.fixed_pools.specs.FixedPool.{returns_since, IsWithin}
-use Rattle.lazy_pools.specs.LazyPool.{IsPulledLazily, lazy_init, lazy_view, lazy_item}
+use Rattle.lazy_pools.specs.LazyPool.{IsPulledLazily, lazy_init, lazy_view}
 use Rattle.pool_parts.specs.Answers.{IsMadeOrReset}
 use Rattle.pool_parts.specs.Page.{view_of}
 use Rattle.pool_parts.specs.declared.page.user_view.UserView.{UserView}
@@ -13,8 +13,8 @@ returns-in_ok-item-in-Ok-clause-pulled g c =
     let answers = g.I.Init.answers in
     let of_pool = IsPulledLazily (lazy_view words).identity (lazy_view words).opening (answers (lazy_init words)) in
     let item = c.in_ok-item-in-Ok.item in
-    let place = (lazy_item c.new.result).item in
-    let value = (lazy_item c.new.result).value in
+    let place = c.new.result.item in
+    let value = c.new.result.value in
     subst (λ pool. IsPulledLazily (lazy_view pool).identity (lazy_view pool).opening (answers (lazy_init pool)) place
     value)
     c.deref-in-Ok.ensures
@@ -35,7 +35,7 @@ returns-in_ok-item-in-Ok-clause-brief g c =
     let pages = (lazy_view c.deref.result.now).pages in
     let brief = λ (known : UserView (Option g.row.T.Denot)).
     IsWithin (pages * (returns_since known + 1)) 0 0 known in
-    let view = (lazy_item c.new.result).known in
+    let view = c.new.result.known in
     subst (λ pool. IsWithin ((lazy_view pool).pages * (returns_since view + 1)) 0 0 view)
     c.deref.ensures
     (subst brief (sym c.new.ensures.view)

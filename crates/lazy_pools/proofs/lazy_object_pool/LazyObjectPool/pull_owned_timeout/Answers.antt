@@ -1,5 +1,5 @@
 use Rattle.std.proofs.Common.{subst, sym}
-use Rattle.lazy_pools.specs.LazyPool.{IsPulledLazily, lazy_init, lazy_view, lazy_item}
+use Rattle.lazy_pools.specs.LazyPool.{IsPulledLazily, lazy_init, lazy_view}
 use Rattle.pool_parts.specs.Answers.{IsMadeOrReset}
 use Rattle.lazy_pools.proofs.lazy_object_pool.LazyObjectPool.pull_owned_timeout.Goals as goal
 
@@ -9,8 +9,8 @@ returns-in_ok-item-in-Some-clause-pulled g c =
     let answers = g.I.Init.answers in
     let of_pool = IsPulledLazily (lazy_view words).identity (lazy_view words).opening (answers (lazy_init words)) in
     let item = c.in_ok-item-in-Some.item in
-    let place = (lazy_item c.new.result).item in
-    let value = (lazy_item c.new.result).value in
+    let place = c.new.result.item in
+    let value = c.new.result.value in
     subst (λ pool. IsPulledLazily (lazy_view pool).identity (lazy_view pool).opening (answers (lazy_init pool)) place
     value)
     c.deref-in-Some.ensures

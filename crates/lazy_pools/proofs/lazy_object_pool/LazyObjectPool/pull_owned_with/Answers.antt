@@ -1,7 +1,7 @@
 use Rattle.std.proofs.Common.{◌+◌, ◌*◌, subst, sym, IfSome, Ok}
 use Rattle.std.specs.Prelude.{Option}
 use Rattle.fixed_pools.specs.FixedPool.{returns_since, IsWithin}
-use Rattle.lazy_pools.specs.LazyPool.{IsPulledLazily, lazy_view, lazy_item}
+use Rattle.lazy_pools.specs.LazyPool.{IsPulledLazily, lazy_view}
 use Rattle.pool_parts.specs.Page.{view_of}
 use Rattle.pool_parts.specs.declared.page.user_view.UserView.{UserView}
 use Rattle.lazy_pools.proofs.lazy_object_pool.LazyObjectPool.pull_owned_with.Goals as goal
@@ -12,8 +12,8 @@ returns-in-Ok-item_with-clause-pulled g c =
     let answers = λ (made : Option g.row.T.Denot). IfSome made (λ value. g.F.FnOnce.post c.args.make tt (Ok value)) in
     let of_pool = IsPulledLazily (lazy_view words).identity (lazy_view words).opening answers in
     let item = c.in-Ok-item_with.item in
-    let place = (lazy_item c.new.result).item in
-    let value = (lazy_item c.new.result).value in
+    let place = c.new.result.item in
+    let value = c.new.result.value in
     subst (λ pool. IsPulledLazily (lazy_view pool).identity (lazy_view pool).opening answers place value)
     c.deref-in-Ok-pull.ensures
     (subst (of_pool place) (sym c.new.ensures.value)
@@ -28,7 +28,7 @@ returns-in-Ok-item_with-clause-brief g c =
     let pages = (lazy_view c.deref.result.now).pages in
     let brief = λ (known : UserView (Option g.row.T.Denot)).
     IsWithin (pages * (returns_since known + 1)) 0 0 known in
-    let view = (lazy_item c.new.result).known in
+    let view = c.new.result.known in
     subst (λ pool. IsWithin ((lazy_view pool).pages * (returns_since view + 1)) 0 0 view)
     c.deref.ensures
     (subst brief (sym c.new.ensures.view)

@@ -5,9 +5,8 @@ use Rattle.linear_pools.proofs.linear_owned_reusable.LinearOwnedReusable.new.Goa
 
 pub invariant_of-result : goal.invariant_of-result
 invariant_of-result g c =
-    let split = c.into_holding-holding.ensures in
-    record {
-      on_page = ∣ subst (IsWalkedTo (first_page (arc_value c.args.pool).chain) c.args.number)
-          (sym (ap (λ item. item.page) split.item)) c.requires ∣₁;
-      in_page = split.in_page;
-    }
+    let split = c.into_parts-holding.ensures in (
+      ∣ subst (IsWalkedTo (first_page (arc_value c.args.pool).chain) c.args.number)
+          (sym (ap (λ item. item.page) split.item)) c.requires ∣₁,
+      split.in_page,
+    )

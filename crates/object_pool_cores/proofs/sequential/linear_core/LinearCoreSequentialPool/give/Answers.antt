@@ -4,8 +4,8 @@ use Rattle.object_pool_cores.proofs.sequential.linear_core.LinearCoreSequentialP
 pub unreachable-requires : goal.unreachable-requires
 unreachable-requires g c = c.in_default.not-Some c.requires.0 (c.number.ensures ∙ c.requires.1)
 
-pub put-requires-clause-out : goal.put-requires-clause-out
-put-requires-clause-out g c =
+pub give-requires-clause-out : goal.give-requires-clause-out
+give-requires-clause-out g c =
     let number : c.requires.0 ≡ c.in-Some.number = cc (c.requires.1) in
     rw number at c.requires.2
 
@@ -13,9 +13,9 @@ pub returns-clause-step : goal.returns-clause-step
 returns-clause-step g c =
     record {
       step = record {
-        before = c.put.ensures.before;
-        after = c.put.ensures.after;
-        limit = c.put.ensures.limit;
+        before = c.give.ensures.before;
+        after = c.give.ensures.after;
+        limit = c.give.ensures.limit;
         init = refl;
         reset = refl;
       };
@@ -27,9 +27,9 @@ returns-clause-step g c =
         was_out =
             let number : c.requires.0 ≡ c.in-Some.number = cc (c.requires.1) in
             rw number at c.requires.2;
-        returned = c.put.ensures.returned;
+        returned = c.give.ensures.returned;
       };
     }
 
 pub returns-clause-starts : goal.returns-clause-starts
-returns-clause-starts g c = rw (← c.in-Some.ensures) c.put.ensures.start
+returns-clause-starts g c = rw (← c.in-Some.ensures) c.give.ensures.start

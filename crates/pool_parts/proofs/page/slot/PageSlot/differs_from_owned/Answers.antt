@@ -1,7 +1,7 @@
 use Rattle.pool_parts.proofs.page.slot.PageSlot.differs_from_owned.Goals as goal
 
 pub returns-clause-same_item : goal.returns-clause-same_item
-returns-clause-same_item g c = c.are_two.ensures.same_one.same_item c.args.self.now.value
+returns-clause-same_item g c = rw (← c.self.view_is) (c.are_two.ensures.same_one.same_item c.self.inside.value)
 
 pub returns-clause-same_other : goal.returns-clause-same_other
-returns-clause-same_other g c = c.are_two.ensures.same_other.same_item c.args.other.now.value
+returns-clause-same_other g c = rw (← c.other.view_is) (c.are_two.ensures.same_other.same_item c.other.inside.value)

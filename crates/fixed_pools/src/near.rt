@@ -1,0 +1,59 @@
+//! A place at which one user of a fixed pool begins its pulls.
+ghost use Rattle.std.specs.Prelude.{◌≡◌, ◌*◌, IfOk, IfErr, ◌+◌};
+ghost use Rattle.pool_parts.specs.declared.pull_error.PullError.TheVariants.{Limit};
+
+use crate::fixed_object_pool::FixedObjectPool;
+use crate::fixed_reusable::FixedReusable;
+use pool_parts::PullError;
+use pool_parts::clean::{AnyValue, Clean};
+use pool_parts::closures::{Init, Reset};
+
+/// A fixed pool with a page at which pulls begin, for one thread that uses the pool again and
+/// again.
+///
+/// # Examples
+///
+/// ```rust
+/// let near = pool.near(); // one for each thread
+/// for _ in 0..1_000 {
+///     let mut item = near.pull()?; // meets no other thread, as long as the page has a free item
+///     *item = 5;
+/// }
+/// ```
+#[derive(Drop)]
+pub struct Near<'p, T, I: Init<T, K>, R: Reset<T, K>, K: Clean<T> = AnyValue> {
+    pool: &'p FixedObjectPool<T, I, R, K>,
+    page: usize,
+}
+
+impl<'p, T: Drop, I: Init<T, K>, R: Reset<T, K>, K: Clean<T>> Near<'p, T, I, R, K> {
+    ghost use Rattle.fixed_pools.specs.FixedPool.{fixed_view, PullsFixed, returns_since, IsWithin};
+
+    pub(crate) fn new(pool: &'p FixedObjectPool<T, I, R, K>, page: usize) -> Near<'p, T, I, R, K>
+        ensures { result.pool.now ≡ pool.now }
+    {
+        Near { pool, page }
+    }
+
+    /// Pulls a free item as [`FixedObjectPool::pull_near`] does, at the page of this place.
+    ///
+    /// # Errors
+    ///
+    /// `Limit`, as of [`FixedObjectPool::pull`].
+    pub fn pull(&self) -> Result<FixedReusable<'p, T, I, R, K>, PullError>
+        ensures pool { IfOk result (λ item. item.pool.now ≡ self.now.pool.now) }
+        ensures pulled { IfOk result (λ item.
+            PullsFixed K.meets I.answers R.leaves self.now.pool.now item.item) }
+        ensures brief { IfOk result (λ item.
+            IsWithin ((fixed_view self.now.pool.now).pages * (returns_since item.known
+            + 1)) 0 0 item.known) }
+        ensures refused { IfErr result (λ error. error ≡ Limit) }
+    {
+        self.pool.pull_near(self.page)
+    }
+
+    /// Returns the number of the page at which pulls begin, counted from 0.
+    pub fn page_number(&self) -> usize {
+        self.page
+    }
+}

@@ -1,0 +1,35 @@
+use Rattle.std.proofs.Common.{◌+◌, ◌*◌, subst, sym}
+use Rattle.std.specs.Prelude.{Option}
+use Rattle.fixed_pools.specs.FixedPool.{returns_since, IsWithin}
+use Rattle.lazy_pools.specs.LazyPool.{IsPulledLazily, lazy_init, lazy_view}
+use Rattle.pool_parts.specs.Answers.{IsMadeOrReset}
+use Rattle.pool_parts.specs.Page.{view_of}
+use Rattle.pool_parts.specs.declared.page.user_view.UserView.{UserView}
+use Rattle.lazy_pools.proofs.near.Near.pull.Goals as goal
+
+pub returns-in-Ok-clause-pulled : goal.returns-in-Ok-clause-pulled
+returns-in-Ok-clause-pulled g c =
+    let words = c.args.self.now.pool.now in
+    let answers = g.I.Init.answers in
+    let of_pool = IsPulledLazily (lazy_view words).identity (lazy_view words).opening (answers (lazy_init words)) in
+    let item = c.in_ok-item-in-Ok.item in
+    let place = c.new.result.item in
+    subst (of_pool place) (sym c.new.ensures.value)
+    (subst (λ placed. of_pool placed item.value) (sym c.new.ensures.place) c.in_ok-item-in-Ok.ensures.pulled)
+
+pub returns-in-Ok-clause-meets : goal.returns-in-Ok-clause-meets
+returns-in-Ok-clause-meets g c =
+    subst g.K.Clean.meets (sym c.new.ensures.value) c.in_ok-item-in-Ok.ensures.meets
+
+pub returns-in-Ok-clause-made_or_reset : goal.returns-in-Ok-clause-made_or_reset
+returns-in-Ok-clause-made_or_reset g c =
+    subst (IsMadeOrReset g.I.Init.answers g.R.Reset.leaves) (sym c.new.ensures.value)
+    c.in_ok-item-in-Ok.ensures.made_or_reset
+
+pub returns-in-Ok-clause-brief : goal.returns-in-Ok-clause-brief
+returns-in-Ok-clause-brief g c =
+    let pages = (lazy_view c.args.self.now.pool.now).pages in
+    let brief = λ (known : UserView (Option g.row.T.Denot)).
+    IsWithin (pages * (returns_since known + 1)) 0 0 known in
+    subst brief (sym c.new.ensures.view)
+    (subst (λ held. brief (view_of held.seat)) (sym c.in_ok-item-in-Ok.ensures.same) c.in-Ok.ensures.brief)

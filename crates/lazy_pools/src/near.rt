@@ -1,0 +1,74 @@
+//! A place at which one user of a lazy pool begins its pulls.
+ghost use Rattle.std.specs.Prelude.{◌≡◌, ◌*◌, None, IfOk, IfErr, ◌+◌, ⊤};
+
+use crate::lazy_object_pool::LazyObjectPool;
+use crate::lazy_reusable::LazyReusable;
+use pool_parts::PullError;
+use pool_parts::clean::{AnyValue, Clean};
+use pool_parts::closures::{Init, Reset};
+
+/// A lazy pool with a page at which pulls begin, for one thread that uses the pool again and again.
+///
+/// Its pulls make items on a page of their own. So the pool may make more items than were in use at
+/// once.
+///
+/// # Examples
+///
+/// ```rust
+/// let near = pool.near(); // one for each thread
+/// for _ in 0..1_000 {
+///     let mut item = near.pull()?; // meets no other thread, as long as the page has a free item
+///     *item = 5;
+/// }
+/// ```
+#[derive(Drop)]
+pub struct Near<'p, T, I: Init<T, K>, R: Reset<T, K>, K: Clean<T> = AnyValue> {
+    pool: &'p LazyObjectPool<T, I, R, K>,
+    page: usize,
+}
+
+impl<'p, T: Drop, I: Init<T, K>, R: Reset<T, K>, K: Clean<T>> Near<'p, T, I, R, K> {
+    ghost use Rattle.pool_parts.specs.Answers.{IsMadeOrReset, Refuses};
+    ghost use Rattle.fixed_pools.specs.FixedPool.{returns_since, IsWithin};
+    ghost use Rattle.lazy_pools.specs.LazyPool.{IsPulledLazily, lazy_init, lazy_view};
+
+    pub(crate) fn new(pool: &'p LazyObjectPool<T, I, R, K>, page: usize) -> Near<'p, T, I, R, K>
+        ensures { result.pool.now ≡ pool.now }
+    {
+        Near { pool, page }
+    }
+
+    /// Pulls a free item as [`LazyObjectPool::pull`] does, but begins at the page of this place,
+    /// and goes on at the hinted one.
+    ///
+    /// # Errors
+    ///
+    /// As of [`LazyObjectPool::pull`].
+    pub fn pull(&self) -> Result<LazyReusable<'p, T, I, R, K>, PullError>
+        ensures pool { IfOk result (λ item. item.pool.now ≡ self.now.pool.now) }
+        ensures pulled { IfOk result (λ item. IsPulledLazily (lazy_view self.now.pool.now).identity
+            (lazy_view self.now.pool.now).opening
+            (I.answers (lazy_init self.now.pool.now)) item.item item.value) }
+        ensures meets { IfOk result (λ item. K.meets item.value) }
+        ensures made_or_reset { IfOk result (λ item. IsMadeOrReset I.answers R.leaves item.value) }
+        ensures brief { IfOk result (λ item.
+            IsWithin ((lazy_view self.now.pool.now).pages * (returns_since item.known
+            + 1)) 0 0 item.known) }
+        ensures refused { IfErr result
+            (Refuses ⊥ (I.answers (lazy_init self.now.pool.now) None) ⊤) }
+    {
+        let pool = self.pool;
+        match pool.places.pull_near(pool.places.page_round(self.page)) {
+            Ok(pulled) => {
+                let item = pool.item(pulled)?;
+                Ok(LazyReusable::new(pool, item))
+            }
+            Err(_) => Err(PullError::Limit),
+        }
+    }
+
+    /// Returns the number of the page at which pulls begin, counted from 0.
+    pub fn page_number(&self) -> usize {
+        self.page
+    }
+}

@@ -1,0 +1,128 @@
+//! Pulls that make their item by a closure of the call, whose error reaches the caller.
+ghost use Rattle.std.specs.Prelude.{◌≡◌, ◌*◌, ⊤, Ok, Err, IfOk, IfErr, ◌+◌, IfSome};
+ghost use Rattle.pool_parts.specs.Answers.{IsMadeOrReset};
+ghost use Rattle.std.specs.Arc.{arc_value};
+
+use crate::lazy_object_pool::LazyObjectPool;
+use crate::lazy_object_pool::lazy_refused::PullWithError;
+use crate::lazy_owned_reusable::LazyOwnedReusable;
+use crate::lazy_reusable::LazyReusable;
+use fixed_pools::fixed_object_pool::items::PulledItem;
+use pool_parts::clean::Clean;
+use pool_parts::closures::{Init, Reset};
+use std::sync::Arc;
+
+impl<T: Drop, I: Init<T, K>, R: Reset<T, K>, K: Clean<T>> LazyObjectPool<T, I, R, K> {
+    ghost use Rattle.lazy_pools.specs.LazyPool.{IsPulledLazily, RefusesWith, lazy_view};
+    ghost use Rattle.pool_parts.specs.Page.{held_item};
+    ghost use Rattle.fixed_pools.specs.FixedPool.{returns_since, IsPulledFrom, IsWithin};
+
+    /// Pulls a free item as `pull` does. If its place is empty, `make` makes the value in place of
+    /// the pool's `init`. It runs under no lock, and the item is in use meanwhile.
+    ///
+    /// # Errors
+    ///
+    /// - `Limit` with a note as evidence that no item was free at one moment of the call, as `pull`
+    ///   says.
+    /// - `Make` with the error of `make`. The place is free again, and empty.
+    pub fn pull_with<E: Drop, F: FnOnce() -> Result<T, E> + Drop>(
+        &self,
+        make: F,
+    ) -> Result<LazyReusable<'_, T, I, R, K>, PullWithError<T, E>>
+        requires may_call { F.pre make }
+        requires each_meets { (value : T) → F.post make (Ok value) → K.meets value }
+        ensures pool { IfOk result (λ item. item.pool.now ≡ self.now) }
+        ensures pulled { IfOk result (λ item.
+            IsPulledLazily (lazy_view self.now).identity (lazy_view self.now).opening
+            (λ made. IfSome made (λ value. F.post make (Ok value))) item.item item.value) }
+        ensures meets { IfOk result (λ item. K.meets item.value) }
+        ensures brief { IfOk result (λ item.
+            IsWithin ((lazy_view self.now).pages * (returns_since item.known + 1)) 0 0 item.known) }
+        ensures refused { IfErr result
+            (RefusesWith (lazy_view self.now).identity (lazy_view self.now).opening ⊥
+            (λ cause. F.post make (Err cause))) }
+    {
+        match self.places.pull() {
+            Ok(pulled) => {
+                let item = self.item_with(pulled, make)?;
+                Ok(LazyReusable::new(self, item))
+            }
+            Err(full) => Err(PullWithError::Limit(full)),
+        }
+    }
+
+    /// Pulls a free item as `pull_with` does. The reusable owns the pool with others, which are one
+    /// more before an item is taken.
+    ///
+    /// # Errors
+    ///
+    /// As `pull_with`, and `Memory` if the pool can have no more owners.
+    pub fn pull_owned_with<E: Drop, F: FnOnce() -> Result<T, E> + Drop>(
+        self: &Arc<Self>,
+        make: F,
+    ) -> Result<LazyOwnedReusable<T, I, R, K>, PullWithError<T, E>>
+        requires may_call { F.pre make }
+        requires each_meets { (value : T) → F.post make (Ok value) → K.meets value }
+        ensures pool { IfOk result (λ item. arc_value item.pool ≡ arc_value self.now) }
+        ensures pulled { IfOk result (λ item.
+            IsPulledLazily (lazy_view (arc_value self.now)).identity
+            (lazy_view (arc_value self.now)).opening
+            (λ made. IfSome made (λ value. F.post make (Ok value))) item.item item.value) }
+        ensures meets { IfOk result (λ item. K.meets item.value) }
+        ensures brief { IfOk result (λ item.
+            IsWithin ((lazy_view (arc_value self.now)).pages * (returns_since item.known
+            + 1)) 0 0 item.known) }
+        ensures refused { IfErr result (RefusesWith (lazy_view (arc_value self.now)).identity
+            (lazy_view (arc_value self.now)).opening ⊤ (λ cause. F.post make (Err cause))) }
+    {
+        let Ok(owner) = Arc::try_clone(self) else {
+            return Err(PullWithError::Memory);
+        };
+        match self.places.pull() {
+            Ok(pulled) => match self.item_with(pulled, make) {
+                Ok(item) => Ok(LazyOwnedReusable::new(owner, item)),
+                Err(error) => Err(error),
+            },
+            Err(full) => Err(PullWithError::Limit(full)),
+        }
+    }
+
+    /// Returns the item of a place that was taken, and makes its value by the closure if the place
+    /// is empty. If that fails, the place is returned.
+    fn item_with<E: Drop, F: FnOnce() -> Result<T, E> + Drop>(
+        &self,
+        pulled: PulledItem<Option<T>>,
+        make: F,
+    ) -> Result<PulledItem<Option<T>, T>, PullWithError<T, E>>
+        requires pulled { IsPulledFrom (lazy_view self.now).identity (lazy_view self.now).opening
+            (held_item pulled.holding pulled.value) }
+        requires kept { IfSome pulled.value (λ value.
+            K.meets value × IsMadeOrReset I.answers R.leaves value) }
+        requires may_call { F.pre make }
+        requires each_meets { (value : T) → F.post make (Ok value) → K.meets value }
+        ensures same { IfOk result (λ item. item.holding ≡ pulled.holding) }
+        ensures pulled { IfOk result (λ item.
+            IsPulledLazily (lazy_view self.now).identity (lazy_view self.now).opening
+            (λ made. IfSome made (λ value. F.post make (Ok value)))
+            (held_item item.holding (Some item.value)) item.value) }
+        ensures meets { IfOk result (λ item. K.meets item.value) }
+        ensures refused { IfErr result
+            (RefusesWith (lazy_view self.now).identity (lazy_view self.now).opening ⊥
+            (λ cause. F.post make (Err cause))) }
+    {
+        let PulledItem { holding, value } = pulled;
+        if let Some(value) = value {
+            return Ok(PulledItem { holding, value });
+        }
+        match make() {
+            Ok(value) => {
+                self.count_made();
+                Ok(PulledItem { holding, value })
+            }
+            Err(cause) => {
+                self.give_place(holding, None);
+                Err(PullWithError::Make(cause))
+            }
+        }
+    }
+}
