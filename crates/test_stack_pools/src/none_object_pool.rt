@@ -50,9 +50,9 @@ fn pulled_and_written() -> Result<(u32, u32), PullError>
     Ok((made, *item))
 }
 
-/// A write changes the value alone.
+/// A write changes the value.
 fn write(item: &mut NoneReusable<u32>, value: u32)
-    ensures { item.new ≡ record item.old { value = value } }
+    ensures { item.new ≡ value }
 {
     **item = value;
 }

@@ -31,7 +31,9 @@ fn write<K: Clean<u32>, I: Init<u32, K>, R: Reset<u32, K>>(
     item: &mut LinearReusable<'_, u32, I, R, K>,
     value: u32,
 )
-    ensures { item.new ≡ record item.old { value = value } }
+    ensures item { item.new.item ≡ record item.old.item { value = value } }
+    ensures pool { item.new.pool ≡ item.old.pool }
+    ensures number { item.new.number ≡ item.old.number }
 {
     **item = value;
 }
@@ -40,7 +42,9 @@ fn write_owned<K: Clean<u32>, I: Init<u32, K>, R: Reset<u32, K>>(
     item: &mut LinearOwnedReusable<u32, I, R, K>,
     value: u32,
 )
-    ensures { item.new ≡ record item.old { value = value } }
+    ensures item { item.new.item ≡ record item.old.item { value = value } }
+    ensures pool { item.new.pool ≡ item.old.pool }
+    ensures number { item.new.number ≡ item.old.number }
 {
     **item = value;
 }

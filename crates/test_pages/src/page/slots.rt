@@ -20,13 +20,13 @@ impl Clean<u32> for Zero {
 
 /// A write through a slot changes the value alone.
 fn write<K: Clean<u32>>(slot: &mut PageSlot<'_, u32, K>, value: u32)
-    ensures { slot.new ≡ record slot.old { value = value } }
+    ensures { slot.new ≡ record slot.old { item = record slot.old.item { value = value } } }
 {
     **slot = value;
 }
 
 fn write_owned<K: Clean<u32>>(slot: &mut OwnedSlot<u32, K>, value: u32)
-    ensures { slot.new ≡ record slot.old { value = value } }
+    ensures { slot.new ≡ record slot.old { item = record slot.old.item { value = value } } }
 {
     **slot = value;
 }
