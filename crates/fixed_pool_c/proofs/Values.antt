@@ -3,7 +3,7 @@ use Rattle.std.proofs.Common.{◌≡◌, ℕ, List, [], ◌∷◌, ◌++◌, ref
 use mathlib.Core.Bool.{Bool, true, false, ◌&&◌}
 use lib.Dec.{T}
 use seplogic.Ra.Ura.{Ura}
-use mir.Syntax.{impl, tnil, dnil}
+use mir.Syntax.{Dict, impl, tnil, dnil}
 use mir.Raw.{raw as bare}
 use mir.Val.{Val, vptr, vstruct, vcons, vnil, of_list, has_ty, WT}
 use base.Logic.{SProp, ent, guard, never, fst∗, snd∗, via, guard_i}
@@ -26,6 +26,7 @@ use Rattle.std.specs.declared.alloc.Allocator.{Ghosts}
 use Rattle.std.proofs.alloc.Calls.{Al, handle_tells}
 use Rattle.std.proofs.cell.Inside.{Good}
 use Rattle.std_alloc.specs.Box.Ownership.{box_owns}
+use Rattle.std_alloc.proofs.BoxSteps.Form.{Bx}
 use Rattle.std_alloc.proofs.ResultValues.{and_tt}
 use Rattle.std_heap.proofs.GlobalToken.{dealloc_token-Testable}
 use Rattle.fixed_pool_c.specs.contracts.loose.Loose as loose
@@ -49,6 +50,11 @@ pub both_tt : (x y : Bool) → T x → T y → T (x && (y && true))
 both_tt true true s t = tt
 both_tt true false s t = absurd t
 both_tt false y s t = absurd s
+
+-- a box with its allocator, as the steps on boxes take it
+abbrev pub boxed : (R : RattleType) → Laws R → (Z : RattleType) → Laws Z → Ghosts Z.Denot → Dict → Dict → Bx
+boxed R L Z LZ g d drops =
+    record { row = R; laws = L; al = record { row = Z; laws = LZ; g = g; d = d; drops = drops } }
 
 module _ (R Z : RattleType) (L : Laws Z) (g : Ghosts Z.Denot) where
   abbrev pub Loose : RattleType

@@ -2,9 +2,9 @@
 -- is empty, or its pool and its hand.
 use Rattle.std.specs.Prelude.{◌≡◌, ℕ, ◌+◌, ◌*◌, ◌/◌, ◌⊎◌, ⊤, Option, Some, None}
 use Rattle.std.specs.Arc.{arc_value}
-use Rattle.fixed_pools.specs.FixedPool.{IsPulledWith, IsFullNoteAfter, returns_since, IsWithin, fixed_view}
+use Rattle.fixed_pools.specs.FixedPool.{IsFullNote, returns_since, IsWithin, fixed_view}
 use Rattle.pool_parts.specs.Page.{IsGivenBack, IsNoteOf, view_of}
-use Rattle.pool_parts.specs.Item.{IsFilled}
+use Rattle.pool_parts.specs.Item.{IsFilled, IsPulled}
 use Rattle.pool_parts.specs.declared.page.note.PageNote.{PageNote}
 use Rattle.fixed_pool_c.specs.Shows.{PlacePool, OutPlace, hand_pool, last_of}
 use Rattle.fixed_pool_c.specs.declared.answer.TheConstants.{DONE, ALL_OUT, HOLDS_ONE, HOLDS_NONE, NO_POOL, IN_USE}
@@ -23,7 +23,7 @@ pub record Pulls (old new : Held) (place : ℕ) : Type 0 where
   pub out : OutPlace
   pub holds : new.hand ≡ Some (Full out)
   pub same_pool : arc_value out.pool ≡ arc_value idle.pool
-  pub pulled : IsPulledWith (fixed_view (arc_value idle.pool)).identity idle.note out.item
+  pub pulled : IsPulled (fixed_view (arc_value idle.pool)).identity (view_of idle.note.seat) out.item
   pub number : place ≡ out.item.id
   -- the pull's user made so many loads and tries at most in the first pass, and in a further one
   -- for each return meanwhile
@@ -38,7 +38,7 @@ pub record FindsAllOut (old new : Held) : Type 0 where
   pub later : Idle
   pub holds_none : new.hand ≡ Some (Empty later)
   pub same_pool : arc_value later.pool ≡ arc_value idle.pool
-  pub full : IsFullNoteAfter (fixed_view (arc_value idle.pool)).identity idle.note later.note
+  pub full : IsFullNote (fixed_view (arc_value idle.pool)).identity (view_of idle.note.seat) later.note
   pub brief : IsWithin ((fixed_view (arc_value idle.pool)).pages * (returns_since (view_of later.note.seat) + 2))
       (view_of idle.note.seat).loads (view_of idle.note.seat).tries (view_of later.note.seat)
 

@@ -1,7 +1,8 @@
 -- What the exported calls on places by themselves answer, told by what a place shows before and
 -- after, and by the pool of the handle.
 use Rattle.std.specs.Prelude.{◌≡◌, ℕ, ◌*◌, ◌⊎◌, ⊤, Option, Some, None, IfSome, ◌+◌}
-use Rattle.fixed_pools.specs.FixedPool.{IsPulledFrom, IsFullNote, returns_since, fixed_view, IsWithin}
+use Rattle.fixed_pools.specs.FixedPool.{IsFullNote, returns_since, fixed_view, IsWithin}
+use Rattle.pool_parts.specs.Item.{IsPulled, new_user}
 use Rattle.pool_parts.specs.Page.{held_item, view_of, IsGivenBack}
 use Rattle.pool_parts.specs.declared.page.holding.Holding.{Holding}
 use Rattle.pool_parts.specs.declared.page.note.PageNote.{PageNote}
@@ -35,7 +36,8 @@ IsOfPool right handle = IfSome right (λ holding. IfSome handle (λ held. IfSome
 pub record PullsPlace (new : Place) (pool : PlacePool) : Type 0 where
   pub holding : Holding ⊤
   pub holds : new.right.held ≡ Some holding
-  pub pulled : IsPulledFrom (fixed_view pool).identity (fixed_view pool).opening (held_item holding tt)
+  pub pulled : IsPulled (fixed_view pool).identity (new_user (fixed_view pool).opening (view_of holding.seat).user)
+      (held_item holding tt)
   pub number : new.number ≡ (held_item holding tt).id
   -- the pull's user made so many loads and tries at most in the first pass, and in a further one
   -- for each return meanwhile
@@ -46,7 +48,7 @@ pub record PullsPlace (new : Place) (pool : PlacePool) : Type 0 where
 pub record FindsNoPlace (new : Place) (pool : PlacePool) : Type 0 where
   pub note : PageNote ⊤
   pub left : IsLeftWith note new
-  pub full : IsFullNote (fixed_view pool).identity (fixed_view pool).opening note
+  pub full : IsFullNote (fixed_view pool).identity (new_user (fixed_view pool).opening (view_of note.seat).user) note
   pub brief : IsWithin ((fixed_view pool).pages * (returns_since (view_of note.seat) + 2)) 0 0 (view_of note.seat)
 
 -- the place held one, which was returned to the pool; the place is empty, and its note's history

@@ -1,40 +1,37 @@
 -- What a pool answers, told by what the answer shows and no longer by its user's view.
 use Rattle.pool_parts.proofs.Views.{StartsFrom}
-use Rattle.std.proofs.Common.{◌≡◌, List, Option, ℕ, ◌+◌, ◌*◌, ◌<◌, ◌≤◌, ◌∙◌, sym, subst, arith, None}
+use Rattle.std.proofs.Common.{◌≡◌, ℕ, ◌+◌, ◌*◌, ◌<◌, ◌≤◌, ◌∙◌, sym, subst, arith, None}
 use Rattle.atomic_table.specs.Seated.{TableId}
 use Rattle.pool_parts.specs.declared.page.full_seen.FullSeen.{FullSeen}
 use Rattle.pool_parts.specs.declared.page.note.PageNote.{PageNote}
 use Rattle.pool_parts.specs.declared.page.user_view.UserView.{UserView}
-use Rattle.fixed_pools.specs.FixedPool.{IsPulledWith, IsFullSince, returns_between, returns_since, IsWithin, IsFullNote}
+use Rattle.fixed_pools.specs.FixedPool.{IsFullSince, returns_between, returns_since, IsWithin, IsFullNote}
 use Rattle.fixed_pools.specs.FixedCount.{ReadsOn}
-use Rattle.pool_parts.specs.Page.{view_of}
 use Rattle.pool_parts.specs.Slot.{IsAllOut}
 use Rattle.pool_parts.specs.PageRule.{User, IsSound, MissesAll, TakesOne}
-use Rattle.pool_parts.specs.Ledger.{WasOutBetween}
+use Rattle.pool_parts.specs.Item.{IsPulled}
+use Rattle.pool_parts.specs.Ledger.{IsPrefixOf, WasOutBetween}
 use Rattle.pool_parts.proofs.Ledger.{legal_of}
-use Rattle.pool_parts.proofs.PageAnswers.{pulled_after, found_out, was_out_from, knows_out}
-use Rattle.pool_parts.specs.Page.{item_known}
+use Rattle.pool_parts.proofs.PageAnswers.{item_known, pulled, pulled_since, found_out, out_since, knows_out}
 
 module _ {T : Type 0} where
-  -- the item that a pull by a note took
-  pub item_pulled_with : (meets : T → Type 0) (pool : TableId) (note : PageNote T) (start known : User T)
-      (seated : TableId) (id : ℕ) (value : T)
-      → StartsFrom (view_of note.seat) start.0 → TakesOne meets pool.slots id value None start known → seated ≡ pool
-      → IsPulledWith pool note (item_known seated known.0 id value)
-  item_pulled_with meets pool note start known seated id value starts taken same = record {
-    of_pool = same;
-    in_pool = taken.in_pool;
-    pulled = pulled_after seated start.0 known.0 id value taken.goes_on note starts;
-  }
+  -- the item that a pull took
+  pub item_pulled : (meets : T → Type 0) (pool : TableId) (before : UserView T) (start known : User T)
+      (seated : TableId) (id : ℕ) (value : T) → StartsFrom before start.0 → IsSound start.0
+      → TakesOne meets pool.slots id value None start known → seated ≡ pool
+      → IsPulled pool before (item_known seated known.0 id value)
+  item_pulled meets pool before start known seated id value starts sound taken same =
+      pulled_since pool before start.0 _ starts sound
+      (pulled pool start.0 known.0 seated id value sound taken.goes_on same taken.in_pool)
 
   -- what a user has seen that observed each item taken
-  pub found_all_out : (count : ℕ) (pool : TableId) (opening : List (Option T)) (start : User T) (seen : FullSeen T)
-      → seen.seat.table_id ≡ pool → start.0.opening ≡ opening → IsSound start.0 → MissesAll 0 count start seen.seat.me
-      → IsAllOut count pool opening seen
-  found_all_out count pool opening start seen of_pool opened sound missed =
-      let known = seen.seat.me.0 in
-      found_out count pool opening start.0 seen of_pool opened missed.goes_on (λ id within.
-      was_out_from start.0 known id missed.goes_on sound.since_load (missed.each_was_out id (omega arith) within))
+  pub found_all_out : (count : ℕ) (pool : TableId) (before : UserView T) (start : User T) (seen : FullSeen T)
+      → seen.seat.table_id ≡ pool → StartsFrom before start.0 → MissesAll 0 count start seen.seat.me
+      → IsAllOut count pool before seen
+  found_all_out count pool before start seen of_pool starts missed =
+      out_since count pool before start.0 seen starts
+      (found_out count pool start.0 seen of_pool starts.from_now missed.goes_on
+      (λ id within. missed.each_was_out id (omega arith) within))
 
   pub knows_all_out : (count : ℕ) (start known : User T) → IsSound start.0 → MissesAll 0 count start known → (id : ℕ)
       → id < count → WasOutBetween known.0.opening known.0.since known.0.operations id
@@ -42,20 +39,24 @@ module _ {T : Type 0} where
       knows_out start.0 known.0 id missed.goes_on sound.since_load (missed.each_was_out id (omega arith) within)
 
   -- what a user has seen that found the pool full
-  pub found_full : (pool : TableId) (opening : List (Option T)) (start : User T) (note : PageNote T)
-      → note.seat.table_id ≡ pool → start.0.opening ≡ opening → start.0.since ≡ start.0.operations
+  pub found_full : (pool : TableId) (before : UserView T) (start : User T) (note : PageNote T)
+      → note.seat.table_id ≡ pool → StartsFrom before start.0
       → ReadsOn start note.seat.me × IsFullSince pool.slots start.0.operations note.seat.me.0
-      → IsFullNote pool opening note
-  found_full pool opening start note of_pool opened from_now found =
-      let known = note.seat.me in
+      → IsFullNote pool before note
+  found_full pool before start note of_pool starts found =
+      let known = note.seat.me.0 in
       let goes = found.0.goes_on in
-      let same = goes.same_opening ∙ opened in
+      let since = goes.same_since ∙ starts.from_now in
+      let same = goes.same_opening ∙ starts.same_opening in
       record {
         of_pool = of_pool;
+        same_user = goes.same_user ∙ starts.same_user;
         same_opening = same;
-        legal = legal_of opening known.0 same goes.sound;
+        legal = legal_of before.opening known same goes.sound;
+        after_known = subst (IsPrefixOf before.operations) (sym since) starts.after_known;
         goes_on = goes.sound.since_load;
-        full = subst (λ since. IsFullSince pool.slots since known.0) (sym (goes.same_since ∙ from_now)) found.1;
+        full = subst (λ since. IsFullSince pool.slots since known) (sym since) found.1;
+        same_operations = goes.sound.own_operations ∙ goes.own ∙ starts.own_same ∙ sym starts.own_before;
       }
 
   -- what a call has read and tried whose user had done nothing, by the returns since its first load

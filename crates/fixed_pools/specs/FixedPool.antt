@@ -1,11 +1,11 @@
 -- What a fixed pool and its reusables show, and what its answers show: of a pull, of a refusal, of a return.
-use Rattle.std.specs.Prelude.{◌≡◌, ◌⊎◌, ℕ, ◌+◌, ◌-◌, ◌*◌, ◌^◌, ◌<◌, ◌≤◌, List, Option, true}
+use Rattle.std.specs.Prelude.{◌≡◌, ◌⊎◌, ℕ, ◌+◌, ◌-◌, ◌*◌, ◌^◌, ◌≤◌, List, Option, true}
 use Rattle.std.specs.Borrow.{Lends, Fml, RattleType, MutBor}
 use Rattle.atomic_table.specs.Seated.{TableId}
 use Rattle.pool_parts.specs.Answers.{IsMadeOrReset}
 use Rattle.pool_parts.specs.Item.{Item, PulledView, IsPulled}
 use Rattle.pool_parts.specs.Ledger.{History, operations_of, IsLegal, IsPrefixOf, WasFullBetween, returns_among}
-use Rattle.pool_parts.specs.Page.{view_of, IsPulledAfter}
+use Rattle.pool_parts.specs.Page.{view_of}
 use Rattle.pool_parts.specs.declared.page.note.PageNote.{PageNote}
 use Rattle.pool_parts.specs.declared.page.user_view.UserView.{UserView}
 use Rattle.fixed_pools.specs.contracts.fixed_reusable.FixedReusableOf.{the_row}
@@ -38,19 +38,6 @@ module _ {T I R K : Type 0} where
       }
 
 module _ {T : Type 0} where
-  -- an item of this pool, pulled as the pool's one history tells, which begins with these values
-  pub record IsPulledFrom (pool : TableId) (opening : List (Option T)) (item : Item T) : Type 0 where
-    pub of_pool : item.page ≡ pool
-    pub in_pool : item.id < pool.slots
-    pub same_opening : item.opening ≡ opening
-    pub pulled : IsPulled item
-
-  -- the same of a pull by a note: it stands after all that the note knew
-  pub record IsPulledWith (pool : TableId) (note : PageNote T) (item : Item T) : Type 0 where
-    pub of_pool : item.page ≡ pool
-    pub in_pool : item.id < pool.slots
-    pub pulled : IsPulledAfter note item
-
   -- how many returns came between two places of a pool's history
   abbrev pub returns_between : History T → History T → ℕ
   returns_between from to = returns_among (λ id. true) to - returns_among (λ id. true) from
@@ -65,23 +52,18 @@ module _ {T : Type 0} where
   IsFullSince items from known =
       WasFullBetween known.opening from known.operations items ⊎ (2 ^ 32 ≤ returns_between from known.operations)
 
-  -- a pull was refused, whose user had done nothing: this pool was full since its first load, by a legal history
-  pub record IsFullNote (pool : TableId) (opening : List (Option T)) (note : PageNote T) : Type 0 where
+  -- a pull was refused: since its first load, which stands after all that its user had known, this pool was full
+  pub record IsFullNote (pool : TableId) (before : UserView T) (note : PageNote T) : Type 0 where
     pub of_pool : note.seat.table_id ≡ pool
-    pub same_opening : (view_of note.seat).opening ≡ opening
-    pub legal : IsLegal opening (view_of note.seat).operations
+    pub same_user : (view_of note.seat).user ≡ before.user
+    pub same_opening : (view_of note.seat).opening ≡ before.opening
+    pub legal : IsLegal before.opening (view_of note.seat).operations
+    pub after_known : IsPrefixOf before.operations (view_of note.seat).since
     pub goes_on : IsPrefixOf (view_of note.seat).since (view_of note.seat).operations
     pub full : IsFullSince pool.slots (view_of note.seat).since (view_of note.seat)
-
-  -- the same of a pull by a note, which keeps the evidence: the pull's first load stands after all that the note knew
-  pub record IsFullNoteAfter (pool : TableId) (old new : PageNote T) : Type 0 where
-    pub full : IsFullNote pool (view_of old.seat).opening new
-    pub same_user : (view_of new.seat).user ≡ (view_of old.seat).user
-    pub after_note : IsPrefixOf (view_of old.seat).operations (view_of new.seat).since
     -- its user did nothing
-    pub same_operations : operations_of (view_of new.seat).user (view_of new.seat).operations
-        ≡ operations_of (view_of old.seat).user
-        (view_of old.seat).operations
+    pub same_operations : operations_of (view_of note.seat).user (view_of note.seat).operations
+        ≡ operations_of before.user before.operations
 
   -- a user that had read so many words and tried so many bits has read so many more words at most, and tried 32 bits
   -- more for each at most
@@ -90,17 +72,11 @@ module _ {T : Type 0} where
     pub tries : known.tries ≤ tried + 32 * words
 
 module _ {T I R K : Type 0} where
-  -- a pull of this pool gave this item: its value meets the pool's condition, and was made by init or left by reset
-  pub record PullsFixed (meets : T → Type 0) (answers : I → Option T → Type 0) (leaves : R → T → T → Type 0)
-      (pool : FixedObjectPool T I R K) (item : Item T) : Type 0 where
-    pub from_pool : IsPulledFrom (fixed_view pool).identity (fixed_view pool).opening item
-    pub meets_condition : meets item.value
-    pub made_or_reset : IsMadeOrReset answers leaves item.value
-
-  -- the same of a pull by a note
-  pub record PullsFixedAfter (meets : T → Type 0) (answers : I → Option T → Type 0) (leaves : R → T → T → Type 0)
-      (pool : FixedObjectPool T I R K) (note : PageNote T) (item : Item T) : Type 0 where
-    pub after_note : IsPulledWith (fixed_view pool).identity note item
+  -- what a pull of this pool gives to a user that had known this before: an item, whose value meets the pool's
+  -- condition, and was made by init or left by reset
+  pub record Pulls (meets : T → Type 0) (answers : I → Option T → Type 0) (leaves : R → T → T → Type 0)
+      (pool : FixedObjectPool T I R K) (before : UserView T) (item : Item T) : Type 0 where
+    pub pulled : IsPulled (fixed_view pool).identity before item
     pub meets_condition : meets item.value
     pub made_or_reset : IsMadeOrReset answers leaves item.value
 

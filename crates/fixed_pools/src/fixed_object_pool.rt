@@ -93,11 +93,10 @@ impl<T: Drop, I: Init<T, K>, R: Reset<T, K>, K: Clean<T>> Drop for FixedObjectPo
 }
 
 impl<T: Drop, I: Init<T, K>, R: Reset<T, K>, K: Clean<T>> FixedObjectPool<T, I, R, K> {
-    ghost use Rattle.fixed_pools.specs.FixedPool.{PullsFixed, PullsFixedAfter, IsFullNote, IsFullNoteAfter, returns_since, IsWithin, fixed_view};
+    ghost use Rattle.fixed_pools.specs.FixedPool.{Pulls, IsFullNote, returns_since, IsWithin, fixed_view};
     ghost use Rattle.pool_parts.specs.Page.{view_of, IsGivenBack, held_item, IsNoteOf, HasLearned};
-    ghost use Rattle.pool_parts.specs.Ledger.{IsPrefixOf};
     ghost use Rattle.pool_parts.specs.Slot.{IsAllOut};
-    ghost use Rattle.pool_parts.specs.Item.{IsFilled};
+    ghost use Rattle.pool_parts.specs.Item.{IsFilled, new_user};
     ghost use Rattle.pool_parts.specs.Answers.{Refuses};
 
     /// Creates a pool of `items` free items. Item `i` is the answer of call `i` of `init`, counted
@@ -156,7 +155,8 @@ impl<T: Drop, I: Init<T, K>, R: Reset<T, K>, K: Clean<T>> FixedObjectPool<T, I, 
     pub fn pull(&self) -> Result<FixedReusable<'_, T, I, R, K>, PullError>
         ensures pool { IfOk result (λ item. item.pool.now ≡ self.now) }
         ensures pulled { IfOk result (λ item.
-            PullsFixed K.meets I.answers R.leaves self.now item.item) }
+            Pulls K.meets I.answers R.leaves self.now
+            (new_user (fixed_view self.now).opening item.item.holder) item.item) }
         ensures brief { IfOk result (λ item.
             IsWithin ((fixed_view self.now).pages * (returns_since item.known + 1)) 0 0
             item.known) }
@@ -189,7 +189,8 @@ impl<T: Drop, I: Init<T, K>, R: Reset<T, K>, K: Clean<T>> FixedObjectPool<T, I, 
     pub fn pull_near(&self, page: usize) -> Result<FixedReusable<'_, T, I, R, K>, PullError>
         ensures pool { IfOk result (λ item. item.pool.now ≡ self.now) }
         ensures pulled { IfOk result (λ item.
-            PullsFixed K.meets I.answers R.leaves self.now item.item) }
+            Pulls K.meets I.answers R.leaves self.now
+            (new_user (fixed_view self.now).opening item.item.holder) item.item) }
         ensures brief { IfOk result (λ item.
             IsWithin ((fixed_view self.now).pages * (returns_since item.known + 1)) 0 0
             item.known) }
@@ -226,10 +227,12 @@ impl<T: Drop, I: Init<T, K>, R: Reset<T, K>, K: Clean<T>> FixedObjectPool<T, I, 
     pub fn try_pull<'s, 'p>(&'s self, pass: &'p PullPass) -> FixedPulled<'s, 'p, T, I, R, K>
         ensures pool { IfOk result (λ item. item.pool.now ≡ self.now) }
         ensures pulled { IfOk result (λ item.
-            PullsFixed K.meets I.answers R.leaves self.now item.item) }
+            Pulls K.meets I.answers R.leaves self.now
+            (new_user (fixed_view self.now).opening item.item.holder) item.item) }
         ensures brief { IfOk result (λ item. IsWithin (fixed_view self.now).pages 0 0 item.known) }
-        ensures busy { IfErr result (IsAllOut (fixed_view self.now).identity.slots
-            (fixed_view self.now).identity (fixed_view self.now).opening) }
+        ensures busy { IfErr result (λ busy. IsAllOut (fixed_view self.now).identity.slots
+            (fixed_view self.now).identity
+            (new_user (fixed_view self.now).opening (view_of busy.seat).user) busy) }
         ensures busy_brief { IfErr result (λ busy.
             IsWithin (fixed_view self.now).pages 0 0 (view_of busy.seat)) }
     {
@@ -250,15 +253,13 @@ impl<T: Drop, I: Init<T, K>, R: Reset<T, K>, K: Clean<T>> FixedObjectPool<T, I, 
         requires { note.seat.table_id ≡ (fixed_view self.now).identity }
         ensures pool { IfOk result (λ item. item.pool.now ≡ self.now) }
         ensures pulled { IfOk result (λ item.
-            PullsFixedAfter K.meets I.answers R.leaves self.now note item.item) }
+            Pulls K.meets I.answers R.leaves self.now (view_of note.seat) item.item) }
         ensures brief { IfOk result (λ item.
             IsWithin (fixed_view self.now).pages (view_of note.seat).loads (view_of note.seat).tries
             item.known) }
         ensures busy { IfErr result
             (IsAllOut (fixed_view self.now).identity.slots (fixed_view self.now).identity
-            (view_of note.seat).opening) }
-        ensures after_note { IfErr result
-            (λ busy. IsPrefixOf (view_of note.seat).operations (view_of busy.seat).since) }
+            (view_of note.seat)) }
         ensures busy_brief { IfErr result (λ busy.
             IsWithin (fixed_view self.now).pages (view_of note.seat).loads (view_of note.seat).tries
             (view_of busy.seat)) }
@@ -293,7 +294,8 @@ impl<T: Drop, I: Init<T, K>, R: Reset<T, K>, K: Clean<T>> FixedObjectPool<T, I, 
     pub fn pull_owned(self: &Arc<Self>) -> Result<FixedOwnedReusable<T, I, R, K>, PullError>
         ensures pool { IfOk result (λ item. arc_value item.pool ≡ arc_value self.now) }
         ensures pulled { IfOk result (λ item.
-            PullsFixed K.meets I.answers R.leaves (arc_value self.now) item.item) }
+            Pulls K.meets I.answers R.leaves (arc_value self.now)
+            (new_user (fixed_view (arc_value self.now)).opening item.item.holder) item.item) }
         ensures brief { IfOk result (λ item. IsWithin ((fixed_view (arc_value self.now)).pages
             * (returns_since item.known + 1)) 0 0 item.known) }
         ensures refused { IfErr result (λ error. (error ≡ Memory) ⊎ (error ≡ Limit)) }
@@ -322,13 +324,13 @@ impl<T: Drop, I: Init<T, K>, R: Reset<T, K>, K: Clean<T>> FixedObjectPool<T, I, 
         requires { note.seat.table_id ≡ (fixed_view (arc_value self)).identity }
         ensures pool { IfOk result (λ item. arc_value item.pool ≡ arc_value self) }
         ensures pulled { IfOk result (λ item.
-            PullsFixedAfter K.meets I.answers R.leaves (arc_value self) note item.item) }
+            Pulls K.meets I.answers R.leaves (arc_value self) (view_of note.seat) item.item) }
         ensures brief { IfOk result (λ item.
             IsWithin ((fixed_view (arc_value self)).pages * (returns_since item.known
             + 1)) (view_of note.seat).loads (view_of note.seat).tries item.known) }
         ensures same_owner { IfErr result (λ kept. arc_value kept.0 ≡ arc_value self) }
         ensures full { IfErr result (λ kept.
-            IsFullNoteAfter (fixed_view (arc_value self)).identity note kept.1) }
+            IsFullNote (fixed_view (arc_value self)).identity (view_of note.seat) kept.1) }
         ensures full_brief { IfErr result (λ kept.
             IsWithin ((fixed_view (arc_value self)).pages * (returns_since (view_of kept.1.seat)
             + 2)) (view_of note.seat).loads (view_of note.seat).tries (view_of kept.1.seat)) }
@@ -350,12 +352,14 @@ impl<T: Drop, I: Init<T, K>, R: Reset<T, K>, K: Clean<T>> FixedObjectPool<T, I, 
     #[inline(always)]
     pub fn pull_apart(&self, page: usize) -> Result<(Holding<T>, T), PoolNote<T>>
         ensures pulled { IfOk result (λ apart.
-            PullsFixed K.meets I.answers R.leaves self.now (held_item apart.0 apart.1)) }
+            Pulls K.meets I.answers R.leaves self.now
+            (new_user (fixed_view self.now).opening (view_of apart.0.seat).user)
+            (held_item apart.0 apart.1)) }
         ensures brief { IfOk result (λ apart.
             IsWithin ((fixed_view self.now).pages * (returns_since (view_of apart.0.seat) + 1)) 0 0
             (view_of apart.0.seat)) }
-        ensures full { IfErr result (IsFullNote (fixed_view self.now).identity
-            (fixed_view self.now).opening) }
+        ensures full { IfErr result (λ note. IsFullNote (fixed_view self.now).identity
+            (new_user (fixed_view self.now).opening (view_of note.seat).user) note) }
         ensures full_brief { IfErr result (λ note.
             IsWithin ((fixed_view self.now).pages * (returns_since (view_of note.seat) + 2)) 0 0
             (view_of note.seat)) }

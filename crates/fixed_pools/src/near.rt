@@ -22,12 +22,14 @@ use pool_parts::closures::{Init, Reset};
 /// ```
 #[derive(Drop)]
 pub struct Near<'p, T, I: Init<T, K>, R: Reset<T, K>, K: Clean<T> = AnyValue> {
-    pool: &'p FixedObjectPool<T, I, R, K>,
+    /// The pool of which it is a place.
+    pub pool: &'p FixedObjectPool<T, I, R, K>,
     page: usize,
 }
 
 impl<'p, T: Drop, I: Init<T, K>, R: Reset<T, K>, K: Clean<T>> Near<'p, T, I, R, K> {
-    ghost use Rattle.fixed_pools.specs.FixedPool.{fixed_view, PullsFixed, returns_since, IsWithin};
+    ghost use Rattle.fixed_pools.specs.FixedPool.{fixed_view, Pulls, returns_since, IsWithin};
+    ghost use Rattle.pool_parts.specs.Item.{new_user};
 
     pub(crate) fn new(pool: &'p FixedObjectPool<T, I, R, K>, page: usize) -> Near<'p, T, I, R, K>
         ensures { result.pool.now ≡ pool.now }
@@ -43,7 +45,8 @@ impl<'p, T: Drop, I: Init<T, K>, R: Reset<T, K>, K: Clean<T>> Near<'p, T, I, R, 
     pub fn pull(&self) -> Result<FixedReusable<'p, T, I, R, K>, PullError>
         ensures pool { IfOk result (λ item. item.pool.now ≡ self.now.pool.now) }
         ensures pulled { IfOk result (λ item.
-            PullsFixed K.meets I.answers R.leaves self.now.pool.now item.item) }
+            Pulls K.meets I.answers R.leaves self.now.pool.now
+            (new_user (fixed_view self.now.pool.now).opening item.item.holder) item.item) }
         ensures brief { IfOk result (λ item.
             IsWithin ((fixed_view self.now.pool.now).pages * (returns_since item.known
             + 1)) 0 0 item.known) }

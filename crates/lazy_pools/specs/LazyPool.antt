@@ -2,9 +2,10 @@
 use Rattle.std.specs.Prelude.{◌≡◌, List, Option, Some, MatchOption}
 use Rattle.std.specs.Borrow.{Lends, Fml, RattleType, MutBor}
 use Rattle.atomic_table.specs.Seated.{TableId}
-use Rattle.pool_parts.specs.Item.{Item, PulledView}
+use Rattle.pool_parts.specs.Item.{Item, PulledView, IsPulled, new_user}
+use Rattle.pool_parts.specs.Page.{view_of}
 use Rattle.pool_parts.specs.Slot.{IsAllOut}
-use Rattle.fixed_pools.specs.FixedPool.{FixedView, IsPulledFrom, IsFullNote}
+use Rattle.fixed_pools.specs.FixedPool.{FixedView, IsFullNote}
 use Rattle.lazy_pools.specs.contracts.lazy_reusable.LazyReusableOf.{the_row}
 use Rattle.lazy_pools.specs.declared.lazy_object_pool.LazyObjectPool.{LazyObjectPool}
 use Rattle.lazy_pools.specs.declared.lazy_object_pool.lazy_refused.LazyRefused.{LazyRefused}
@@ -30,26 +31,28 @@ module _ {T I R K : Type 0} where
   abbrev pub lazy_init : LazyObjectPool T I R K → I
   lazy_init pool = pool.init
 
-module _ {T : Type 0} where
-  -- an item of this pool, pulled as the pool's one history tells, which begins with these places
-  pub record IsPulledLazily (pool : TableId) (opening : List (Option (Option T))) (answers : Option T → Type 0)
-      (place : Item (Option T)) (value : T) : Type 0 where
+module _ {T R : Type 0} where
+  -- what a pull of this pool gives to a new user: an item's place, and its value
+  pub record Pulls (pool : FixedView (Option T) R) (answers : Option T → Type 0) (place : Item (Option T)) (value : T)
+      : Type 0 where
     -- what the pull found at its place
     pub found : Option T
-    pub pulled : IsPulledFrom pool opening (record place { value = found })
+    pub pulled : IsPulled pool.identity (new_user pool.opening place.holder) (record place { value = found })
     -- the value is what lay there, or else an answer of init
     pub value_is : MatchOption found (answers (Some value)) (λ kept. value ≡ kept)
 
 -- a pull of one pass gave no item: each was observed taken by it, or init may answer None
 abbrev pub RefusesOnePass : {T : Type 0} → TableId → List (Option (Option T)) → Type 0 → LazyRefused T → Type 0
-RefusesOnePass pool opening may_answer_none (Busy busy) = IsAllOut pool.slots pool opening busy
+RefusesOnePass pool opening may_answer_none (Busy busy) =
+    IsAllOut pool.slots pool (new_user opening (view_of busy.seat).user) busy
 RefusesOnePass pool opening may_answer_none NotMade = may_answer_none
 
 -- a pull by a closure gave no item: the pool was full at one moment, or the closure failed with this cause
 abbrev pub RefusesWith : {T E : Type 0} → TableId → List (Option (Option T)) → Type 0 → (E → Type 0)
     → PullWithError T E → Type 0
 RefusesWith pool opening may_lack_memory fails_with With.Memory = may_lack_memory
-RefusesWith pool opening may_lack_memory fails_with (With.Limit full) = IsFullNote pool opening full
+RefusesWith pool opening may_lack_memory fails_with (With.Limit full) =
+    IsFullNote pool (new_user opening (view_of full.seat).user) full
 RefusesWith pool opening may_lack_memory fails_with (With.Make cause) = fails_with cause
 
 module _ (T P : RattleType) (pool : Ghosts P.Denot T.Denot) where

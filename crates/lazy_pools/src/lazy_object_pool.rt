@@ -97,10 +97,10 @@ impl<T: Drop, I: Init<T, K>, R: Reset<T, K>, K: Clean<T>> Drop for LazyObjectPoo
 
 impl<T: Drop, I: Init<T, K>, R: Reset<T, K>, K: Clean<T>> LazyObjectPool<T, I, R, K> {
     ghost use Rattle.pool_parts.specs.Answers.{IsMadeOrReset, Refuses};
-    ghost use Rattle.fixed_pools.specs.FixedPool.{IsPulledFrom, returns_since, IsWithin};
-    ghost use Rattle.pool_parts.specs.Page.{held_item, IsNoteOf, HasLearned, IsReturned, IsBroughtBack};
-    ghost use Rattle.pool_parts.specs.Item.{IsFilled};
-    ghost use Rattle.lazy_pools.specs.LazyPool.{IsPulledLazily, RefusesOnePass, lazy_init, lazy_view};
+    ghost use Rattle.fixed_pools.specs.FixedPool.{returns_since, IsWithin};
+    ghost use Rattle.pool_parts.specs.Page.{view_of, held_item, IsNoteOf, HasLearned, IsReturned, IsBroughtBack};
+    ghost use Rattle.pool_parts.specs.Item.{IsFilled, IsPulled, new_user};
+    ghost use Rattle.lazy_pools.specs.LazyPool.{Pulls, RefusesOnePass, lazy_init, lazy_view};
 
     /// Creates a pool of `items` empty places. It makes no item. A place takes the room of a `T`
     /// and two words.
@@ -161,8 +161,7 @@ impl<T: Drop, I: Init<T, K>, R: Reset<T, K>, K: Clean<T>> LazyObjectPool<T, I, R
     pub fn pull(&self) -> Result<LazyReusable<'_, T, I, R, K>, PullError>
         ensures pool { IfOk result (λ item. item.pool.now ≡ self.now) }
         ensures pulled { IfOk result (λ item.
-            IsPulledLazily (lazy_view self.now).identity (lazy_view self.now).opening
-            (I.answers (lazy_init self.now)) item.item item.value) }
+            Pulls (lazy_view self.now) (I.answers (lazy_init self.now)) item.item item.value) }
         ensures meets { IfOk result (λ item. K.meets item.value) }
         ensures made_or_reset { IfOk result (λ item. IsMadeOrReset I.answers R.leaves item.value) }
         ensures brief { IfOk result (λ item.
@@ -202,8 +201,7 @@ impl<T: Drop, I: Init<T, K>, R: Reset<T, K>, K: Clean<T>> LazyObjectPool<T, I, R
     pub fn try_pull<'s, 'p>(&'s self, pass: &'p PullPass) -> LazyPulled<'s, 'p, T, I, R, K>
         ensures pool { IfOk result (λ item. item.pool.now ≡ self.now) }
         ensures pulled { IfOk result (λ item.
-            IsPulledLazily (lazy_view self.now).identity (lazy_view self.now).opening
-            (I.answers (lazy_init self.now)) item.item item.value) }
+            Pulls (lazy_view self.now) (I.answers (lazy_init self.now)) item.item item.value) }
         ensures meets { IfOk result (λ item. K.meets item.value) }
         ensures made_or_reset { IfOk result (λ item. IsMadeOrReset I.answers R.leaves item.value) }
         ensures brief { IfOk result (λ item. IsWithin (lazy_view self.now).pages 0 0 item.known) }
@@ -229,8 +227,7 @@ impl<T: Drop, I: Init<T, K>, R: Reset<T, K>, K: Clean<T>> LazyObjectPool<T, I, R
     pub fn pull_owned(self: &Arc<Self>) -> Result<LazyOwnedReusable<T, I, R, K>, PullError>
         ensures pool { IfOk result (λ item. arc_value item.pool ≡ arc_value self.now) }
         ensures pulled { IfOk result (λ item.
-            IsPulledLazily (lazy_view (arc_value self.now)).identity
-            (lazy_view (arc_value self.now)).opening
+            Pulls (lazy_view (arc_value self.now))
             (I.answers (lazy_init (arc_value self.now))) item.item item.value) }
         ensures meets { IfOk result (λ item. K.meets item.value) }
         ensures made_or_reset { IfOk result (λ item. IsMadeOrReset I.answers R.leaves item.value) }
@@ -258,8 +255,7 @@ impl<T: Drop, I: Init<T, K>, R: Reset<T, K>, K: Clean<T>> LazyObjectPool<T, I, R
     pub fn pull_wait<W: Wait>(&self, rt: &W) -> Result<LazyReusable<'_, T, I, R, K>, PullError>
         ensures pool { IfOk result (λ item. item.pool.now ≡ self.now) }
         ensures pulled { IfOk result (λ item.
-            IsPulledLazily (lazy_view self.now).identity (lazy_view self.now).opening
-            (I.answers (lazy_init self.now)) item.item item.value) }
+            Pulls (lazy_view self.now) (I.answers (lazy_init self.now)) item.item item.value) }
         ensures meets { IfOk result (λ item. K.meets item.value) }
         ensures made_or_reset { IfOk result (λ item. IsMadeOrReset I.answers R.leaves item.value) }
         ensures refused { IfErr result (Refuses ⊥ (I.answers (lazy_init self.now) None) ⊥) }
@@ -282,8 +278,7 @@ impl<T: Drop, I: Init<T, K>, R: Reset<T, K>, K: Clean<T>> LazyObjectPool<T, I, R
     ) -> Result<LazyReusable<'_, T, I, R, K>, PullError>
         ensures pool { IfOk result (λ item. item.pool.now ≡ self.now) }
         ensures pulled { IfOk result (λ item.
-            IsPulledLazily (lazy_view self.now).identity (lazy_view self.now).opening
-            (I.answers (lazy_init self.now)) item.item item.value) }
+            Pulls (lazy_view self.now) (I.answers (lazy_init self.now)) item.item item.value) }
         ensures meets { IfOk result (λ item. K.meets item.value) }
         ensures made_or_reset { IfOk result (λ item. IsMadeOrReset I.answers R.leaves item.value) }
         ensures refused { IfErr result (Refuses ⊥ (I.answers (lazy_init self.now) None) ⊤) }
@@ -308,8 +303,7 @@ impl<T: Drop, I: Init<T, K>, R: Reset<T, K>, K: Clean<T>> LazyObjectPool<T, I, R
     ) -> Result<LazyOwnedReusable<T, I, R, K>, PullError>
         ensures pool { IfOk result (λ item. arc_value item.pool ≡ arc_value self.now) }
         ensures pulled { IfOk result (λ item.
-            IsPulledLazily (lazy_view (arc_value self.now)).identity
-            (lazy_view (arc_value self.now)).opening
+            Pulls (lazy_view (arc_value self.now))
             (I.answers (lazy_init (arc_value self.now))) item.item item.value) }
         ensures meets { IfOk result (λ item. K.meets item.value) }
         ensures made_or_reset { IfOk result (λ item. IsMadeOrReset I.answers R.leaves item.value) }
@@ -333,8 +327,7 @@ impl<T: Drop, I: Init<T, K>, R: Reset<T, K>, K: Clean<T>> LazyObjectPool<T, I, R
     ) -> Result<LazyOwnedReusable<T, I, R, K>, PullError>
         ensures pool { IfOk result (λ item. arc_value item.pool ≡ arc_value self.now) }
         ensures pulled { IfOk result (λ item.
-            IsPulledLazily (lazy_view (arc_value self.now)).identity
-            (lazy_view (arc_value self.now)).opening
+            Pulls (lazy_view (arc_value self.now))
             (I.answers (lazy_init (arc_value self.now))) item.item item.value) }
         ensures meets { IfOk result (λ item. K.meets item.value) }
         ensures made_or_reset { IfOk result (λ item. IsMadeOrReset I.answers R.leaves item.value) }
@@ -372,13 +365,14 @@ impl<T: Drop, I: Init<T, K>, R: Reset<T, K>, K: Clean<T>> LazyObjectPool<T, I, R
         &self,
         pulled: PulledItem<Option<T>>,
     ) -> Result<PulledItem<Option<T>, T>, PullError>
-        requires pulled { IsPulledFrom (lazy_view self.now).identity (lazy_view self.now).opening
+        requires pulled { IsPulled (lazy_view self.now).identity
+            (new_user (lazy_view self.now).opening (view_of pulled.holding.seat).user)
             (held_item pulled.holding pulled.value) }
         requires kept { IfSome pulled.value (λ value.
             K.meets value × IsMadeOrReset I.answers R.leaves value) }
         ensures same { IfOk result (λ item. item.holding ≡ pulled.holding) }
         ensures pulled { IfOk result (λ item.
-            IsPulledLazily (lazy_view self.now).identity (lazy_view self.now).opening
+            Pulls (lazy_view self.now)
             (I.answers (lazy_init self.now)) (held_item item.holding (Some item.value))
             item.value) }
         ensures meets { IfOk result (λ item. K.meets item.value) }
@@ -395,11 +389,12 @@ impl<T: Drop, I: Init<T, K>, R: Reset<T, K>, K: Clean<T>> LazyObjectPool<T, I, R
     /// Makes the value of an empty place that was taken. If `init` refuses, the place is returned.
     #[cold]
     fn make(&self, holding: Holding<Option<T>>) -> Result<PulledItem<Option<T>, T>, PullError>
-        requires pulled { IsPulledFrom (lazy_view self.now).identity (lazy_view self.now).opening
+        requires pulled { IsPulled (lazy_view self.now).identity
+            (new_user (lazy_view self.now).opening (view_of holding.seat).user)
             (held_item holding None) }
         ensures same { IfOk result (λ item. item.holding ≡ holding) }
         ensures pulled { IfOk result (λ item.
-            IsPulledLazily (lazy_view self.now).identity (lazy_view self.now).opening
+            Pulls (lazy_view self.now)
             (I.answers (lazy_init self.now)) (held_item item.holding (Some item.value))
             item.value) }
         ensures meets { IfOk result (λ item. K.meets item.value) }

@@ -23,14 +23,15 @@ use pool_parts::closures::{Init, Reset};
 /// ```
 #[derive(Drop)]
 pub struct Near<'p, T, I: Init<T, K>, R: Reset<T, K>, K: Clean<T> = AnyValue> {
-    pool: &'p LazyObjectPool<T, I, R, K>,
+    /// The pool of which it is a place.
+    pub pool: &'p LazyObjectPool<T, I, R, K>,
     page: usize,
 }
 
 impl<'p, T: Drop, I: Init<T, K>, R: Reset<T, K>, K: Clean<T>> Near<'p, T, I, R, K> {
     ghost use Rattle.pool_parts.specs.Answers.{IsMadeOrReset, Refuses};
     ghost use Rattle.fixed_pools.specs.FixedPool.{returns_since, IsWithin};
-    ghost use Rattle.lazy_pools.specs.LazyPool.{IsPulledLazily, lazy_init, lazy_view};
+    ghost use Rattle.lazy_pools.specs.LazyPool.{Pulls, lazy_init, lazy_view};
 
     pub(crate) fn new(pool: &'p LazyObjectPool<T, I, R, K>, page: usize) -> Near<'p, T, I, R, K>
         ensures { result.pool.now ≡ pool.now }
@@ -46,8 +47,7 @@ impl<'p, T: Drop, I: Init<T, K>, R: Reset<T, K>, K: Clean<T>> Near<'p, T, I, R, 
     /// As of [`LazyObjectPool::pull`].
     pub fn pull(&self) -> Result<LazyReusable<'p, T, I, R, K>, PullError>
         ensures pool { IfOk result (λ item. item.pool.now ≡ self.now.pool.now) }
-        ensures pulled { IfOk result (λ item. IsPulledLazily (lazy_view self.now.pool.now).identity
-            (lazy_view self.now.pool.now).opening
+        ensures pulled { IfOk result (λ item. Pulls (lazy_view self.now.pool.now)
             (I.answers (lazy_init self.now.pool.now)) item.item item.value) }
         ensures meets { IfOk result (λ item. K.meets item.value) }
         ensures made_or_reset { IfOk result (λ item. IsMadeOrReset I.answers R.leaves item.value) }

@@ -13,9 +13,10 @@ use pool_parts::closures::{Init, Reset};
 use std::sync::Arc;
 
 impl<T: Drop, I: Init<T, K>, R: Reset<T, K>, K: Clean<T>> LazyObjectPool<T, I, R, K> {
-    ghost use Rattle.lazy_pools.specs.LazyPool.{IsPulledLazily, RefusesWith, lazy_view};
-    ghost use Rattle.pool_parts.specs.Page.{held_item};
-    ghost use Rattle.fixed_pools.specs.FixedPool.{returns_since, IsPulledFrom, IsWithin};
+    ghost use Rattle.lazy_pools.specs.LazyPool.{Pulls, RefusesWith, lazy_view};
+    ghost use Rattle.pool_parts.specs.Item.{IsPulled, new_user};
+    ghost use Rattle.pool_parts.specs.Page.{view_of, held_item};
+    ghost use Rattle.fixed_pools.specs.FixedPool.{returns_since, IsWithin};
 
     /// Pulls a free item as `pull` does. If its place is empty, `make` makes the value in place of
     /// the pool's `init`. It runs under no lock, and the item is in use meanwhile.
@@ -33,7 +34,7 @@ impl<T: Drop, I: Init<T, K>, R: Reset<T, K>, K: Clean<T>> LazyObjectPool<T, I, R
         requires each_meets { (value : T) → F.post make (Ok value) → K.meets value }
         ensures pool { IfOk result (λ item. item.pool.now ≡ self.now) }
         ensures pulled { IfOk result (λ item.
-            IsPulledLazily (lazy_view self.now).identity (lazy_view self.now).opening
+            Pulls (lazy_view self.now)
             (λ made. IfSome made (λ value. F.post make (Ok value))) item.item item.value) }
         ensures meets { IfOk result (λ item. K.meets item.value) }
         ensures brief { IfOk result (λ item.
@@ -65,8 +66,7 @@ impl<T: Drop, I: Init<T, K>, R: Reset<T, K>, K: Clean<T>> LazyObjectPool<T, I, R
         requires each_meets { (value : T) → F.post make (Ok value) → K.meets value }
         ensures pool { IfOk result (λ item. arc_value item.pool ≡ arc_value self.now) }
         ensures pulled { IfOk result (λ item.
-            IsPulledLazily (lazy_view (arc_value self.now)).identity
-            (lazy_view (arc_value self.now)).opening
+            Pulls (lazy_view (arc_value self.now))
             (λ made. IfSome made (λ value. F.post make (Ok value))) item.item item.value) }
         ensures meets { IfOk result (λ item. K.meets item.value) }
         ensures brief { IfOk result (λ item.
@@ -94,7 +94,8 @@ impl<T: Drop, I: Init<T, K>, R: Reset<T, K>, K: Clean<T>> LazyObjectPool<T, I, R
         pulled: PulledItem<Option<T>>,
         make: F,
     ) -> Result<PulledItem<Option<T>, T>, PullWithError<T, E>>
-        requires pulled { IsPulledFrom (lazy_view self.now).identity (lazy_view self.now).opening
+        requires pulled { IsPulled (lazy_view self.now).identity
+            (new_user (lazy_view self.now).opening (view_of pulled.holding.seat).user)
             (held_item pulled.holding pulled.value) }
         requires kept { IfSome pulled.value (λ value.
             K.meets value × IsMadeOrReset I.answers R.leaves value) }
@@ -102,8 +103,7 @@ impl<T: Drop, I: Init<T, K>, R: Reset<T, K>, K: Clean<T>> LazyObjectPool<T, I, R
         requires each_meets { (value : T) → F.post make (Ok value) → K.meets value }
         ensures same { IfOk result (λ item. item.holding ≡ pulled.holding) }
         ensures pulled { IfOk result (λ item.
-            IsPulledLazily (lazy_view self.now).identity (lazy_view self.now).opening
-            (λ made. IfSome made (λ value. F.post make (Ok value)))
+            Pulls (lazy_view self.now) (λ made. IfSome made (λ value. F.post make (Ok value)))
             (held_item item.holding (Some item.value)) item.value) }
         ensures meets { IfOk result (λ item. K.meets item.value) }
         ensures refused { IfErr result

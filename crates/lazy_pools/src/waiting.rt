@@ -11,12 +11,13 @@ use std::time::{Clock, Duration, Instant};
 
 impl<T: Drop, I: Init<T, K>, R: Reset<T, K>, K: Clean<T>> LazyObjectPool<T, I, R, K> {
     ghost use Rattle.lazy_pools.specs.LazyPool.{lazy_view};
-    ghost use Rattle.fixed_pools.specs.FixedPool.{IsPulledFrom};
-    ghost use Rattle.pool_parts.specs.Page.{held_item};
+    ghost use Rattle.pool_parts.specs.Item.{IsPulled, new_user};
+    ghost use Rattle.pool_parts.specs.Page.{view_of, held_item};
 
     /// Takes a free place, or waits until one is returned.
     pub(crate) fn place_waiting<W: Wait>(&self, rt: &W) -> PulledItem<Option<T>>
-        ensures pulled { IsPulledFrom (lazy_view self.now).identity (lazy_view self.now).opening
+        ensures pulled { IsPulled (lazy_view self.now).identity
+            (new_user (lazy_view self.now).opening (view_of result.holding.seat).user)
             (held_item result.holding result.value) }
         ensures kept { IfSome result.value (λ value.
             K.meets value × IsMadeOrReset I.answers R.leaves value) }
@@ -35,7 +36,8 @@ impl<T: Drop, I: Init<T, K>, R: Reset<T, K>, K: Clean<T>> LazyObjectPool<T, I, R
         time: Duration,
     ) -> Option<PulledItem<Option<T>>>
         ensures pulled { IfSome result (λ pulled.
-            IsPulledFrom (lazy_view self.now).identity (lazy_view self.now).opening
+            IsPulled (lazy_view self.now).identity
+            (new_user (lazy_view self.now).opening (view_of pulled.holding.seat).user)
             (held_item pulled.holding pulled.value)) }
         ensures kept { IfSome result (λ pulled. IfSome pulled.value (λ value.
             K.meets value × IsMadeOrReset I.answers R.leaves value)) }
@@ -50,7 +52,8 @@ impl<T: Drop, I: Init<T, K>, R: Reset<T, K>, K: Clean<T>> LazyObjectPool<T, I, R
     #[inline(always)]
     fn place_now(&self) -> Option<PulledItem<Option<T>>>
         ensures pulled { IfSome result (λ pulled.
-            IsPulledFrom (lazy_view self.now).identity (lazy_view self.now).opening
+            IsPulled (lazy_view self.now).identity
+            (new_user (lazy_view self.now).opening (view_of pulled.holding.seat).user)
             (held_item pulled.holding pulled.value)) }
         ensures kept { IfSome result (λ pulled. IfSome pulled.value (λ value.
             K.meets value × IsMadeOrReset I.answers R.leaves value)) }
@@ -61,7 +64,8 @@ impl<T: Drop, I: Init<T, K>, R: Reset<T, K>, K: Clean<T>> LazyObjectPool<T, I, R
     /// Waits for a place: the thread counts as waiting, and tries again each time that a return
     /// wakes it.
     fn place_later<W: Wait>(&self, rt: &W) -> PulledItem<Option<T>>
-        ensures pulled { IsPulledFrom (lazy_view self.now).identity (lazy_view self.now).opening
+        ensures pulled { IsPulled (lazy_view self.now).identity
+            (new_user (lazy_view self.now).opening (view_of result.holding.seat).user)
             (held_item result.holding result.value) }
         ensures kept { IfSome result.value (λ value.
             K.meets value × IsMadeOrReset I.answers R.leaves value) }
@@ -81,7 +85,8 @@ impl<T: Drop, I: Init<T, K>, R: Reset<T, K>, K: Clean<T>> LazyObjectPool<T, I, R
     /// Waits for a place as `place_later` does, for `time` at most.
     fn place_soon<W: Wait + Clock>(&self, rt: &W, time: Duration) -> Option<PulledItem<Option<T>>>
         ensures pulled { IfSome result (λ pulled.
-            IsPulledFrom (lazy_view self.now).identity (lazy_view self.now).opening
+            IsPulled (lazy_view self.now).identity
+            (new_user (lazy_view self.now).opening (view_of pulled.holding.seat).user)
             (held_item pulled.holding pulled.value)) }
         ensures kept { IfSome result (λ pulled. IfSome pulled.value (λ value.
             K.meets value × IsMadeOrReset I.answers R.leaves value)) }

@@ -1,3 +1,2 @@
-pub mod NotedPulls
 pub mod PullAnswers
 pub mod ReusableShared

@@ -4,8 +4,9 @@ use Rattle.std.proofs.Common.{◌≡◌, ℕ, ◌-◌, ◌<◌, Option, None, So
 use Rattle.std.specs.declared.result.Result.{Result}
 use Rattle.std.specs.Option.{option_map}
 use Rattle.pool_parts.specs.Answers.{IsMadeOrReset, Refuses}
-use Rattle.pool_parts.specs.Item.{Item, IsItemOf, IsPulled, IsFilled}
-use Rattle.page_chain.specs.Walk.{ChainPage, IsTaken, IsRefusedBy, cause_of}
+use Rattle.pool_parts.specs.Item.{Item, IsPageItem, IsPulled, IsFilled, new_user}
+use Rattle.page_chain.specs.Walk.{ChainPage, Pulls as WalkPulls, IsRefusedBy, cause_of}
+use Rattle.page_chain.proofs.TakenItems.{pulled_there}
 use Rattle.page_chain.specs.declared.linear_page.page_number.PageNumber.{PageNumber}
 use Rattle.page_chain.specs.declared.linear_page.walk.WalkEnd.{WalkEnd}
 use Rattle.page_chain.specs.declared.linear_page.walk.WalkRefusal.{WalkRefusal}
@@ -44,18 +45,18 @@ module _ {T I R K : Type 0} (meets : T → Type 0) (answers : I → Option T →
   -- an item that the first page answered is what a pull gives
   pub first_pulls : (number : PageNumber T (MadeOrReset I R K) (AnswerOf I K)) (held item : Item T) → held ≡ item
       → number.number ≡ 0
-      → IsItemOf (λ value. meets value × IsMadeOrReset answers leaves value) (linear_view pool).start.page item
-      → IsFilled PAGE_ITEMS (λ value. (initializer : I) × answers initializer (Some value)) item.opening → IsPulled item
-      → item.opening ≡ (linear_view pool).start.opening
+      → IsPageItem (λ value. meets value × IsMadeOrReset answers leaves value) item
+      → IsFilled PAGE_ITEMS (λ value. (initializer : I) × answers initializer (Some value)) item.opening
+      → IsPulled (linear_view pool).start.page (new_user (linear_view pool).start.opening item.holder) item
       → Pulls meets answers leaves pool number held
-  first_pulls number held item same first is_item opened pulled opening =
+  first_pulls number held item same first is_item opened pulled =
       subst (λ item. Pulls meets answers leaves pool number item) (sym same) (record {
         in_page = is_item.in_page;
-        on_page = inl (first, is_item.of_page);
+        on_page = inl (first, pulled.of_page);
         within = within_first pool.limit number.number first;
         opened = opened;
-        same_opening = λ _. opening;
-        pulled = pulled;
+        same_opening = λ _. pulled.same_opening;
+        pulled = pulled_there pulled;
         meets_condition = is_item.meets_condition.0;
         made_or_reset = is_item.meets_condition.1;
       })
@@ -63,7 +64,7 @@ module _ {T I R K : Type 0} (meets : T → Type 0) (answers : I → Option T →
   -- an item that the walk took past the first page is what a pull gives
   pub further_pulls : {E : Type 0} (limit : Option ℕ)
       (result : Result (WalkEnd T (MadeOrReset I R K) (AnswerOf I K)) E) → limit ≡ (linear_view pool).limit
-      → IfOk result (λ reached. IsTaken (λ value. meets value × IsMadeOrReset answers leaves value)
+      → IfOk result (λ reached. WalkPulls (λ value. meets value × IsMadeOrReset answers leaves value)
       (λ value. (initializer : I) × answers initializer (Some value))
       (linear_view pool).start limit reached.number reached.slot.item)
       → IfOk result (λ reached. 0 < reached.number.number)

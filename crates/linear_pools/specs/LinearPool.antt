@@ -4,13 +4,11 @@ use Rattle.std.specs.Prelude.{◌≡◌, ℕ, ◌<◌, [], Option, IfSome, Some}
 use Rattle.std.specs.Borrow.{Lends, Fml, RattleType, MutBor}
 use Rattle.std.specs.Option.{option_map}
 use Rattle.pool_parts.specs.Answers.{IsMadeOrReset}
-use Rattle.pool_parts.specs.Item.{Item, IsPulled, IsFilled}
-use Rattle.pool_parts.specs.Page.{IsPulledAfter}
+use Rattle.pool_parts.specs.Item.{Item, IsPulled, IsFilled, new_user}
 use Rattle.pool_parts.specs.declared.clean.Clean as Clean
 use Rattle.pool_parts.specs.declared.closures.Init as Init
 use Rattle.pool_parts.specs.declared.closures.Reset as Reset
 use Rattle.pool_parts.specs.declared.made_or_reset.MadeOrReset.{MadeOrReset}
-use Rattle.pool_parts.specs.declared.page.note.PageNote.{PageNote}
 use Rattle.pool_parts.specs.declared.page.word.TheConstants.{PAGE_ITEMS}
 use Rattle.page_chain.specs.Walk.{ChainPage, ChainItem, first_page, IsWalkedTo}
 use Rattle.page_chain.specs.declared.linear_page.page_number.PageNumber.{PageNumber}
@@ -50,22 +48,10 @@ module _ {T I R K : Type 0} where
     pub opened : IsFilled PAGE_ITEMS (λ value. (initializer : I) × answers initializer (Some value)) item.opening
     -- the histories of two items of the first page begin with the same values
     pub same_opening : number.number ≡ 0 → item.opening ≡ (linear_view pool).start.opening
-    -- it was pulled as its page's history tells
-    pub pulled : IsPulled item
+    -- a new user of its page pulled it
+    pub pulled : IsPulled item.page (new_user item.opening item.holder) item
     pub meets_condition : meets item.value
     pub made_or_reset : IsMadeOrReset answers leaves item.value
-
-  -- what a pull by a note of the first page gives: an item of that page, pulled after all that the note knew; or one
-  -- of a later page, as any pull gives it
-  pub record PullsAfter (meets : T → Type 0) (answers : I → Option T → Type 0) (leaves : R → T → T → Type 0)
-      (pool : LinearObjectPool T I R K) (note : PageNote T) (number : PageNumber T (MadeOrReset I R K) (AnswerOf I K))
-      (item : Item T) : Type 0 where
-    pub in_page : item.id < PAGE_ITEMS
-    pub meets_condition : meets item.value
-    pub made_or_reset : IsMadeOrReset answers leaves item.value
-    pub of_first : number.number ≡ 0 → item.page ≡ (linear_view pool).start.page
-    pub after_note : number.number ≡ 0 → IsPulledAfter note item
-    pub further : 0 < number.number → Pulls meets answers leaves pool number item
 
 module _ (T I R K : RattleType) (init : Init.Ghosts I.Denot T.Denot K.Denot)
     (reset : Reset.Ghosts R.Denot T.Denot K.Denot) (clean : Clean.Ghosts K.Denot T.Denot) where

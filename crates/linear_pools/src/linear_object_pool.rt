@@ -104,7 +104,9 @@ impl<T: Drop, I: Init<T, K>, R: Reset<T, K>, K: Clean<T>> Drop for LinearObjectP
 
 impl<T: Drop, I: Init<T, K>, R: Reset<T, K>, K: Clean<T>> LinearObjectPool<T, I, R, K> {
     ghost use Rattle.pool_parts.specs.Answers.{IsMadeOrReset, Refuses};
-    ghost use Rattle.linear_pools.specs.LinearPool.{linear_view, Pulls, PullsAfter};
+    ghost use Rattle.linear_pools.specs.LinearPool.{linear_view, Pulls};
+    ghost use Rattle.pool_parts.specs.Item.{IsPageItem, IsPulled};
+    ghost use Rattle.pool_parts.specs.Page.{view_of};
     ghost use Rattle.page_chain.specs.Walk.{IsRefusedBy};
 
     /// Creates a pool of one page, which grows by a page if each is full.
@@ -256,8 +258,11 @@ impl<T: Drop, I: Init<T, K>, R: Reset<T, K>, K: Clean<T>> LinearObjectPool<T, I,
     ) -> LinearPulled<'s, 'p, T, I, R, K>
         requires { note.seat.table_id ≡ (linear_view self.now).start.page }
         ensures pool { IfOk result (λ item. item.pool ≡ self.now) }
-        ensures pulled { IfOk result (λ item. PullsAfter K.meets I.answers R.leaves self.now note
-            item.number item.item) }
+        ensures first { IfOk result (λ item. item.number.number ≡ 0
+            → IsPageItem (λ value. K.meets value × IsMadeOrReset I.answers R.leaves value) item.item
+            × IsPulled (linear_view self.now).start.page (view_of note.seat) item.item) }
+        ensures further { IfOk result (λ item. 0 < item.number.number
+            → Pulls K.meets I.answers R.leaves self.now item.number item.item) }
         ensures refused { IfErr result (IsRefusedBy (linear_view self.now).start
             (linear_view self.now).limit (I.answers (linear_view self.now).init None)) }
     {

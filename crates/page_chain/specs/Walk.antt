@@ -8,7 +8,7 @@ use Rattle.std.specs.declared.alloc.Global.{Global}
 use Rattle.atomic_table.specs.Seated.{TableId}
 use Rattle.once_cell.specs.Once.{cell_name}
 use Rattle.pool_parts.specs.Answers.{Refuses}
-use Rattle.pool_parts.specs.Item.{Item, IsItemOf, IsPulled, IsFilled}
+use Rattle.pool_parts.specs.Item.{Item, IsPageItem, IsPulled, IsFilled, new_user}
 use Rattle.pool_parts.specs.Page.{page_identity, page_opening}
 use Rattle.pool_parts.specs.declared.clean.Clean.{Ghosts}
 use Rattle.pool_parts.specs.declared.page.full_seen.FullSeen.{FullSeen}
@@ -120,14 +120,14 @@ module _ {T K O : Type 0} where
   cause_of (Limit seen) = LimitCause
   cause_of (Making cause) = cause
 
--- what a walk took: an item of the page of this number, within so many pages from the walk's start
-pub record IsTaken {T K O : Type 0} (meets may_open : T → Type 0) (start : ChainPage T) (limit : Option ℕ)
+-- what a walk's pull gives: an item of the page of this number, within so many pages from the walk's start
+pub record Pulls {T K O : Type 0} (meets may_open : T → Type 0) (start : ChainPage T) (limit : Option ℕ)
     (number : PageNumber T K O) (item : Item T) : Type 0 where
-  pub is_item : IsItemOf meets item.page item
+  pub is_item : IsPageItem meets item
   -- its page opened with 32 values of this kind
   pub opened : IsFilled PAGE_ITEMS may_open item.opening
-  -- it was pulled as its page's history tells, which begins with them
-  pub pulled : IsPulled item
+  -- a new user of its page pulled it
+  pub pulled : IsPulled item.page (new_user item.opening item.holder) item
   pub from_start : start.number ≤ number.number
   pub on_page : IsWalkedTo start number item.page
   pub of_start : number.number ≡ start.number → item.page ≡ start.page

@@ -2,7 +2,7 @@
 use Rattle.std.specs.Prelude.{◌≡◌, ℕ, List, Option, Some}
 use Rattle.std.specs.declared.alloc.Global.{Global}
 use Rattle.atomic_table.specs.Seated.{TableId}
-use Rattle.pool_parts.specs.Item.{IsItemOf, IsPulled, IsFilled}
+use Rattle.pool_parts.specs.Item.{IsPageItem, IsPulled, IsFilled, new_user}
 use Rattle.pool_parts.specs.declared.clean.Clean.{Ghosts}
 use Rattle.pool_parts.specs.declared.page.full_seen.Allocated.{Allocated}
 use Rattle.pool_parts.specs.declared.page.full_seen.Allocated.TheVariants.{Slot, Full}
@@ -12,12 +12,12 @@ use Rattle.page_chain.specs.Walk.{known_link, known_next}
 use Rattle.page_chain.specs.declared.linear_page.link_note.LinkNote.{LinkNote}
 
 module _ {T K : Type 0} where
-  -- what a page of a chain answers to a pull: an item of this page, which opened with these 32 values
-  -- of this kind, pulled as its history tells; or each of its ids was observed taken
+  -- what a page of a chain answers to a new user: an item of this page, which opened with these 32
+  -- values of this kind; or each of its ids was observed taken
   abbrev pub IsAnsweredBy : (T → Type 0) → (T → Type 0) → TableId → List (Option T) → Allocated T K → Type 0
   IsAnsweredBy meets may_open page opening (Slot slot) =
-      IsItemOf meets page slot.item × IsFilled PAGE_ITEMS may_open slot.item.opening
-      × IsPulled slot.item × (slot.item.opening ≡ opening)
+      IsPageItem meets slot.item × IsFilled PAGE_ITEMS may_open slot.item.opening
+      × IsPulled page (new_user opening slot.item.holder) slot.item
   IsAnsweredBy meets may_open page opening (Full seen) = seen.seat.table_id ≡ page
 
 module _ {T K O : Type 0} {opens : Ghosts O T} where

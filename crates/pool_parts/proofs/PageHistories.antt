@@ -12,7 +12,8 @@ use Rattle.atomic_table.proofs.Lists.{set_else}
 use Rattle.pool_parts.specs.declared.page.user_view.UserView.{UserView}
 use Rattle.pool_parts.specs.declared.page.history.Operation.{Operation}
 use Rattle.pool_parts.specs.Ledger.{History, user_of, id_of, operations_of, held_id, left_by, value_at, MayFollow, IsLegal, IsPrefixOf, returns_among}
-use Rattle.pool_parts.specs.PageRule.{item_bit, first_view, HasHistory, Knows, GoesOn, IsSound}
+use Rattle.pool_parts.specs.Item.{new_user}
+use Rattle.pool_parts.specs.PageRule.{item_bit, HasHistory, Knows, GoesOn, IsSound}
 use Rattle.pool_parts.proofs.Ledger.{operations_of_own, operations_of_other, value_at-here}
 use Rattle.pool_parts.proofs.Ledger.{value_at-elsewhere, informed_later, informed_set, at_below}
 use Rattle.pool_parts.proofs.Ledger.{prefix_same, prefix_further}
@@ -45,7 +46,7 @@ module _ {T : Type 0} (raise : ℕ) (opening : List (Option T)) where
   -- what a user knows that comes now
   abbrev pub newcomer : History T → ℕ → UserView T
   newcomer operations user =
-      record (first_view opening) { user = user; operations = operations; since = operations; loads = 1 }
+      record (new_user opening user) { operations = operations; since = operations; loads = 1 }
 
   pub joins_history : (page : State (Option T) (UserView T)) (known : UserView T)
       → (has : HasHistory raise opening page)

@@ -11,14 +11,15 @@ use Rattle.pool_parts.specs.declared.page.user_view.UserView.{UserView}
 use Rattle.pool_parts.proofs.Ledger.{prefix_same}
 use Rattle.pool_parts.proofs.Meetings.{met_nobody}
 use Rattle.pool_parts.proofs.PageItems.{only_one}
-use Rattle.pool_parts.specs.PageRule.{item_bit, IsAllFree, first_view, IsPage, IsKept, Knows}
+use Rattle.pool_parts.specs.Item.{new_user}
+use Rattle.pool_parts.specs.PageRule.{item_bit, IsAllFree, IsPage, IsKept, Knows}
 
 module _ {T : Type 0} where
   -- a page's first user holds nothing
   first_holds_none : (opening : List (Option T)) (known : UserView T) (user id : ℕ)
-      → get_elem? (first_view opening ∷ []) user ≡ some known → known.held ≡ Some id → ⊥
+      → get_elem? (new_user opening 0 ∷ []) user ≡ some known → known.held ≡ Some id → ⊥
   first_holds_none opening known user id at holds =
-      let first = (only_one (first_view opening) known user at).1 in
+      let first = (only_one (new_user opening 0) known user at).1 in
       cc (ap (λ (known : UserView T). known.held) first, holds)
 
   -- what lies at a place of a page at its start
@@ -44,7 +45,7 @@ module _ {T : Type 0} (meets : T → Type 0) where
     same_count = length-map items some
 
     -- a page at its start: each item is free and at home, and nothing was done
-    opens_page : IsPage meets (opening words items (first_view items))
+    opens_page : IsPage meets (opening words items (new_user items 0))
     opens_page = record {
       all_places = let places = same_count in let all = free.one_for_32 in omega arith;
       free_is_home = λ id one. let found = filled_at items id (let none = free.clear id in grind arith) each in
@@ -53,10 +54,10 @@ module _ {T : Type 0} (meets : T → Type 0) where
       one_holder = λ user other id holds _. absurd (first_holds_none items holds.0 user id holds.1 holds.2);
     }
 
-    first_informed : (user : ℕ) (known : UserView T) → get_elem? (first_view items ∷ []) user ≡ some known
+    first_informed : (user : ℕ) (known : UserView T) → get_elem? (new_user items 0 ∷ []) user ≡ some known
         → Knows items [] user known
     first_informed user known at =
-        let first = only_one (first_view items) known user at in
+        let first = only_one (new_user items 0) known user at in
         subst (λ (pair : ℕ × UserView T). Knows items [] pair.0 pair.1) (λ i. (first.0 i, first.1 i)) record {
           seen = prefix_same [];
           told = prefix_same [];
@@ -72,7 +73,7 @@ module _ {T : Type 0} (meets : T → Type 0) where
     nothing_past : (id : ℕ) → item_bit words id ≡ 0 → get_or items id None ≡ None
     nothing_past id out = grind (arith, free.set id, get_or_past items id None)
 
-    starts : (raise : ℕ) → IsKept meets raise items (opening words items (first_view items))
+    starts : (raise : ℕ) → IsKept meets raise items (opening words items (new_user items 0))
     starts raise = record {
       is_page = opens_page;
       history = record {
@@ -86,12 +87,12 @@ module _ {T : Type 0} (meets : T → Type 0) where
             grind arith;
       };
       have_met = λ user known at.
-          let first = (only_one (first_view items) known user at).1 in
-          met_nobody (first_view items ∷ []) known (sym (ap (λ (known : UserView T). known.met) first));
+          let first = (only_one (new_user items 0) known user at).1 in
+          met_nobody (new_user items 0 ∷ []) known (sym (ap (λ (known : UserView T). known.met) first));
     }
 
     -- the same of values that are said to be these
     pub opens : (raise : ℕ) (said : List (Option T)) → said ≡ items
-        → IsKept meets raise said (opening words items (first_view said))
+        → IsKept meets raise said (opening words items (new_user said 0))
     opens raise said same =
-        subst (λ o. IsKept meets raise o (opening words items (first_view o))) (sym same) (starts raise)
+        subst (λ o. IsKept meets raise o (opening words items (new_user o 0))) (sym same) (starts raise)

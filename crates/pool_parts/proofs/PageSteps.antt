@@ -17,7 +17,8 @@ use Rattle.pool_parts.specs.declared.page.user_view.UserView.{UserView}
 use Rattle.pool_parts.specs.declared.page.history.Operation.{Operation}
 use Rattle.pool_parts.specs.declared.page.history.Operation.TheVariants.{Pull, Return}
 use Rattle.pool_parts.specs.Ledger.{History, operations_of, value_at, MayFollow, IsLegal, IsPrefixOf, returns_among}
-use Rattle.pool_parts.specs.PageRule.{item_bit, User, first_view, HasHistory, IsKept, IsSound, IsInformed, Knows, GoesOn, TakesOne, Misses, Loads, Counts, Meets}
+use Rattle.pool_parts.specs.Item.{new_user}
+use Rattle.pool_parts.specs.PageRule.{item_bit, User, HasHistory, IsKept, IsSound, IsInformed, Knows, GoesOn, TakesOne, Misses, Loads, Counts, Meets}
 use Rattle.pool_parts.specs.Word.{SetsBit, ClearsBit}
 use Rattle.pool_parts.proofs.Ledger.{prefix_same, at_below}
 use Rattle.pool_parts.proofs.Meetings.{met_set, met_same, met_snoc, met_nobody}
@@ -32,7 +33,7 @@ use Rattle.pool_parts.proofs.Views.{Clears, GivesBack, AllHaveMet, told_of, gone
 module _ {T : Type 0} (meets : T → Type 0) (raise : ℕ) (opening : List (Option T)) where
   pub loads : (slots place : ℕ)
       → Enters (IsKept meets raise opening) slots place (λ word known.
-      Loads place (record (first_view opening) { user = known.user }, []) word (known, []))
+      Loads place (new_user opening known.user, []) word (known, []))
   loads slots place page kept places fits =
       let has = kept.history in
       let known : UserView T = newcomer raise opening has.operations (length page.views) in

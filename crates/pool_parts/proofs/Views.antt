@@ -1,5 +1,6 @@
 -- What users know after they were told something, or have gone: the steps of `rule` by names.
-use Rattle.std.specs.Prelude.{◌≡◌, ℕ, ◌+◌, ◌-◌, ◌*◌, ◌^◌, ◌<◌, ◌≤◌, List, [], ◌∷◌, Some, None, true, false}
+use Rattle.std.proofs.Common.{sym, subst}
+use Rattle.std.specs.Prelude.{◌≡◌, ℕ, ◌+◌, ◌-◌, ◌*◌, ◌^◌, ◌<◌, ◌≤◌, List, [], ◌∷◌, Option, Some, None, true, false}
 use Rattle.std.specs.Int.{bit_at}
 use Rattle.atomic_table.specs.Table.{rest}
 use Rattle.pool_parts.specs.Word.{ClearsBit}
@@ -8,7 +9,8 @@ use mathlib.Core.Option.{some}
 use lib.ListN.{get_elem?}
 use Rattle.pool_parts.specs.declared.page.user_view.UserView.{UserView}
 use Rattle.pool_parts.specs.Ledger.{operations_of, IsPrefixOf}
-use Rattle.pool_parts.specs.PageRule.{first_view, User, GoesOn, TakesOne, Misses, Loads}
+use Rattle.pool_parts.specs.Item.{new_user}
+use Rattle.pool_parts.specs.PageRule.{User, GoesOn, TakesOne, Misses, Loads}
 
 module _ {T : Type 0} where
   -- a user that was told what another knew
@@ -17,16 +19,16 @@ module _ {T : Type 0} where
 
   -- who only remembers what another knew
   abbrev pub witness_of : UserView T → UserView T
-  witness_of known = record (first_view known.opening) { operations = known.operations; gone = true }
+  witness_of known = record (new_user known.opening 0) { operations = known.operations; gone = true }
 
   -- a user that has gone
   abbrev pub gone_view : UserView T
-  gone_view = record (first_view []) { gone = true }
+  gone_view = record (new_user [] 0) { gone = true }
 
   -- what introduces a user to another
   abbrev pub introduction_of : UserView T → UserView T
   introduction_of known =
-      record (first_view known.opening) {
+      record (new_user known.opening 0) {
         operations = known.told;
         gone = true;
         met = Some
@@ -85,3 +87,9 @@ module _ {T : Type 0} where
     from_now = loaded.from_now;
     after_known = loaded.after_known;
   }
+
+  -- so it is of a new user, by the number that it has
+  pub starts_new : (place word : ℕ) (opening : List (Option T)) (start : User T) (user : ℕ) → user ≡ start.0.user
+      → Loads place (new_user opening start.0.user, []) word start → StartsFrom (new_user opening user) start.0
+  starts_new place word opening start user same loaded =
+      subst (λ user. StartsFrom (new_user opening user) start.0) (sym same) (starts_from _ _ _ _ loaded)

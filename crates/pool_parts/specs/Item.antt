@@ -1,5 +1,5 @@
 -- An item that is out of its page, however it is held, and what the page's history tells of it.
-use Rattle.std.specs.Prelude.{◌≡◌, ℕ, ◌<◌, List, [], ◌∷◌, Option, length, All, IsSomeAnd}
+use Rattle.std.specs.Prelude.{◌≡◌, ℕ, ◌<◌, List, [], ◌∷◌, ◌++◌, Option, None, false, length, All, IsSomeAnd}
 use Rattle.std.specs.Coded.{Coded, Coded-set, coded_ℕ, coded_option, coded_list, coded×}
 use Rattle.atomic_table.specs.Seated.{TableId, table_id_coded}
 use Rattle.pool_parts.specs.declared.page.history.Operation.TheVariants.{Pull}
@@ -45,21 +45,43 @@ pub record PulledView (P T V : Type 0) : Type 0 where
   pub known : UserView T
 
 module _ {T : Type 0} where
-  -- an item of this page, with a value that meets the condition
-  pub record IsItemOf (meets : T → Type 0) (page : TableId) (item : Item T) : Type 0 where
-    pub of_page : item.page ≡ page
+  -- what the user of this number knows at first: the values that its page opened with, and no operation
+  abbrev pub new_user : List (Option T) → ℕ → UserView T
+  new_user opening user =
+      record {
+        held = None;
+        user = user;
+        opening = opening;
+        operations = [];
+        since = [];
+        told = [];
+        gone = false;
+        own = [];
+        loads = 0;
+        tries = 0;
+        met = None;
+        meetings = 0;
+      }
+
+  -- an item of a page, with a value that meets the condition
+  pub record IsPageItem (meets : T → Type 0) (item : Item T) : Type 0 where
     pub in_page : item.id < PAGE_ITEMS
     pub meets_condition : meets item.value
 
-  -- how an item was pulled: a legal history of its page ends with the pull
-  pub record IsPulled (item : Item T) : Type 0 where
+  -- a pull of this page, or of this fixed pool, gave this item to a user that had known this before
+  pub record IsPulled (page : TableId) (before : UserView T) (item : Item T) : Type 0 where
+    pub of_page : item.page ≡ page
+    pub in_page : item.id < page.slots
+    pub same_user : item.holder ≡ before.user
+    pub same_opening : item.opening ≡ before.opening
     -- each operation of the history may come after those before it
     pub legal : IsLegal item.opening item.history
-    -- its last operation is this pull, with exactly this value
-    pub before : History T
-    pub last : item.history ≡ Pull item.holder item.id item.value ∷ before
-    -- its holder did nothing else
-    pub only : operations_of item.holder item.history ≡ Pull item.holder item.id item.value ∷ []
+    -- its last operation is this pull, with exactly this value, after what the user knew and what others did since
+    pub others : History T
+    pub last : item.history ≡ Pull item.holder item.id item.value ∷ (others ++ before.operations)
+    -- the user did nothing but the pull since
+    pub only : operations_of item.holder item.history
+        ≡ Pull item.holder item.id item.value ∷ operations_of item.holder before.operations
 
 -- that two names of pages are equal
 pub same_page : (a b : TableId) → IsProp (a ≡ b)

@@ -1,9 +1,9 @@
 -- What a page shows, and what somebody knows of its history: the holder of an item, a note, a witness.
-use Rattle.std.specs.Prelude.{◌≡◌, ℕ, List, [], ◌∷◌, ◌++◌, Option, Some}
+use Rattle.std.specs.Prelude.{◌≡◌, List, [], ◌∷◌, ◌++◌, Option, Some}
 use Rattle.atomic_table.specs.Seated.{TableId}
 use Rattle.atomic_table.specs.declared.shared.Seat.{Seat}
 use Rattle.pool_parts.specs.declared.page.shared_page.Page.{Page}
-use Rattle.pool_parts.specs.declared.page.history.Operation.TheVariants.{Pull, Return}
+use Rattle.pool_parts.specs.declared.page.history.Operation.TheVariants.{Return}
 use Rattle.pool_parts.specs.declared.page.holding.Holding.{Holding}
 use Rattle.pool_parts.specs.declared.page.note.PageNote.{PageNote}
 use Rattle.pool_parts.specs.declared.page.note.Witness.{Witness}
@@ -25,20 +25,18 @@ module _ {T : Type 0} where
   abbrev pub view_of : Seat (Option T) (UserView T) → UserView T
   view_of seat = seat.me.0
 
-  -- an item of this page with this number and value, as a user knows it that took it
-  abbrev pub item_known : TableId → UserView T → ℕ → T → Item T
-  item_known page known id value = record {
-    page = page;
-    opening = known.opening;
-    id = id;
-    value = value;
-    holder = known.user;
-    history = known.operations;
-  }
-
   -- the item that a holder has, with a value
   abbrev pub held_item : Holding T → T → Item T
-  held_item holding value = item_known holding.seat.table_id (view_of holding.seat) holding.number value
+  held_item holding value =
+      let known = view_of holding.seat in
+      record {
+        page = holding.seat.table_id;
+        opening = known.opening;
+        id = holding.number;
+        value = value;
+        holder = known.user;
+        history = known.operations;
+      }
 
   -- a holder has the item that it had, of the page that it was of
   pub record HoldsSame (old new : Holding T) : Type 0 where
@@ -74,19 +72,6 @@ module _ {T : Type 0} where
     pub left : T
     pub by_reset : leaves item.value left
     pub returned : IsReturned (record item { value = left }) note
-
-  -- how an item was pulled by a user that had a note: after all that the note knew
-  pub record IsPulledAfter (note : PageNote T) (item : Item T) : Type 0 where
-    pub same_opening : item.opening ≡ (view_of note.seat).opening
-    pub same_user : item.holder ≡ (view_of note.seat).user
-    -- each operation of the history may come after those before it
-    pub legal : IsLegal item.opening item.history
-    -- its last operation is this pull, with exactly this value, after what the note knew and what others did since
-    pub others : History T
-    pub last : item.history ≡ Pull item.holder item.id item.value ∷ (others ++ (view_of note.seat).operations)
-    -- its holder did nothing but the pull since
-    pub only : operations_of item.holder item.history ≡ Pull item.holder item.id item.value ∷ operations_of item.holder
-        (view_of note.seat).operations
 
   -- the note knows more: what it knew, and what the witness knew, are prefixes of its history
   pub record HasLearned (old : PageNote T) (told : Witness T) (new : PageNote T) : Type 0 where

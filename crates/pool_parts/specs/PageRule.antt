@@ -25,24 +25,6 @@ pub record IsAllFree (items : ℕ) (words : List ℕ) : Type 0 where
 abbrev pub User : Type 0 → Type 0
 User T = Me (Option T) (UserView T)
 
--- what a page's first user knows
-abbrev pub first_view : {T : Type 0} → List (Option T) → UserView T
-first_view opening =
-    record {
-      held = None;
-      user = 0;
-      opening = opening;
-      operations = [];
-      since = [];
-      told = [];
-      gone = false;
-      own = [];
-      loads = 0;
-      tries = 0;
-      met = None;
-      meetings = 0;
-    }
-
 module _ {T : Type 0} where
   -- the user with this number has taken the id and not returned it
   abbrev pub UserHolds : State (Option T) (UserView T) → ℕ → ℕ → Type 0

@@ -1,26 +1,11 @@
 -- What callers conclude from a pool's history.
-use Rattle.std.proofs.Common.{◌≡◌, ◌⊎◌, ℕ, [], ◌∷◌, ◌++◌, sym, refl, ap, ◌∙◌, subst, append_assoc, inl, inr}
-use Rattle.pool_parts.specs.declared.page.history.Operation.TheVariants.{Pull, Return}
-use Rattle.pool_parts.specs.declared.page.note.PageNote.{PageNote}
-use Rattle.lockfree_object_pool.specs.Item.{Item}
-use Rattle.lockfree_object_pool.specs.Page.{IsPulledAfter}
-use Rattle.pool_parts.specs.Page.{view_of}
-use Rattle.lockfree_object_pool.specs.Ledger.{pulled_from, History, id_of, NoOperationOn, IsPrefixOf}
+use Rattle.std.proofs.Common.{◌≡◌, ◌⊎◌, ℕ, [], ◌∷◌, ◌++◌, sym, refl, ap, ◌∙◌, subst, inl, inr}
+use Rattle.pool_parts.specs.declared.page.history.Operation.TheVariants.{Return}
+use Rattle.pool_parts.specs.declared.page.user_view.UserView.{UserView}
+use Rattle.lockfree_object_pool.specs.Item.{Item, IsPulled}
+use Rattle.lockfree_object_pool.specs.Ledger.{pulled_from, History, id_of, NoOperationOn}
 use Rattle.pool_parts.proofs.Ledger.{behind}
 use Rattle.test_lockfree_object_pool.specs.Returned.{EndsWithReturnOf, HasOperationOn, WasReturnedBefore, WasUsedSince}
-
--- a pull by a note stands after all that the note knew
-pub pull_is_later : (note : PageNote ℕ) (item : Item ℕ) → IsPulledAfter note item
-    → IsPrefixOf (view_of note.seat).operations item.history
-pull_is_later note item is = (Pull item.holder item.id item.value ∷ is.others, is.last)
-
--- a prefix of a prefix is a prefix
-pub prefix_of_prefix : (one two three : History ℕ) → IsPrefixOf one two → IsPrefixOf two three → IsPrefixOf one three
-prefix_of_prefix one two three first second = (
-  second.0 ++ first.0,
-  second.1 ∙ ap (λ l. second.0 ++ l) first.1
-      ∙ sym (append_assoc second.0 first.0 one),
-)
 
 -- where no operation of a whole history is on an item, none of a prefix is
 none_before : (id : ℕ) (later before : History ℕ) → NoOperationOn id (later ++ before) → NoOperationOn id before
@@ -47,27 +32,27 @@ last_return id (operation ∷ between) (one ∷ later) rest before user other nu
       | inr used ↦ inr (inr used)
     ]
 
-module _ (number : ℕ) (note : PageNote ℕ) (item : Item ℕ) (first : item.id ≡ 0) (is : IsPulledAfter note item)
-    (known : EndsWithReturnOf 0 number (view_of note.seat).operations) where
-  returned : EndsWithReturnOf item.id number (view_of note.seat).operations
-  returned = subst (λ id. EndsWithReturnOf id number (view_of note.seat).operations) (sym first) known
+module _ (number : ℕ) (page : _) (known : UserView ℕ) (item : Item ℕ) (first : item.id ≡ 0)
+    (is : IsPulled page known item) (ends : EndsWithReturnOf 0 number known.operations) where
+  returned : EndsWithReturnOf item.id number known.operations
+  returned = subst (λ id. EndsWithReturnOf id number known.operations) (sym first) ends
 
-  -- a pull of item 0, by a note that knows of a return of it, takes what a return left
+  -- a pull of item 0, by a user that knows of a return of it, takes what a return left
   pub pulled_what_returned : WasReturnedBefore item
   pulled_what_returned = (
-    is.others ++ (view_of note.seat).operations,
+    is.others ++ known.operations,
     is.last,
     elim (pulled_from _ _ _ _ _ _ is.legal is.last) [
       | inl was ↦ was
       | inr opened ↦
-          let none = none_before item.id is.others (view_of note.seat).operations opened.0 in
+          let none = none_before item.id is.others known.operations opened.0 in
           let here = subst (NoOperationOn item.id) returned.2 none in
           absurd (here.0 refl)
     ],
   )
 
   -- it takes what that return left, unless somebody had the item in between
-  pub pulled_same_or_used : (item.value ≡ number) ⊎ WasUsedSince (view_of note.seat).operations item
+  pub pulled_same_or_used : (item.value ≡ number) ⊎ WasUsedSince known.operations item
   unfolding pulled_what_returned
   pulled_same_or_used =
       let was = pulled_what_returned.2 in

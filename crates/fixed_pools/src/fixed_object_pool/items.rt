@@ -63,12 +63,11 @@ pub struct FixedItems<T, K: Clean<T>> {
 
 impl<T, K: Clean<T>> FixedItems<T, K> {
     ghost use Rattle.pool_parts.specs.Answers.{MayMake, Refuses};
-    ghost use Rattle.fixed_pools.specs.FixedPool.{IsPulledFrom, IsPulledWith, IsFullNote, IsFullNoteAfter, returns_since, IsWithin};
+    ghost use Rattle.fixed_pools.specs.FixedPool.{IsFullNote, returns_since, IsWithin};
     ghost use Rattle.pool_parts.specs.Page.{view_of, held_item};
-    ghost use Rattle.pool_parts.specs.Ledger.{IsPrefixOf};
     ghost use Rattle.pool_parts.specs.Slot.{IsAllOut};
     ghost use Rattle.pool_parts.specs.PageItems.{items_view};
-    ghost use Rattle.pool_parts.specs.Item.{IsFilled};
+    ghost use Rattle.pool_parts.specs.Item.{IsFilled, IsPulled, new_user};
     ghost use Rattle.pool_parts.specs.PageRule.{GoesOn};
     ghost use Rattle.pool_parts.specs.declared.page.history.Operation.TheVariants.{Return};
 
@@ -164,14 +163,16 @@ impl<T, K: Clean<T>> FixedItems<T, K> {
     /// most, and each bit that was set in it is cleared, lowest first, until one was still set.
     /// Beyond its first page it hints at the page of its item.
     pub fn try_pull<'p>(&self, pass: &'p PullPass) -> Result<PulledItem<T>, FullSeen<'p, T>>
-        ensures pulled { IfOk result (λ pulled. IsPulledFrom (items_view self.now.shared).identity
-            (items_view self.now.shared).opening (held_item pulled.holding pulled.value)) }
+        ensures pulled { IfOk result (λ pulled. IsPulled (items_view self.now.shared).identity
+            (new_user (items_view self.now.shared).opening (view_of pulled.holding.seat).user)
+            (held_item pulled.holding pulled.value)) }
         ensures meets { IfOk result (λ pulled. K.meets pulled.value) }
         ensures brief { IfOk result
             (λ pulled. IsWithin (items_view self.now.shared).identity.words 0 0
             (view_of pulled.holding.seat)) }
-        ensures busy { IfErr result (IsAllOut (items_view self.now.shared).identity.slots
-            (items_view self.now.shared).identity (items_view self.now.shared).opening) }
+        ensures busy { IfErr result (λ busy. IsAllOut (items_view self.now.shared).identity.slots
+            (items_view self.now.shared).identity
+            (new_user (items_view self.now.shared).opening (view_of busy.seat).user) busy) }
         ensures busy_brief { IfErr result
             (λ busy. IsWithin (items_view self.now.shared).identity.words 0 0 (view_of busy.seat)) }
     {
@@ -195,14 +196,15 @@ impl<T, K: Clean<T>> FixedItems<T, K> {
     /// It isn't inlined, so that an owned or a lazy item isn't moved through memory.
     #[inline(never)]
     pub fn pull(&self) -> Result<PulledItem<T>, PageNote<T>>
-        ensures pulled { IfOk result (λ pulled. IsPulledFrom (items_view self.now.shared).identity
-            (items_view self.now.shared).opening (held_item pulled.holding pulled.value)) }
+        ensures pulled { IfOk result (λ pulled. IsPulled (items_view self.now.shared).identity
+            (new_user (items_view self.now.shared).opening (view_of pulled.holding.seat).user)
+            (held_item pulled.holding pulled.value)) }
         ensures meets { IfOk result (λ pulled. K.meets pulled.value) }
         ensures brief { IfOk result (λ pulled. IsWithin ((items_view self.now.shared).identity.words
             * (returns_since (view_of pulled.holding.seat) + 1)) 0 0
             (view_of pulled.holding.seat)) }
-        ensures full { IfErr result (IsFullNote (items_view self.now.shared).identity
-            (items_view self.now.shared).opening) }
+        ensures full { IfErr result (λ note. IsFullNote (items_view self.now.shared).identity
+            (new_user (items_view self.now.shared).opening (view_of note.seat).user) note) }
         ensures full_brief { IfErr result
             (λ note. IsWithin ((items_view self.now.shared).identity.words
             * (returns_since (view_of note.seat) + 2)) 0 0 (view_of note.seat)) }
@@ -214,14 +216,15 @@ impl<T, K: Clean<T>> FixedItems<T, K> {
     /// this page has a free item it neither reads nor sets the hint.
     pub fn pull_near(&self, start: usize) -> Result<PulledItem<T>, PageNote<T>>
         requires { start < (items_view self.now.shared).identity.words }
-        ensures pulled { IfOk result (λ pulled. IsPulledFrom (items_view self.now.shared).identity
-            (items_view self.now.shared).opening (held_item pulled.holding pulled.value)) }
+        ensures pulled { IfOk result (λ pulled. IsPulled (items_view self.now.shared).identity
+            (new_user (items_view self.now.shared).opening (view_of pulled.holding.seat).user)
+            (held_item pulled.holding pulled.value)) }
         ensures meets { IfOk result (λ pulled. K.meets pulled.value) }
         ensures brief { IfOk result (λ pulled. IsWithin ((items_view self.now.shared).identity.words
             * (returns_since (view_of pulled.holding.seat) + 1)) 0 0
             (view_of pulled.holding.seat)) }
-        ensures full { IfErr result (IsFullNote (items_view self.now.shared).identity
-            (items_view self.now.shared).opening) }
+        ensures full { IfErr result (λ note. IsFullNote (items_view self.now.shared).identity
+            (new_user (items_view self.now.shared).opening (view_of note.seat).user) note) }
         ensures full_brief { IfErr result
             (λ note. IsWithin ((items_view self.now.shared).identity.words
             * (returns_since (view_of note.seat) + 2)) 0 0 (view_of note.seat)) }
@@ -237,14 +240,15 @@ impl<T, K: Clean<T>> FixedItems<T, K> {
         order: Option<Order>,
     ) -> Result<PulledItem<T>, PageNote<T>>
         requires { start < (items_view self.now.shared).identity.words }
-        ensures pulled { IfOk result (λ pulled. IsPulledFrom (items_view self.now.shared).identity
-            (items_view self.now.shared).opening (held_item pulled.holding pulled.value)) }
+        ensures pulled { IfOk result (λ pulled. IsPulled (items_view self.now.shared).identity
+            (new_user (items_view self.now.shared).opening (view_of pulled.holding.seat).user)
+            (held_item pulled.holding pulled.value)) }
         ensures meets { IfOk result (λ pulled. K.meets pulled.value) }
         ensures brief { IfOk result (λ pulled. IsWithin ((items_view self.now.shared).identity.words
             * (returns_since (view_of pulled.holding.seat) + 1)) 0 0
             (view_of pulled.holding.seat)) }
-        ensures full { IfErr result (IsFullNote (items_view self.now.shared).identity
-            (items_view self.now.shared).opening) }
+        ensures full { IfErr result (λ note. IsFullNote (items_view self.now.shared).identity
+            (new_user (items_view self.now.shared).opening (view_of note.seat).user) note) }
         ensures full_brief { IfErr result
             (λ note. IsWithin ((items_view self.now.shared).identity.words
             * (returns_since (view_of note.seat) + 2)) 0 0 (view_of note.seat)) }
@@ -271,15 +275,13 @@ impl<T, K: Clean<T>> FixedItems<T, K> {
     ) -> Result<PulledItem<T>, FullSeen<'p, T>>
         requires { note.seat.table_id ≡ (items_view self.now.shared).identity }
         ensures pulled { IfOk result
-            (λ pulled. IsPulledWith (items_view self.now.shared).identity note
+            (λ pulled. IsPulled (items_view self.now.shared).identity (view_of note.seat)
             (held_item pulled.holding pulled.value)) }
         ensures meets { IfOk result (λ pulled. K.meets pulled.value) }
         ensures brief { IfOk result (λ pulled. IsWithin (items_view self.now.shared).identity.words
             (view_of note.seat).loads (view_of note.seat).tries (view_of pulled.holding.seat)) }
         ensures busy { IfErr result (IsAllOut (items_view self.now.shared).identity.slots
-            (items_view self.now.shared).identity (view_of note.seat).opening) }
-        ensures after_note { IfErr result
-            (λ busy. IsPrefixOf (view_of note.seat).operations (view_of busy.seat).since) }
+            (items_view self.now.shared).identity (view_of note.seat)) }
         ensures busy_brief { IfErr result
             (λ busy. IsWithin (items_view self.now.shared).identity.words (view_of note.seat).loads
             (view_of note.seat).tries (view_of busy.seat)) }
@@ -310,13 +312,14 @@ impl<T, K: Clean<T>> FixedItems<T, K> {
         requires page { page < (items_view self.now.shared).identity.words }
         requires note { note.seat.table_id ≡ (items_view self.now.shared).identity }
         ensures pulled { IfOk result
-            (λ pulled. IsPulledWith (items_view self.now.shared).identity note
+            (λ pulled. IsPulled (items_view self.now.shared).identity (view_of note.seat)
             (held_item pulled.holding pulled.value)) }
         ensures meets { IfOk result (λ pulled. K.meets pulled.value) }
         ensures brief { IfOk result (λ pulled. IsWithin ((items_view self.now.shared).identity.words
             * (returns_since (view_of pulled.holding.seat) + 1)) (view_of note.seat).loads
             (view_of note.seat).tries (view_of pulled.holding.seat)) }
-        ensures full { IfErr result (IsFullNoteAfter (items_view self.now.shared).identity note) }
+        ensures full { IfErr result
+            (IsFullNote (items_view self.now.shared).identity (view_of note.seat)) }
         ensures full_brief { IfErr result
             (λ later. IsWithin ((items_view self.now.shared).identity.words
             * (returns_since (view_of later.seat) + 2)) (view_of note.seat).loads

@@ -15,8 +15,8 @@
 ghost use Rattle.std.specs.Prelude.{◌≡◌, ◌≤◌, ◌<◌, None, IfSome, IsSome, IfOk, IfErr, ⊤};
 ghost use Rattle.std.specs.Arc.{arc_value};
 ghost use Rattle.pool_parts.specs.Answers.{MayMake, Refuses};
-ghost use Rattle.pool_parts.specs.Page.{held_item, IsReturned, page_identity};
-ghost use Rattle.pool_parts.specs.Slot.{IsAnswerAfter};
+ghost use Rattle.pool_parts.specs.Page.{held_item, IsReturned, page_identity, view_of};
+ghost use Rattle.pool_parts.specs.Slot.{IsAnswerOf};
 ghost use Rattle.pool_parts.specs.declared.page.word.TheConstants.{PAGE_ITEMS};
 
 use super::directory::{Directory, HintedLink};
@@ -58,7 +58,7 @@ impl<T: Drop, K: Clean<T>, O: Clean<T>> Drop for Chain<T, K, O> {
 }
 
 impl<T: Drop, K: Clean<T>, O: Clean<T>> Chain<T, K, O> {
-    ghost use Rattle.page_chain.specs.Walk.{shown_page, first_page, IsTaken, IsRefusedBy, IsWalkedTo, cause_of};
+    ghost use Rattle.page_chain.specs.Walk.{shown_page, first_page, Pulls, IsRefusedBy, IsWalkedTo, cause_of};
     ghost use Rattle.page_chain.specs.WalkSteps.{IsAnsweredBy, IsKnownAt};
 
     /// Creates a chain of one page, made as by [`Page::new`].
@@ -107,7 +107,7 @@ impl<T: Drop, K: Clean<T>, O: Clean<T>> Chain<T, K, O> {
         note: PageNote<T>,
     ) -> Allocated<'s, 'p, T, K>
         requires { note.seat.table_id ≡ (first_page self.now).page }
-        ensures { IsAnswerAfter K.meets (first_page self.now).page note result }
+        ensures { IsAnswerOf K.meets (first_page self.now).page (view_of note.seat) result }
     {
         self.first.owner().take_from(pass, note)
     }
@@ -136,7 +136,7 @@ impl<T: Drop, K: Clean<T>, O: Clean<T>> Chain<T, K, O> {
         requires may_make { MayMake I.pre I.post K.meets init.now }
         requires opens { MayMake I.pre I.post O.meets init.now }
         ensures taken { IfOk result (λ reached.
-            IsTaken K.meets O.meets (first_page self.now) limit reached.number reached.slot.item) }
+            Pulls K.meets O.meets (first_page self.now) limit reached.number reached.slot.item) }
         ensures past_first { IfOk result (λ reached. 0 < reached.number.number) }
         ensures evidence { IfErr result
             (IsRefusedBy (first_page self.now) limit (I.post init.now None)) }

@@ -2,8 +2,8 @@
 ghost use Rattle.std.specs.Prelude.{◌≡◌, ◌+◌, ◌-◌, ◌^◌, ◌≤◌, ◌<◌, ⊤, Option, None, Some, IfSome, IsSome, IsTrue, IsFalse, IfOk, IfErr};
 ghost use Rattle.std.specs.Arc.{arc_value};
 ghost use Rattle.pool_parts.specs.Answers.{MayMake, Refuses};
-ghost use Rattle.pool_parts.specs.Item.{IsItemOf, IsPulled, IsFilled};
-ghost use Rattle.page_chain.specs.Walk.{shown_page, IsTaken, IsRefusedBy, cause_of};
+ghost use Rattle.pool_parts.specs.Item.{IsPageItem, IsPulled, IsFilled, new_user};
+ghost use Rattle.page_chain.specs.Walk.{shown_page, Pulls, IsRefusedBy, cause_of};
 ghost use Rattle.pool_parts.specs.Page.{page_identity, page_opening};
 ghost use Rattle.page_chain.specs.WalkSteps.{IsAnsweredBy, IsKnownAt};
 ghost use Rattle.page_chain.specs.declared.linear_page.walk.WalkRefusal.TheVariants.{Making};
@@ -123,13 +123,13 @@ impl<'c, T: Drop, K: Clean<T>, O: Clean<T>> LinearPage<'c, T, K, O> {
     ) -> Result<(PageSlot<'c, T, K>, usize), PullError>
         requires may_make { MayMake I.pre I.post K.meets init.now }
         requires opens { MayMake I.pre I.post O.meets init.now }
-        ensures item { IfOk result
-            (λ reached. IsItemOf K.meets reached.0.item.page reached.0.item) }
+        ensures item { IfOk result (λ reached. IsPageItem K.meets reached.0.item) }
         ensures of_start { IfOk result (λ reached.
             reached.1 ≡ 0 → reached.0.item.page ≡ (shown_page self.now).page) }
         ensures opened { IfOk result
             (λ reached. IsFilled PAGE_ITEMS O.meets reached.0.item.opening) }
-        ensures pulled { IfOk result (λ reached. IsPulled reached.0.item) }
+        ensures pulled { IfOk result (λ reached. IsPulled reached.0.item.page
+            (new_user reached.0.item.opening reached.0.item.holder) reached.0.item) }
         ensures refused { IfErr result (Refuses ⊤ (I.post init.now None) ⊥) }
     {
         let reached = self.walk(None, init)?;
@@ -151,13 +151,13 @@ impl<'c, T: Drop, K: Clean<T>, O: Clean<T>> LinearPage<'c, T, K, O> {
         requires some_page { 1 ≤ pages }
         requires may_make { MayMake I.pre I.post K.meets init.now }
         requires opens { MayMake I.pre I.post O.meets init.now }
-        ensures item { IfOk result
-            (λ reached. IsItemOf K.meets reached.0.item.page reached.0.item) }
+        ensures item { IfOk result (λ reached. IsPageItem K.meets reached.0.item) }
         ensures of_start { IfOk result (λ reached.
             reached.1 ≡ 0 → reached.0.item.page ≡ (shown_page self.now).page) }
         ensures opened { IfOk result
             (λ reached. IsFilled PAGE_ITEMS O.meets reached.0.item.opening) }
-        ensures pulled { IfOk result (λ reached. IsPulled reached.0.item) }
+        ensures pulled { IfOk result (λ reached. IsPulled reached.0.item.page
+            (new_user reached.0.item.opening reached.0.item.holder) reached.0.item) }
         ensures within { IfOk result (λ reached. reached.1 < pages) }
         ensures refused { IfErr result (Refuses ⊤ (I.post init.now None) ⊤) }
     {
@@ -178,13 +178,13 @@ impl<'c, T: Drop, K: Clean<T>, O: Clean<T>> LinearPage<'c, T, K, O> {
     ) -> Result<(OwnedSlot<T, K>, usize), PullError>
         requires may_make { MayMake I.pre I.post K.meets init.now }
         requires opens { MayMake I.pre I.post O.meets init.now }
-        ensures item { IfOk result (λ reached. IsItemOf K.meets reached.0.item.page
-            reached.0.item) }
+        ensures item { IfOk result (λ reached. IsPageItem K.meets reached.0.item) }
         ensures of_start { IfOk result (λ reached.
             reached.1 ≡ 0 → reached.0.item.page ≡ (shown_page self.now).page) }
         ensures opened { IfOk result
             (λ reached. IsFilled PAGE_ITEMS O.meets reached.0.item.opening) }
-        ensures pulled { IfOk result (λ reached. IsPulled reached.0.item) }
+        ensures pulled { IfOk result (λ reached. IsPulled reached.0.item.page
+            (new_user reached.0.item.opening reached.0.item.holder) reached.0.item) }
         ensures refused { IfErr result (Refuses ⊤ (I.post init.now None) ⊥) }
     {
         let (slot, number) = self.walk(None, init)?.into_owned()?;
@@ -205,13 +205,13 @@ impl<'c, T: Drop, K: Clean<T>, O: Clean<T>> LinearPage<'c, T, K, O> {
         requires some_page { 1 ≤ pages }
         requires may_make { MayMake I.pre I.post K.meets init.now }
         requires opens { MayMake I.pre I.post O.meets init.now }
-        ensures item { IfOk result (λ reached. IsItemOf K.meets reached.0.item.page
-            reached.0.item) }
+        ensures item { IfOk result (λ reached. IsPageItem K.meets reached.0.item) }
         ensures of_start { IfOk result (λ reached.
             reached.1 ≡ 0 → reached.0.item.page ≡ (shown_page self.now).page) }
         ensures opened { IfOk result
             (λ reached. IsFilled PAGE_ITEMS O.meets reached.0.item.opening) }
-        ensures pulled { IfOk result (λ reached. IsPulled reached.0.item) }
+        ensures pulled { IfOk result (λ reached. IsPulled reached.0.item.page
+            (new_user reached.0.item.opening reached.0.item.holder) reached.0.item) }
         ensures within { IfOk result (λ reached. reached.1 < pages) }
         ensures refused { IfErr result (Refuses ⊤ (I.post init.now None) ⊤) }
     {
@@ -233,7 +233,7 @@ impl<'c, T: Drop, K: Clean<T>, O: Clean<T>> LinearPage<'c, T, K, O> {
         requires may_make { MayMake I.pre I.post K.meets init.now }
         requires opens { MayMake I.pre I.post O.meets init.now }
         ensures taken { IfOk result (λ reached.
-            IsTaken K.meets O.meets (shown_page self.now) limit reached.number reached.slot.item) }
+            Pulls K.meets O.meets (shown_page self.now) limit reached.number reached.slot.item) }
         ensures page { IfOk result (λ reached.
             reached.slot.item.page ≡ page_identity (arc_value reached.page.now)) }
         ensures refused { IfErr result (Refuses ⊤ (I.post init.now None) (IsSome limit)) }
@@ -277,7 +277,7 @@ impl<'c, T: Drop, K: Clean<T>, O: Clean<T>> LinearPage<'c, T, K, O> {
         requires may_make { MayMake I.pre I.post K.meets init.now }
         requires opens { MayMake I.pre I.post O.meets init.now }
         ensures taken { IfOk result (λ reached.
-            IsTaken K.meets O.meets (shown_page self.now) limit reached.number reached.slot.item) }
+            Pulls K.meets O.meets (shown_page self.now) limit reached.number reached.slot.item) }
         ensures page { IfOk result (λ reached.
             reached.slot.item.page ≡ page_identity (arc_value reached.page.now)) }
         ensures further { IfOk result (λ reached. (shown_page self.now).number

@@ -24,11 +24,12 @@ pub struct PageRule<K> {
 }
 
 impl<T, K: Clean<T>> TableRule<Option<T>, UserView<T>, Opening<T>> for PageRule<K> {
-    ghost use Rattle.pool_parts.specs.PageRule.{IsKept, first_view};
+    ghost use Rattle.pool_parts.specs.Item.{new_user};
+    ghost use Rattle.pool_parts.specs.PageRule.{IsKept};
 
     ghost holds = { λ key. IsKept K.meets key.raise.value key.values.value.items };
 
-    ghost first = { λ key. first_view key.values.value.items };
+    ghost first = { λ key. new_user key.values.value.items 0 };
 }
 
 /// A load of one word by a new user, which had known nothing.
@@ -68,12 +69,12 @@ pub struct Witnesses;
 
 impl<T> Split<UserView<T>> for Witnesses {
     ghost use Rattle.std.specs.Prelude.{true};
-    ghost use Rattle.pool_parts.specs.PageRule.{first_view};
+    ghost use Rattle.pool_parts.specs.Item.{new_user};
 
     ghost left = { λ known. known };
 
     ghost right = { λ known.
-        record (first_view known.opening) { operations = known.operations; gone = true } };
+        record (new_user known.opening 0) { operations = known.operations; gone = true } };
 }
 
 /// A user tells another what it knows, and is gone.
@@ -81,11 +82,11 @@ pub struct Tells;
 
 impl<T> Join<UserView<T>> for Tells {
     ghost use Rattle.std.specs.Prelude.{[], true};
-    ghost use Rattle.pool_parts.specs.PageRule.{first_view};
+    ghost use Rattle.pool_parts.specs.Item.{new_user};
 
     ghost both = { λ known other. record known { told = other.operations; met = other.met } };
 
-    ghost spent = { record (first_view []) { gone = true } };
+    ghost spent = { record (new_user [] 0) { gone = true } };
 }
 
 /// A user introduces itself to another: what it was told, its number, and how often it has met.
@@ -93,12 +94,12 @@ pub struct Introduces;
 
 impl<T> Split<UserView<T>> for Introduces {
     ghost use Rattle.std.specs.Prelude.{Some, true};
-    ghost use Rattle.pool_parts.specs.PageRule.{first_view};
+    ghost use Rattle.pool_parts.specs.Item.{new_user};
 
     ghost left = { λ known. known };
 
     ghost right = { λ known.
-        record (first_view known.opening) {
+        record (new_user known.opening 0) {
           operations = known.told;
           gone = true;
           met = Some (known.user, known.meetings);

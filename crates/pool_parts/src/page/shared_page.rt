@@ -41,9 +41,9 @@ impl<T: Drop, K: Clean<T>> Drop for Page<T, K> {
 
 impl<T, K: Clean<T>> Page<T, K> {
     ghost use Rattle.pool_parts.specs.Answers.{MayMake, Refuses};
-    ghost use Rattle.pool_parts.specs.Slot.{IsAnswerOf, IsAnswerAfter, IsBrief, answer_view, IsAnswerFrom};
+    ghost use Rattle.pool_parts.specs.Slot.{IsAnswerOf, IsBrief, answer_view};
     ghost use Rattle.pool_parts.specs.Page.{held_item, HoldsSame, IsReturned, IsNoteOf, HasLearned, page_identity, page_opening, view_of};
-    ghost use Rattle.pool_parts.specs.Item.{IsItemOf, IsPulled, IsFilled};
+    ghost use Rattle.pool_parts.specs.Item.{IsPageItem, IsPulled, IsFilled, new_user};
     ghost use Rattle.pool_parts.specs.PageRule.{IsSound, IsOutNow};
 
     /// Creates a page of 32 free items. Item `i` is the answer of call `i` of `init`, counted from
@@ -84,10 +84,10 @@ impl<T, K: Clean<T>> Page<T, K> {
     pub fn alloc(&self) -> Result<Option<PageSlot<'_, T, K>>, PullError>
         ensures succeeds { IsOk result }
         ensures item { IfOk result (λ found. IfSome found
-            (λ slot. IsItemOf K.meets (page_identity self.now) slot.item)) }
-        ensures same_opening { IfOk result (λ found. IfSome found
-            (λ slot. slot.item.opening ≡ page_opening self.now)) }
-        ensures pulled { IfOk result (λ found. IfSome found (λ slot. IsPulled slot.item)) }
+            (λ slot. IsPageItem K.meets slot.item)) }
+        ensures pulled { IfOk result (λ found. IfSome found
+            (λ slot. IsPulled (page_identity self.now)
+            (new_user (page_opening self.now) slot.item.holder) slot.item)) }
         ensures brief { IfOk result (λ found. IfSome found (λ slot. IsBrief 0 0 slot.known)) }
     {
         let pass = PullPass::new();
@@ -108,8 +108,8 @@ impl<T, K: Clean<T>> Page<T, K> {
         pass: &'p PullPass,
     ) -> Result<Allocated<'s, 'p, T, K>, PullError>
         ensures succeeds { IsOk result }
-        ensures answer { IfOk result
-            (IsAnswerOf K.meets (page_identity self.now) (page_opening self.now)) }
+        ensures answer { IfOk result (λ answer. IsAnswerOf K.meets (page_identity self.now)
+            (new_user (page_opening self.now) (answer_view answer).user) answer) }
         ensures brief { IfOk result (λ answer. IsBrief 0 0 (answer_view answer)) }
     {
         Ok(self.take(pass).answer)
@@ -119,7 +119,7 @@ impl<T, K: Clean<T>> Page<T, K> {
     /// full.
     pub fn take<'s, 'p>(&'s self, pass: &'p PullPass) -> PageAnswer<'s, 'p, T, K>
         ensures answer { IsAnswerOf K.meets (page_identity self.now)
-            (page_opening self.now) result.answer }
+            (new_user (page_opening self.now) (answer_view result.answer).user) result.answer }
         ensures brief { IsBrief 0 0 (answer_view result.answer) }
     {
         let (word, seat) = self.items.look(0);
@@ -139,7 +139,8 @@ impl<T, K: Clean<T>> Page<T, K> {
     ) -> Result<Allocated<'s, 'p, T, K>, PullError>
         requires page { note.seat.table_id ≡ page_identity self.now }
         ensures succeeds { IsOk result }
-        ensures answer { IfOk result (IsAnswerAfter K.meets (page_identity self.now) note) }
+        ensures answer { IfOk result
+            (IsAnswerOf K.meets (page_identity self.now) (view_of note.seat)) }
         ensures brief { IfOk result
             (λ answer. IsBrief (view_of note.seat).loads (view_of note.seat).tries
             (answer_view answer)) }
@@ -154,7 +155,7 @@ impl<T, K: Clean<T>> Page<T, K> {
         note: PageNote<T>,
     ) -> Allocated<'s, 'p, T, K>
         requires page { note.seat.table_id ≡ page_identity self.now }
-        ensures answer { IsAnswerAfter K.meets (page_identity self.now) note result }
+        ensures answer { IsAnswerOf K.meets (page_identity self.now) (view_of note.seat) result }
         ensures brief { IsBrief (view_of note.seat).loads (view_of note.seat).tries
             (answer_view result) }
     {
@@ -220,9 +221,11 @@ impl<T, K: Clean<T>> Page<T, K> {
         requires holds_none { seat.me.0.held ≡ None }
         requires here { seat.me.0.gone ≡ false }
         requires sound { IsSound seat.me.0 }
+        requires from_now { seat.me.0.since ≡ seat.me.0.operations }
         requires found { (id : ℕ) → id < PAGE_ITEMS → bit_at word id ≡ 0
             → IsOutNow seat.me.0 (32 * 0 + id) }
-        ensures answer { IsAnswerFrom K.meets (page_identity self.now) seat.me.0 result.answer }
+        ensures answer { IsAnswerOf K.meets (page_identity self.now) seat.me.0 result.answer }
+        ensures same_user { (answer_view result.answer).user ≡ seat.me.0.user }
         ensures loads { (answer_view result.answer).loads ≡ seat.me.0.loads }
         ensures tries { (answer_view result.answer).tries ≤ seat.me.0.tries + PAGE_ITEMS }
     {

@@ -14,18 +14,15 @@ use crate::clean::Clean;
 impl<T, K: Clean<T>> Items<T, K> {
     ghost use Rattle.pool_parts.specs.Page.{view_of};
     ghost use Rattle.pool_parts.specs.PageItems.{items_view};
-    ghost use Rattle.pool_parts.specs.PageRule.{Loads, Counts, Misses, TakesOne, GoesOn, first_view};
+    ghost use Rattle.pool_parts.specs.PageRule.{Loads, Counts, Misses, TakesOne, GoesOn};
+    ghost use Rattle.pool_parts.specs.Item.{new_user};
 
     /// Reads the bits of a word, by a new user, which then knows the items of it that are in use.
     pub fn look(&self, page: usize) -> (u32, UserSeat<T>)
         requires { page < (items_view self.now).identity.words }
         ensures items { result.1.table_id ≡ (items_view self.now).identity }
-        ensures found { Loads page (
-          record (first_view (items_view self.now).opening) {
-            user = result.1.me.0.user;
-          },
-          [],
-        ) result.0 result.1.me }
+        ensures found { Loads page (new_user (items_view self.now).opening result.1.me.0.user, [])
+            result.0 result.1.me }
         ensures carries_none { result.1.me.1 ≡ [] }
     {
         let (word, seat) = self.table.shared.load_new_seat::<Look>(page);

@@ -43,7 +43,7 @@ returns-in-Ok c =
           out = c.in-Ok.out;
           holds = kept.2;
           same_pool = pulled.pool;
-          pulled = pulled.pulled.after_note;
+          pulled = pulled.pulled.pulled;
           number = c.number.ensures.value;
           brief = pulled.brief;
         },

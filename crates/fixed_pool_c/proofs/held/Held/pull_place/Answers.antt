@@ -22,7 +22,7 @@ returns-in-Ok c =
         subst (PullsPlace c.hold.new.self) (c.deref.ensures ∙ owner.2) record {
           holding = c.in-Ok.holding;
           holds = c.hold.ensures.held;
-          pulled = c.in-Ok.ensures.pulled.from_pool;
+          pulled = c.in-Ok.ensures.pulled.pulled;
           number = c.hold.ensures.number;
           brief = c.in-Ok.ensures.brief;
         },

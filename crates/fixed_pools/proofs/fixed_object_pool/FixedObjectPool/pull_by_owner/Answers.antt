@@ -1,14 +1,15 @@
 use Rattle.std.proofs.Common.{◌*◌, subst, sym, ◌+◌}
-use Rattle.fixed_pools.specs.FixedPool.{PullsFixedAfter, returns_since, fixed_view, IsWithin}
+use Rattle.fixed_pools.specs.FixedPool.{Pulls, returns_since, fixed_view, IsWithin}
 use Rattle.pool_parts.specs.Page.{view_of}
 use Rattle.fixed_pools.proofs.fixed_object_pool.FixedObjectPool.pull_by_owner.Goals as goal
 
 pub returns-in-Ok-clause-pulled : goal.returns-in-Ok-clause-pulled
 returns-in-Ok-clause-pulled g c =
-    let Pulled = PullsFixedAfter g.K.Clean.meets g.I.Init.answers g.R.Reset.leaves in
-    subst (λ pool. Pulled pool c.args.note c.new.result.item) c.deref-2.ensures
-    (subst (Pulled c.deref-2.result.now c.args.note) (sym c.new.ensures.item) record {
-      after_note = c.in-Ok.ensures.pulled;
+    let Pulled = Pulls g.K.Clean.meets g.I.Init.answers g.R.Reset.leaves in
+    let before = view_of c.args.note.seat in
+    subst (λ pool. Pulled pool before c.new.result.item) c.deref-2.ensures
+    (subst (Pulled c.deref-2.result.now before) (sym c.new.ensures.item) record {
+      pulled = c.in-Ok.ensures.pulled;
       meets_condition = c.in-Ok.ensures.meets.0;
       made_or_reset = c.in-Ok.ensures.meets.1;
     })

@@ -1,12 +1,15 @@
 use Rattle.std.proofs.Common.{◌*◌, subst, sym, ◌+◌}
-use Rattle.fixed_pools.specs.FixedPool.{PullsFixed, returns_since, fixed_view, IsWithin}
+use Rattle.fixed_pools.specs.FixedPool.{Pulls, returns_since, fixed_view, IsWithin}
+use Rattle.pool_parts.specs.Item.{new_user}
 use Rattle.fixed_pools.proofs.fixed_object_pool.FixedObjectPool.pull_near.Goals as goal
 
 pub returns-in-Ok-clause-pulled : goal.returns-in-Ok-clause-pulled
 returns-in-Ok-clause-pulled g c =
-    subst (PullsFixed g.K.Clean.meets g.I.Init.answers g.R.Reset.leaves c.args.self.now) (sym c.new.ensures.item)
+    let pool = c.args.self.now in
+    subst (λ item. Pulls g.K.Clean.meets g.I.Init.answers g.R.Reset.leaves pool
+    (new_user (fixed_view pool).opening item.holder) item) (sym c.new.ensures.item)
     record {
-      from_pool = c.in-Ok.ensures.pulled;
+      pulled = c.in-Ok.ensures.pulled;
       meets_condition = c.in-Ok.ensures.meets.0;
       made_or_reset = c.in-Ok.ensures.meets.1;
     }

@@ -1,12 +1,15 @@
 use Rattle.std.proofs.Common.{subst, sym}
-use Rattle.fixed_pools.specs.FixedPool.{PullsFixed, fixed_view, IsWithin}
+use Rattle.fixed_pools.specs.FixedPool.{Pulls, fixed_view, IsWithin}
+use Rattle.pool_parts.specs.Item.{new_user}
 use Rattle.fixed_pools.proofs.fixed_object_pool.FixedObjectPool.try_pull.Goals as goal
 
 pub returns-clause-pulled : goal.returns-clause-pulled
 returns-clause-pulled g c =
-    subst (PullsFixed g.K.Clean.meets g.I.Init.answers g.R.Reset.leaves c.args.self.now) (sym c.new.ensures.item)
+    let pool = c.args.self.now in
+    subst (λ item. Pulls g.K.Clean.meets g.I.Init.answers g.R.Reset.leaves pool
+    (new_user (fixed_view pool).opening item.holder) item) (sym c.new.ensures.item)
     record {
-      from_pool = c.in_ok-try_pull.ensures.pulled;
+      pulled = c.in_ok-try_pull.ensures.pulled;
       meets_condition = c.in_ok-try_pull.ensures.meets.0;
       made_or_reset = c.in_ok-try_pull.ensures.meets.1;
     }

@@ -1,13 +1,13 @@
 use Rattle.std.proofs.Common.{subst, sym}
-use Rattle.fixed_pools.specs.FixedPool.{PullsFixedAfter, fixed_view, IsWithin}
+use Rattle.fixed_pools.specs.FixedPool.{Pulls, fixed_view, IsWithin}
 use Rattle.pool_parts.specs.Page.{view_of}
 use Rattle.fixed_pools.proofs.fixed_object_pool.FixedObjectPool.try_pull_from.Goals as goal
 
 pub returns-clause-pulled : goal.returns-clause-pulled
 returns-clause-pulled g c =
-    subst (PullsFixedAfter g.K.Clean.meets g.I.Init.answers g.R.Reset.leaves c.args.self.now c.args.note)
+    subst (Pulls g.K.Clean.meets g.I.Init.answers g.R.Reset.leaves c.args.self.now (view_of c.args.note.seat))
     (sym c.new.ensures.item) record {
-      after_note = c.in_ok-pulled.ensures.pulled;
+      pulled = c.in_ok-pulled.ensures.pulled;
       meets_condition = c.in_ok-pulled.ensures.meets.0;
       made_or_reset = c.in_ok-pulled.ensures.meets.1;
     }

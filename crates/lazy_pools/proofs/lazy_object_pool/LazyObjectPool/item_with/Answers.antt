@@ -1,7 +1,7 @@
 use Rattle.std.proofs.Common.{Some, refl, subst}
-use Rattle.fixed_pools.specs.FixedPool.{IsPulledFrom}
+use Rattle.pool_parts.specs.Item.{IsPulled, new_user}
 use Rattle.lazy_pools.specs.LazyPool.{lazy_view}
-use Rattle.pool_parts.specs.Page.{held_item}
+use Rattle.pool_parts.specs.Page.{held_item, view_of}
 use Rattle.lazy_pools.proofs.lazy_object_pool.LazyObjectPool.item_with.Goals as goal
 
 pub returns-in-Some-clause-pulled : goal.returns-in-Some-clause-pulled
@@ -10,7 +10,8 @@ returns-in-Some-clause-pulled g c =
     record {
       found = Some c.in-Some.value;
       pulled =
-          subst (λ place. IsPulledFrom (lazy_view pool).identity (lazy_view pool).opening
+          subst (λ place. IsPulled (lazy_view pool).identity
+          (new_user (lazy_view pool).opening (view_of c.args.pulled.holding.seat).user)
           (held_item c.args.pulled.holding place))
           c.in-Some.is c.requires.pulled;
       value_is = refl;

@@ -1,7 +1,7 @@
 use Rattle.std.proofs.Common.{◌+◌, ◌*◌, subst, sym}
 use Rattle.std.specs.Prelude.{Option}
 use Rattle.fixed_pools.specs.FixedPool.{returns_since, IsWithin}
-use Rattle.lazy_pools.specs.LazyPool.{IsPulledLazily, lazy_init, lazy_view}
+use Rattle.lazy_pools.specs.LazyPool.{Pulls, lazy_init, lazy_view}
 use Rattle.pool_parts.specs.Answers.{IsMadeOrReset}
 use Rattle.pool_parts.specs.Page.{view_of}
 use Rattle.pool_parts.specs.declared.page.user_view.UserView.{UserView}
@@ -11,11 +11,11 @@ pub returns-in_ok-item-in-Ok-clause-pulled : goal.returns-in_ok-item-in-Ok-claus
 returns-in_ok-item-in-Ok-clause-pulled g c =
     let words = c.deref-in-Ok.result.now in
     let answers = g.I.Init.answers in
-    let of_pool = IsPulledLazily (lazy_view words).identity (lazy_view words).opening (answers (lazy_init words)) in
+    let of_pool = Pulls (lazy_view words) (answers (lazy_init words)) in
     let item = c.in_ok-item-in-Ok.item in
     let place = c.new.result.item in
     let value = c.new.result.value in
-    subst (λ pool. IsPulledLazily (lazy_view pool).identity (lazy_view pool).opening (answers (lazy_init pool)) place
+    subst (λ pool. Pulls (lazy_view pool) (answers (lazy_init pool)) place
     value)
     c.deref-in-Ok.ensures
     (subst (of_pool place) (sym c.new.ensures.value)

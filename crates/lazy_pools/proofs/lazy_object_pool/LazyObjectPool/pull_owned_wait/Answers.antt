@@ -1,5 +1,5 @@
 use Rattle.std.proofs.Common.{subst, sym}
-use Rattle.lazy_pools.specs.LazyPool.{IsPulledLazily, lazy_init, lazy_view}
+use Rattle.lazy_pools.specs.LazyPool.{Pulls, lazy_init, lazy_view}
 use Rattle.pool_parts.specs.Answers.{IsMadeOrReset}
 use Rattle.lazy_pools.proofs.lazy_object_pool.LazyObjectPool.pull_owned_wait.Goals as goal
 
@@ -7,11 +7,11 @@ pub returns-clause-pulled : goal.returns-clause-pulled
 returns-clause-pulled g c =
     let words = c.deref.result.now in
     let answers = g.I.Init.answers in
-    let of_pool = IsPulledLazily (lazy_view words).identity (lazy_view words).opening (answers (lazy_init words)) in
+    let of_pool = Pulls (lazy_view words) (answers (lazy_init words)) in
     let item = c.in_ok-item.item in
     let place = c.new.result.item in
     let value = c.new.result.value in
-    subst (λ pool. IsPulledLazily (lazy_view pool).identity (lazy_view pool).opening (answers (lazy_init pool)) place
+    subst (λ pool. Pulls (lazy_view pool) (answers (lazy_init pool)) place
     value)
     c.deref.ensures
     (subst (of_pool place) (sym c.new.ensures.value)

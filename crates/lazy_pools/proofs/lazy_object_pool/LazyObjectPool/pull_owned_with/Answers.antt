@@ -1,7 +1,7 @@
 use Rattle.std.proofs.Common.{◌+◌, ◌*◌, subst, sym, IfSome, Ok}
 use Rattle.std.specs.Prelude.{Option}
 use Rattle.fixed_pools.specs.FixedPool.{returns_since, IsWithin}
-use Rattle.lazy_pools.specs.LazyPool.{IsPulledLazily, lazy_view}
+use Rattle.lazy_pools.specs.LazyPool.{Pulls, lazy_view}
 use Rattle.pool_parts.specs.Page.{view_of}
 use Rattle.pool_parts.specs.declared.page.user_view.UserView.{UserView}
 use Rattle.lazy_pools.proofs.lazy_object_pool.LazyObjectPool.pull_owned_with.Goals as goal
@@ -10,11 +10,11 @@ pub returns-in-Ok-item_with-clause-pulled : goal.returns-in-Ok-item_with-clause-
 returns-in-Ok-item_with-clause-pulled g c =
     let words = c.deref-in-Ok-pull.result.now in
     let answers = λ (made : Option g.row.T.Denot). IfSome made (λ value. g.F.FnOnce.post c.args.make tt (Ok value)) in
-    let of_pool = IsPulledLazily (lazy_view words).identity (lazy_view words).opening answers in
+    let of_pool = Pulls (lazy_view words) answers in
     let item = c.in-Ok-item_with.item in
     let place = c.new.result.item in
     let value = c.new.result.value in
-    subst (λ pool. IsPulledLazily (lazy_view pool).identity (lazy_view pool).opening answers place value)
+    subst (λ pool. Pulls (lazy_view pool) answers place value)
     c.deref-in-Ok-pull.ensures
     (subst (of_pool place) (sym c.new.ensures.value)
     (subst (λ placed. of_pool placed item.value) (sym c.new.ensures.place) c.in-Ok-item_with.ensures.pulled))

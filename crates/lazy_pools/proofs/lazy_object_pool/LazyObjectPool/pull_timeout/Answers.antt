@@ -1,5 +1,5 @@
 use Rattle.std.proofs.Common.{subst, sym}
-use Rattle.lazy_pools.specs.LazyPool.{IsPulledLazily, lazy_init, lazy_view}
+use Rattle.lazy_pools.specs.LazyPool.{Pulls, lazy_init, lazy_view}
 use Rattle.pool_parts.specs.Answers.{IsMadeOrReset}
 use Rattle.lazy_pools.proofs.lazy_object_pool.LazyObjectPool.pull_timeout.Goals as goal
 
@@ -7,7 +7,7 @@ pub returns-in_ok-item-in-Some-clause-pulled : goal.returns-in_ok-item-in-Some-c
 returns-in_ok-item-in-Some-clause-pulled g c =
     let words = c.args.self.now in
     let answers = g.I.Init.answers in
-    let of_pool = IsPulledLazily (lazy_view words).identity (lazy_view words).opening (answers (lazy_init words)) in
+    let of_pool = Pulls (lazy_view words) (answers (lazy_init words)) in
     let item = c.in_ok-item-in-Some.item in
     let place = c.new.result.item in
     subst (of_pool place) (sym c.new.ensures.value)

@@ -1,7 +1,7 @@
 use Rattle.std.proofs.Common.{◌+◌, ◌*◌, subst, sym, IfSome, Ok}
 use Rattle.std.specs.Prelude.{Option}
 use Rattle.fixed_pools.specs.FixedPool.{returns_since, IsWithin}
-use Rattle.lazy_pools.specs.LazyPool.{IsPulledLazily, lazy_view}
+use Rattle.lazy_pools.specs.LazyPool.{Pulls, lazy_view}
 use Rattle.pool_parts.specs.Page.{view_of}
 use Rattle.pool_parts.specs.declared.page.user_view.UserView.{UserView}
 use Rattle.lazy_pools.proofs.lazy_object_pool.LazyObjectPool.pull_with.Goals as goal
@@ -10,7 +10,7 @@ pub returns-in_ok-item-in-Ok-clause-pulled : goal.returns-in_ok-item-in-Ok-claus
 returns-in_ok-item-in-Ok-clause-pulled g c =
     let words = c.args.self.now in
     let answers = λ (made : Option g.row.T.Denot). IfSome made (λ value. g.F.FnOnce.post c.args.make tt (Ok value)) in
-    let of_pool = IsPulledLazily (lazy_view words).identity (lazy_view words).opening answers in
+    let of_pool = Pulls (lazy_view words) answers in
     let item = c.in_ok-item-in-Ok.item in
     let place = c.new.result.item in
     subst (of_pool place) (sym c.new.ensures.value)

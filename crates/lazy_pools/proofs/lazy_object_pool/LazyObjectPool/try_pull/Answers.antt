@@ -1,7 +1,7 @@
 use Rattle.std.proofs.Common.{subst, sym}
 use Rattle.std.specs.Prelude.{Option}
 use Rattle.fixed_pools.specs.FixedPool.{IsWithin}
-use Rattle.lazy_pools.specs.LazyPool.{IsPulledLazily, lazy_init, lazy_view}
+use Rattle.lazy_pools.specs.LazyPool.{Pulls, lazy_init, lazy_view}
 use Rattle.pool_parts.specs.Answers.{IsMadeOrReset}
 use Rattle.pool_parts.specs.Page.{view_of}
 use Rattle.pool_parts.specs.declared.page.user_view.UserView.{UserView}
@@ -11,7 +11,7 @@ pub returns-in-Ok-item-clause-pulled : goal.returns-in-Ok-item-clause-pulled
 returns-in-Ok-item-clause-pulled g c =
     let words = c.args.self.now in
     let answers = g.I.Init.answers in
-    let of_pool = IsPulledLazily (lazy_view words).identity (lazy_view words).opening (answers (lazy_init words)) in
+    let of_pool = Pulls (lazy_view words) (answers (lazy_init words)) in
     let item = c.in-Ok-item.item in
     let place = c.new.result.item in
     subst (of_pool place) (sym c.new.ensures.value)

@@ -5,7 +5,7 @@ pub returns-in-Slot-clause-pulled : goal.returns-in-Slot-clause-pulled
 returns-in-Slot-clause-pulled g c =
     let answer = c.in-Slot.ensures in
     first_pulls _ _ _ _ _ _ _ c.new.ensures.item (rw c.new.ensures.page c.first_number-number.ensures) answer.0 answer.1
-    answer.2 answer.3
+    answer.2
 
 pub returns-in-Ok-clause-pulled : goal.returns-in-Ok-clause-pulled
 returns-in-Ok-clause-pulled g c =

@@ -10,6 +10,6 @@ pub returns-in-Ok : goal.returns-in-Ok
 returns-in-Ok g c =
     let is = c.in-Ok.ensures.pulled in
     elim (pulled_from _ _ _ _ _ _ is.pulled.legal is.pulled.last) [
-      | inl was ↦ inr (is.pulled.before, is.pulled.last, was)
+      | inl was ↦ inr (_, is.pulled.last, was)
       | inr first ↦ inl (seven _ (filled_at _ _ _ _ _ is.opened first.1).1)
     ]

@@ -1,25 +1,19 @@
 use Rattle.pool_parts.proofs.Views.{starts_from}
 use Rattle.std.proofs.Common.{◌∙◌, ap, arith}
 use Rattle.atomic_table.specs.Seated.{TableId}
-use Rattle.fixed_pools.proofs.FixedAnswers.{item_pulled_with, found_all_out, knows_all_out}
-use Rattle.pool_parts.proofs.PageAnswers.{after_known}
+use Rattle.fixed_pools.proofs.FixedAnswers.{item_pulled, found_all_out, knows_all_out}
 use Rattle.fixed_pools.proofs.fixed_object_pool.items.FixedItems.pull_from.Goals as goal
 
 pub returns-clause-pulled : goal.returns-clause-pulled
 returns-clause-pulled g c =
-    item_pulled_with g.K.Clean.meets _ _ _ _ _ _ _ (starts_from _ _ _ _ c.look_again-word.ensures.found)
-    c.in-Ok.ensures.taken
+    let looked = c.look_again-word.ensures.found in
+    item_pulled g.K.Clean.meets _ _ _ _ _ _ _ (starts_from _ _ _ _ looked) looked.sound c.in-Ok.ensures.taken
     (c.take.ensures.pool ∙ c.look_again-word.ensures.items ∙ c.requires)
 
 pub returns-in_default-clause-busy : goal.returns-in_default-clause-busy
 returns-in_default-clause-busy g c =
-    let starts = starts_from _ _ _ _ c.look_again-word.ensures.found in
     found_all_out _ _ _ _ _ (c.take.ensures.pool ∙ c.look_again-word.ensures.items ∙ c.requires)
-    starts.same_opening c.look_again-word.ensures.found.sound c.in_default.ensures.missed
-
-pub returns-in_default-clause-after_note : goal.returns-in_default-clause-after_note
-returns-in_default-clause-after_note g c =
-    after_known _ _ _ (starts_from _ _ _ _ c.look_again-word.ensures.found) c.in_default.ensures.missed.goes_on
+    (starts_from _ _ _ _ c.look_again-word.ensures.found) c.in_default.ensures.missed
 
 pub invariant_of-result : goal.invariant_of-result
 invariant_of-result g c =

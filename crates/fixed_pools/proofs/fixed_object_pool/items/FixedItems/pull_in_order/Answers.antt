@@ -1,18 +1,14 @@
 use Rattle.std.proofs.Common.{◌∙◌, ◌+◌}
-use Rattle.fixed_pools.proofs.FixedAnswers.{found_full, within_passes}
-use Rattle.pool_parts.proofs.PageAnswers.{pulled}
+use Rattle.fixed_pools.proofs.FixedAnswers.{item_pulled, found_full, within_passes}
+use Rattle.pool_parts.proofs.Views.{starts_new}
 use Rattle.fixed_pools.proofs.fixed_object_pool.items.FixedItems.pull_in_order.Goals as goal
 
 pub returns-in-Some-clause-pulled : goal.returns-in-Some-clause-pulled
 returns-in-Some-clause-pulled g c =
     let looked = c.look-word.ensures.found in
     let taken = c.in-Some.ensures.outcome in
-    record {
-      of_pool = c.take_or_full.ensures.pool ∙ c.look-word.ensures.items;
-      in_pool = taken.in_pool;
-      same_opening = taken.goes_on.same_opening ∙ looked.same_opening;
-      pulled = pulled _ _ _ _ _ taken.goes_on looked.own_same;
-    }
+    item_pulled g.K.Clean.meets _ _ _ _ _ _ _ (starts_new _ _ _ _ _ taken.goes_on.same_user looked) looked.sound taken
+    (c.take_or_full.ensures.pool ∙ c.look-word.ensures.items)
 
 pub returns-in-Some-clause-brief : goal.returns-in-Some-clause-brief
 returns-in-Some-clause-brief g c =
@@ -23,9 +19,9 @@ returns-in-Some-clause-brief g c =
 
 pub returns-in-None-clause-full : goal.returns-in-None-clause-full
 returns-in-None-clause-full g c =
-    let looked = c.look-word.ensures.found in
-    found_full _ _ _ _ (c.take_or_full.ensures.pool ∙ c.look-word.ensures.items) looked.same_opening looked.from_now
-    c.in-None.ensures.outcome
+    let found = c.in-None.ensures.outcome in
+    found_full _ _ _ _ (c.take_or_full.ensures.pool ∙ c.look-word.ensures.items)
+    (starts_new _ _ _ _ _ found.0.goes_on.same_user c.look-word.ensures.found) found
 
 pub returns-in-None-clause-full_brief : goal.returns-in-None-clause-full_brief
 returns-in-None-clause-full_brief g c =

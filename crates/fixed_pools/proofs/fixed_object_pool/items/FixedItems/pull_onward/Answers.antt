@@ -1,14 +1,13 @@
 use Rattle.pool_parts.proofs.Views.{starts_from}
-use Rattle.std.proofs.Common.{◌∙◌, sym, ◌+◌}
+use Rattle.std.proofs.Common.{◌∙◌, ◌+◌}
 use Rattle.pool_parts.specs.Page.{view_of}
-use Rattle.fixed_pools.proofs.FixedAnswers.{item_pulled_with, found_full, within_passes_since}
-use Rattle.pool_parts.proofs.PageAnswers.{after_known}
+use Rattle.fixed_pools.proofs.FixedAnswers.{item_pulled, found_full, within_passes_since}
 use Rattle.fixed_pools.proofs.fixed_object_pool.items.FixedItems.pull_onward.Goals as goal
 
 pub returns-in-Some-clause-pulled : goal.returns-in-Some-clause-pulled
 returns-in-Some-clause-pulled g c =
-    item_pulled_with g.K.Clean.meets _ _ _ _ _ _ _ (starts_from _ _ _ _ c.look_again-word.ensures.found)
-    c.in-Some.ensures.outcome
+    let looked = c.look_again-word.ensures.found in
+    item_pulled g.K.Clean.meets _ _ _ _ _ _ _ (starts_from _ _ _ _ looked) looked.sound c.in-Some.ensures.outcome
     (c.take_or_full.ensures.pool ∙ c.look_again-word.ensures.items ∙ c.requires.note)
 
 pub returns-in-Some-clause-brief : goal.returns-in-Some-clause-brief
@@ -21,16 +20,8 @@ returns-in-Some-clause-brief g c =
 
 pub returns-in-None-clause-full : goal.returns-in-None-clause-full
 returns-in-None-clause-full g c =
-    let starts = starts_from _ _ _ _ c.look_again-word.ensures.found in
-    let found = c.in-None.ensures.outcome in
-    let goes = found.0.goes_on in
-    record {
-      full = found_full _ _ _ _ (c.take_or_full.ensures.pool ∙ c.look_again-word.ensures.items ∙ c.requires.note)
-          starts.same_opening starts.from_now found;
-      same_user = goes.same_user ∙ starts.same_user;
-      after_note = after_known _ _ _ starts goes;
-      same_operations = goes.sound.own_operations ∙ goes.own ∙ starts.own_same ∙ sym starts.own_before;
-    }
+    found_full _ _ _ _ (c.take_or_full.ensures.pool ∙ c.look_again-word.ensures.items ∙ c.requires.note)
+    (starts_from _ _ _ _ c.look_again-word.ensures.found) c.in-None.ensures.outcome
 
 pub returns-in-None-clause-full_brief : goal.returns-in-None-clause-full_brief
 returns-in-None-clause-full_brief g c =

@@ -2,7 +2,7 @@ use Rattle.page_chain.proofs.FullPages.{IsFullAt}
 use Rattle.std.proofs.Common.{IfSome, ap, sym, subst}
 use Rattle.std.specs.Arc.{arc_value}
 use Rattle.pool_parts.specs.Page.{page_identity, page_opening}
-use Rattle.page_chain.specs.Walk.{IsTaken, first_page}
+use Rattle.page_chain.specs.Walk.{Pulls, first_page}
 use Rattle.page_chain.specs.WalkSteps.{IsAnsweredBy, IsKnownAt}
 use Rattle.page_chain.proofs.HintedPages.{taken_there}
 use Rattle.page_chain.proofs.linear_page.chain.Chain.pull_further.Goals as goal
@@ -16,7 +16,7 @@ returns-in-Slot-clause-taken g c =
     let taken = taken_there g.K.Clean.meets g.O.Clean.meets chain c.args.limit c.in-Some.number number _ _
     c.take-taken.result.answer c.in-Slot.slot c.in-Slot.is c.take-taken.ensures c.of_link.ensures.number
     hinted.past_first (c.of_link.ensures.linked _ _ hinted.known) hinted.within in
-    subst (λ slot. IsTaken g.K.Clean.meets g.O.Clean.meets (first_page chain) c.args.limit number slot.item)
+    subst (λ slot. Pulls g.K.Clean.meets g.O.Clean.meets (first_page chain) c.args.limit number slot.item)
     (sym c.in-Slot.slot-is) taken
 
 pub walk_on-requires-clause-hinted : goal.walk_on-requires-clause-hinted

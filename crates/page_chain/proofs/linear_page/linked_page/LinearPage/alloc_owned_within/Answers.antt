@@ -1,5 +1,5 @@
 use Rattle.std.proofs.Common.{◌-◌, ◌∙◌, ap, subst, sym}
-use Rattle.pool_parts.specs.Item.{Item, IsItemOf, IsPulled, IsFilled}
+use Rattle.pool_parts.specs.Item.{Item, IsPageItem, IsPulled, IsFilled, new_user}
 use Rattle.pool_parts.specs.declared.page.word.TheConstants.{PAGE_ITEMS}
 use Rattle.page_chain.specs.declared.linear_page.page_number.PageNumber.{PageNumber}
 use Rattle.page_chain.proofs.TakenItems.{of_start}
@@ -7,7 +7,7 @@ use Rattle.page_chain.proofs.linear_page.linked_page.LinearPage.alloc_owned_with
 
 pub returns-clause-item : goal.returns-clause-item
 returns-clause-item g c =
-    subst (λ item. IsItemOf g.K.Clean.meets item.page item) (sym c.in_ok-slot.ensures.item)
+    subst (IsPageItem g.K.Clean.meets) (sym c.in_ok-slot.ensures.item)
     c.in_ok-walk.ensures.taken.is_item
 
 pub returns-clause-of_start : goal.returns-clause-of_start
@@ -24,4 +24,6 @@ returns-clause-opened g c =
     c.in_ok-walk.ensures.taken.opened
 
 pub returns-clause-pulled : goal.returns-clause-pulled
-returns-clause-pulled g c = subst IsPulled (sym c.in_ok-slot.ensures.item) c.in_ok-walk.ensures.taken.pulled
+returns-clause-pulled g c =
+    subst (λ item. IsPulled item.page (new_user item.opening item.holder) item) (sym c.in_ok-slot.ensures.item)
+    c.in_ok-walk.ensures.taken.pulled

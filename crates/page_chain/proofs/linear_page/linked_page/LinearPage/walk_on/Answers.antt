@@ -1,7 +1,8 @@
-use Rattle.std.proofs.Common.{◌≡◌, ◌+◌, ◌-◌, ◌<◌, IfSome, refl, arith, sym, subst, inr}
+use Rattle.std.proofs.Common.{◌≡◌, ◌+◌, ◌-◌, ◌<◌, IfSome, arith, sym, subst, inr}
 use Rattle.page_chain.specs.Walk.{shown_page}
 use Rattle.page_chain.specs.WalkSteps.{IsKnownAt}
 use Rattle.page_chain.proofs.FullPages.{one_more_full}
+use Rattle.page_chain.proofs.TakenItems.{pulled_there}
 use Rattle.page_chain.proofs.linear_page.linked_page.LinearPage.walk_on.Goals as goal
 
 pub returns-then-is_last-clause-evidence : goal.returns-then-is_last-clause-evidence
@@ -29,12 +30,12 @@ returns-in-Slot-clause-taken g c =
     let further : c.get-number.result - c.args.self.now.number + 1 ≡ c.of_link-at.result.number - c.args.self.now.number
     = omega (arith, from_start, here, next) in
     record {
-      is_item = record { of_page = refl; in_page = answer.0.in_page; meets_condition = answer.0.meets_condition };
+      is_item = answer.0;
       opened = answer.1;
-      pulled = answer.2;
+      pulled = pulled_there answer.2;
       from_start = omega (arith, from_start, here, next);
       on_page = inr (c.of_link-at.ensures.linked _ _
-          (subst (IsKnownAt {opens = g.O.Clean} links _ _) (sym answer.0.of_page) c.in-Slot.ensures.linked));
+          (subst (IsKnownAt {opens = g.O.Clean} links _ _) (sym answer.2.of_page) c.in-Slot.ensures.linked));
       of_start = λ same. absurd (omega (arith, from_start, here, next, same));
       within = subst (λ passed. IfSome c.args.limit (λ pages. passed < pages)) further
           (c.is_last.ensures.not_last c.if-is_last.false);

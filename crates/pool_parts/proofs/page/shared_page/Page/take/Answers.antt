@@ -1,7 +1,9 @@
-use Rattle.pool_parts.proofs.PageAnswers.{answer_fresh}
+use Rattle.pool_parts.proofs.Views.{starts_new}
+use Rattle.pool_parts.proofs.PageAnswers.{answered_since}
 use Rattle.pool_parts.proofs.page.shared_page.Page.take.Goals as goal
 
 pub returns-clause-answer : goal.returns-clause-answer
 returns-clause-answer g c =
-    answer_fresh _ _ _ _ _ c.look-word.ensures.found.same_opening c.look-word.ensures.found.own_same
+    let looked = c.look-word.ensures.found in
+    answered_since _ _ _ _ _ (starts_new _ _ _ _ _ c.take_lowest.ensures.same_user looked) looked.sound
     c.take_lowest.ensures.answer

@@ -1,34 +1,22 @@
-use Rattle.std.proofs.Common.{◌∙◌, ◌∷◌, None, refl, ap, arith}
+use Rattle.std.proofs.Common.{◌∙◌, ◌∷◌, None, ap, arith}
 use Rattle.atomic_table.specs.Seated.{TableId}
-use Rattle.pool_parts.specs.Item.{IsItemOf}
-use Rattle.pool_parts.specs.Page.{page_identity}
-use Rattle.pool_parts.proofs.PageAnswers.{was_out_from, knows_out}
-use Rattle.pool_parts.specs.Page.{item_known}
+use Rattle.pool_parts.proofs.PageAnswers.{pulled, found_out, knows_out}
 use Rattle.pool_parts.proofs.page.shared_page.Page.take_lowest.Goals as goal
 
 pub returns-in-Some-clause-answer : goal.returns-in-Some-clause-answer
 returns-in-Some-clause-answer g c =
     let took = c.in-Some.ensures.outcome in
-    let item = item_known c.take_lowest.new.seat.table_id c.take_lowest.new.seat.me.0 c.in-Some.taken.number
-    c.in-Some.taken.value in
     let sized = c.args.self.now.sized in
-    let inside = took.in_pool in
-    let here : IsItemOf g.K.Clean.meets (page_identity c.args.self.now) item = record {
-      of_page = c.take_lowest.ensures.items ∙ c.requires.page;
-      in_page = omega arith;
-      meets_condition = took.meets_condition;
-    } in
-    (here, refl, took.goes_on)
+    let inside = took.in_pool in (
+      record { in_page = omega arith; meets_condition = took.meets_condition },
+      pulled _ _ _ _ _ _ c.requires.sound took.goes_on (c.take_lowest.ensures.items ∙ c.requires.page) took.in_pool,
+    )
 
 pub returns-in-None-clause-answer : goal.returns-in-None-clause-answer
 returns-in-None-clause-answer g c =
-    let missed = c.in-None.ensures.outcome in (
-      c.take_lowest.ensures.items ∙ c.requires.page,
-      missed.goes_on,
-      λ id within.
-          was_out_from c.args.seat.me.0 c.take_lowest.new.seat.me.0 id missed.goes_on c.requires.sound.since_load
-          (missed.each_was_out id (omega arith) (omega arith)),
-    )
+    let missed = c.in-None.ensures.outcome in
+    found_out _ _ _ _ (c.take_lowest.ensures.items ∙ c.requires.page) c.requires.from_now missed.goes_on
+    (λ id within. missed.each_was_out id (omega arith) (omega arith))
 
 pub invariant_of-result : goal.invariant_of-result
 invariant_of-result g c =
@@ -66,3 +54,9 @@ returns-in-None-clause-loads g c = c.take_lowest.ensures.steps.0
 
 pub returns-in-None-clause-tries : goal.returns-in-None-clause-tries
 returns-in-None-clause-tries g c = c.take_lowest.ensures.steps.1
+
+pub returns-in-Some-clause-same_user : goal.returns-in-Some-clause-same_user
+returns-in-Some-clause-same_user g c = c.in-Some.ensures.outcome.goes_on.same_user
+
+pub returns-in-None-clause-same_user : goal.returns-in-None-clause-same_user
+returns-in-None-clause-same_user g c = c.in-None.ensures.outcome.goes_on.same_user
