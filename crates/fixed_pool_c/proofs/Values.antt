@@ -1,6 +1,6 @@
 -- The machine values of a `Loose` and of a `Handle`. Assumes `Logic`.
 use Rattle.std.proofs.Common.{◌≡◌, ℕ, List, [], ◌∷◌, ◌++◌, refl, subst, lit<}
-use mathlib.Core.Bool.{Bool, true, false, ◌&&◌}
+use mathlib.Core.Bool.{true, ◌&&◌}
 use lib.Dec.{T}
 use seplogic.Ra.Ura.{Ura}
 use mir.Syntax.{Dict, impl, tnil, dnil}
@@ -45,11 +45,6 @@ use Rattle.std.specs.Prelude.{Option, Some, None}
 
 abbrev pub both : Val → Val → Val
 both v w = vstruct (vcons v (vcons w vnil))
-
-pub both_tt : (x y : Bool) → T x → T y → T (x && (y && true))
-both_tt true true s t = tt
-both_tt true false s t = absurd t
-both_tt false y s t = absurd s
 
 -- a box with its allocator, as the steps on boxes take it
 abbrev pub boxed : (R : RattleType) → Laws R → (Z : RattleType) → Laws Z → Ghosts Z.Denot → Dict → Dict → Bx

@@ -365,10 +365,8 @@ impl<T: Drop, I: Init<T, K>, R: Reset<T, K>, K: Clean<T>> FixedObjectPool<T, I, 
             (view_of note.seat)) }
     {
         let start = self.items.page_round(page);
-        match self.items.pull_near(start) {
-            Ok(pulled) => Ok((pulled.holding, pulled.value)),
-            Err(note) => Err(note),
-        }
+        let pulled = self.items.pull_in_order(start, Some(Order::Hinted))?;
+        Ok((pulled.holding, pulled.value))
     }
 
     /// Resets the value of an item that was pulled apart and returns it. The note knows the pool's

@@ -18,7 +18,7 @@ ghost use Rattle.std.specs.Prelude.{◌≡◌, ◌+◌, ◌*◌, ◌/◌, ◌<�
 ghost use Rattle.std.specs.Arc.{arc_value};
 
 use crate::lazy_owned_reusable::LazyOwnedReusable;
-use crate::lazy_reusable::LazyReusable;
+use crate::lazy_reusable::{LazyReusable, LazyReusableOf, SharedLazyPool};
 use crate::waiters::Waiters;
 use fixed_pools::fixed_object_pool::PoolNote;
 use fixed_pools::fixed_object_pool::items::{FixedItems, PulledItem};
@@ -169,10 +169,7 @@ impl<T: Drop, I: Init<T, K>, R: Reset<T, K>, K: Clean<T>> LazyObjectPool<T, I, R
         ensures refused { IfErr result (Refuses ⊥ (I.answers (lazy_init self.now) None) ⊤) }
     {
         match self.places.pull() {
-            Ok(pulled) => {
-                let item = self.item(pulled)?;
-                Ok(LazyReusable::new(self, item))
-            }
+            Ok(pulled) => self.reusable(self, pulled),
             Err(_) => Err(PullError::Limit),
         }
     }
@@ -210,8 +207,8 @@ impl<T: Drop, I: Init<T, K>, R: Reset<T, K>, K: Clean<T>> LazyObjectPool<T, I, R
             (I.answers (lazy_init self.now) None)) }
     {
         match self.places.try_pull(pass) {
-            Ok(pulled) => match self.item(pulled) {
-                Ok(item) => Ok(LazyReusable::new(self, item)),
+            Ok(pulled) => match self.reusable(self, pulled) {
+                Ok(item) => Ok(item),
                 Err(_) => Err(LazyRefused::NotMade),
             },
             Err(busy) => Err(LazyRefused::Busy(busy)),
@@ -239,10 +236,7 @@ impl<T: Drop, I: Init<T, K>, R: Reset<T, K>, K: Clean<T>> LazyObjectPool<T, I, R
     {
         let owner = Arc::try_clone(self)?;
         match self.places.pull() {
-            Ok(pulled) => {
-                let item = self.item(pulled)?;
-                Ok(LazyOwnedReusable::new(owner, item))
-            }
+            Ok(pulled) => self.reusable(owner, pulled),
             Err(_) => Err(PullError::Limit),
         }
     }
@@ -260,8 +254,7 @@ impl<T: Drop, I: Init<T, K>, R: Reset<T, K>, K: Clean<T>> LazyObjectPool<T, I, R
         ensures made_or_reset { IfOk result (λ item. IsMadeOrReset I.answers R.leaves item.value) }
         ensures refused { IfErr result (Refuses ⊥ (I.answers (lazy_init self.now) None) ⊥) }
     {
-        let item = self.item(self.place_waiting(rt))?;
-        Ok(LazyReusable::new(self, item))
+        self.reusable(self, self.place_waiting(rt))
     }
 
     /// Pulls a free item, or waits for `time` at most until one is returned. With no time it waits
@@ -284,10 +277,7 @@ impl<T: Drop, I: Init<T, K>, R: Reset<T, K>, K: Clean<T>> LazyObjectPool<T, I, R
         ensures refused { IfErr result (Refuses ⊥ (I.answers (lazy_init self.now) None) ⊤) }
     {
         match self.place_within(rt, time) {
-            Some(pulled) => {
-                let item = self.item(pulled)?;
-                Ok(LazyReusable::new(self, item))
-            }
+            Some(pulled) => self.reusable(self, pulled),
             None => Err(PullError::Limit),
         }
     }
@@ -311,8 +301,7 @@ impl<T: Drop, I: Init<T, K>, R: Reset<T, K>, K: Clean<T>> LazyObjectPool<T, I, R
             (Refuses ⊤ (I.answers (lazy_init (arc_value self.now)) None) ⊥) }
     {
         let owner = Arc::try_clone(self)?;
-        let item = self.item(self.place_waiting(rt))?;
-        Ok(LazyOwnedReusable::new(owner, item))
+        self.reusable(owner, self.place_waiting(rt))
     }
 
     /// Pulls an item as `pull_timeout` does. The reusable owns the pool with others.
@@ -336,10 +325,7 @@ impl<T: Drop, I: Init<T, K>, R: Reset<T, K>, K: Clean<T>> LazyObjectPool<T, I, R
     {
         let owner = Arc::try_clone(self)?;
         match self.place_within(rt, time) {
-            Some(pulled) => {
-                let item = self.item(pulled)?;
-                Ok(LazyOwnedReusable::new(owner, item))
-            }
+            Some(pulled) => self.reusable(owner, pulled),
             None => Err(PullError::Limit),
         }
     }
@@ -358,6 +344,31 @@ impl<T: Drop, I: Init<T, K>, R: Reset<T, K>, K: Clean<T>> LazyObjectPool<T, I, R
         ensures { HasLearned note.old other note.new }
     {
         self.places.shared.tell(note, other);
+    }
+
+    /// Returns the reusable of a place that was taken. It makes the value if the place is empty.
+    #[inline(always)]
+    pub(crate) fn reusable<P: SharedLazyPool<T>>(
+        &self,
+        pool: P,
+        pulled: PulledItem<Option<T>>,
+    ) -> Result<LazyReusableOf<T, P>, PullError>
+        requires same_pool { P.identity pool ≡ (lazy_view self.now).identity }
+        requires pulled { IsPulled (lazy_view self.now).identity
+            (new_user (lazy_view self.now).opening (view_of pulled.holding.seat).user)
+            (held_item pulled.holding pulled.value) }
+        requires kept { IfSome pulled.value (λ value.
+            K.meets value × IsMadeOrReset I.answers R.leaves value) }
+        ensures pool { IfOk result (λ item. item.pool ≡ pool) }
+        ensures pulled { IfOk result (λ item.
+            Pulls (lazy_view self.now) (I.answers (lazy_init self.now)) item.item item.value) }
+        ensures meets { IfOk result (λ item. K.meets item.value) }
+        ensures made_or_reset { IfOk result (λ item. IsMadeOrReset I.answers R.leaves item.value) }
+        ensures known { IfOk result (λ item. item.known ≡ view_of pulled.holding.seat) }
+        ensures refused { IfErr result (Refuses ⊥ (I.answers (lazy_init self.now) None) ⊥) }
+    {
+        let item = self.item(pulled)?;
+        Ok(LazyReusableOf::new(pool, item))
     }
 
     /// Returns the item of a place that was taken, and makes its value if the place is empty.

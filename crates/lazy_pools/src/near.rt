@@ -3,6 +3,7 @@ ghost use Rattle.std.specs.Prelude.{◌≡◌, ◌*◌, None, IfOk, IfErr, ◌+�
 
 use crate::lazy_object_pool::LazyObjectPool;
 use crate::lazy_reusable::LazyReusable;
+use fixed_pools::fixed_object_pool::order::Order;
 use pool_parts::PullError;
 use pool_parts::clean::{AnyValue, Clean};
 use pool_parts::closures::{Init, Reset};
@@ -58,11 +59,9 @@ impl<'p, T: Drop, I: Init<T, K>, R: Reset<T, K>, K: Clean<T>> Near<'p, T, I, R, 
             (Refuses ⊥ (I.answers (lazy_init self.now.pool.now) None) ⊤) }
     {
         let pool = self.pool;
-        match pool.places.pull_near(pool.places.page_round(self.page)) {
-            Ok(pulled) => {
-                let item = pool.item(pulled)?;
-                Ok(LazyReusable::new(pool, item))
-            }
+        let start = pool.places.page_round(self.page);
+        match pool.places.pull_in_order(start, Some(Order::Hinted)) {
+            Ok(pulled) => pool.reusable(pool, pulled),
             Err(_) => Err(PullError::Limit),
         }
     }

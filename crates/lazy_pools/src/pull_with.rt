@@ -6,7 +6,7 @@ ghost use Rattle.std.specs.Arc.{arc_value};
 use crate::lazy_object_pool::LazyObjectPool;
 use crate::lazy_object_pool::lazy_refused::PullWithError;
 use crate::lazy_owned_reusable::LazyOwnedReusable;
-use crate::lazy_reusable::LazyReusable;
+use crate::lazy_reusable::{LazyReusable, LazyReusableOf, SharedLazyPool};
 use fixed_pools::fixed_object_pool::items::PulledItem;
 use pool_parts::clean::Clean;
 use pool_parts::closures::{Init, Reset};
@@ -44,10 +44,7 @@ impl<T: Drop, I: Init<T, K>, R: Reset<T, K>, K: Clean<T>> LazyObjectPool<T, I, R
             (λ cause. F.post make (Err cause))) }
     {
         match self.places.pull() {
-            Ok(pulled) => {
-                let item = self.item_with(pulled, make)?;
-                Ok(LazyReusable::new(self, item))
-            }
+            Ok(pulled) => self.reusable_with(self, pulled, make),
             Err(full) => Err(PullWithError::Limit(full)),
         }
     }
@@ -79,21 +76,20 @@ impl<T: Drop, I: Init<T, K>, R: Reset<T, K>, K: Clean<T>> LazyObjectPool<T, I, R
             return Err(PullWithError::Memory);
         };
         match self.places.pull() {
-            Ok(pulled) => match self.item_with(pulled, make) {
-                Ok(item) => Ok(LazyOwnedReusable::new(owner, item)),
-                Err(error) => Err(error),
-            },
+            Ok(pulled) => self.reusable_with(owner, pulled, make),
             Err(full) => Err(PullWithError::Limit(full)),
         }
     }
 
-    /// Returns the item of a place that was taken, and makes its value by the closure if the place
+    /// Returns the reusable of a place that was taken. It makes the value by the closure if the place
     /// is empty. If that fails, the place is returned.
-    fn item_with<E: Drop, F: FnOnce() -> Result<T, E> + Drop>(
+    fn reusable_with<P: SharedLazyPool<T>, E: Drop, F: FnOnce() -> Result<T, E> + Drop>(
         &self,
+        pool: P,
         pulled: PulledItem<Option<T>>,
         make: F,
-    ) -> Result<PulledItem<Option<T>, T>, PullWithError<T, E>>
+    ) -> Result<LazyReusableOf<T, P>, PullWithError<T, E>>
+        requires same_pool { P.identity pool ≡ (lazy_view self.now).identity }
         requires pulled { IsPulled (lazy_view self.now).identity
             (new_user (lazy_view self.now).opening (view_of pulled.holding.seat).user)
             (held_item pulled.holding pulled.value) }
@@ -101,23 +97,24 @@ impl<T: Drop, I: Init<T, K>, R: Reset<T, K>, K: Clean<T>> LazyObjectPool<T, I, R
             K.meets value × IsMadeOrReset I.answers R.leaves value) }
         requires may_call { F.pre make }
         requires each_meets { (value : T) → F.post make (Ok value) → K.meets value }
-        ensures same { IfOk result (λ item. item.holding ≡ pulled.holding) }
+        ensures pool { IfOk result (λ item. item.pool ≡ pool) }
         ensures pulled { IfOk result (λ item.
             Pulls (lazy_view self.now) (λ made. IfSome made (λ value. F.post make (Ok value)))
-            (held_item item.holding (Some item.value)) item.value) }
+            item.item item.value) }
         ensures meets { IfOk result (λ item. K.meets item.value) }
+        ensures known { IfOk result (λ item. item.known ≡ view_of pulled.holding.seat) }
         ensures refused { IfErr result
             (RefusesWith (lazy_view self.now).identity (lazy_view self.now).opening ⊥
             (λ cause. F.post make (Err cause))) }
     {
         let PulledItem { holding, value } = pulled;
         if let Some(value) = value {
-            return Ok(PulledItem { holding, value });
+            return Ok(LazyReusableOf::new(pool, PulledItem { holding, value }));
         }
         match make() {
             Ok(value) => {
                 self.count_made();
-                Ok(PulledItem { holding, value })
+                Ok(LazyReusableOf::new(pool, PulledItem { holding, value }))
             }
             Err(cause) => {
                 self.give_place(holding, None);

@@ -1,2 +1,1 @@
-pub mod PullAnswers
 pub mod ReusableShared

@@ -7,8 +7,6 @@ use Rattle.object_pool_cores.specs.declared.sequential.attach_error.AttachError.
 use Rattle.object_pool_cores.specs.declared.sequential.command.Command.{Command}
 use Rattle.object_pool_cores.specs.declared.sequential.reply.Reply.{Reply}
 use Rattle.std.proofs.lemmas.Bool.{false≢true}
-use Rattle.std.proofs.lemmas.List.Elements.{All-head, All-rest, All-same}
-use Rattle.std.specs.List.{All}
 use Rattle.std.specs.Iterator.{Yields}
 use Rattle.std.specs.Vec.Iter.{into_iter_items, into_iter_steps}
 use Rattle.std.specs.declared.vec.IntoIter.{IntoIter}
@@ -31,14 +29,6 @@ appended old more middle new x so_far last = last ∙ ap (λ items. items ++ x �
 -- where there is a next element, some are left
 pub some_left : {X : Type 0} (left rest : List X) (next : X) → left ≡ next ∷ rest → left ≢ []
 some_left left rest next split none = let count = ap length (sym split ∙ none) in absurd (omega arith)
-
--- where all elements meet a condition, so does the next
-pub next_meets : {X : Type 0} (P : X → Type 0) (all taken left rest : List X) (next : X) → all ≡ taken ++ left
-    → left ≡ next ∷ rest → All P all → P next
-next_meets P all [] left rest next begins split meet =
-    All-head P next rest (All-same P (next ∷ rest) all (sym (begins ∙ split)) meet)
-next_meets P all (x ∷ taken) left rest next begins split meet =
-    next_meets P (taken ++ left) taken left rest next refl split (All-rest P x (taken ++ left) all begins meet)
 
 -- where there is room for a reply to each command, there is room for the next one
 pub room_for_next : {C R : Type 0} (all taken left rest : List C) (next : C)

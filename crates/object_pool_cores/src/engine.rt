@@ -3,7 +3,6 @@ ghost use Rattle.std.specs.Prelude.{◌≡◌, ◌≤◌, [], IfSome};
 ghost use Rattle.object_pool_cores.specs.Engine.{Ends, IsPlayable, leaves_of, linear_kind};
 ghost use Rattle.object_pool_cores.specs.Inside.EngineCore.{IsEngineCore};
 
-mod answer;
 mod command_text;
 mod engine_error;
 mod kind;
@@ -17,8 +16,7 @@ pub use command_text::number_of;
 pub use engine_error::EngineError;
 pub use kind::{Kind, Reset};
 use pool_parts::clean::AnyValue;
-use pool_parts::closures::{Copied, Keep};
-use pool_parts::{PullError, closures};
+use pool_parts::closures::{self, Copied, Keep};
 use session::serve;
 use std::alloc::Global;
 use std::io::{Read, Write};
@@ -103,7 +101,7 @@ fn run_linear<H: Wait, S: closures::Reset<u32, AnyValue>, R: Read, W: Write>(
 }
 
 /// Creates a player on a new linear pool, or returns `None` if there is no memory for its first
-/// page.
+/// page. That alone refuses it: a copy is always made.
 fn player_of<S: closures::Reset<u32, AnyValue>>(
     alloc: Global,
     limit: Option<usize>,
@@ -118,11 +116,7 @@ fn player_of<S: closures::Reset<u32, AnyValue>>(
         Some(pages) => LinearCore::with_limit(alloc, init, reset, pages),
         None => LinearCore::new(alloc, init, reset),
     };
-    match core {
-        Ok(core) => Some(Player::new(alloc, core)),
-        Err(PullError::Memory) => None,
-        Err(PullError::Init | PullError::Limit) => unreachable!(),
-    }
+    Some(Player::new(alloc, core.ok()?))
 }
 
 /// Plays on a stack of kept items.

@@ -1,5 +1,5 @@
 //! A pool of a type that says itself how its values are made and reset.
-ghost use Rattle.std.specs.Prelude.{◌≡◌, ⊤, [], IfSome};
+ghost use Rattle.std.specs.Prelude.{◌≡◌, ⊤, IfSome};
 
 use crate::assert_equal::{assert_equal, assert_shown};
 use lockfree_object_pool::free_list::FreeList;
@@ -15,96 +15,76 @@ use std::sync::{Arc, Wait};
 
 mod resets;
 
-/// Words and their sum, as a worker gathers them.
+/// A count that begins at 1.
 #[derive(Debug, Drop)]
-struct Scratch {
-    words: Vec<u32>,
-    sum: u64,
+struct Counter {
+    count: u64,
 }
 
-impl Recyclable for Scratch {
-    ghost is_clean = { λ scratch. (scratch.words.items ≡ []) × (scratch.sum ≡ 0) };
+impl Recyclable for Counter {
+    ghost is_clean = { λ counter. counter.count ≡ 1 };
 
-    fn make(alloc: Global) -> Option<Scratch> {
-        Some(Scratch {
-            words: Vec::with_capacity(alloc, 4).ok()?,
-            sum: 0,
-        })
+    fn make(_alloc: Global) -> Option<Counter> {
+        Some(Counter { count: 1 })
     }
 
     fn reset(&mut self) {
-        self.words.clear();
-        self.sum = 0;
+        self.count = 1;
     }
 }
 
-/// A worker that keeps its pool.
-#[derive(Debug, Drop)]
-struct Worker {
-    pool: Pool<Scratch>,
-}
-
-impl Worker {
-    /// What a pulled value holds, which is then written.
-    fn use_once(&self) -> Option<(usize, u64)>
-        ensures { IfSome result (λ found. (found.0 ≡ 0) × (found.1 ≡ 0)) }
-    {
-        read_and_write(&mut *self.pool.pull().ok()?)
-    }
-}
-
-/// What a clean scratch holds, which is then written.
-fn read_and_write(scratch: &mut Scratch) -> Option<(usize, u64)>
-    requires words { scratch.old.words.items ≡ [] }
-    requires sum { scratch.old.sum ≡ 0 }
-    ensures { IfSome result (λ found. (found.0 ≡ 0) × (found.1 ≡ 0)) }
+/// What a clean counter holds, which is then written.
+fn read_and_write(counter: &mut Counter) -> u64
+    requires { counter.old.count ≡ 1 }
+    ensures { result ≡ 1 }
 {
-    let found = (scratch.words.len(), scratch.sum);
-    scratch.words.push(5).ok()?;
-    scratch.sum = 5;
-    Some(found)
+    let found = counter.count;
+    counter.count = 5;
+    found
+}
+
+/// What a value of a linear pool holds as it is pulled, which is then written.
+fn use_once(pool: &Pool<Counter>) -> Option<u64>
+    ensures { IfSome result (λ found. found ≡ 1) }
+{
+    Some(read_and_write(&mut *pool.pull().ok()?))
 }
 
 #[test]
-fn each_use_finds_the_scratch_clean(rt: HostRuntime) {
-    let worker = Worker {
-        pool: Pool::with_recycler(rt.alloc()).expect(&rt, "a pool is made"),
-    };
+fn each_use_finds_the_counter_clean(rt: HostRuntime) {
+    let pool = Pool::with_recycler(rt.alloc()).expect(&rt, "a pool is made");
     for _ in 0..3 {
-        assert_equal(&rt, worker.use_once(), Some((0, 0)));
+        assert_equal(&rt, use_once(&pool), Some(1));
     }
 }
 
 #[test]
 fn a_bounded_pool_of_recyclable_values(rt: HostRuntime) {
     let recycler = Recycler::new(rt.alloc());
-    let pool: Pool<Scratch> = LinearObjectPool::with_limit(
+    let pool: Pool<Counter> = LinearObjectPool::with_limit(
         rt.alloc(),
         recycler,
         recycler,
         1,
     ).expect(&rt, "a pool is made");
     assert_equal(&rt, pool.limit(), Some(1));
-    let scratch: Reusable<'_, Scratch> = pool.pull().expect(&rt, "an item is free");
-    assert_equal(&rt, scratch.sum, 0);
+    let counter: Reusable<'_, Counter> = pool.pull().expect(&rt, "an item is free");
+    assert_equal(&rt, counter.count, 1);
 }
 
 #[test]
 fn an_owned_value_and_its_pool_are_shown(rt: HostRuntime) {
-    let worker = Worker {
-        pool: Pool::with_recycler(rt.alloc()).expect(&rt, "a pool is made"),
-    };
+    let pool = Pool::with_recycler(rt.alloc()).expect(&rt, "a pool is made");
     assert_shown(
         &rt,
         rt.alloc(),
-        &worker,
-        "Worker { pool: LinearObjectPool { limit: None, .. } }",
+        &pool,
+        "LinearObjectPool { limit: None, .. }",
     );
-    let pool = Arc::new(rt.alloc(), worker.pool).expect(&rt, "memory is left");
-    let mut scratch: OwnedReusable<Scratch> = pool.pull_owned().expect(&rt, "an item is free");
-    scratch.words.push(7).expect(&rt, "memory is left");
-    scratch.sum = 7;
-    assert_shown(&rt, rt.alloc(), &scratch, "Scratch { words: [7], sum: 7 }");
+    let pool = Arc::new(rt.alloc(), pool).expect(&rt, "memory is left");
+    let mut counter: OwnedReusable<Counter> = pool.pull_owned().expect(&rt, "an item is free");
+    counter.count = 7;
+    assert_shown(&rt, rt.alloc(), &counter, "Counter { count: 7 }");
 }
 
 /// A vector or a text, which has a length and room.
@@ -165,17 +145,17 @@ fn vectors_and_texts_come_empty_with_their_room(rt: HostRuntime) {
 }
 
 /// What a value of a fixed pool holds as it is pulled, which is then written.
-fn use_fixed_once(pool: &FixedPool<Scratch>) -> Option<(usize, u64)>
-    ensures { IfSome result (λ found. (found.0 ≡ 0) × (found.1 ≡ 0)) }
+fn use_fixed_once(pool: &FixedPool<Counter>) -> Option<u64>
+    ensures { IfSome result (λ found. found ≡ 1) }
 {
-    read_and_write(&mut *pool.pull().ok()?)
+    Some(read_and_write(&mut *pool.pull().ok()?))
 }
 
 #[test]
-fn each_use_of_a_fixed_pool_finds_the_scratch_clean(rt: HostRuntime) {
+fn each_use_of_a_fixed_pool_finds_the_counter_clean(rt: HostRuntime) {
     let pool = FixedPool::with_recycler(rt.alloc(), 1).expect(&rt, "a pool is made");
     for _ in 0..3 {
-        assert_equal(&rt, use_fixed_once(&pool), Some((0, 0)));
+        assert_equal(&rt, use_fixed_once(&pool), Some(1));
     }
 }
 
@@ -245,8 +225,8 @@ fn vectors_and_texts_keep_much_room(rt: HostRuntime) {
 
 #[test]
 fn a_fixed_pool_and_its_item_are_shown(rt: HostRuntime) {
-    let pool = FixedPool::<Scratch>::with_recycler(rt.alloc(), 33).expect(&rt, "a pool is made");
+    let pool = FixedPool::<Counter>::with_recycler(rt.alloc(), 33).expect(&rt, "a pool is made");
     assert_shown(&rt, rt.alloc(), &pool, "FixedObjectPool { items: 33, .. }");
-    let scratch = pool.pull().expect(&rt, "an item is free");
-    assert_shown(&rt, rt.alloc(), &scratch, "Scratch { words: [], sum: 0 }");
+    let counter = pool.pull().expect(&rt, "an item is free");
+    assert_shown(&rt, rt.alloc(), &counter, "Counter { count: 1 }");
 }

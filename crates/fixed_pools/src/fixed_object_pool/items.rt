@@ -212,29 +212,10 @@ impl<T, K: Clean<T>> FixedItems<T, K> {
         self.pull_in_order(self.hinted(), None)
     }
 
-    /// Pulls an item as `pull` does, but begins at this page, and goes on at the hinted one. While
-    /// this page has a free item it neither reads nor sets the hint.
-    pub fn pull_near(&self, start: usize) -> Result<PulledItem<T>, PageNote<T>>
-        requires { start < (items_view self.now.shared).identity.words }
-        ensures pulled { IfOk result (λ pulled. IsPulled (items_view self.now.shared).identity
-            (new_user (items_view self.now.shared).opening (view_of pulled.holding.seat).user)
-            (held_item pulled.holding pulled.value)) }
-        ensures meets { IfOk result (λ pulled. K.meets pulled.value) }
-        ensures brief { IfOk result (λ pulled. IsWithin ((items_view self.now.shared).identity.words
-            * (returns_since (view_of pulled.holding.seat) + 1)) 0 0
-            (view_of pulled.holding.seat)) }
-        ensures full { IfErr result (λ note. IsFullNote (items_view self.now.shared).identity
-            (new_user (items_view self.now.shared).opening (view_of note.seat).user) note) }
-        ensures full_brief { IfErr result
-            (λ note. IsWithin ((items_view self.now.shared).identity.words
-            * (returns_since (view_of note.seat) + 2)) 0 0 (view_of note.seat)) }
-    {
-        self.pull_in_order(start, Some(Order::Hinted))
-    }
-
     /// Pulls an item as `pull` does, from this page on and in this order, or in the pool's own.
+    /// While this page has a free item it neither reads nor sets the hint.
     #[inline(always)]
-    pub(super) fn pull_in_order(
+    pub fn pull_in_order(
         &self,
         start: usize,
         order: Option<Order>,

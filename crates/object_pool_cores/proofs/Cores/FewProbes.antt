@@ -1,10 +1,10 @@
 -- How many pages the steps of a pull look at.
-use Rattle.std.proofs.Common.{◌≡◌, ◌≢◌, ℕ, ◌+◌, ◌-◌, ◌*◌, ◌<◌, ◌≤◌, suc, zero, Option, refl, sym, ap, ◌∙◌, arith, inl}
+use Rattle.std.proofs.Common.{◌≡◌, ◌≢◌, ℕ, ◌*◌, ◌<◌, ◌≤◌, suc, zero, Option, refl, sym, ap, ◌∙◌, arith, inl}
 use Rattle.std.proofs.Common.{inr}
 use Rattle.std.proofs.lemmas.Bool.{cases_lt}
 use Rattle.pool_world.specs.Pool.{Pool, Place, Absent, Free, Out, IsPool}
 use Rattle.object_pool_cores.specs.LeastChoice.{IsExhausted, TakesLeast}
-use Rattle.object_pool_cores.specs.PageProbes.{one_if_out, out_below, out_count, ProbesFew, ProbesEach}
+use Rattle.object_pool_cores.specs.PageProbes.{one_if_out, out_below, out_count, ProbesFew}
 use Rattle.object_pool_cores.specs.Inside.Numbered.{Numbered, FindsNone, Grows, ProbesPages, TakesLeastOf, listed_pool}
 use Rattle.object_pool_cores.proofs.LeastChoiceSteps.{free-first}
 
@@ -80,15 +80,4 @@ module _ {T : Type 0} where
       let further = more.onward in
       let mores = looks.more in
       let most = more.more in
-      (omega arith, omega arith)
-
-  -- the probes of the pages that are full, and of the one that was added
-  pub ProbesEach-grown : (old middle grown new : Numbered T) → ProbesPages old 0 middle → grown.start ≡ middle.start
-      → grown.looked ≡ middle.looked → ProbesPages grown 1 new
-      → (old.start ≤ new.start) × ProbesEach (new.start - old.start + 1) old.looked new.looked
-  ProbesEach-grown old middle grown new looks same_start same_looked more =
-      let onward = looks.onward in
-      let further = more.onward in
-      let each = looks.each in
-      let last = more.each in
       (omega arith, omega arith)

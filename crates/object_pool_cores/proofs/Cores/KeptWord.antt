@@ -7,7 +7,7 @@ use Rattle.std.proofs.lemmas.Bool.{cases_lt}
 use Rattle.std.proofs.lemmas.List.{length-map}
 use Rattle.std.proofs.lemmas.Nat.Bits.{bit_at-zero, bit_at_ones, bit_at-trailing_zeros}
 use Rattle.std.proofs.lemmas.Option.{get_or_from_slice_get, slice_get_within}
-use Rattle.pool_parts.specs.Word.{IsLeastBit, SetsBit, ClearsBit}
+use Rattle.pool_parts.specs.Word.{IsLeastBit, ClearsBit}
 use Rattle.object_pool_cores.specs.OnePage.{IsMadePage, IsFreeId, HasNoFreeId, IsMask, TakesLeastId}
 use Rattle.object_pool_cores.specs.Inside.PageWord.{IsCorePage}
 use Rattle.object_pool_cores.specs.Laws.HeldItems.{slice_get-from_set}
@@ -57,14 +57,6 @@ module _ {T : Type 0} (meets : T → Type 0) (word : ℕ) (page : List (Option T
       ∙ sym some in
       free.1 ∙ ap Some value
 
-  -- a value lies there
-  pub has-lowest : (id : ℕ) (place : Option T) → IsLeastBit word id → place ≡ get_or page id place → None ≡ place → ⊥
-  has-lowest id place lowest here none =
-      let free = free_at id lowest.in_page lowest.set in
-      let never : Some free.0 ≡ None = sym (get_or_from_slice_get page id (Some free.0) place free.1) ∙ sym here
-      ∙ sym none in
-      absurd cc
-
   -- the lowest bit is cleared, and its value is taken
   pub IsCorePage-taken : (id rest : ℕ) → ClearsBit word id rest → IsCorePage meets rest (slice_set page id None)
   IsCorePage-taken id rest clears = record {
@@ -80,25 +72,6 @@ module _ {T : Type 0} (meets : T → Type 0) (word : ℕ) (page : List (Option T
     clean = λ other v free. elim (slice_get-from_set page id other None (Some v) free) [
       | inl here ↦ let never = here.1 in absurd cc
       | inr apart ↦ kept.clean other v apart.1
-    ];
-  }
-
-  -- the bit of an id is set, and a value that meets the condition is put there
-  pub IsCorePage-put : (id more : ℕ) (v : T) → SetsBit word id more → meets v
-      → IsCorePage meets more (slice_set page id (Some v))
-  IsCorePage-put id more v sets good = record {
-    whole = length-set page id (Some v) ∙ kept.whole;
-    set = λ other w free. elim (slice_get-from_set page id other (Some v) (Some w) free) [
-      | inl here ↦ ap (bit_at more) here.0 ∙ sets.set
-      | inr apart ↦ sets.others other apart.0 ∙ kept.set other w apart.1
-    ];
-    clear = λ other out. elim (slice_get-from_set page id other (Some v) None out) [
-      | inl here ↦ let never = here.1 in absurd cc
-      | inr apart ↦ sets.others other apart.0 ∙ kept.clear other apart.1
-    ];
-    clean = λ other w free. elim (slice_get-from_set page id other (Some v) (Some w) free) [
-      | inl here ↦ let some = here.1 in let same : v ≡ w = cc in rw same at good
-      | inr apart ↦ kept.clean other w apart.1
     ];
   }
 

@@ -1,5 +1,5 @@
 //! The text of a reply, in an array of fixed size.
-ghost use Rattle.std.specs.Prelude.{◌≡◌, ◌≤◌, ◌++◌, length};
+ghost use Rattle.std.specs.Prelude.{◌≡◌, ◌≤◌, ◌++◌, length, codes, if◌then◌else◌};
 ghost use Rattle.std.specs.Fmt.{decimal};
 ghost use Rattle.object_pool_cores.specs.Lines.{ended};
 ghost use Rattle.object_pool_cores.specs.ReplyText.{refusal_text, attach_refusal_text, pulled_text};
@@ -59,6 +59,19 @@ pub(super) fn indexed_line(word: &str, index: usize) -> ReplyText
     line.push_str(Buffer::new().format(index));
     line.push_str("\n");
     line
+}
+
+/// Makes a reply of a word and an index, or that nothing is held there.
+pub(super) fn held_line(is_held: bool, word: &str, index: usize) -> ReplyText
+    requires { length word.now ≤ 20 }
+    ensures { result.bytes
+        ≡ ended (if is_held then word.now ++ decimal index else codes "no such holder") }
+{
+    if is_held {
+        indexed_line(word, index)
+    } else {
+        plain_line("no such holder")
+    }
 }
 
 /// Makes a reply of the holder, the item's number and its value.

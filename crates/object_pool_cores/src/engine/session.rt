@@ -5,17 +5,19 @@ ghost use Rattle.std.specs.Io.KnownBytes.{Appends, Consumes, IsAtEnd, Keeps};
 ghost use Rattle.object_pool_cores.specs.declared.engine.session.TheConstants.{CHUNK};
 ghost use Rattle.object_pool_cores.specs.Inside.Buffered.{IsBuffered, IsOpenLine};
 ghost use Rattle.object_pool_cores.specs.Inside.LastLine.{AnswersLastLine};
-ghost use Rattle.object_pool_cores.specs.Transcript.{AnswersLine};
+ghost use Rattle.object_pool_cores.specs.Transcript.{AnswersCommand, AnswersLine};
 ghost use Rattle.object_pool_cores.specs.Served.{AppendsPart, ServesLines, ServesAllLines};
 ghost use Rattle.object_pool_cores.specs.Served.{ServesFrontLines, StopsWriting};
 
 use crate::engine::EngineError;
-use crate::engine::answer::answer_of;
 use crate::engine::line_buffer::LineBuffer;
 use crate::engine::output::write_whole;
-use crate::engine::reply_text::{LONGEST_REPLY, ReplyText, plain_line};
-use crate::sequential::{Player, RunError, SequentialPool};
-use arrayvec::ArrayVec;
+use crate::engine::reply_text::{
+    LONGEST_REPLY, ReplyText, attach_refusal, held_line, indexed_line, plain_line, pulled_line,
+    refusal,
+};
+use crate::sequential::{Command, Player, RunError, SequentialPool};
+use arrayvec::ArrayString;
 use std::io::{Read, Write};
 use std::sync::Wait;
 
@@ -26,7 +28,7 @@ const CHUNK: usize = 1024;
 const GATHERED: usize = CHUNK * LONGEST_REPLY;
 
 /// The replies to the lines of one read.
-type Replies = ArrayVec<u8, GATHERED>;
+type Replies = ArrayString<GATHERED>;
 
 const LINE_FEED: u8 = b'\n';
 
@@ -68,11 +70,11 @@ pub(super) fn serve<H: Wait, P: SequentialPool<u32>, R: Read, W: Write>(
             Err(_) => return Err(EngineError::Read),
         };
         if count == 0 {
-            return serve_last(player, &line, output);
+            break;
         }
         serve_chunk(player, &mut line, &chunk[..count], &mut replies, output)?;
     }
-    unreachable!()
+    serve_last(player, &line, output)
 }
 
 /// Takes more bytes, and answers the lines that they end. The replies are gathered, and written as
@@ -103,7 +105,7 @@ fn serve_chunk<P: SequentialPool<u32>, W: Write>(
 {
     replies.clear();
     let fed = feed(player, line, bytes, replies);
-    let Ok(()) = write_whole(output, replies) else {
+    let Ok(()) = write_whole(output, replies.as_str().as_bytes()) else {
         return Err(EngineError::Write);
     };
     match fed {
@@ -124,21 +126,19 @@ fn feed<P: SequentialPool<u32>>(
     replies: &mut Replies,
 ) -> Result<(), RunError>
     requires bytes { length bytes.now ≤ CHUNK }
-    requires replies { replies.old.items ≡ [] }
+    requires replies { replies.old.bytes ≡ [] }
     ensures ok { OnOk result ((rest : List ℕ) → IsOpenLine rest line.old
         → (more : List ℕ) × IsOpenLine more line.new
         × ServesLines P.pulls P.gives P.attaches Appends player.old (Some [])
-        (rest ++ bytes.now) more player.new (Some replies.new.items)) }
+        (rest ++ bytes.now) more player.new (Some replies.new.bytes)) }
     ensures err { OnErr result ((rest : List ℕ) → IsOpenLine rest line.old
         → ServesFrontLines P.pulls P.gives P.attaches Appends player.old (Some [])
-        (rest ++ bytes.now) (Some replies.new.items)) }
+        (rest ++ bytes.now) (Some replies.new.bytes)) }
 {
     for byte in bytes {
         if *byte == LINE_FEED {
             let text = answer(player, line)?;
-            let Ok(()) = replies.try_extend_from_slice(text.as_str().as_bytes()) else {
-                unreachable!()
-            };
+            replies.push_str(text.as_str());
             *line = LineBuffer::new();
         } else {
             line.push(*byte);
@@ -220,4 +220,34 @@ fn answer<P: SequentialPool<u32>>(
         return Ok(plain_line("bad line"));
     };
     answer_of(player, command)
+}
+
+/// Plays a command, and makes its reply's text. That of a pull shows the value of the item.
+///
+/// # Errors
+///
+/// `Memory`, which leaves the player as it was.
+fn answer_of<P: SequentialPool<u32>>(
+    player: &mut Player<u32, P>,
+    command: Command<u32>,
+) -> Result<ReplyText, RunError>
+    ensures ok { IfOk result (λ text. AnswersCommand P.pulls P.gives P.attaches player.old command
+        text.bytes player.new) }
+    ensures err { OnErr result (player.new ≡ player.old) }
+{
+    match command {
+        Command::Pull => match player.pull()? {
+            Ok((index, number)) => Ok(pulled_line(index, number, *player.held(index).unwrap())),
+            Err(cause) => Ok(plain_line(refusal(cause))),
+        },
+        Command::Write(index, value) => {
+            Ok(held_line(player.write(index, value), "written ", index))
+        }
+        Command::Return(index) => Ok(held_line(player.give(index), "returned ", index)),
+        Command::Forget(index) => Ok(held_line(player.forget(index), "forgotten ", index)),
+        Command::Attach(value) => match player.attach(value)? {
+            Ok(index) => Ok(indexed_line("attached ", index)),
+            Err(error) => Ok(plain_line(attach_refusal(&error))),
+        },
+    }
 }

@@ -1,13 +1,15 @@
 //! A player of commands on a sequential pool.
-ghost use Rattle.std.specs.Prelude.{◌≡◌, ◌≤◌, ◌+◌, All, option_map, [], IfOk, OnErr, IsOk, IsErr};
+ghost use Rattle.std.specs.Prelude.{◌≡◌, ◌≤◌, ◌+◌, All, option_map, [], IfOk, IfErr, OnErr, IsOk, IsErr, if◌then◌else◌};
 ghost use Rattle.std.specs.Prelude.{length, vec_capacity};
 ghost use Rattle.std.specs.Option.{option_copied};
 ghost use Rattle.object_pool_cores.specs.Held.{held_at};
 ghost use Rattle.object_pool_cores.specs.Item.{item_value};
 ghost use Rattle.object_pool_cores.specs.Replies.{Plays, Ran, MayTakeMemory};
+ghost use Rattle.object_pool_cores.specs.declared.sequential.reply.Reply.TheVariants.{Written, Returned, Forgotten, NoSuchHolder};
 
 use crate::sequential::held_items::HeldItems;
-use crate::sequential::{Command, Reply, RunError, SequentialPool};
+use crate::sequential::{AttachError, Command, Reply, RunError, SequentialPool};
+use pool_parts::PullError;
 use std::alloc::Global;
 use std::marker::Model;
 
@@ -83,11 +85,17 @@ impl<T: Drop, P: SequentialPool<T>> Player<T, P> {
         ensures memory { IsErr result → MayTakeMemory command }
     {
         match command {
-            Command::Pull => self.pull(),
-            Command::Write(index, value) => Ok(self.write(index, value)),
-            Command::Return(index) => Ok(self.give(index)),
-            Command::Forget(index) => Ok(self.forget(index)),
-            Command::Attach(value) => self.attach(value),
+            Command::Pull => match self.pull()? {
+                Ok((index, number)) => Ok(Reply::Pulled(index, number)),
+                Err(cause) => Ok(Reply::Refused(cause)),
+            },
+            Command::Write(index, value) => Ok(reply_of(self.write(index, value), Reply::Written)),
+            Command::Return(index) => Ok(reply_of(self.give(index), Reply::Returned)),
+            Command::Forget(index) => Ok(reply_of(self.forget(index), Reply::Forgotten)),
+            Command::Attach(value) => match self.attach(value)? {
+                Ok(index) => Ok(Reply::Attached(index)),
+                Err(error) => Ok(Reply::AttachRefused(error)),
+            },
         }
     }
 
@@ -119,63 +127,87 @@ impl<T: Drop, P: SequentialPool<T>> Player<T, P> {
         Ok(())
     }
 
-    fn pull(&mut self) -> Result<Reply<T>, RunError>
-        ensures ok { IfOk result
-            (λ reply. Plays P.pulls P.gives P.attaches self.old Command.Pull reply self.new) }
+    /// Pulls an item, which is held from now on. Returns the index at which it is held, and its
+    /// number.
+    ///
+    /// # Errors
+    ///
+    /// `Memory` if there is no room in the table. The inner error is the pool's.
+    pub(crate) fn pull(&mut self) -> Result<Result<(usize, Option<u128>), PullError>, RunError>
+        ensures pulled { IfOk result (λ answer. IfOk answer (λ pulled.
+            Plays P.pulls P.gives P.attaches self.old Command.Pull
+            (Reply.Pulled pulled.0 pulled.1) self.new)) }
+        ensures refused { IfOk result (λ answer. IfErr answer (λ cause.
+            Plays P.pulls P.gives P.attaches self.old Command.Pull (Reply.Refused cause)
+            self.new)) }
         ensures err { OnErr result (self.new ≡ self.old) }
     {
         self.held.reserve()?;
         match self.pool.pull() {
             Ok(item) => {
                 let number = item.number();
-                Ok(Reply::Pulled(self.held.hold(item), number))
+                Ok(Ok((self.held.hold(item), number)))
             }
-            Err(cause) => Ok(Reply::Refused(cause)),
+            Err(cause) => Ok(Err(cause)),
         }
     }
 
-    fn attach(&mut self, value: T) -> Result<Reply<T>, RunError>
-        ensures ok { IfOk result
-            (λ reply. Plays P.pulls P.gives P.attaches self.old (Command.Attach value)
-            reply self.new) }
+    /// Attaches a value, which is held from now on. Returns the index at which it is held.
+    ///
+    /// # Errors
+    ///
+    /// `Memory` if there is no room in the table. The inner error is the pool's.
+    pub(crate) fn attach(&mut self, value: T) -> Result<Result<usize, AttachError<T>>, RunError>
+        ensures attached { IfOk result (λ answer. IfOk answer (λ index.
+            Plays P.pulls P.gives P.attaches self.old (Command.Attach value)
+            (Reply.Attached index) self.new)) }
+        ensures refused { IfOk result (λ answer. IfErr answer (λ error.
+            Plays P.pulls P.gives P.attaches self.old (Command.Attach value)
+            (Reply.AttachRefused error) self.new)) }
         ensures err { OnErr result (self.new ≡ self.old) }
     {
         self.held.reserve()?;
         match self.pool.attach(value) {
-            Ok(item) => Ok(Reply::Attached(self.held.hold(item))),
-            Err(error) => Ok(Reply::AttachRefused(error)),
+            Ok(item) => Ok(Ok(self.held.hold(item))),
+            Err(error) => Ok(Err(error)),
         }
     }
 
-    fn write(&mut self, index: usize, value: T) -> Reply<T>
+    /// Replaces the value that is held at an index, and returns whether there is one.
+    pub(crate) fn write(&mut self, index: usize, value: T) -> bool
         ensures { Plays P.pulls P.gives P.attaches self.old (Command.Write index value)
-            result self.new }
+            (if result then Written else NoSuchHolder) self.new }
     {
-        if self.held.replace(index, value) {
-            Reply::Written
-        } else {
-            Reply::NoSuchHolder
-        }
+        self.held.replace(index, value)
     }
 
-    fn give(&mut self, index: usize) -> Reply<T>
-        ensures { Plays P.pulls P.gives P.attaches self.old (Command.Return index) result self.new }
+    /// Returns the item that is held at an index to the pool, and returns whether there is one.
+    pub(crate) fn give(&mut self, index: usize) -> bool
+        ensures { Plays P.pulls P.gives P.attaches self.old (Command.Return index)
+            (if result then Returned else NoSuchHolder) self.new }
     {
         match self.held.take(index) {
             Some(item) => {
                 self.pool.give(item);
-                Reply::Returned
+                true
             }
-            None => Reply::NoSuchHolder,
+            None => false,
         }
     }
 
-    fn forget(&mut self, index: usize) -> Reply<T>
-        ensures { Plays P.pulls P.gives P.attaches self.old (Command.Forget index) result self.new }
+    /// Takes the item that is held at an index out of the table, and returns whether there is one.
+    /// It doesn't go back to the pool.
+    pub(crate) fn forget(&mut self, index: usize) -> bool
+        ensures { Plays P.pulls P.gives P.attaches self.old (Command.Forget index)
+            (if result then Forgotten else NoSuchHolder) self.new }
     {
-        match self.held.take(index) {
-            Some(_) => Reply::Forgotten,
-            None => Reply::NoSuchHolder,
-        }
+        self.held.take(index).is_some()
     }
+}
+
+/// Returns this reply, or `NoSuchHolder` if nothing is held there.
+fn reply_of<T: Drop>(is_held: bool, reply: Reply<T>) -> Reply<T>
+    ensures { result ≡ (if is_held then reply else NoSuchHolder) }
+{
+    if is_held { reply } else { Reply::NoSuchHolder }
 }

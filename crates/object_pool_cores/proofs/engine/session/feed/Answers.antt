@@ -6,7 +6,7 @@ use Rattle.object_pool_cores.proofs.LineSplits.{take_behind}
 use Rattle.object_pool_cores.proofs.ReplyRuns.{OnErr-always}
 use Rattle.object_pool_cores.proofs.TranscriptRuns.{Serves-none, Serves-byte, Serves-line, ServesFront-kept}
 use Rattle.object_pool_cores.proofs.engine.session.feed.Goals as goal
-use Rattle.object_pool_cores.proofs.engine.session.feed.Goals.{then-byte-eq-LINE_FEED+in_ok-text+in-Ok}
+use Rattle.object_pool_cores.proofs.engine.session.feed.Goals.{then-byte-eq-LINE_FEED+in_ok-text}
 use Rattle.object_pool_cores.proofs.engine.session.feed.Goals.{else-byte-eq-LINE_FEED}
 
 pub loop-byte-init : goal.loop-byte-init
@@ -22,9 +22,9 @@ returns-in_err-text-clause-err g c = OnErr-always c.from_residual.result (λ res
 
 pub loop-byte-preserved : goal.loop-byte-preserved
 loop-byte-preserved g c = elim c.if-byte-eq-LINE_FEED.branch [
-  | then-byte-eq-LINE_FEED+in_ok-text+in-Ok w ↦
-      let gathered = rw (w.as_bytes.ensures.value, w.as_str.ensures.value) at w.in-Ok.ensures.ok in
-      let longer = length-append c.loop-byte.replies.items w.in_ok-text.text.bytes in (
+  | then-byte-eq-LINE_FEED+in_ok-text w ↦
+      let gathered = rw w.as_str.ensures.value at w.push_str.ensures.bytes in
+      let longer = length-append c.loop-byte.replies.bytes w.in_ok-text.text.bytes in (
         rw (w.replies-is, gathered)
             (omega (arith, c.loop-byte.invariant.0, longer, rw w.as_str.ensures.value at w.as_str.ensures.fits)),
         λ rest opens.

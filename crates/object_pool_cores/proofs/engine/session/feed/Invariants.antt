@@ -9,9 +9,9 @@ use Rattle.object_pool_cores.proofs.engine.session.feed.Given as goal
 abbrev pub invariant-loop-byte : goal.invariant-loop-byte
 invariant-loop-byte g l =
     let pool = g.P.SequentialPool in
-    (length l.replies.items ≤ 92 * l.byte-index)
+    (length l.replies.bytes ≤ 92 * l.byte-index)
     × ((rest : List ℕ) → IsOpenLine rest l.fn.line
     → (more : List ℕ) × IsOpenLine more l.line
     × ServesLines pool.pulls pool.gives pool.attaches Appends l.fn.player (Some [])
     (rest ++ take l.byte-index l.bytes) more
-    l.player (Some l.replies.items))
+    l.player (Some l.replies.bytes))

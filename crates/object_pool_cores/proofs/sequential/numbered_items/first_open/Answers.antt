@@ -1,4 +1,4 @@
-use Rattle.std.proofs.Common.{◌≡◌, Some, arith, length, refl, rules}
+use Rattle.std.proofs.Common.{arith, length, refl, rules}
 use Rattle.std.proofs.lemmas.Option.{slice_get_within, slice_get_read}
 use Rattle.object_pool_cores.proofs.Cores.PagedPlaces.{HasNoneBelow-full}
 use Rattle.object_pool_cores.proofs.sequential.numbered_items.first_open.Goals as goal
@@ -21,11 +21,3 @@ loop-at-preserved g c =
 pub returns-clause-open : goal.returns-clause-open
 returns-clause-open g c = λ page here. let within = slice_get_within c.args.pages.now c.loop-at.at page here in
     let past = c.loop-at-test.false in absurd (omega arith)
-
-pub returns-then-not-is_full-clause-open : goal.returns-then-not-is_full-clause-open
-returns-then-not-is_full-clause-open g c = λ page here full.
-    let within = c.loop-at-test.true in
-    let read = slice_get_read c.args.pages.now (length c.args.pages.now) c.loop-at.at _ refl
-    (omega (arith, within)) c.index-pages-at.is in
-    let same : Some page ≡ Some c.index-pages-at.result = cc in
-    absurd (search rules)

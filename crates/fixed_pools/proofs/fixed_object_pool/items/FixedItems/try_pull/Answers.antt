@@ -1,15 +1,8 @@
 use Rattle.std.proofs.Common.{◌∙◌, ap, arith}
 use Rattle.atomic_table.specs.Seated.{TableId}
-use Rattle.fixed_pools.proofs.FixedAnswers.{item_pulled, found_all_out, knows_all_out}
+use Rattle.fixed_pools.proofs.FixedAnswers.{found_all_out, knows_all_out}
 use Rattle.pool_parts.proofs.Views.{starts_new}
 use Rattle.fixed_pools.proofs.fixed_object_pool.items.FixedItems.try_pull.Goals as goal
-
-pub returns-clause-pulled : goal.returns-clause-pulled
-returns-clause-pulled g c =
-    let looked = c.look-word.ensures.found in
-    let taken = c.in-Ok.ensures.taken in
-    item_pulled g.K.Clean.meets _ _ _ _ _ _ _ (starts_new _ _ _ _ _ taken.goes_on.same_user looked) looked.sound taken
-    (c.take.ensures.pool ∙ c.look-word.ensures.items)
 
 pub returns-in_default-clause-busy : goal.returns-in_default-clause-busy
 returns-in_default-clause-busy g c =

@@ -1,6 +1,4 @@
-use Rattle.std.proofs.Common.{◌≡◌, length, arith, rules}
-use Rattle.std.specs.Vec.{vec_len}
-use Rattle.object_pool_cores.proofs.Cores.KeptWord.{has-lowest, IsFreeId-lowest, IsCorePage-taken, TakesLeastId-lowest}
+use Rattle.object_pool_cores.proofs.Cores.KeptWord.{IsFreeId-lowest, IsCorePage-taken, TakesLeastId-lowest}
 use Rattle.object_pool_cores.proofs.sequential.core_page.CorePage.alloc.Goals as goal
 
 pub invariant_of-self : goal.invariant_of-self
@@ -20,13 +18,3 @@ pub returns-clause-meets : goal.returns-clause-meets
 returns-clause-meets g c =
     c.self.invariant.clean _ _ (IsFreeId-lowest g.K.Clean.meets _ _ c.self.invariant _ _ c.in-Some.value
     c.in_ok-word.ensures.least (rw c.from.ensures at c.index_mut.ensures.value) c.in-Some.ensures.value)
-
-pub index_mut-requires : goal.index_mut-requires
-index_mut-requires g c =
-    let count : vec_len c.self.inside.places ≡ length c.self.inside.places.items = search rules in
-    omega (arith, count, c.in_ok-word.ensures.least.in_page, c.self.invariant.whole, c.from.ensures)
-
-pub unreachable-requires : goal.unreachable-requires
-unreachable-requires g c =
-    has-lowest g.K.Clean.meets _ _ c.self.invariant _ _ c.in_ok-word.ensures.least
-    (rw c.from.ensures at c.index_mut.ensures.value) c.in-None.ensures.value

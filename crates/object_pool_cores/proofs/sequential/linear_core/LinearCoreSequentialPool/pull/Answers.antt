@@ -1,7 +1,6 @@
-use Rattle.std.proofs.Common.{refl, arith, ◌∙◌}
+use Rattle.std.proofs.Common.{refl, ◌∙◌}
 use Rattle.object_pool_cores.proofs.LeastChoiceSteps.{free-first, PullsLeast-grown}
-use Rattle.object_pool_cores.proofs.Cores.FewProbes.{ProbesFew-taken, ProbesFew-none, ProbesFew-grown, ProbesEach-grown}
-use Rattle.object_pool_cores.proofs.ReplyRuns.{OnErr-always}
+use Rattle.object_pool_cores.proofs.Cores.FewProbes.{ProbesFew-taken, ProbesFew-none, ProbesFew-grown}
 use Rattle.object_pool_cores.proofs.sequential.linear_core.LinearCoreSequentialPool.pull.Goals as goal
 
 pub returns-in-Some-clause-probes : goal.returns-in-Some-clause-probes
@@ -9,23 +8,10 @@ returns-in-Some-clause-probes g c =
     let taken = c.in-Some.ensures in
     ProbesFew-taken _ _ _ _ taken.before taken.least.2 taken.probes
 
-pub returns-in-Some-clause-probes_up_to : goal.returns-in-Some-clause-probes_up_to
-returns-in-Some-clause-probes_up_to g c =
-    let taken = c.in-Some.ensures in
-    record { onward = taken.probes.onward; stops = rw taken.least.1 taken.least.2.starts; each = taken.probes.each }
-
 pub returns-in_err-grow-clause-probes : goal.returns-in_err-grow-clause-probes
 returns-in_err-grow-clause-probes g c =
     let full = c.in_default.ensures in
     rw c.in_err-grow.ensures.err (ProbesFew-none _ _ full.before full.none full.probes)
-
-pub returns-in_err-grow-clause-probes_the_rest : goal.returns-in_err-grow-clause-probes_the_rest
-returns-in_err-grow-clause-probes_the_rest g c =
-    let full = c.in_default.ensures in
-    let each = full.probes.each in
-    OnErr-always c.from_residual.result
-    (rw c.in_err-grow.ensures.err
-    (record { onward = full.probes.onward; stops = full.none.starts; each = omega (arith, each) }))
 
 pub returns-clause-step : goal.returns-clause-step
 returns-clause-step g c =
@@ -52,14 +38,6 @@ returns-clause-probes g c =
     let grows = rw (full.none.places, full.limit) at grew.ok in
     ProbesFew-grown _ _ _ _ _ _ _ full.before full.none full.probes grows grew.start grew.looked taken.least.2
     taken.probes
-
-pub returns-clause-probes_up_to : goal.returns-clause-probes_up_to
-returns-clause-probes_up_to g c =
-    let full = c.in_default.ensures in
-    let grew = c.in_ok-grow.ensures in
-    let taken = c.in-Some-take_least.ensures in
-    let probes = ProbesEach-grown _ _ _ _ full.probes grew.start grew.looked taken.probes in
-    record { onward = probes.0; stops = rw taken.least.1 taken.least.2.starts; each = probes.1 }
 
 pub unreachable-requires : goal.unreachable-requires
 unreachable-requires g c =

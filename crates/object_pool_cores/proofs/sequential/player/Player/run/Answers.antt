@@ -1,14 +1,9 @@
-use Rattle.std.proofs.Common.{◌++◌, ◌∷◌, [], refl, sym, ◌∙◌, append-nil, arith}
-use Rattle.std.proofs.lemmas.List.{nil_from_length}
+use Rattle.std.proofs.Common.{◌++◌, ◌∷◌, [], sym, ◌∙◌, arith}
 use Rattle.std.proofs.lemmas.Bool.{false≢true}
-use Rattle.object_pool_cores.specs.Replies.{MayTakeMemory}
 use Rattle.std.specs.Vec.Iter.{into_iter_items}
-use Rattle.object_pool_cores.proofs.ReplyRuns.{Replies-append, length-replies, next_meets, room_for_next, appended}
+use Rattle.object_pool_cores.proofs.ReplyRuns.{Replies-append, length-replies, room_for_next, appended}
 use Rattle.object_pool_cores.proofs.ReplyRuns.{taken_front, some_left, no_Ok, OnErr-always}
 use Rattle.object_pool_cores.proofs.sequential.player.Player.run.Goals as goal
-
-pub loop-command-init : goal.loop-command-init
-loop-command-init g c = ([], sym (append-nil _), refl, omega arith)
 
 pub returns-in_err-reserve-clause-ran : goal.returns-in_err-reserve-clause-ran
 returns-in_err-reserve-clause-ran g c =
@@ -48,20 +43,6 @@ loop-command-preserved g c =
       omega (arith, so_far.3, c.in_ok-reserve.ensures.capacity, c.push.ensures.capacity),
     )
 
-pub returns-clause-ran : goal.returns-clause-ran
-returns-clause-ran g c =
-    let so_far = c.loop-command.invariant in
-    record {
-      done = c.loop-command.yielded;
-      rest = into_iter_items c.loop-command.command-iterator;
-      replies = so_far.0;
-      begins = sym c.into_iter-command-iterator.ensures.into_iter_gives.0 ∙ taken_front _ _ _ c.loop-command.yielded_by;
-      answers = so_far.1;
-      replied = so_far.2;
-      whole = nil_from_length _ (sym c.loop-command.command-iterator.rest.ok.0 ∙ c.in-None.ensures.steps.0);
-      stopped = tt;
-    }
-
 pub returns-in_err-reserve-clause-room_is_there : goal.returns-in_err-reserve-clause-room_is_there
 returns-in_err-reserve-clause-room_is_there g c = λ plain room.
     let so_far = c.loop-command.invariant in
@@ -70,11 +51,3 @@ returns-in_err-reserve-clause-room_is_there g c = λ plain room.
     let next = room_for_next _ _ _ _ _ _ _ _ _ begins c.in-Some.ensures.steps.0 so_far.1
     (length-replies _ _ _ _ _ _ _ so_far.2) room in
     absurd (false≢true (c.in_err-reserve.ensures.succeeds (omega (arith, next, so_far.3, c.loop-command.replies.ok.0))))
-
-pub returns-in_err-reply-clause-room_is_there : goal.returns-in_err-reply-clause-room_is_there
-returns-in_err-reply-clause-room_is_there g c = λ plain room.
-    let begins = sym c.into_iter-command-iterator.ensures.into_iter_gives.0
-    ∙ taken_front _ _ _ c.loop-command.yielded_by in
-    absurd
-    (next_meets (λ command. MayTakeMemory command → ⊥) _ _ _ _ _ begins c.in-Some.ensures.steps.0 plain
-    (c.in_err-reply.ensures.memory refl))

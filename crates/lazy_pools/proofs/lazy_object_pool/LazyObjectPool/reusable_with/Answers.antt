@@ -1,13 +1,13 @@
 use Rattle.std.proofs.Common.{Some, refl, subst}
 use Rattle.pool_parts.specs.Item.{IsPulled, new_user}
-use Rattle.lazy_pools.specs.LazyPool.{lazy_view}
 use Rattle.pool_parts.specs.Page.{held_item, view_of}
-use Rattle.lazy_pools.proofs.lazy_object_pool.LazyObjectPool.item_with.Goals as goal
+use Rattle.lazy_pools.specs.LazyPool.{lazy_view}
+use Rattle.lazy_pools.proofs.lazy_object_pool.LazyObjectPool.reusable_with.Goals as goal
 
 pub returns-in-Some-clause-pulled : goal.returns-in-Some-clause-pulled
 returns-in-Some-clause-pulled g c =
     let pool = c.args.self.now in
-    record {
+    rw (c.new.ensures.place, c.new.ensures.value) record {
       found = Some c.in-Some.value;
       pulled =
           subst (λ place. IsPulled (lazy_view pool).identity
@@ -16,6 +16,3 @@ returns-in-Some-clause-pulled g c =
           c.in-Some.is c.requires.pulled;
       value_is = refl;
     }
-
-pub returns-in-Ok-clause-meets : goal.returns-in-Ok-clause-meets
-returns-in-Ok-clause-meets g c = c.requires.each_meets c.in-Ok.value c.in-Ok.ensures
