@@ -19,7 +19,7 @@ PlacePool = FixedObjectPool ⊤ (Copied ⊤ AnyValue) Keep AnyValue
 
 -- a place that is out
 abbrev pub OutPlace : Type 0
-OutPlace = FixedReusableOf ⊤ (Arc PlacePool Global)
+OutPlace = FixedReusableOf ⊤ (Arc PlacePool Global) (Copied ⊤ AnyValue) Keep AnyValue
 
 -- the pool of a handle, whether it holds a place or not
 abbrev pub hand_pool : Hand → PlacePool

@@ -1,6 +1,5 @@
 -- What a fixed pool and its reusables show, and what its answers show: of a pull, of a refusal, of a return.
 use Rattle.std.specs.Prelude.{◌≡◌, ◌⊎◌, ℕ, ◌+◌, ◌-◌, ◌*◌, ◌^◌, ◌≤◌, List, Option, true}
-use Rattle.std.specs.Borrow.{Lends, Fml, RattleType, MutBor}
 use Rattle.atomic_table.specs.Seated.{TableId}
 use Rattle.pool_parts.specs.Answers.{IsMadeOrReset}
 use Rattle.pool_parts.specs.Item.{Item, PulledView, IsPulled}
@@ -8,9 +7,7 @@ use Rattle.pool_parts.specs.Ledger.{History, operations_of, IsLegal, IsPrefixOf,
 use Rattle.pool_parts.specs.Page.{view_of}
 use Rattle.pool_parts.specs.declared.page.note.PageNote.{PageNote}
 use Rattle.pool_parts.specs.declared.page.user_view.UserView.{UserView}
-use Rattle.fixed_pools.specs.contracts.fixed_reusable.FixedReusableOf.{the_row}
 use Rattle.fixed_pools.specs.declared.fixed_object_pool.FixedObjectPool.{FixedObjectPool}
-use Rattle.fixed_pools.specs.declared.fixed_reusable.SharedFixedPool.{Ghosts}
 
 -- what a pool with one table shows
 pub record FixedView (T R : Type 0) : Type 0 where
@@ -80,9 +77,6 @@ module _ {T I R K : Type 0} where
     pub meets_condition : meets item.value
     pub made_or_reset : IsMadeOrReset answers leaves item.value
 
-module _ (T P : RattleType) (pool : Ghosts P.Denot T.Denot) where
-  -- a loan of a reusable's value ends with the reusable as it was, but for the value written last
-  abbrev pub LendsFixedValue : MutBor (PulledView P.Denot T.Denot T.Denot) → MutBor T.Denot → Fml
-  LendsFixedValue reusable loan =
-      Lends (the_row T P pool) T reusable loan
-      (λ value. record reusable.now { item = record reusable.now.item { value = value }; value = value })
+-- a reusable with another value
+abbrev pub with_value : {P T : Type 0} → PulledView P T T → T → PulledView P T T
+with_value reusable value = record reusable { item = record reusable.item { value = value }; value = value }

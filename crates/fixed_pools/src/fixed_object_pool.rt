@@ -5,7 +5,7 @@
 //! sequential history has the pulls and returns of the whole pool. No pull and no return waits for
 //! another thread. The upper half of each word counts the returns of its page, so a pull that took
 //! nothing sees whether an item came back while it looked.
-ghost use Rattle.std.specs.Prelude.{◌≡◌, ◌+◌, ◌*◌, ◌/◌, ◌<◌, ◌≤◌, None, Some, IfOk, IfErr, ◌⊎◌, ⊤};
+ghost use Rattle.std.specs.Prelude.{◌≡◌, ◌≢◌, ◌+◌, ◌*◌, ◌/◌, ◌<◌, ◌≤◌, None, Some, IfOk, IfErr, ◌⊎◌, ⊤};
 ghost use Rattle.std.specs.Arc.{arc_value};
 ghost use Rattle.pool_parts.specs.declared.pull_error.PullError.TheVariants.{Memory, Limit};
 
@@ -94,7 +94,7 @@ impl<T: Drop, I: Init<T, K>, R: Reset<T, K>, K: Clean<T>> Drop for FixedObjectPo
 
 impl<T: Drop, I: Init<T, K>, R: Reset<T, K>, K: Clean<T>> FixedObjectPool<T, I, R, K> {
     ghost use Rattle.fixed_pools.specs.FixedPool.{Pulls, IsFullNote, returns_since, IsWithin, fixed_view};
-    ghost use Rattle.pool_parts.specs.Page.{view_of, IsGivenBack, held_item, IsNoteOf, HasLearned};
+    ghost use Rattle.pool_parts.specs.Page.{view_of, IsGivenBack, HoldsSame, held_item, IsNoteOf, HasLearned};
     ghost use Rattle.pool_parts.specs.Slot.{IsAllOut};
     ghost use Rattle.pool_parts.specs.Item.{IsFilled, new_user};
     ghost use Rattle.pool_parts.specs.Answers.{Refuses};
@@ -285,6 +285,29 @@ impl<T: Drop, I: Init<T, K>, R: Reset<T, K>, K: Clean<T>> FixedObjectPool<T, I, 
         self.items.shared.tell(note, other);
     }
 
+    /// Returns what the holder of an item knows of this pool, for another user. It costs one load.
+    pub fn witness(&self, holding: &mut Holding<T>) -> Witness<T>
+        requires { holding.old.seat.table_id ≡ (fixed_view self.now).identity }
+        ensures pool { result.seat.table_id ≡ holding.old.seat.table_id }
+        ensures history { (view_of result.seat).operations ≡ (view_of holding.old.seat).operations }
+        ensures same_pool { holding.new.seat.table_id ≡ holding.old.seat.table_id }
+        ensures same_view { view_of holding.new.seat ≡ view_of holding.old.seat }
+        ensures same_number { holding.new.number ≡ holding.old.number }
+    {
+        holding.witness(&self.items.shared)
+    }
+
+    /// Ensures that two holders of items of this pool have two items. It costs seven loads.
+    pub fn are_two(&self, one: &mut Holding<T>, other: &mut Holding<T>)
+        requires one { one.old.seat.table_id ≡ (fixed_view self.now).identity }
+        requires other { other.old.seat.table_id ≡ (fixed_view self.now).identity }
+        ensures differ { one.old.number ≢ other.old.number }
+        ensures same_one { HoldsSame one.old one.new }
+        ensures same_other { HoldsSame other.old other.new }
+    {
+        self.items.shared.are_two(one, other);
+    }
+
     /// Pulls as `pull` does. The reusable owns the pool with others: it becomes one more owner
     /// before an item is taken.
     ///
@@ -342,8 +365,8 @@ impl<T: Drop, I: Init<T, K>, R: Reset<T, K>, K: Clean<T>> FixedObjectPool<T, I, 
         }
     }
 
-    /// Pulls as `pull_near` does, and returns the item apart from the pool: what its holder has, and
-    /// its value. Only [`FixedObjectPool::give`] returns it to the pool.
+    /// Pulls as `pull_near` does, and returns the item apart from the pool: what its holder has,
+    /// and its value. Only [`FixedObjectPool::give`] returns it to the pool.
     ///
     /// # Errors
     ///

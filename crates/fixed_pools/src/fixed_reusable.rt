@@ -17,89 +17,56 @@ use std::sync::Arc;
 
 /// A fixed pool as a reusable has it: by a borrow or with an owner.
 pub trait SharedFixedPool<T>: Drop {
-    ghost use Rattle.pool_parts.specs.Page.{IsGivenBack, HoldsSame, view_of};
+    ghost use Rattle.fixed_pools.specs.FixedPool.{FixedView, fixed_view};
 
-    /// Which pool it is.
-    ghost identity: { Self → TableId };
+    /// What makes the pool's values.
+    type Init: Init<T, Self::Kept>;
 
-    /// What its reset may make of a value: the old one, then the new one.
-    ghost leaves: { Self → T → T → Type 0 };
+    /// What resets them.
+    type Reset: Reset<T, Self::Kept>;
 
-    /// Returns what the holder of an item knows of the pool.
-    fn witness(&self, holding: &mut Holding<T>) -> Witness<T>
-        requires { holding.old.seat.table_id ≡ identity self.now }
-        ensures page { result.seat.table_id ≡ holding.old.seat.table_id }
-        ensures history { (view_of result.seat).operations ≡ (view_of holding.old.seat).operations }
-        ensures same_page { holding.new.seat.table_id ≡ holding.old.seat.table_id }
-        ensures same_view { view_of holding.new.seat ≡ view_of holding.old.seat }
-        ensures same_number { holding.new.number ≡ holding.old.number };
+    /// The condition that they meet.
+    type Kept: Clean<T>;
 
-    /// Finds that two holders have two items.
-    fn are_two(&self, one: &mut Holding<T>, other: &mut Holding<T>)
-        requires one { one.old.seat.table_id ≡ identity self.now }
-        requires other { other.old.seat.table_id ≡ identity self.now }
-        ensures differ { one.old.number ≢ other.old.number }
-        ensures same_one { HoldsSame one.old one.new }
-        ensures same_other { HoldsSame other.old other.new };
+    /// What contracts see of the pool.
+    ghost shown: { Self → FixedView T Self.Reset };
 
-    /// Resets the value of an item and returns it.
-    fn give(&self, holding: Holding<T>, value: T) -> PoolNote<T>
-        requires of_pool { holding.seat.table_id ≡ identity self.now }
-        requires in_pool { holding.number < (identity self.now).slots }
-        ensures { IsGivenBack (leaves self.now) (held_item holding value) result };
+    /// Returns the pool.
+    fn pool(&self) -> &FixedObjectPool<T, Self::Init, Self::Reset, Self::Kept>
+        ensures { fixed_view result.now ≡ shown self.now };
 }
 
 impl<T: Drop, I: Init<T, K>, R: Reset<T, K>, K: Clean<T>> SharedFixedPool<T>
     for &FixedObjectPool<T, I, R, K> {
     ghost use Rattle.fixed_pools.specs.FixedPool.{fixed_view};
-    ghost use Rattle.pool_parts.specs.Page.{IsGivenBack};
 
-    ghost identity = { λ pool. (fixed_view pool.now).identity };
+    type Init = I;
 
-    ghost leaves = { λ pool. R.leaves (fixed_view pool.now).reset };
+    type Reset = R;
 
-    fn witness(&self, holding: &mut Holding<T>) -> Witness<T> {
-        holding.witness(&self.items.shared)
-    }
+    type Kept = K;
 
-    fn are_two(&self, one: &mut Holding<T>, other: &mut Holding<T>) {
-        self.items.shared.are_two(one, other)
-    }
+    ghost shown = { λ pool. fixed_view pool.now };
 
-    fn give(&self, holding: Holding<T>, value: T) -> PoolNote<T>
-        requires of_pool { holding.seat.table_id ≡ (fixed_view self.now.now).identity }
-        requires in_pool { holding.number < (fixed_view self.now.now).identity.slots }
-        ensures { IsGivenBack (R.leaves (fixed_view self.now.now).reset)
-            (held_item holding value) result }
-    {
-        FixedObjectPool::give(*self, holding, value)
+    fn pool(&self) -> &FixedObjectPool<T, I, R, K> {
+        self
     }
 }
 
 impl<T: Drop, I: Init<T, K>, R: Reset<T, K>, K: Clean<T>> SharedFixedPool<T>
     for Arc<FixedObjectPool<T, I, R, K>> {
     ghost use Rattle.fixed_pools.specs.FixedPool.{fixed_view};
-    ghost use Rattle.pool_parts.specs.Page.{IsGivenBack};
 
-    ghost identity = { λ pool. (fixed_view (arc_value pool)).identity };
+    type Init = I;
 
-    ghost leaves = { λ pool. R.leaves (fixed_view (arc_value pool)).reset };
+    type Reset = R;
 
-    fn witness(&self, holding: &mut Holding<T>) -> Witness<T> {
-        holding.witness(&self.items.shared)
-    }
+    type Kept = K;
 
-    fn are_two(&self, one: &mut Holding<T>, other: &mut Holding<T>) {
-        (**self).items.shared.are_two(one, other)
-    }
+    ghost shown = { λ pool. fixed_view (arc_value pool) };
 
-    fn give(&self, holding: Holding<T>, value: T) -> PoolNote<T>
-        requires of_pool { holding.seat.table_id ≡ (fixed_view (arc_value self.now)).identity }
-        requires in_pool { holding.number < (fixed_view (arc_value self.now)).identity.slots }
-        ensures { IsGivenBack (R.leaves (fixed_view (arc_value self.now)).reset)
-            (held_item holding value) result }
-    {
-        (**self).give(holding, value)
+    fn pool(&self) -> &FixedObjectPool<T, I, R, K> {
+        self
     }
 }
 
@@ -128,8 +95,8 @@ impl<T: Drop, P: SharedFixedPool<T>> Model for FixedReusableOf<T, P> {
         } };
 
     ghost invariant = { λ reusable.
-        (reusable.holding.seat.table_id ≡ P.identity reusable.pool)
-        × (reusable.holding.number < (P.identity reusable.pool).slots) };
+        (reusable.holding.seat.table_id ≡ (P.shown reusable.pool).identity)
+        × (reusable.holding.number < (P.shown reusable.pool).identity.slots) };
 }
 
 /// A pulled value, with a borrow of its pool. Its drop resets it and returns it.
@@ -151,8 +118,8 @@ impl<T: Drop, P: SharedFixedPool<T>> FixedReusableOf<T, P> {
     ghost use Rattle.pool_parts.specs.declared.page.word.TheConstants.{PAGE_ITEMS};
 
     pub(crate) fn new(pool: P, pulled: PulledItem<T>) -> FixedReusableOf<T, P>
-        requires of_pool { pulled.holding.seat.table_id ≡ P.identity pool }
-        requires in_pool { pulled.holding.number < (P.identity pool).slots }
+        requires of_pool { pulled.holding.seat.table_id ≡ (P.shown pool).identity }
+        requires in_pool { pulled.holding.number < (P.shown pool).identity.slots }
         ensures pool { result.pool ≡ pool }
         ensures item { result.item ≡ held_item pulled.holding pulled.value }
         ensures view { result.known ≡ view_of pulled.holding.seat }
@@ -168,8 +135,8 @@ impl<T: Drop, P: SharedFixedPool<T>> FixedReusableOf<T, P> {
     /// Returns the number of the item in its pool, counted from 0.
     pub fn number(&self) -> usize
         ensures value { result ≡ self.now.item.id }
-        ensures in_pool { result < (P.identity self.now.pool).slots }
-        ensures of_pool { self.now.item.page ≡ P.identity self.now.pool }
+        ensures in_pool { result < (P.shown self.now.pool).identity.slots }
+        ensures of_pool { self.now.item.page ≡ (P.shown self.now.pool).identity }
     {
         self.holding.number
     }
@@ -196,7 +163,7 @@ impl<T: Drop, P: SharedFixedPool<T>> FixedReusableOf<T, P> {
         ensures same_item { self.new.item ≡ self.old.item }
         ensures same_pool { self.new.pool ≡ self.old.pool }
     {
-        self.pool.witness(&mut self.holding)
+        self.pool.pool().witness(&mut self.holding)
     }
 
     /// Ensures that this item and another that is held of the pool are two: their numbers differ.
@@ -210,20 +177,21 @@ impl<T: Drop, P: SharedFixedPool<T>> FixedReusableOf<T, P> {
         ensures same_other { other.new.item ≡ other.old.item }
         ensures same_others_pool { other.new.pool ≡ other.old.pool }
     {
-        self.pool.are_two(&mut self.holding, &mut other.holding);
+        let pool = self.pool.pool();
+        pool.are_two(&mut self.holding, &mut other.holding);
     }
 
     /// Resets the value and returns it, as the drop does. The note knows the pool's history up to
     /// this return.
     pub fn give_back(self) -> PoolNote<T>
-        ensures { IsGivenBack (P.leaves self.pool) self.item result }
+        ensures { IsGivenBack (P.Reset.leaves (P.shown self.pool).reset) self.item result }
     {
         let FixedReusableOf {
             pool,
             holding,
             value,
         } = self;
-        pool.give(holding, value)
+        pool.pool().give(holding, value)
     }
 
     /// Returns the borrow or the owner of the pool that the reusable keeps.
@@ -237,14 +205,14 @@ impl<T: Drop, P: SharedFixedPool<T>> FixedReusableOf<T, P> {
     /// too.
     pub fn give_back_with_owner(self) -> (P, PoolNote<T>)
         ensures owner { result.0 ≡ self.pool }
-        ensures given_back { IsGivenBack (P.leaves self.pool) self.item result.1 }
+        ensures given_back { IsGivenBack (P.Reset.leaves (P.shown self.pool).reset) self.item result.1 }
     {
         let FixedReusableOf {
             pool,
             holding,
             value,
         } = self;
-        let note = pool.give(holding, value);
+        let note = pool.pool().give(holding, value);
         (pool, note)
     }
 }
@@ -260,14 +228,16 @@ impl<T: Drop, P: SharedFixedPool<T>> Deref for FixedReusableOf<T, P> {
 }
 
 impl<T: Drop, P: SharedFixedPool<T>> DerefMut for FixedReusableOf<T, P> {
-    ghost use Rattle.std.specs.Borrow.{sem};
-    ghost use Rattle.fixed_pools.specs.FixedPool.{LendsFixedValue};
+    ghost use Rattle.std.specs.Borrow.{Lends, sem};
+    ghost use Rattle.fixed_pools.specs.FixedPool.{with_value};
+    ghost use Rattle.fixed_pools.specs.contracts.fixed_reusable.FixedReusableOf.{the_row};
 
     ghost deref_mut_gives = { λ reusable value. value ≡ reusable.item.value };
 
     fn deref_mut(&mut self) -> &mut T
         ensures* writes_back { sem 𝓛
-            (LendsFixedValue T.row P.row P.SharedFixedPool self.entry result) }
+            (Lends (the_row T.row P.row P.Init.row P.Reset.row P.Kept.row P.SharedFixedPool
+            P.Init.Init P.Reset.Reset P.Kept.Clean) T.row self.entry result (with_value self.old)) }
         ensures shows { result.now ≡ self.old.item.value }
     {
         &mut self.value

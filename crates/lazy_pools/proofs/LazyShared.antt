@@ -24,13 +24,15 @@ use Rattle.lazy_pools.specs.contracts.lazy_reusable.LazyReusableOf as LazyReusab
 use Rattle.lazy_pools.proofs.lazy_object_pool.LazyObjectPool.TheSendSync as lazy_pool
 use Rattle.pool_parts.proofs.SlotShared.{holding_sync}
 
-module _ (T P : RattleType) (pool : Ghosts P.Denot T.Denot) where
-  pub reusable_sync : IsSend T → IsSync T → IsSync P → IsSync (LazyReusableOf.the_row T P pool)
-  reusable_sync sent shared pool_shared =
+module _ (T I R K : RattleType) (answers : Init.Ghosts I.Denot T.Denot K.Denot)
+    (leaves : Reset.Ghosts R.Denot T.Denot K.Denot) (clean : Clean.Ghosts K.Denot T.Denot) where
+  pub reusable_sync : (P : RattleType) (pool : Ghosts P.Denot T.Denot I.Denot R.Denot K.Denot) → IsSend T → IsSync T
+      → IsSync P → IsSync (LazyReusableOf.the_row T P I R K pool answers leaves clean)
+  reusable_sync P pool sent shared pool_shared =
       let place = OptionRow.the_row T in
       let place_sent : IsSend place = search (sendable, crosses) depth 20 in
-      view_sync (Inside.the_row T P pool) _ _ _ _
-      (declared_sync (Inside.the_type T P pool) (
+      view_sync (Inside.the_row T P I R K pool answers leaves clean) _ _ _ _
+      (declared_sync (Inside.the_type T P I R K pool answers leaves clean) (
         as_row_sync (row_field P) pool_shared,
         (
           as_row_sync (Holding.the_field place) (holding_sync place place_sent),
@@ -38,9 +40,6 @@ module _ (T P : RattleType) (pool : Ghosts P.Denot T.Denot) where
         ),
       ))
 
--- so a borrowed one may where its value may, and what makes and resets its pool's values; and an owned one
-module _ (T I R K : RattleType) (answers : Init.Ghosts I.Denot T.Denot K.Denot)
-    (leaves : Reset.Ghosts R.Denot T.Denot K.Denot) (clean : Clean.Ghosts K.Denot T.Denot) where
   -- a borrow of the pool, and an owner
   abbrev borrow : Lifetime → Lft → RattleType
   borrow ℓ κ = ShrRef ℓ κ (LazyObjectPool.the_row T I R K answers leaves clean)
@@ -48,32 +47,24 @@ module _ (T I R K : RattleType) (answers : Init.Ghosts I.Denot T.Denot K.Denot)
   abbrev owner : RattleType
   owner = Arc.the_row (LazyObjectPool.the_row T I R K answers leaves clean) Global.the_row GlobalAllocator.ghosts
 
-  -- which pool it is of, and what that pool's reset may leave
-  abbrev borrowed : (ℓ : Lifetime) (κ : Lft) → Ghosts (borrow ℓ κ).Denot T.Denot
-  borrowed ℓ κ =
-      record {
-        identity = λ pool. (lazy_view pool.now).identity;
-        leaves = λ pool. leaves.leaves
-            (lazy_view pool.now).reset;
-      }
+  -- what contracts see of the pool
+  abbrev borrowed : (ℓ : Lifetime) (κ : Lft) → Ghosts (borrow ℓ κ).Denot T.Denot I.Denot R.Denot K.Denot
+  borrowed ℓ κ = record { shown = λ pool. lazy_view pool.now }
 
-  abbrev owned : Ghosts owner.Denot T.Denot
-  owned =
-      record {
-        identity = λ pool. (lazy_view (arc_value pool)).identity;
-        leaves = λ pool. leaves.leaves (lazy_view (arc_value pool)).reset;
-      }
+  abbrev owned : Ghosts owner.Denot T.Denot I.Denot R.Denot K.Denot
+  owned = record { shown = λ pool. lazy_view (arc_value pool) }
 
+  -- a borrowed one may where its value may, and what makes and resets its pool's values; and an owned one
   pub borrowed_reusable_sync : (ℓ : Lifetime) (κ : Lft) → IsSend T → IsSync T → IsSync I → IsSync R
-      → IsSync (LazyReusableOf.the_row T (borrow ℓ κ) (borrowed ℓ κ))
+      → IsSync (LazyReusableOf.the_row T (borrow ℓ κ) I R K (borrowed ℓ κ) answers leaves clean)
   borrowed_reusable_sync ℓ κ sent shared init reset =
-      reusable_sync T (borrow ℓ κ) (borrowed ℓ κ) sent shared
+      reusable_sync (borrow ℓ κ) (borrowed ℓ κ) sent shared
       (shr_sync ℓ κ _ (lazy_pool.the_sync T I R K answers leaves clean sent init reset))
 
   pub owned_reusable_sync : IsSend T → IsSync T → IsSend I → IsSync I → IsSend R → IsSync R
-      → IsSync (LazyReusableOf.the_row T owner owned)
+      → IsSync (LazyReusableOf.the_row T owner I R K owned answers leaves clean)
   owned_reusable_sync sent shared init_sent init_shared reset_sent reset_shared =
-      reusable_sync T owner owned sent shared
+      reusable_sync owner owned sent shared
       (Arc-sync (LazyObjectPool.the_row T I R K answers leaves clean)
       (lazy_pool.the_send T I R K answers leaves clean sent init_sent reset_sent)
       (lazy_pool.the_sync T I R K answers leaves clean sent init_shared reset_shared))

@@ -1,18 +1,15 @@
 -- What a pool shows whose items are made one at a time, and its reusables; and what its answers show.
 use Rattle.std.specs.Prelude.{◌≡◌, List, Option, Some, MatchOption}
-use Rattle.std.specs.Borrow.{Lends, Fml, RattleType, MutBor}
 use Rattle.atomic_table.specs.Seated.{TableId}
 use Rattle.pool_parts.specs.Item.{Item, PulledView, IsPulled, new_user}
 use Rattle.pool_parts.specs.Page.{view_of}
 use Rattle.pool_parts.specs.Slot.{IsAllOut}
 use Rattle.fixed_pools.specs.FixedPool.{FixedView, IsFullNote}
-use Rattle.lazy_pools.specs.contracts.lazy_reusable.LazyReusableOf.{the_row}
 use Rattle.lazy_pools.specs.declared.lazy_object_pool.LazyObjectPool.{LazyObjectPool}
 use Rattle.lazy_pools.specs.declared.lazy_object_pool.lazy_refused.LazyRefused.{LazyRefused}
 use Rattle.lazy_pools.specs.declared.lazy_object_pool.lazy_refused.LazyRefused.TheVariants.{Busy, NotMade}
 use Rattle.lazy_pools.specs.declared.lazy_object_pool.lazy_refused.PullWithError.{PullWithError}
 use Rattle.lazy_pools.specs.declared.lazy_object_pool.lazy_refused.PullWithError.TheVariants as With
-use Rattle.lazy_pools.specs.declared.lazy_reusable.SharedLazyPool.{Ghosts}
 
 module _ {T I R K : Type 0} where
   -- what contracts see of a pool, whose places have a value or none
@@ -55,9 +52,6 @@ RefusesWith pool opening may_lack_memory fails_with (With.Limit full) =
     IsFullNote pool (new_user opening (view_of full.seat).user) full
 RefusesWith pool opening may_lack_memory fails_with (With.Make cause) = fails_with cause
 
-module _ (T P : RattleType) (pool : Ghosts P.Denot T.Denot) where
-  -- a loan of a reusable's value ends with the reusable as it was, but for the value written last
-  abbrev pub LendsLazyValue : MutBor (PulledView P.Denot (Option T.Denot) T.Denot) → MutBor T.Denot → Fml
-  LendsLazyValue reusable loan =
-      Lends (the_row T P pool) T reusable loan
-      (λ value. record reusable.now { item = record reusable.now.item { value = Some value }; value = value })
+-- a reusable with another value
+abbrev pub with_value : {P T : Type 0} → PulledView P (Option T) T → T → PulledView P (Option T) T
+with_value reusable value = record reusable { item = record reusable.item { value = Some value }; value = value }

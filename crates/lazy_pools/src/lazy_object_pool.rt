@@ -353,7 +353,7 @@ impl<T: Drop, I: Init<T, K>, R: Reset<T, K>, K: Clean<T>> LazyObjectPool<T, I, R
         pool: P,
         pulled: PulledItem<Option<T>>,
     ) -> Result<LazyReusableOf<T, P>, PullError>
-        requires same_pool { P.identity pool ≡ (lazy_view self.now).identity }
+        requires same_pool { (P.shown pool).identity ≡ (lazy_view self.now).identity }
         requires pulled { IsPulled (lazy_view self.now).identity
             (new_user (lazy_view self.now).opening (view_of pulled.holding.seat).user)
             (held_item pulled.holding pulled.value) }

@@ -1,7 +1,6 @@
 //! A value that was pulled from a lazy pool, under a borrow of the pool or with an owner of it.
-ghost use Rattle.std.specs.Prelude.{◌≡◌, ◌<◌, ◌/◌, ◌%◌, None};
+ghost use Rattle.std.specs.Prelude.{◌≡◌, ◌<◌, ◌/◌, ◌%◌, None, Option};
 ghost use Rattle.std.specs.Arc.{arc_value};
-ghost use Rattle.atomic_table.specs.Seated.{TableId};
 ghost use Rattle.pool_parts.specs.Page.{held_item, view_of, IsReturned};
 
 use crate::lazy_object_pool::LazyObjectPool;
@@ -18,95 +17,57 @@ use std::sync::Arc;
 
 /// A lazy pool as each of its reusables has it: by a borrow, or with an owner.
 pub trait SharedLazyPool<T>: Drop {
-    ghost use Rattle.pool_parts.specs.Page.{IsBroughtBack, held_item, view_of};
+    ghost use Rattle.fixed_pools.specs.FixedPool.{FixedView};
+    ghost use Rattle.lazy_pools.specs.LazyPool.{lazy_view};
 
-    /// Which pool it is.
-    ghost identity: { Self → TableId };
+    /// What makes the pool's values.
+    type Init: Init<T, Self::Kept>;
 
-    /// What its reset may make of a value: the old one, then the new one.
-    ghost leaves: { Self → T → T → Type 0 };
+    /// What resets them.
+    type Reset: Reset<T, Self::Kept>;
 
-    /// Returns what the holder of an item knows of the pool.
-    fn witness(&self, holding: &mut Holding<Option<T>>) -> Witness<Option<T>>
-        requires { holding.old.seat.table_id ≡ identity self.now }
-        ensures page { result.seat.table_id ≡ holding.old.seat.table_id }
-        ensures history { (view_of result.seat).operations ≡ (view_of holding.old.seat).operations }
-        ensures same_page { holding.new.seat.table_id ≡ holding.old.seat.table_id }
-        ensures same_view { view_of holding.new.seat ≡ view_of holding.old.seat }
-        ensures same_number { holding.new.number ≡ holding.old.number };
+    /// The condition that they meet.
+    type Kept: Clean<T>;
 
-    /// Resets the value of an item and returns it.
-    fn give(&self, holding: Holding<Option<T>>, value: T) -> PoolNote<Option<T>>
-        requires of_pool { holding.seat.table_id ≡ identity self.now }
-        requires in_pool { holding.number < (identity self.now).slots }
-        ensures { IsBroughtBack (leaves self.now) (held_item holding (Some value)) value result };
+    /// What contracts see of the pool.
+    ghost shown: { Self → FixedView (Option T) Self.Reset };
 
-    /// Returns the place of an item without its value.
-    fn give_empty(&self, holding: Holding<Option<T>>) -> PoolNote<Option<T>>
-        requires of_pool { holding.seat.table_id ≡ identity self.now }
-        requires in_pool { holding.number < (identity self.now).slots }
-        ensures { IsReturned (held_item holding None) result };
+    /// Returns the pool.
+    fn pool(&self) -> &LazyObjectPool<T, Self::Init, Self::Reset, Self::Kept>
+        ensures { lazy_view result.now ≡ shown self.now };
 }
 
 impl<T: Drop, I: Init<T, K>, R: Reset<T, K>, K: Clean<T>> SharedLazyPool<T>
     for &LazyObjectPool<T, I, R, K> {
     ghost use Rattle.lazy_pools.specs.LazyPool.{lazy_view};
-    ghost use Rattle.pool_parts.specs.Page.{IsBroughtBack, held_item};
 
-    ghost identity = { λ pool. (lazy_view pool.now).identity };
+    type Init = I;
 
-    ghost leaves = { λ pool. R.leaves (lazy_view pool.now).reset };
+    type Reset = R;
 
-    fn witness(&self, holding: &mut Holding<Option<T>>) -> Witness<Option<T>> {
-        holding.witness(&self.places.shared)
-    }
+    type Kept = K;
 
-    fn give(&self, holding: Holding<Option<T>>, value: T) -> PoolNote<Option<T>>
-        requires of_pool { holding.seat.table_id ≡ (lazy_view self.now.now).identity }
-        requires in_pool { holding.number < (lazy_view self.now.now).identity.slots }
-        ensures { IsBroughtBack (R.leaves (lazy_view self.now.now).reset)
-            (held_item holding (Some value)) value result }
-    {
-        LazyObjectPool::give(*self, holding, value)
-    }
+    ghost shown = { λ pool. lazy_view pool.now };
 
-    fn give_empty(&self, holding: Holding<Option<T>>) -> PoolNote<Option<T>>
-        requires of_pool { holding.seat.table_id ≡ (lazy_view self.now.now).identity }
-        requires in_pool { holding.number < (lazy_view self.now.now).identity.slots }
-        ensures { IsReturned (held_item holding None) result }
-    {
-        LazyObjectPool::give_empty(*self, holding)
+    fn pool(&self) -> &LazyObjectPool<T, I, R, K> {
+        self
     }
 }
 
 impl<T: Drop, I: Init<T, K>, R: Reset<T, K>, K: Clean<T>> SharedLazyPool<T>
     for Arc<LazyObjectPool<T, I, R, K>> {
     ghost use Rattle.lazy_pools.specs.LazyPool.{lazy_view};
-    ghost use Rattle.pool_parts.specs.Page.{IsBroughtBack, held_item};
 
-    ghost identity = { λ pool. (lazy_view (arc_value pool)).identity };
+    type Init = I;
 
-    ghost leaves = { λ pool. R.leaves (lazy_view (arc_value pool)).reset };
+    type Reset = R;
 
-    fn witness(&self, holding: &mut Holding<Option<T>>) -> Witness<Option<T>> {
-        holding.witness(&self.places.shared)
-    }
+    type Kept = K;
 
-    fn give(&self, holding: Holding<Option<T>>, value: T) -> PoolNote<Option<T>>
-        requires of_pool { holding.seat.table_id ≡ (lazy_view (arc_value self.now)).identity }
-        requires in_pool { holding.number < (lazy_view (arc_value self.now)).identity.slots }
-        ensures { IsBroughtBack (R.leaves (lazy_view (arc_value self.now)).reset)
-            (held_item holding (Some value)) value result }
-    {
-        (**self).give(holding, value)
-    }
+    ghost shown = { λ pool. lazy_view (arc_value pool) };
 
-    fn give_empty(&self, holding: Holding<Option<T>>) -> PoolNote<Option<T>>
-        requires of_pool { holding.seat.table_id ≡ (lazy_view (arc_value self.now)).identity }
-        requires in_pool { holding.number < (lazy_view (arc_value self.now)).identity.slots }
-        ensures { IsReturned (held_item holding None) result }
-    {
-        (**self).give_empty(holding)
+    fn pool(&self) -> &LazyObjectPool<T, I, R, K> {
+        self
     }
 }
 
@@ -136,8 +97,8 @@ impl<T: Drop, P: SharedLazyPool<T>> Model for LazyReusableOf<T, P> {
         } };
 
     ghost invariant = { λ reusable.
-        (reusable.holding.seat.table_id ≡ P.identity reusable.pool)
-        × (reusable.holding.number < (P.identity reusable.pool).slots) };
+        (reusable.holding.seat.table_id ≡ (P.shown reusable.pool).identity)
+        × (reusable.holding.number < (P.shown reusable.pool).identity.slots) };
 }
 
 /// A pulled value, under a borrow of its pool. Its drop resets it and returns it.
@@ -159,8 +120,8 @@ impl<T: Drop, P: SharedLazyPool<T>> LazyReusableOf<T, P> {
     ghost use Rattle.pool_parts.specs.declared.page.word.TheConstants.{PAGE_ITEMS};
 
     pub(crate) fn new(pool: P, item: PulledItem<Option<T>, T>) -> LazyReusableOf<T, P>
-        requires of_pool { item.holding.seat.table_id ≡ P.identity pool }
-        requires in_pool { item.holding.number < (P.identity pool).slots }
+        requires of_pool { item.holding.seat.table_id ≡ (P.shown pool).identity }
+        requires in_pool { item.holding.number < (P.shown pool).identity.slots }
         ensures pool { result.pool ≡ pool }
         ensures place { result.item ≡ held_item item.holding (Some item.value) }
         ensures value { result.value ≡ item.value }
@@ -177,8 +138,8 @@ impl<T: Drop, P: SharedLazyPool<T>> LazyReusableOf<T, P> {
     /// Returns the number of the item in its pool, counted from 0.
     pub fn number(&self) -> usize
         ensures value { result ≡ self.now.item.id }
-        ensures in_pool { result < (P.identity self.now.pool).slots }
-        ensures of_pool { self.now.item.page ≡ P.identity self.now.pool }
+        ensures in_pool { result < (P.shown self.now.pool).identity.slots }
+        ensures of_pool { self.now.item.page ≡ (P.shown self.now.pool).identity }
     {
         self.holding.number
     }
@@ -205,20 +166,20 @@ impl<T: Drop, P: SharedLazyPool<T>> LazyReusableOf<T, P> {
         ensures same_place { self.new.item ≡ self.old.item }
         ensures same_pool { self.new.pool ≡ self.old.pool }
     {
-        self.pool.witness(&mut self.holding)
+        self.holding.witness(&self.pool.pool().places.shared)
     }
 
     /// Resets the value and returns it, as the drop does. The note knows the pool's history up to
     /// this return.
     pub fn give_back(self) -> PoolNote<Option<T>>
-        ensures { IsBroughtBack (P.leaves self.pool) self.item self.value result }
+        ensures { IsBroughtBack (P.Reset.leaves (P.shown self.pool).reset) self.item self.value result }
     {
         let LazyReusableOf {
             pool,
             holding,
             value,
         } = self;
-        pool.give(holding, value)
+        pool.pool().give(holding, value)
     }
 
     /// Drops the value without a reset. Its place is empty, and a later pull makes an item there.
@@ -249,7 +210,7 @@ impl<T: Drop, P: SharedLazyPool<T>> LazyReusableOf<T, P> {
             holding,
             value,
         } = self;
-        let note = pool.give_empty(holding);
+        let note = pool.pool().give_empty(holding);
         (value, note)
     }
 }
@@ -265,14 +226,16 @@ impl<T: Drop, P: SharedLazyPool<T>> Deref for LazyReusableOf<T, P> {
 }
 
 impl<T: Drop, P: SharedLazyPool<T>> DerefMut for LazyReusableOf<T, P> {
-    ghost use Rattle.std.specs.Borrow.{sem};
-    ghost use Rattle.lazy_pools.specs.LazyPool.{LendsLazyValue};
+    ghost use Rattle.std.specs.Borrow.{Lends, sem};
+    ghost use Rattle.lazy_pools.specs.LazyPool.{with_value};
+    ghost use Rattle.lazy_pools.specs.contracts.lazy_reusable.LazyReusableOf.{the_row};
 
     ghost deref_mut_gives = { λ reusable value. value ≡ reusable.value };
 
     fn deref_mut(&mut self) -> &mut T
         ensures* writes_back { sem 𝓛
-            (LendsLazyValue T.row P.row P.SharedLazyPool self.entry result) }
+            (Lends (the_row T.row P.row P.Init.row P.Reset.row P.Kept.row P.SharedLazyPool
+            P.Init.Init P.Reset.Reset P.Kept.Clean) T.row self.entry result (with_value self.old)) }
         ensures shows { result.now ≡ self.old.value }
     {
         &mut self.value

@@ -81,15 +81,15 @@ impl<T: Drop, I: Init<T, K>, R: Reset<T, K>, K: Clean<T>> LazyObjectPool<T, I, R
         }
     }
 
-    /// Returns the reusable of a place that was taken. It makes the value by the closure if the place
-    /// is empty. If that fails, the place is returned.
+    /// Returns the reusable of a place that was taken. If the place is empty, it makes the value by
+    /// the closure. If that fails, the place is returned.
     fn reusable_with<P: SharedLazyPool<T>, E: Drop, F: FnOnce() -> Result<T, E> + Drop>(
         &self,
         pool: P,
         pulled: PulledItem<Option<T>>,
         make: F,
     ) -> Result<LazyReusableOf<T, P>, PullWithError<T, E>>
-        requires same_pool { P.identity pool ≡ (lazy_view self.now).identity }
+        requires same_pool { (P.shown pool).identity ≡ (lazy_view self.now).identity }
         requires pulled { IsPulled (lazy_view self.now).identity
             (new_user (lazy_view self.now).opening (view_of pulled.holding.seat).user)
             (held_item pulled.holding pulled.value) }

@@ -32,8 +32,8 @@ pub type MutexObjectPool<T, I, R, K = AnyValue> = StackObjectPool<
 
 /// A value that was pulled from a mutex pool or attached to it, under a borrow of it.
 ///
-/// It has the room for its return: its drop resets the value, waits for the pool's mutex and returns
-/// the value.
+/// It has the room for its return: its drop resets the value, waits for the pool's mutex and
+/// returns the value.
 ///
 /// # Examples
 ///
@@ -44,8 +44,8 @@ pub type MutexReusable<'p, T, I, R, K, W> = StackReusable<T, &'p MutexObjectPool
 
 /// A value that was pulled from a mutex pool or attached to it, with an owner of it.
 ///
-/// It has the room for its return: its drop resets the value, waits for the pool's mutex and returns
-/// the value.
+/// It has the room for its return: its drop resets the value, waits for the pool's mutex and
+/// returns the value.
 ///
 /// # Examples
 ///

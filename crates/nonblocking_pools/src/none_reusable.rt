@@ -50,13 +50,13 @@ impl<T> Deref for NoneReusable<T> {
 }
 
 impl<T> DerefMut for NoneReusable<T> {
-    ghost use Rattle.std.specs.Borrow.{sem};
-    ghost use Rattle.nonblocking_pools.specs.NonePool.{LendsNoneValue};
+    ghost use Rattle.std.specs.Borrow.{Lends, sem};
+    ghost use Rattle.nonblocking_pools.specs.contracts.none_reusable.NoneReusable.{the_row};
 
     ghost deref_mut_gives = { λ reusable value. value ≡ reusable };
 
     fn deref_mut(&mut self) -> &mut T
-        ensures* writes_back { sem 𝓛 (LendsNoneValue T.row self.entry result) }
+        ensures* writes_back { sem 𝓛 (Lends (the_row T.row) T.row self.entry result (λ value. value)) }
         ensures shows { result.now ≡ self.old }
     {
         &mut self.value

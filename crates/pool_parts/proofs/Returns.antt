@@ -1,7 +1,6 @@
 -- What the number of returns in a ledger tells.
-use Rattle.std.proofs.Common.{◌≡◌, ◌⊎◌, ℕ, ◌+◌, ◌<◌, ◌≤◌, Bool, true, false, true≢false, List, [], ◌∷◌, ◌++◌, Option}
-use Rattle.std.proofs.Common.{Some, None, refl, sym, ap, ◌∙◌, arith, le_refl, inl, inr, if◌then◌else◌}
-use Rattle.std.proofs.lemmas.Bool.{cases_lt}
+use Rattle.std.proofs.Common.{◌≡◌, ◌⊎◌, ℕ, ◌+◌, ◌≤◌, Bool, true, false, true≢false, List, [], ◌∷◌, ◌++◌, Option}
+use Rattle.std.proofs.Common.{None, refl, sym, ap, ◌∙◌, arith, le_refl, inl, inr, if◌then◌else◌}
 use native.Mathlib.Decide.{ℕ_discrete}
 use mathlib.Core.Logic.{dite}
 use Rattle.pool_parts.specs.declared.page.history.Operation.TheVariants.{Pull, Return}
@@ -63,14 +62,4 @@ module _ {T : Type 0} where
             value_at-elsewhere opening (Return user place value) (later ++ before) id
             (λ here. true≢false (sym own ∙ ap passes (sym here) ∙ other.0))
             ∙ stays_out opening passes id later before own (omega arith) out
-      ]
-
-  -- where a number was out and is free again, it was returned meanwhile
-  pub came_back : (opening : List (Option T)) (id : ℕ) (value : T) (later before : History T)
-      → value_at opening before id ≡ None → value_at opening (later ++ before) id ≡ Some value
-      → returns_among (λ id. true) before < returns_among (λ id. true) (later ++ before)
-  came_back opening id value later before out free =
-      elim (cases_lt (returns_among (λ id. true) before) (returns_among (λ id. true) (later ++ before))) [
-        | inl more ↦ more
-        | inr none ↦ let still = stays_out opening (λ id. true) id later before refl none out in absurd (cc)
       ]

@@ -1,4 +1,4 @@
--- What a user has seen that tried the bits of a word, and how a value moves out and back.
+-- What a user has seen that tried the bits of a word.
 use Rattle.std.proofs.Common.{◌≡◌, ◌≢◌, List, [], ◌∷◌, get_or, Option, None, Some, ℕ, ◌+◌, ◌-◌, ◌*◌, ◌<◌, ◌≤◌}
 use Rattle.std.proofs.Common.{ap, sym, ◌∙◌, subst, arith}
 use Rattle.std.specs.Int.{bit_at}
@@ -7,11 +7,8 @@ use mathlib.Core.Logic.{dite}
 use Rattle.pool_parts.specs.Word.{ClearsBit, IsLeastBit}
 use Rattle.pool_parts.specs.Ledger.{History, IsPrefixOf, WasOutBetween}
 use Rattle.atomic_table.specs.Table.{rest}
-use Rattle.pool_parts.specs.declared.page.history.Operation.TheVariants.{Pull, Return}
-use Rattle.pool_parts.specs.declared.page.user_view.UserView.{UserView}
 use Rattle.pool_parts.specs.PageRule.{User, GoesOn, Misses, TakesOne, MissesAll}
 use Rattle.pool_parts.proofs.Ledger.{still_out, out_since}
-use Rattle.pool_parts.proofs.Views.{HasTried, GivesBack}
 
 -- the bits are tried from the lowest on, so a bit that is left has at most as many tries before it as there are bits
 -- below it
@@ -52,45 +49,3 @@ module _ {T : Type 0} where
         (each (id - 32 * place) (omega arith));
     goes_on = goes;
   }
-
--- what an exchange finds at the item that a step took
-pub came_out : {T : Type 0} (meets : T → Type 0) (places id : ℕ) (found : Option T) (value : T) (old took : User T)
-    → TakesOne meets places id value (Some value) old took → took.1 ≡ (id, found) ∷ rest took.1 → found ≡ Some value
-came_out {T} meets places id found value old took takes at =
-    ap (λ (carried : List (ℕ × Option T)). (get_or carried 0 (id, None)).1) (sym at ∙ takes.carries)
-
--- the item was taken, and an exchange moved its value out
-pub moved_out : {T : Type 0} (meets : T → Type 0) (places id : ℕ) (found : Option T) (lay value : T)
-    (old took new : User T)
-    → TakesOne meets places id lay (Some lay) old took → HasTried old.0 took.0 → took.1 ≡ (id, found) ∷ rest took.1
-    → new ≡ (took.0, (id, None) ∷ rest took.1) → found ≡ Some value
-    → TakesOne meets places id value None old new × (new.0.loads ≡ old.0.loads) × (new.0.tries ≡ old.0.tries + 1)
-moved_out {T} meets places id found lay value old took new takes tried at moved is =
-    let out : found ≡ Some lay = came_out meets places id found lay old took takes at in
-    let same : lay ≡ value = cc in
-    subst (λ (new : User T). TakesOne meets places id value None old new × (new.0.loads ≡ old.0.loads)
-    × (new.0.tries ≡ old.0.tries + 1)) (sym moved) (
-      record {
-        in_pool = takes.in_pool;
-        meets_condition = subst meets same takes.meets_condition;
-        holds = takes.holds;
-        carries = ap (λ (carried : List (ℕ × Option T)). (id, None) ∷ rest carried) takes.carries;
-        goes_on = subst (λ v. GoesOn (Pull took.0.user id v ∷ []) old.0 took.0) same takes.goes_on;
-      },
-      tried.0,
-      tried.1,
-    )
-
--- a holder's value went home, and then its bit was set
-pub gave_back : {T : Type 0} (id : ℕ) (value : T) (out home new : User T) → out.0.held ≡ Some id
-    → out.1 ≡ (id, None) ∷ [] → home ≡ (out.0, (id, Some value) ∷ rest out.1) → GivesBack home new
-    → (new.1 ≡ []) × GoesOn (Return new.0.user id value ∷ []) out.0 new.0
-gave_back {T} id value out home new holds carries moved gives =
-    let is_home : home ≡ (out.0, (id, Some value) ∷ []) =
-    moved ∙ ap (λ (carried : List (ℕ × Option T)). (out.0, (id, Some value) ∷ rest carried)) carries in
-    let carried : home.1 ≡ (id, Some value) ∷ [] = ap (λ (me : User T). me.1) is_home in (
-      gives.1 ∙ ap rest carried,
-      subst (λ (known : UserView T). GoesOn (Return new.0.user id value ∷ []) known new.0)
-          (ap (λ (me : User T). me.0) is_home)
-          (gives.2 id value (ap (λ (me : User T). me.0.held) is_home ∙ holds) carried),
-    )

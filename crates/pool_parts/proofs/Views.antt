@@ -49,10 +49,6 @@ module _ {T : Type 0} where
   abbrev pub AllHaveMet : List (UserView T) → Type 0
   AllHaveMet views = (user : ℕ) (known : UserView T) → get_elem? views user ≡ some known → HasMet views known
 
-  -- one bit more was tried
-  abbrev pub HasTried : UserView T → UserView T → Type 0
-  HasTried old new = (new.loads ≡ old.loads) × (new.tries ≡ old.tries + 1)
-
   -- a clearing of the one bit that the operand leaves out
   abbrev pub Clears : (T → Type 0) → ℕ → ℕ → ℕ → User T → ℕ → User T → Type 0
   Clears meets places place operand old word new =

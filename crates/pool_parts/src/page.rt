@@ -5,7 +5,7 @@
 //!
 //! - `word`: the pure steps on a word
 //! - `history`: what users do with the items of a page
-//! - `user_view`, `rule`: what a user knows, what holds between any two steps, and the kinds of step
+//! - `user_view`, `rule`: what a user knows, what holds between two steps, and the kinds of step
 //! - `note`, `holding`: what somebody knows who has no item, and what a user has that took one
 //! - `items`, `steps`: the words and places of a page or of a fixed pool, and the steps on them
 //! - `meeting`: how the holders of two items find that they have two items

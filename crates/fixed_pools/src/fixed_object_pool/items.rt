@@ -214,6 +214,10 @@ impl<T, K: Clean<T>> FixedItems<T, K> {
 
     /// Pulls an item as `pull` does, from this page on and in this order, or in the pool's own.
     /// While this page has a free item it neither reads nor sets the hint.
+    ///
+    /// # Errors
+    ///
+    /// The note of a user that found the pool full at one moment, as `pull` says.
     #[inline(always)]
     pub fn pull_in_order(
         &self,
@@ -282,8 +286,8 @@ impl<T, K: Clean<T>> FixedItems<T, K> {
         })
     }
 
-    /// Pulls as `pull_near` does, by a user that knows something of the pool. The pull comes after
-    /// all that it knew. A refused pull returns the note, which knows what was found.
+    /// Pulls as `pull_in_order` does, by a user that knows something of the pool. The pull comes
+    /// after all that it knew. A refused pull returns the note, which knows what was found.
     #[inline(always)]
     pub(super) fn pull_onward(
         &self,

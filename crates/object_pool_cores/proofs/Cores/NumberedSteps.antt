@@ -18,7 +18,7 @@ use Rattle.object_pool_cores.proofs.Cores.PagedPlaces.{length-laid_out, get-laid
 
 module _ {T : Type 0} where
   -- the items of these pages
-  abbrev items_of : List (List (Option T)) → Option ℕ → ℕ → ℕ → Numbered T
+  abbrev pub items_of : List (List (Option T)) → Option ℕ → ℕ → ℕ → Numbered T
   items_of pages limit start looked = record { places = laid_out pages; limit = limit; start = start; looked = looked }
 
   pub pages_of : (pages : List (List (Option T))) → AreWhole pages → length (laid_out pages) / 32 ≡ length pages

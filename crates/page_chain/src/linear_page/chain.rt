@@ -217,8 +217,8 @@ impl<T: Drop, K: Clean<T>, O: Clean<T>> Chain<T, K, O> {
         }
     }
 
-    /// Returns an item to the page of this number, with its value. If the page was full, it sets the
-    /// page's hint. The note knows the page's history up to the return.
+    /// Returns an item to the page of this number, with its value. If the page was full, it sets
+    /// the page's hint. The note knows the page's history up to the return.
     pub fn give(&self, number: PageNumber<T, K, O>, holding: Holding<T>, value: T) -> PageNote<T>
         requires on_page { ∥ IsWalkedTo (first_page self.now) number holding.seat.table_id ∥₁ }
         requires in_page { holding.number < PAGE_ITEMS }

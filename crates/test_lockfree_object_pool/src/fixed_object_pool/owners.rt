@@ -1,6 +1,6 @@
 //! Pulls by an owner of the pool that keeps a note: both go into the item, and come back from it.
 //! Pulls of an item apart from its pool.
-ghost use Rattle.std.specs.Prelude.{◌≡◌, IfErr};
+ghost use Rattle.std.specs.Prelude.{◌≡◌, ◌≢◌, IfErr, IfSome};
 ghost use Rattle.std.specs.Arc.{arc_value};
 ghost use Rattle.fixed_pools.specs.FixedPool.{fixed_view};
 
@@ -72,6 +72,28 @@ fn apart_and_back(
     pool.give(holding, value);
     let next = pool.pull_near(page).ok()?;
     Some((number, another, next.number(), *next))
+}
+
+/// The numbers of two items that are pulled apart near a page, after which both go back.
+fn two_apart(pool: &NumberPool, page: usize) -> Option<(usize, usize)>
+    ensures differ { IfSome result (λ numbers. numbers.0 ≢ numbers.1) }
+{
+    let (mut one, value) = pool.pull_apart(page).ok()?;
+    let (mut other, others_value) = pool.pull_apart(page).ok()?;
+    let mut note = pool.note();
+    pool.tell(&mut note, pool.witness(&mut one));
+    pool.are_two(&mut one, &mut other);
+    let numbers = (one.number, other.number);
+    pool.give(one, value);
+    pool.give(other, others_value);
+    Some(numbers)
+}
+
+#[test]
+fn two_items_that_are_pulled_apart_are_two(rt: HostRuntime) {
+    let pool = opened_shared(&rt, rt.alloc(), 33);
+    assert_equal(&rt, two_apart(&pool, 0), Some((0, 1)));
+    assert_equal(&rt, two_apart(&pool, 1), Some((32, 0)));
 }
 
 #[test]

@@ -17,31 +17,3 @@ returns-in-Some-Full c =
             (c.give_back-note.result, c.close.ensures.last, c.give_back-note.ensures),
       ),
     )
-
-pub returns-in-Some-Empty : goal.returns-in-Some-Empty
-returns-in-Some-Empty c =
-    let had = ap (λ (held : Held). held.hand) c.into_inner-page.ensures in
-    inl (
-      refl,
-      c.close-in-Some-Empty.ensures.empty,
-      (
-        c.in-Some.held.value,
-        c.in-Some.ensures.taken,
-        subst (λ hand. LeavesNone hand c.close-in-Some-Empty.new.self.last)
-            (sym (c.in-Some-Empty.is ∙ ap Some c.in-Some-Empty.field-0-is) ∙ had)
-            c.close-in-Some-Empty.ensures.last,
-      ),
-    )
-
-pub returns : goal.returns
-returns c =
-    let had = ap (λ (held : Held). held.hand) c.into_inner-page.ensures in
-    inl (
-      refl,
-      c.in-Some.ensures.empty,
-      (
-        c.in-Some.held.value,
-        c.in-Some.ensures.taken,
-        subst (λ hand. LeavesNone hand c.take.new.self.last) (sym c.in-None.is ∙ had) tt,
-      ),
-    )

@@ -19,7 +19,8 @@ returns-in-Ok-fed-clause-ok g c = λ rest opens.
     let more = c.in-Ok-fed.ensures.ok rest opens in (
       more.0,
       more.1,
-      Serves-written _ _ _ _ _ Appends Appends-trans _ more.0 _ _ _ more.2 (rw (c.as_bytes.ensures.value, c.as_str.ensures.value) at c.in-Ok.ensures.ok),
+      Serves-written _ _ _ _ _ Appends Appends-trans _ more.0 _ _ _ more.2
+          (rw (c.as_bytes.ensures.value, c.as_str.ensures.value) at c.in-Ok.ensures.ok),
     )
 
 pub returns-in-Err-Memory-clause-memory : goal.returns-in-Err-Memory-clause-memory

@@ -2,7 +2,6 @@ use Rattle.std.proofs.Common.{◌≡◌, ◌+◌, ◌-◌, ◌<◌, IfSome, arit
 use Rattle.page_chain.specs.Walk.{shown_page}
 use Rattle.page_chain.specs.WalkSteps.{IsKnownAt}
 use Rattle.page_chain.proofs.FullPages.{one_more_full}
-use Rattle.page_chain.proofs.TakenItems.{pulled_there}
 use Rattle.page_chain.proofs.linear_page.linked_page.LinearPage.walk_on.Goals as goal
 
 pub returns-then-is_last-clause-evidence : goal.returns-then-is_last-clause-evidence
@@ -19,27 +18,6 @@ returns-then-is_last-clause-evidence g c =
             (omega (arith, within, c.get-number.ensures, kept.from_start));
       },
     )
-
-pub returns-in-Slot-clause-taken : goal.returns-in-Slot-clause-taken
-returns-in-Slot-clause-taken g c =
-    let links = c.args.self.now.directory.now in
-    let from_start = c.loop-pass.invariant.from_start in
-    let here = c.get-number.ensures in
-    let next = c.of_link-at.ensures.number in
-    let answer = c.in-Slot.ensures.answer in
-    let further : c.get-number.result - c.args.self.now.number + 1 ≡ c.of_link-at.result.number - c.args.self.now.number
-    = omega (arith, from_start, here, next) in
-    record {
-      is_item = answer.0;
-      opened = answer.1;
-      pulled = pulled_there answer.2;
-      from_start = omega (arith, from_start, here, next);
-      on_page = inr (c.of_link-at.ensures.linked _ _
-          (subst (IsKnownAt {opens = g.O.Clean} links _ _) (sym answer.2.of_page) c.in-Slot.ensures.linked));
-      of_start = λ same. absurd (omega (arith, from_start, here, next, same));
-      within = subst (λ passed. IfSome c.args.limit (λ pages. passed < pages)) further
-          (c.is_last.ensures.not_last c.if-is_last.false);
-    }
 
 pub loop-pass-preserved : goal.loop-pass-preserved
 loop-pass-preserved g c =

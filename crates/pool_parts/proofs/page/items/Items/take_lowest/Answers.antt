@@ -49,36 +49,3 @@ returns-clause-outcome g c =
     λ bit within. at_end.out_or_untried bit within (ap (λ w. bit_at w bit) none_left ∙ bit_at-zero bit) in
     word_missed c.args.page c.args.seat.now.me c.loop-rest.seat.me (at_end.holds_none ∙ sym c.requires.holds_none)
     (at_end.carries_none ∙ sym c.requires.carries_none) at_end.follows all
-
-pub returns-in-Some-clear-clause-steps : goal.returns-in-Some-clear-clause-steps
-returns-in-Some-clear-clause-steps g c =
-    let least = c.in-Some.ensures.least in
-    let before = c.loop-rest.invariant in
-    let took = c.in-Some-clear.ensures.outcome in (
-      took.1 ∙ before.loads_same,
-      omega (arith, before.tries_below c.in-Some.bit least.in_page least.set),
-    )
-
-pub clear-requires-clause-items : goal.clear-requires-clause-items
-clear-requires-clause-items g c = c.loop-rest.invariant.same_items ∙ c.requires.items
-
-pub clear-requires-clause-in_items : goal.clear-requires-clause-in_items
-clear-requires-clause-in_items g c = c.requires.in_items
-
-pub clear-requires-clause-in_word : goal.clear-requires-clause-in_word
-clear-requires-clause-in_word g c = c.in-Some.ensures.least.in_page
-
-pub clear-requires-clause-holds_none : goal.clear-requires-clause-holds_none
-clear-requires-clause-holds_none g c = c.loop-rest.invariant.holds_none
-
-pub clear-requires-clause-here : goal.clear-requires-clause-here
-clear-requires-clause-here g c = c.loop-rest.invariant.follows.here
-
-pub returns-in-Some-clear-clause-items : goal.returns-in-Some-clear-clause-items
-returns-in-Some-clear-clause-items g c = c.clear.ensures.items ∙ c.loop-rest.invariant.same_items
-
-pub returns-clause-items : goal.returns-clause-items
-returns-clause-items g c = c.loop-rest.invariant.same_items
-
-pub returns-clause-steps : goal.returns-clause-steps
-returns-clause-steps g c = (c.loop-rest.invariant.loads_same, c.loop-rest.invariant.all_tries)
