@@ -2,6 +2,7 @@
 //! compares the lines.
 //!
 //! - [`linear`], [`fixed`], [`lazy`], [`stacks`], [`none`]: the pools, and their reusables.
+//! - [`rejecting`]: a reset that rejects values.
 //! - [`recycled`]: the pools of a recyclable type.
 //! - [`parts`]: pages, chains, stacks of kept values, and locks.
 //! - [`evidence`]: what pulls show, and what is known of a history.
@@ -15,4 +16,5 @@ mod linear;
 mod none;
 mod parts;
 mod recycled;
+mod rejecting;
 mod stacks;

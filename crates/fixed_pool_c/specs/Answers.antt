@@ -7,7 +7,7 @@ use Rattle.pool_parts.specs.Page.{IsGivenBack, IsNoteOf, view_of}
 use Rattle.pool_parts.specs.Item.{IsFilled, IsPulled}
 use Rattle.pool_parts.specs.declared.page.note.PageNote.{PageNote}
 use Rattle.fixed_pool_c.specs.Shows.{PlacePool, OutPlace, hand_pool, last_of}
-use Rattle.fixed_pool_c.specs.declared.answer.TheConstants.{DONE, ALL_OUT, HOLDS_ONE, HOLDS_NONE, NO_POOL, IN_USE}
+use Rattle.fixed_pool_c.specs.declared.answer.TheConstants.{DONE, ALL_IN_USE, HOLDS_ONE, HOLDS_NONE, NO_POOL, HAS_POOL}
 use Rattle.fixed_pool_c.specs.declared.answer.TheConstants.{NO_PLACES, NO_MEMORY}
 use Rattle.fixed_pool_c.specs.declared.held.Hand.{Hand}
 use Rattle.fixed_pool_c.specs.declared.held.Hand.TheVariants.{Empty, Full}
@@ -52,17 +52,19 @@ pub record Returns (old new : Held) : Type 0 where
   pub same_pool : arc_value idle.pool ≡ arc_value out.pool
   pub given_back : IsGivenBack (λ old new. new ≡ old) out.item idle.note
 
--- a new handle of this pool: it holds no place, and knows some prefix of the pool's history
-pub record OpensOf (pool : PlacePool) (new : Held) : Type 0 where
+-- a new handle of this pool, which has this tag: it holds no place, and knows some prefix of the
+-- pool's history
+pub record OpensOf (pool : PlacePool) (tag : ℕ) (new : Held) : Type 0 where
   pub idle : Idle
+  pub same_tag : new.tag ≡ tag
   pub holds_none : new.hand ≡ Some (Empty idle)
   pub same_pool : arc_value idle.pool ≡ pool
   pub note : IsNoteOf (fixed_view pool).identity (fixed_view pool).opening idle.note
 
--- the first handle of a new pool of so many free places
-pub record OpensNew (items : ℕ) (new : Held) : Type 0 where
+-- the first handle of a new pool of so many free places, which has this tag
+pub record OpensNew (items tag : ℕ) (new : Held) : Type 0 where
   pub pool : PlacePool
-  pub opens : OpensOf pool new
+  pub opens : OpensOf pool tag new
   pub count : (fixed_view pool).items ≡ items
   pub pages : (fixed_view pool).pages ≡ (items + 31) / 32
   pub free : IsFilled items (λ value. Some value ≡ Some tt) (fixed_view pool).opening
@@ -71,7 +73,7 @@ pub record OpensNew (items : ℕ) (new : Held) : Type 0 where
 pub record Shares (held other : Held) : Type 0 where
   pub hand : Hand
   pub has : held.hand ≡ Some hand
-  pub opens : OpensOf (hand_pool hand) other
+  pub opens : OpensOf (hand_pool hand) held.tag other
 
 -- a call that did nothing: the handle has the place that it had
 pub record KeepsPlace (old new : Held) : Type 0 where
@@ -85,9 +87,10 @@ pub record KeepsNone (old new : Held) : Type 0 where
   pub held_none : old.hand ≡ Some (Empty idle)
   pub holds_none : new.hand ≡ Some (Empty idle)
 
--- both are open, and this holds of what they have
+-- both are open, at the same tag, and this holds of what they have
 abbrev pub Open : Option Held → Option Held → (Held → Held → Type 0) → Type 0
-Open old new holds = (held : Held) × (later : Held) × (old ≡ Some held) × (new ≡ Some later) × holds held later
+Open old new holds = (held : Held) × (later : Held) × (old ≡ Some held) × (new ≡ Some later)
+    × (later.tag ≡ held.tag) × holds held later
 
 -- the handle is empty (or is taken apart, as within a call)
 abbrev pub HasNoPool : Option Held → Type 0
@@ -98,7 +101,7 @@ HasNoPool (Some held) = held.hand ≡ None
 abbrev pub IsPullAnswer : ℕ → Option Held → Option Held → ℕ → ℕ → Type 0
 IsPullAnswer number old new before after =
     ((number ≡ DONE) × Open old new (λ held later. Pulls held later after))
-    ⊎ (((number ≡ ALL_OUT) × (after ≡ before) × Open old new FindsAllOut)
+    ⊎ (((number ≡ ALL_IN_USE) × (after ≡ before) × Open old new FindsAllOut)
     ⊎ (((number ≡ HOLDS_ONE) × (after ≡ before) × Open old new KeepsPlace)
     ⊎ ((number ≡ NO_POOL) × (after ≡ before) × HasNoPool old × HasNoPool new)))
 
@@ -118,12 +121,12 @@ abbrev pub StaysEmpty : Option Held → Option Held → Type 0
 StaysEmpty old new = (old ≡ None) × (new ≡ None)
 
 -- what the making of a pool of so many places answers
-abbrev pub IsNewAnswer : ℕ → ℕ → Option Held → Option Held → Type 0
-IsNewAnswer number items old new =
-    ((number ≡ DONE) × (old ≡ None) × ((held : Held) × (new ≡ Some held) × OpensNew items held))
+abbrev pub IsNewAnswer : ℕ → ℕ → ℕ → Option Held → Option Held → Type 0
+IsNewAnswer number items tag old new =
+    ((number ≡ DONE) × (old ≡ None) × ((held : Held) × (new ≡ Some held) × OpensNew items tag held))
     ⊎ (((number ≡ NO_MEMORY) × StaysEmpty old new)
     ⊎ (((number ≡ NO_PLACES) × (items ≡ 0) × StaysEmpty old new)
-    ⊎ ((number ≡ IN_USE) × IsInUse old new)))
+    ⊎ ((number ≡ HAS_POOL) × IsInUse old new)))
 
 -- what the making of a further handle answers; the handle that it is made from stays as it was
 abbrev pub IsShareAnswer : ℕ → Option Held → Option Held → Option Held → Type 0
@@ -132,7 +135,7 @@ IsShareAnswer number handle old new =
     × Shares held other))
     ⊎ (((number ≡ NO_MEMORY) × StaysEmpty old new)
     ⊎ (((number ≡ NO_POOL) × HasNoPool handle × StaysEmpty old new)
-    ⊎ ((number ≡ IN_USE) × IsInUse old new)))
+    ⊎ ((number ≡ HAS_POOL) × IsInUse old new)))
 
 -- how many places a handle's pool has, and 0 where it has none
 abbrev pub hand_items : Option Hand → ℕ

@@ -1,10 +1,8 @@
--- The number of a place.
-use Rattle.std.specs.Prelude.{◌≡◌, ℕ, ◌<◌, ⊤, Option, MatchOption}
+-- What a place's bytes tell of its number.
+use Rattle.std.specs.Prelude.{◌≡◌, ℕ, ◌<◌, ◌+◌, ⊤, Option, IfSome}
 use Rattle.pool_parts.specs.declared.page.holding.Holding.{Holding}
-use Rattle.fixed_pool_c.specs.declared.answer.TheConstants.{NO_PLACE}
 
--- the number of a place whose right is this one: that of the holder's item, which is of its pool, or
--- the number of no place
-abbrev pub IsNumberOf : Option (Holding ⊤) → ℕ → Type 0
-IsNumberOf held number = MatchOption held (number ≡ NO_PLACE) (λ holding.
-    (number ≡ holding.number) × (number < NO_PLACE) × (number < holding.seat.table_id.slots))
+-- a place that has a right bears one more than the number of its item, which is of the pool
+abbrev pub BearsNumber : Option (Holding ⊤) → ℕ → Type 0
+BearsNumber held after = IfSome held (λ holding.
+    (after ≡ holding.number + 1) × (holding.number < holding.seat.table_id.slots))

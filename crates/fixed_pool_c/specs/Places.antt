@@ -1,21 +1,18 @@
 -- What the exported calls on places by themselves answer, told by what a place shows before and
 -- after, and by the pool of the handle.
-use Rattle.std.specs.Prelude.{◌≡◌, ℕ, ◌*◌, ◌⊎◌, ⊤, Option, Some, None, IfSome, ◌+◌}
+use Rattle.std.specs.Prelude.{◌≡◌, ◌≢◌, ℕ, ◌*◌, ◌≤◌, ◌⊎◌, ⊤, Option, Some, IfSome, ◌+◌}
 use Rattle.fixed_pools.specs.FixedPool.{IsFullNote, returns_since, fixed_view, IsWithin}
 use Rattle.pool_parts.specs.Item.{IsPulled, new_user}
 use Rattle.pool_parts.specs.Page.{held_item, view_of, IsGivenBack}
 use Rattle.pool_parts.specs.declared.page.holding.Holding.{Holding}
 use Rattle.pool_parts.specs.declared.page.note.PageNote.{PageNote}
 use Rattle.fixed_pool_c.specs.Answers.{HasNoPool}
+use Rattle.fixed_pool_c.specs.Refusals.{IsEmpty, IsRefusal}
 use Rattle.fixed_pool_c.specs.Shows.{PlacePool, hand_pool, last_of}
-use Rattle.fixed_pool_c.specs.declared.answer.TheConstants.{DONE, ALL_OUT, HOLDS_ONE, HOLDS_NONE, NO_POOL, NO_PLACE}
+use Rattle.fixed_pool_c.specs.declared.answer.TheConstants.{DONE, ALL_IN_USE, HOLDS_ONE, NO_POOL}
 use Rattle.fixed_pool_c.specs.declared.held.Hand.{Hand}
 use Rattle.fixed_pool_c.specs.declared.held.Held.{Held}
 use Rattle.fixed_pool_c.specs.declared.place.Place.{Place}
-
--- the place is empty, by its number and by its right
-abbrev pub IsEmpty : Place → Type 0
-IsEmpty place = (place.number ≡ NO_PLACE) × (place.right.held ≡ None)
 
 -- the place is empty, and keeps this note of its last operation
 abbrev pub IsLeftWith : PageNote ⊤ → Place → Type 0
@@ -26,10 +23,17 @@ abbrev pub HasPool : Option Held → (PlacePool → Type 0) → Type 0
 HasPool handle holds = (held : Held) × (hand : Hand) × (handle ≡ Some held) × (held.hand ≡ Some hand)
     × holds (hand_pool hand)
 
--- a place that holds one is of the handle's pool, if the handle has one
-abbrev pub IsOfPool : Option (Holding ⊤) → Option Held → Type 0
-IsOfPool right handle = IfSome right (λ holding. IfSome handle (λ held. IfSome held.hand (λ hand.
-    holding.seat.table_id ≡ (fixed_view (hand_pool hand)).identity)))
+-- a place that bears the tag of the handle's pool, and one of its numbers, is owed to that pool: it
+-- has the right to that place there
+abbrev pub IsOwed : Place → Option Held → Type 0
+IsOwed place handle = IfSome handle (λ held. IfSome held.hand (λ hand.
+    place.tag ≡ held.tag → place.after ≢ 0 → place.after ≤ (fixed_view (hand_pool hand)).items
+    → (holding : Holding ⊤) × (place.right.held ≡ Some holding)
+    × (holding.seat.table_id ≡ (fixed_view (hand_pool hand)).identity)))
+
+-- this is the tag of the handle's pool
+abbrev pub HasTag : Option Held → ℕ → Type 0
+HasTag handle tag = (held : Held) × (handle ≡ Some held) × (held.tag ≡ tag)
 
 -- the place holds one: the last operation of a legal sequential history of the whole pool is this
 -- pull of this number
@@ -38,7 +42,7 @@ pub record PullsPlace (new : Place) (pool : PlacePool) : Type 0 where
   pub holds : new.right.held ≡ Some holding
   pub pulled : IsPulled (fixed_view pool).identity (new_user (fixed_view pool).opening (view_of holding.seat).user)
       (held_item holding tt)
-  pub number : new.number ≡ (held_item holding tt).id
+  pub number : new.after ≡ (held_item holding tt).id + 1
   -- the pull's user made so many loads and tries at most in the first pass, and in a further one
   -- for each return meanwhile
   pub brief : IsWithin ((fixed_view pool).pages * (returns_since (view_of holding.seat) + 1)) 0 0 (view_of holding.seat)
@@ -64,14 +68,15 @@ pub record ReturnsPlace (old new : Place) (pool : PlacePool) : Type 0 where
 -- what a pull of a place by itself answers, by its number
 abbrev pub IsPlacePullAnswer : ℕ → Option Held → Place → Place → Type 0
 IsPlacePullAnswer number handle old new =
-    ((number ≡ DONE) × IsEmpty old × HasPool handle (PullsPlace new))
-    ⊎ (((number ≡ ALL_OUT) × IsEmpty old × HasPool handle (FindsNoPlace new))
-    ⊎ (((number ≡ HOLDS_ONE) × (new ≡ old) × ((holding : Holding ⊤) × (old.right.held ≡ Some holding)))
+    ((number ≡ DONE) × IsEmpty old × HasTag handle new.tag × HasPool handle (PullsPlace new))
+    ⊎ (((number ≡ ALL_IN_USE) × IsEmpty old × HasPool handle (FindsNoPlace new))
+    ⊎ (((number ≡ HOLDS_ONE) × (new ≡ old) × (old.after ≢ 0))
     ⊎ ((number ≡ NO_POOL) × (new ≡ old) × HasNoPool handle)))
 
 -- what a return of a place by itself answers, by its number
 abbrev pub IsPlaceReturnAnswer : ℕ → Option Held → Place → Place → Type 0
 IsPlaceReturnAnswer number handle old new =
     ((number ≡ DONE) × HasPool handle (ReturnsPlace old new))
-    ⊎ (((number ≡ HOLDS_NONE) × (new ≡ old) × IsEmpty old)
-    ⊎ ((number ≡ NO_POOL) × (new ≡ old) × HasNoPool handle))
+    ⊎ (((number ≡ NO_POOL) × (new ≡ old) × HasNoPool handle)
+    ⊎ ((new ≡ old) × ((held : Held) × (hand : Hand) × (handle ≡ Some held) × (held.hand ≡ Some hand)
+    × IsRefusal number held.tag (fixed_view (hand_pool hand)).items old)))

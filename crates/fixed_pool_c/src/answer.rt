@@ -4,7 +4,7 @@
 pub const DONE: u32 = 0;
 
 /// All places were in use at one moment of the call, or 2^32 returns and more came within it.
-pub const ALL_OUT: u32 = 1;
+pub const ALL_IN_USE: u32 = 1;
 
 /// The handle holds a place already.
 pub const HOLDS_ONE: u32 = 2;
@@ -16,7 +16,7 @@ pub const HOLDS_NONE: u32 = 3;
 pub const NO_POOL: u32 = 4;
 
 /// The handle that was to be made has a pool already.
-pub const IN_USE: u32 = 5;
+pub const HAS_POOL: u32 = 5;
 
 /// A pool of no places was asked for.
 pub const NO_PLACES: u32 = 6;
@@ -24,5 +24,8 @@ pub const NO_PLACES: u32 = 6;
 /// Memory was refused, or the pool can have no more handles.
 pub const NO_MEMORY: u32 = 7;
 
-/// The number of a place that holds none.
-pub const NO_PLACE: usize = usize::MAX;
+/// The place bears the tag of another pool.
+pub const OTHER_POOL: u32 = 8;
+
+/// The pool has no place of that number.
+pub const NO_SUCH_PLACE: u32 = 9;

@@ -2,28 +2,31 @@
 ghost use Rattle.std.specs.Prelude.{◌≡◌, Some, None};
 ghost use Rattle.fixed_pool_c.specs.Answers.{IsNewAnswer, IsShareAnswer, IsPullAnswer, IsReturnAnswer, IsDropAnswer, handle_items};
 
-use crate::answer::{ALL_OUT, DONE, HOLDS_NONE, HOLDS_ONE, IN_USE, NO_MEMORY, NO_PLACES, NO_POOL};
+use crate::answer::{
+    ALL_IN_USE, DONE, HAS_POOL, HOLDS_NONE, HOLDS_ONE, NO_MEMORY, NO_PLACES, NO_POOL,
+};
 use crate::handle::Handle;
 use crate::held::{Hand, Held, Idle};
 use std::alloc::Global;
 
-/// Makes a pool of `items` free places. Its first handle goes to `out`, which was empty.
+/// Makes a pool of `items` free places. Its first handle goes to `out`, which was empty. The
+/// places of the pool bear the tag.
 ///
 /// # Errors
 ///
-/// `IN_USE`, `NO_PLACES` or `NO_MEMORY`. `out` is as before.
+/// `HAS_POOL`, `NO_PLACES` or `NO_MEMORY`. `out` is as before.
 #[unsafe(no_mangle)]
-pub extern "C" fn kdr_pool_new(alloc: Global, items: usize, out: &mut Handle) -> u32
-    ensures { IsNewAnswer result items out.old.held out.new.held }
+pub extern "C" fn kdr_handle_new(alloc: Global, items: usize, tag: usize, out: &mut Handle) -> u32
+    ensures { IsNewAnswer result items tag out.old.held out.new.held }
 {
     if let Some(before) = out.take(alloc) {
         out.put(before);
-        return IN_USE;
+        return HAS_POOL;
     }
     if items == 0 {
         return NO_PLACES;
     }
-    let Some(held) = Held::first(alloc, items) else {
+    let Some(held) = Held::first(alloc, items, tag) else {
         return NO_MEMORY;
     };
     out.put(held);
@@ -35,15 +38,15 @@ pub extern "C" fn kdr_pool_new(alloc: Global, items: usize, out: &mut Handle) ->
 ///
 /// # Errors
 ///
-/// `IN_USE`, `NO_POOL` or `NO_MEMORY`. `out` is as before.
+/// `HAS_POOL`, `NO_POOL` or `NO_MEMORY`. `out` is as before.
 #[unsafe(no_mangle)]
-pub extern "C" fn kdr_pool_share(alloc: Global, handle: &mut Handle, out: &mut Handle) -> u32
+pub extern "C" fn kdr_handle_share(alloc: Global, handle: &mut Handle, out: &mut Handle) -> u32
     ensures answer { IsShareAnswer result handle.old.held out.old.held out.new.held }
     ensures same { handle.new.held ≡ handle.old.held }
 {
     if let Some(before) = out.take(alloc) {
         out.put(before);
-        return IN_USE;
+        return HAS_POOL;
     }
     let Some(held) = handle.take(alloc) else {
         return NO_POOL;
@@ -61,7 +64,7 @@ pub extern "C" fn kdr_pool_share(alloc: Global, handle: &mut Handle, out: &mut H
 
 /// Returns how many places the handle's pool has, or 0 if the handle has no pool.
 #[unsafe(no_mangle)]
-pub extern "C" fn kdr_pool_items(alloc: Global, handle: &mut Handle) -> usize
+pub extern "C" fn kdr_handle_items(alloc: Global, handle: &mut Handle) -> usize
     ensures items { result ≡ handle_items handle.old.held }
     ensures same { handle.new.held ≡ handle.old.held }
 {
@@ -78,7 +81,7 @@ pub extern "C" fn kdr_pool_items(alloc: Global, handle: &mut Handle) -> usize
 ///
 /// # Errors
 ///
-/// `ALL_OUT`, `HOLDS_ONE` or `NO_POOL`. `place` is as before.
+/// `ALL_IN_USE`, `HOLDS_ONE` or `NO_POOL`. `place` is as before.
 #[unsafe(no_mangle)]
 pub extern "C" fn kdr_pool_pull(alloc: Global, handle: &mut Handle, place: &mut usize) -> u32
     ensures { IsPullAnswer result handle.old.held handle.new.held place.old place.new }
@@ -134,7 +137,7 @@ fn pull_at(handle: &mut Handle, mut held: Box<Held>, page: usize, place: &mut us
             }
             Err((pool, note)) => {
                 handle.hold(held, Hand::Empty(Idle { pool, note }));
-                ALL_OUT
+                ALL_IN_USE
             }
         },
     }
@@ -184,6 +187,7 @@ pub extern "C" fn kdr_pool_drop(alloc: Global, handle: &mut Handle) -> u32
     };
     let Held {
         page: _page,
+        tag: _tag,
         handles: _handles,
         hand,
     } = Box::into_inner(held);

@@ -119,7 +119,8 @@ impl Handle {
     pub(crate) fn hold(&mut self, mut held: Box<Held>, hand: Hand)
         requires closed { self.old.held ≡ None }
         requires empty { held.value.hand ≡ None }
-        ensures { (later : Held) × (self.new.held ≡ Some later) × (later.hand ≡ Some hand) }
+        ensures { (later : Held) × (self.new.held ≡ Some later) × (later.tag ≡ held.value.tag)
+            × (later.hand ≡ Some hand) }
     {
         match replace(&mut held.hand, Some(hand)) {
             None => {}

@@ -44,6 +44,8 @@ pub struct Last {
 pub struct Held {
     /// At which page its next pull begins, counted round and round. It promises nothing.
     pub page: usize,
+    /// The pool's tag, which its places bear.
+    pub tag: usize,
     /// How many handles the pool has had. It promises nothing but that the pages at which handles
     /// begin differ.
     pub handles: Arc<AtomicUsize>,

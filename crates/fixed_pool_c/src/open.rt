@@ -32,14 +32,14 @@ impl Hand {
 }
 
 impl Held {
-    /// Makes the first handle of a new pool of so many free places.
+    /// Makes the first handle of a new pool of so many free places, which has this tag.
     ///
     /// # Errors
     ///
     /// `None` if memory is refused.
-    pub(crate) fn first(alloc: Global, items: usize) -> Option<Box<Held>>
+    pub(crate) fn first(alloc: Global, items: usize, tag: usize) -> Option<Box<Held>>
         requires { 1 ≤ items }
-        ensures { IfSome result (λ held. OpensNew items held.value) }
+        ensures { IfSome result (λ held. OpensNew items tag held.value) }
     {
         let Ok(pool) = PlacePool::new(alloc, Copied::new(()), Keep, items) else {
             return None;
@@ -50,7 +50,7 @@ impl Held {
         let Ok(handles) = Arc::new(alloc, AtomicUsize::new(0)) else {
             return None;
         };
-        match Held::open(alloc, pool, handles) {
+        match Held::open(alloc, pool, tag, handles) {
             Some(held) => Some(held),
             None => None,
         }
@@ -75,7 +75,7 @@ impl Held {
         let Ok(handles) = Arc::try_clone(&self.handles) else {
             return Err(NO_MEMORY);
         };
-        match Held::open(alloc, pool, handles) {
+        match Held::open(alloc, pool, self.tag, handles) {
             Some(other) => Ok(other),
             None => Err(NO_MEMORY),
         }
@@ -103,9 +103,14 @@ impl Held {
         }
     }
 
-    /// Makes a handle of this pool, or returns `None` if memory is refused.
-    fn open(alloc: Global, pool: Arc<PlacePool>, handles: Arc<AtomicUsize>) -> Option<Box<Held>>
-        ensures { IfSome result (λ held. OpensOf (arc_value pool) held.value) }
+    /// Makes a handle of this pool, which has this tag, or returns `None` if memory is refused.
+    fn open(
+        alloc: Global,
+        pool: Arc<PlacePool>,
+        tag: usize,
+        handles: Arc<AtomicUsize>,
+    ) -> Option<Box<Held>>
+        ensures { IfSome result (λ held. OpensOf (arc_value pool) tag held.value) }
     {
         let page = start_page(handles.fetch_add(1, SeqCst), pool.items());
         let note = pool.note();
@@ -114,6 +119,7 @@ impl Held {
             alloc,
             Held {
                 page,
+                tag,
                 handles,
                 hand,
             },

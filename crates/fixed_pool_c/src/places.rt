@@ -1,8 +1,8 @@
 //! The calls for C on places by themselves.
 ghost use Rattle.std.specs.Prelude.{◌≡◌, Some};
-ghost use Rattle.fixed_pool_c.specs.Places.{IsPlacePullAnswer, IsPlaceReturnAnswer, IsOfPool};
+ghost use Rattle.fixed_pool_c.specs.Places.{IsPlacePullAnswer, IsPlaceReturnAnswer, IsOwed};
 
-use crate::answer::{ALL_OUT, DONE, HOLDS_NONE, HOLDS_ONE, NO_PLACE, NO_POOL};
+use crate::answer::{ALL_IN_USE, DONE, HOLDS_ONE, NO_POOL};
 use crate::handle::Handle;
 use crate::held::Held;
 use crate::place::Place;
@@ -13,7 +13,7 @@ use std::alloc::Global;
 ///
 /// # Errors
 ///
-/// `ALL_OUT`, `HOLDS_ONE` or `NO_POOL`. `place` keeps its number.
+/// `ALL_IN_USE`, `HOLDS_ONE` or `NO_POOL`. `place` keeps its number.
 #[unsafe(no_mangle)]
 pub extern "C" fn kdr_place_pull(
     alloc: Global,
@@ -36,10 +36,11 @@ pub extern "C" fn kdr_place_pull(
 ///
 /// # Errors
 ///
-/// `HOLDS_NONE` or `NO_POOL`. `place` is as before.
+/// `HOLDS_NONE` if the place is empty, `OTHER_POOL` if it bears another tag than the handle's pool,
+/// `NO_SUCH_PLACE` if that pool has no such number, or `NO_POOL`. `place` is as before.
 #[unsafe(no_mangle)]
 pub extern "C" fn kdr_place_return(alloc: Global, handle: &mut Handle, place: &mut Place) -> u32
-    requires { IsOfPool place.old.right.held handle.old.held }
+    requires { IsOwed place.old handle.old.held }
     ensures answer { IsPlaceReturnAnswer result handle.old.held place.old place.new }
     ensures same { handle.new.held ≡ handle.old.held }
 {
@@ -60,18 +61,18 @@ impl Held {
         let Some(pool) = self.pool() else {
             return NO_POOL;
         };
-        if place.number != NO_PLACE {
+        if place.after != 0 {
             return HOLDS_ONE;
         }
         match pool.pull_apart(page) {
             Ok((holding, ())) => {
-                let _items = pool.items(); // a `usize`, so no item's number is `NO_PLACE`
-                place.hold(holding);
+                let _items = pool.items(); // a `usize`, so one more than an item's number is one
+                place.hold(holding, self.tag);
                 DONE
             }
             Err(note) => {
                 place.keep(note);
-                ALL_OUT
+                ALL_IN_USE
             }
         }
     }
@@ -79,17 +80,18 @@ impl Held {
     /// Returns a place to the handle's pool.
     #[inline(always)]
     fn return_place(&self, place: &mut Place) -> u32
-        requires { IsOfPool place.old.right.held (Some self.now) }
+        requires { IsOwed place.old (Some self.now) }
         ensures { IsPlaceReturnAnswer result (Some self.now) place.old place.new }
     {
         let Some(pool) = self.pool() else {
             return NO_POOL;
         };
-        let Some(holding) = place.take() else {
-            return HOLDS_NONE;
-        };
-        let note = pool.give(holding, ());
-        place.keep(note);
-        DONE
+        match place.take(self.tag, pool.items()) {
+            Ok(holding) => {
+                place.keep(pool.give(holding, ()));
+                DONE
+            }
+            Err(answer) => answer,
+        }
     }
 }

@@ -2,7 +2,6 @@
 use Rattle.pool_parts.proofs.Views.{StartsFrom}
 use Rattle.std.proofs.Common.{◌≡◌, ℕ, ◌<◌, arith, None}
 use Rattle.atomic_table.specs.Seated.{TableId}
-use Rattle.pool_parts.specs.declared.page.full_seen.FullSeen.{FullSeen}
 use Rattle.pool_parts.specs.declared.page.user_view.UserView.{UserView}
 use Rattle.pool_parts.specs.Slot.{IsAllOut}
 use Rattle.pool_parts.specs.PageRule.{User, IsSound, MissesAll, TakesOne}
@@ -21,12 +20,12 @@ module _ {T : Type 0} where
       (pulled pool start.0 known.0 seated id value sound taken.goes_on same taken.in_pool)
 
   -- what a user has seen that observed each item taken
-  pub found_all_out : (count : ℕ) (pool : TableId) (before : UserView T) (start : User T) (seen : FullSeen T)
-      → seen.seat.table_id ≡ pool → StartsFrom before start.0 → MissesAll 0 count start seen.seat.me
-      → IsAllOut count pool before seen
-  found_all_out count pool before start seen of_pool starts missed =
-      out_since count pool before start.0 seen starts
-      (found_out count pool start.0 seen of_pool starts.from_now missed.goes_on
+  pub found_all_out : (count : ℕ) (pool : TableId) (before : UserView T) (start : User T) (page : TableId) (me : User T)
+      → page ≡ pool → StartsFrom before start.0 → MissesAll 0 count start me
+      → IsAllOut count pool before (record { page = page; known = me.0 })
+  found_all_out count pool before start page me of_pool starts missed =
+      out_since count pool before start.0 _ starts
+      (found_out count pool start.0 _ of_pool starts.from_now missed.goes_on
       (λ id within. missed.each_was_out id (omega arith) within))
 
   pub knows_all_out : (count : ℕ) (start known : User T) → IsSound start.0 → MissesAll 0 count start known → (id : ℕ)

@@ -3,8 +3,9 @@ use Rattle.std.specs.Prelude.{◌≡◌, ◌⊎◌, ℕ, ◌+◌, ◌-◌, ◌*�
 use Rattle.atomic_table.specs.Seated.{TableId}
 use Rattle.pool_parts.specs.Answers.{IsMadeOrReset}
 use Rattle.pool_parts.specs.Item.{Item, PulledView, IsPulled}
-use Rattle.pool_parts.specs.Ledger.{History, operations_of, IsLegal, IsPrefixOf, WasFullBetween, returns_among}
+use Rattle.pool_parts.specs.Ledger.{History, operations_of, WasFullBetween, returns_among}
 use Rattle.pool_parts.specs.Page.{view_of}
+use Rattle.pool_parts.specs.Slot.{KnowsMore}
 use Rattle.pool_parts.specs.declared.page.note.PageNote.{PageNote}
 use Rattle.pool_parts.specs.declared.page.user_view.UserView.{UserView}
 use Rattle.fixed_pools.specs.declared.fixed_object_pool.FixedObjectPool.{FixedObjectPool}
@@ -52,11 +53,7 @@ module _ {T : Type 0} where
   -- a pull was refused: since its first load, which stands after all that its user had known, this pool was full
   pub record IsFullNote (pool : TableId) (before : UserView T) (note : PageNote T) : Type 0 where
     pub of_pool : note.seat.table_id ≡ pool
-    pub same_user : (view_of note.seat).user ≡ before.user
-    pub same_opening : (view_of note.seat).opening ≡ before.opening
-    pub legal : IsLegal before.opening (view_of note.seat).operations
-    pub after_known : IsPrefixOf before.operations (view_of note.seat).since
-    pub goes_on : IsPrefixOf (view_of note.seat).since (view_of note.seat).operations
+    pub knows : KnowsMore before (view_of note.seat)
     pub full : IsFullSince pool.slots (view_of note.seat).since (view_of note.seat)
     -- its user did nothing
     pub same_operations : operations_of (view_of note.seat).user (view_of note.seat).operations

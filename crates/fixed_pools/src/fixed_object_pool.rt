@@ -18,18 +18,20 @@ use pool_parts::clean::{AnyValue, Clean};
 use pool_parts::closures::{Init, Reset};
 use pool_parts::made_or_reset::MadeOrReset;
 use pool_parts::page::holding::Holding;
-use pool_parts::page::{FullSeen, PageNote, PullPass, Witness};
+use pool_parts::page::{PageNote, PullPass, Witness};
 use std::alloc::Global;
 use std::fmt::{self, Debug, Formatter, Write};
 use std::sync::Arc;
 
 mod at;
+mod busy_seen;
 mod full;
 pub mod items;
 pub mod order;
 mod pass;
 
 pub use crate::near::Near;
+pub use busy_seen::BusySeen;
 
 /// What is known of a fixed pool's history while no item is held. It has no bytes.
 ///
@@ -40,19 +42,6 @@ pub use crate::near::Near;
 /// let item = pool.try_pull_from(&pass, note).ok()?; // comes after all that the note knew
 /// ```
 pub type PoolNote<T> = PageNote<T>;
-
-/// The evidence of a pull of one pass that took no item: each item of the pool was seen in use
-/// since the pass was made, by a word that was read or by a try of its own bit.
-///
-/// # Examples
-///
-/// ```rust
-/// match pool.try_pull(&pass) {
-///     Ok(item) => Some(item.number()),
-///     Err(_busy) => None, // it shows that each item was seen in use
-/// }
-/// ```
-pub type BusySeen<'p, T> = FullSeen<'p, T>;
 
 /// The result of [`FixedObjectPool::try_pull`]: an item, or that each one was seen in use.
 ///
@@ -232,9 +221,9 @@ impl<T: Drop, I: Init<T, K>, R: Reset<T, K>, K: Clean<T>> FixedObjectPool<T, I, 
         ensures brief { IfOk result (λ item. IsWithin (fixed_view self.now).pages 0 0 item.known) }
         ensures busy { IfErr result (λ busy. IsAllOut (fixed_view self.now).identity.slots
             (fixed_view self.now).identity
-            (new_user (fixed_view self.now).opening (view_of busy.seat).user) busy) }
+            (new_user (fixed_view self.now).opening busy.known.user) busy) }
         ensures busy_brief { IfErr result (λ busy.
-            IsWithin (fixed_view self.now).pages 0 0 (view_of busy.seat)) }
+            IsWithin (fixed_view self.now).pages 0 0 busy.known) }
     {
         Ok(FixedReusable::new(self, self.items.try_pull(pass)?))
     }
@@ -262,7 +251,7 @@ impl<T: Drop, I: Init<T, K>, R: Reset<T, K>, K: Clean<T>> FixedObjectPool<T, I, 
             (view_of note.seat)) }
         ensures busy_brief { IfErr result (λ busy.
             IsWithin (fixed_view self.now).pages (view_of note.seat).loads (view_of note.seat).tries
-            (view_of busy.seat)) }
+            busy.known) }
     {
         let pulled = self.items.pull_from(pass, note)?;
         Ok(FixedReusable::new(self, pulled))

@@ -19,7 +19,6 @@ ghost use Rattle.std.specs.Arc.{arc_value};
 
 use crate::lazy_owned_reusable::LazyOwnedReusable;
 use crate::lazy_reusable::{LazyReusable, LazyReusableOf, SharedLazyPool};
-use crate::waiters::Waiters;
 use fixed_pools::fixed_object_pool::PoolNote;
 use fixed_pools::fixed_object_pool::items::{FixedItems, PulledItem};
 use fixed_pools::fixed_object_pool::order::Order;
@@ -32,13 +31,17 @@ use pool_parts::page::holding::Holding;
 use pool_parts::page::{PageNote, PullPass, Witness};
 use std::alloc::Global;
 use std::fmt::{self, Debug, Formatter, Write};
+use std::sync::Arc;
 use std::sync::atomic::AtomicUsize;
 use std::sync::atomic::Ordering::SeqCst;
-use std::sync::{Arc, Wait};
-use std::time::{Clock, Duration};
+use waiters::Waiters;
 
+mod counts;
 pub mod kept_place;
 pub mod lazy_refused;
+mod pull_with;
+mod waiters;
+mod waiting;
 
 pub use crate::near::Near;
 
@@ -98,9 +101,9 @@ impl<T: Drop, I: Init<T, K>, R: Reset<T, K>, K: Clean<T>> Drop for LazyObjectPoo
 impl<T: Drop, I: Init<T, K>, R: Reset<T, K>, K: Clean<T>> LazyObjectPool<T, I, R, K> {
     ghost use Rattle.pool_parts.specs.Answers.{IsMadeOrReset, Refuses};
     ghost use Rattle.fixed_pools.specs.FixedPool.{returns_since, IsWithin};
-    ghost use Rattle.pool_parts.specs.Page.{view_of, held_item, IsNoteOf, HasLearned, IsReturned, IsBroughtBack};
+    ghost use Rattle.pool_parts.specs.Page.{view_of, held_item, IsNoteOf, HasLearned, IsReturned};
     ghost use Rattle.pool_parts.specs.Item.{IsFilled, IsPulled, new_user};
-    ghost use Rattle.lazy_pools.specs.LazyPool.{Pulls, RefusesOnePass, lazy_init, lazy_view};
+    ghost use Rattle.lazy_pools.specs.LazyPool.{IsBroughtBack, IsPulledPlace, Pulls, RefusesOnePass, lazy_view};
 
     /// Creates a pool of `items` empty places. It makes no item. A place takes the room of a `T`
     /// and two words.
@@ -121,7 +124,7 @@ impl<T: Drop, I: Init<T, K>, R: Reset<T, K>, K: Clean<T>> LazyObjectPool<T, I, R
         items: usize,
     ) -> Result<LazyObjectPool<T, I, R, K>, PullError>
         requires some_item { 1 ≤ items }
-        ensures init { IfOk result (λ pool. lazy_init pool ≡ init) }
+        ensures init { IfOk result (λ pool. (lazy_view pool).init ≡ init) }
         ensures reset { IfOk result (λ pool. (lazy_view pool).reset ≡ reset) }
         ensures items { IfOk result (λ pool. (lazy_view pool).items ≡ items) }
         ensures pages { IfOk result (λ pool. (lazy_view pool).pages ≡ (items + 31) / 32) }
@@ -161,12 +164,10 @@ impl<T: Drop, I: Init<T, K>, R: Reset<T, K>, K: Clean<T>> LazyObjectPool<T, I, R
     pub fn pull(&self) -> Result<LazyReusable<'_, T, I, R, K>, PullError>
         ensures pool { IfOk result (λ item. item.pool.now ≡ self.now) }
         ensures pulled { IfOk result (λ item.
-            Pulls (lazy_view self.now) (I.answers (lazy_init self.now)) item.item item.value) }
-        ensures meets { IfOk result (λ item. K.meets item.value) }
-        ensures made_or_reset { IfOk result (λ item. IsMadeOrReset I.answers R.leaves item.value) }
+            Pulls K.meets I.answers R.leaves (lazy_view self.now) item.item item.value) }
         ensures brief { IfOk result (λ item.
             IsWithin ((lazy_view self.now).pages * (returns_since item.known + 1)) 0 0 item.known) }
-        ensures refused { IfErr result (Refuses ⊥ (I.answers (lazy_init self.now) None) ⊤) }
+        ensures refused { IfErr result (Refuses ⊥ (I.answers (lazy_view self.now).init None) ⊤) }
     {
         match self.places.pull() {
             Ok(pulled) => self.reusable(self, pulled),
@@ -198,13 +199,11 @@ impl<T: Drop, I: Init<T, K>, R: Reset<T, K>, K: Clean<T>> LazyObjectPool<T, I, R
     pub fn try_pull<'s, 'p>(&'s self, pass: &'p PullPass) -> LazyPulled<'s, 'p, T, I, R, K>
         ensures pool { IfOk result (λ item. item.pool.now ≡ self.now) }
         ensures pulled { IfOk result (λ item.
-            Pulls (lazy_view self.now) (I.answers (lazy_init self.now)) item.item item.value) }
-        ensures meets { IfOk result (λ item. K.meets item.value) }
-        ensures made_or_reset { IfOk result (λ item. IsMadeOrReset I.answers R.leaves item.value) }
+            Pulls K.meets I.answers R.leaves (lazy_view self.now) item.item item.value) }
         ensures brief { IfOk result (λ item. IsWithin (lazy_view self.now).pages 0 0 item.known) }
         ensures refused { IfErr result
             (RefusesOnePass (lazy_view self.now).identity (lazy_view self.now).opening
-            (I.answers (lazy_init self.now) None)) }
+            (I.answers (lazy_view self.now).init None)) }
     {
         match self.places.try_pull(pass) {
             Ok(pulled) => match self.reusable(self, pulled) {
@@ -224,109 +223,18 @@ impl<T: Drop, I: Init<T, K>, R: Reset<T, K>, K: Clean<T>> LazyObjectPool<T, I, R
     pub fn pull_owned(self: &Arc<Self>) -> Result<LazyOwnedReusable<T, I, R, K>, PullError>
         ensures pool { IfOk result (λ item. arc_value item.pool ≡ arc_value self.now) }
         ensures pulled { IfOk result (λ item.
-            Pulls (lazy_view (arc_value self.now))
-            (I.answers (lazy_init (arc_value self.now))) item.item item.value) }
-        ensures meets { IfOk result (λ item. K.meets item.value) }
-        ensures made_or_reset { IfOk result (λ item. IsMadeOrReset I.answers R.leaves item.value) }
+            Pulls K.meets I.answers R.leaves (lazy_view (arc_value self.now)) item.item
+            item.value) }
         ensures brief { IfOk result (λ item.
             IsWithin ((lazy_view (arc_value self.now)).pages * (returns_since item.known
             + 1)) 0 0 item.known) }
         ensures refused { IfErr result
-            (Refuses ⊤ (I.answers (lazy_init (arc_value self.now)) None) ⊤) }
+            (Refuses ⊤ (I.answers (lazy_view (arc_value self.now)).init None) ⊤) }
     {
         let owner = Arc::try_clone(self)?;
         match self.places.pull() {
             Ok(pulled) => self.reusable(owner, pulled),
             Err(_) => Err(PullError::Limit),
-        }
-    }
-
-    /// Pulls a free item, or waits until one is returned, however long.
-    ///
-    /// # Errors
-    ///
-    /// `Init` if `init` returned `None`. The place is free again, and empty.
-    pub fn pull_wait<W: Wait>(&self, rt: &W) -> Result<LazyReusable<'_, T, I, R, K>, PullError>
-        ensures pool { IfOk result (λ item. item.pool.now ≡ self.now) }
-        ensures pulled { IfOk result (λ item.
-            Pulls (lazy_view self.now) (I.answers (lazy_init self.now)) item.item item.value) }
-        ensures meets { IfOk result (λ item. K.meets item.value) }
-        ensures made_or_reset { IfOk result (λ item. IsMadeOrReset I.answers R.leaves item.value) }
-        ensures refused { IfErr result (Refuses ⊥ (I.answers (lazy_init self.now) None) ⊥) }
-    {
-        self.reusable(self, self.place_waiting(rt))
-    }
-
-    /// Pulls a free item, or waits for `time` at most until one is returned. With no time it waits
-    /// for nobody.
-    ///
-    /// # Errors
-    ///
-    /// - `Limit` if a last try after that time found no item free, or the clock can't be read.
-    /// - `Init` as `pull`.
-    pub fn pull_timeout<W: Wait + Clock>(
-        &self,
-        rt: &W,
-        time: Duration,
-    ) -> Result<LazyReusable<'_, T, I, R, K>, PullError>
-        ensures pool { IfOk result (λ item. item.pool.now ≡ self.now) }
-        ensures pulled { IfOk result (λ item.
-            Pulls (lazy_view self.now) (I.answers (lazy_init self.now)) item.item item.value) }
-        ensures meets { IfOk result (λ item. K.meets item.value) }
-        ensures made_or_reset { IfOk result (λ item. IsMadeOrReset I.answers R.leaves item.value) }
-        ensures refused { IfErr result (Refuses ⊥ (I.answers (lazy_init self.now) None) ⊤) }
-    {
-        match self.place_within(rt, time) {
-            Some(pulled) => self.reusable(self, pulled),
-            None => Err(PullError::Limit),
-        }
-    }
-
-    /// Pulls an item as `pull_wait` does. The reusable owns the pool with others.
-    ///
-    /// # Errors
-    ///
-    /// As `pull_wait`, and at once `Memory` if the pool can have no more owners.
-    pub fn pull_owned_wait<W: Wait>(
-        self: &Arc<Self>,
-        rt: &W,
-    ) -> Result<LazyOwnedReusable<T, I, R, K>, PullError>
-        ensures pool { IfOk result (λ item. arc_value item.pool ≡ arc_value self.now) }
-        ensures pulled { IfOk result (λ item.
-            Pulls (lazy_view (arc_value self.now))
-            (I.answers (lazy_init (arc_value self.now))) item.item item.value) }
-        ensures meets { IfOk result (λ item. K.meets item.value) }
-        ensures made_or_reset { IfOk result (λ item. IsMadeOrReset I.answers R.leaves item.value) }
-        ensures refused { IfErr result
-            (Refuses ⊤ (I.answers (lazy_init (arc_value self.now)) None) ⊥) }
-    {
-        let owner = Arc::try_clone(self)?;
-        self.reusable(owner, self.place_waiting(rt))
-    }
-
-    /// Pulls an item as `pull_timeout` does. The reusable owns the pool with others.
-    ///
-    /// # Errors
-    ///
-    /// As `pull_timeout`, and at once `Memory` if the pool can have no more owners.
-    pub fn pull_owned_timeout<W: Wait + Clock>(
-        self: &Arc<Self>,
-        rt: &W,
-        time: Duration,
-    ) -> Result<LazyOwnedReusable<T, I, R, K>, PullError>
-        ensures pool { IfOk result (λ item. arc_value item.pool ≡ arc_value self.now) }
-        ensures pulled { IfOk result (λ item.
-            Pulls (lazy_view (arc_value self.now))
-            (I.answers (lazy_init (arc_value self.now))) item.item item.value) }
-        ensures meets { IfOk result (λ item. K.meets item.value) }
-        ensures made_or_reset { IfOk result (λ item. IsMadeOrReset I.answers R.leaves item.value) }
-        ensures refused { IfErr result
-            (Refuses ⊤ (I.answers (lazy_init (arc_value self.now)) None) ⊤) }
-    {
-        let owner = Arc::try_clone(self)?;
-        match self.place_within(rt, time) {
-            Some(pulled) => self.reusable(owner, pulled),
-            None => Err(PullError::Limit),
         }
     }
 
@@ -354,18 +262,12 @@ impl<T: Drop, I: Init<T, K>, R: Reset<T, K>, K: Clean<T>> LazyObjectPool<T, I, R
         pulled: PulledItem<Option<T>>,
     ) -> Result<LazyReusableOf<T, P>, PullError>
         requires same_pool { (P.shown pool).identity ≡ (lazy_view self.now).identity }
-        requires pulled { IsPulled (lazy_view self.now).identity
-            (new_user (lazy_view self.now).opening (view_of pulled.holding.seat).user)
-            (held_item pulled.holding pulled.value) }
-        requires kept { IfSome pulled.value (λ value.
-            K.meets value × IsMadeOrReset I.answers R.leaves value) }
+        requires pulled { IsPulledPlace K.meets I.answers R.leaves (lazy_view self.now) pulled }
         ensures pool { IfOk result (λ item. item.pool ≡ pool) }
         ensures pulled { IfOk result (λ item.
-            Pulls (lazy_view self.now) (I.answers (lazy_init self.now)) item.item item.value) }
-        ensures meets { IfOk result (λ item. K.meets item.value) }
-        ensures made_or_reset { IfOk result (λ item. IsMadeOrReset I.answers R.leaves item.value) }
+            Pulls K.meets I.answers R.leaves (lazy_view self.now) item.item item.value) }
         ensures known { IfOk result (λ item. item.known ≡ view_of pulled.holding.seat) }
-        ensures refused { IfErr result (Refuses ⊥ (I.answers (lazy_init self.now) None) ⊥) }
+        ensures refused { IfErr result (Refuses ⊥ (I.answers (lazy_view self.now).init None) ⊥) }
     {
         let item = self.item(pulled)?;
         Ok(LazyReusableOf::new(pool, item))
@@ -376,19 +278,12 @@ impl<T: Drop, I: Init<T, K>, R: Reset<T, K>, K: Clean<T>> LazyObjectPool<T, I, R
         &self,
         pulled: PulledItem<Option<T>>,
     ) -> Result<PulledItem<Option<T>, T>, PullError>
-        requires pulled { IsPulled (lazy_view self.now).identity
-            (new_user (lazy_view self.now).opening (view_of pulled.holding.seat).user)
-            (held_item pulled.holding pulled.value) }
-        requires kept { IfSome pulled.value (λ value.
-            K.meets value × IsMadeOrReset I.answers R.leaves value) }
+        requires pulled { IsPulledPlace K.meets I.answers R.leaves (lazy_view self.now) pulled }
         ensures same { IfOk result (λ item. item.holding ≡ pulled.holding) }
         ensures pulled { IfOk result (λ item.
-            Pulls (lazy_view self.now)
-            (I.answers (lazy_init self.now)) (held_item item.holding (Some item.value))
-            item.value) }
-        ensures meets { IfOk result (λ item. K.meets item.value) }
-        ensures made_or_reset { IfOk result (λ item. IsMadeOrReset I.answers R.leaves item.value) }
-        ensures refused { IfErr result (Refuses ⊥ (I.answers (lazy_init self.now) None) ⊥) }
+            Pulls K.meets I.answers R.leaves (lazy_view self.now)
+            (held_item item.holding (Some item.value)) item.value) }
+        ensures refused { IfErr result (Refuses ⊥ (I.answers (lazy_view self.now).init None) ⊥) }
     {
         let PulledItem { holding, value } = pulled;
         match value {
@@ -405,12 +300,9 @@ impl<T: Drop, I: Init<T, K>, R: Reset<T, K>, K: Clean<T>> LazyObjectPool<T, I, R
             (held_item holding None) }
         ensures same { IfOk result (λ item. item.holding ≡ holding) }
         ensures pulled { IfOk result (λ item.
-            Pulls (lazy_view self.now)
-            (I.answers (lazy_init self.now)) (held_item item.holding (Some item.value))
-            item.value) }
-        ensures meets { IfOk result (λ item. K.meets item.value) }
-        ensures made_or_reset { IfOk result (λ item. IsMadeOrReset I.answers R.leaves item.value) }
-        ensures refused { IfErr result (Refuses ⊥ (I.answers (lazy_init self.now) None) ⊥) }
+            Pulls K.meets I.answers R.leaves (lazy_view self.now)
+            (held_item item.holding (Some item.value)) item.value) }
+        ensures refused { IfErr result (Refuses ⊥ (I.answers (lazy_view self.now).init None) ⊥) }
     {
         match self.init.make() {
             Some(value) => {
@@ -424,16 +316,18 @@ impl<T: Drop, I: Init<T, K>, R: Reset<T, K>, K: Clean<T>> LazyObjectPool<T, I, R
         }
     }
 
-    /// Resets the value of an item, returns it, and wakes one that waits.
+    /// Resets the value of an item, returns it, and wakes one that waits. The place is empty if the
+    /// reset rejects the value.
     pub(crate) fn give(&self, holding: Holding<Option<T>>, value: T) -> PoolNote<Option<T>>
         requires of_pool { holding.seat.table_id ≡ (lazy_view self.now).identity }
         requires in_pool { holding.number < (lazy_view self.now).items }
         ensures { IsBroughtBack (R.leaves (lazy_view self.now).reset)
-            (held_item holding (Some value)) value result }
+            (R.rejects (lazy_view self.now).reset) (held_item holding (Some value)) value result }
     {
-        let mut left = value;
-        self.reset.reset(&mut left);
-        self.give_place(holding, Some(left))
+        match self.reset.try_reset(value) {
+            Some(left) => self.give_place(holding, Some(left)),
+            None => self.give_empty(holding),
+        }
     }
 
     /// Returns the place of an item without its value, and wakes one that waits.

@@ -17,8 +17,7 @@ use std::sync::Arc;
 
 /// A lazy pool as each of its reusables has it: by a borrow, or with an owner.
 pub trait SharedLazyPool<T>: Drop {
-    ghost use Rattle.fixed_pools.specs.FixedPool.{FixedView};
-    ghost use Rattle.lazy_pools.specs.LazyPool.{lazy_view};
+    ghost use Rattle.lazy_pools.specs.LazyPool.{LazyView, lazy_view};
 
     /// What makes the pool's values.
     type Init: Init<T, Self::Kept>;
@@ -30,7 +29,7 @@ pub trait SharedLazyPool<T>: Drop {
     type Kept: Clean<T>;
 
     /// What contracts see of the pool.
-    ghost shown: { Self → FixedView (Option T) Self.Reset };
+    ghost shown: { Self → LazyView T Self.Init Self.Reset };
 
     /// Returns the pool.
     fn pool(&self) -> &LazyObjectPool<T, Self::Init, Self::Reset, Self::Kept>
@@ -116,7 +115,8 @@ pub type LazyReusable<'p, T, I, R, K = AnyValue> = LazyReusableOf<
 >;
 
 impl<T: Drop, P: SharedLazyPool<T>> LazyReusableOf<T, P> {
-    ghost use Rattle.pool_parts.specs.Page.{IsBroughtBack, held_item, view_of};
+    ghost use Rattle.lazy_pools.specs.LazyPool.{IsBroughtBack};
+    ghost use Rattle.pool_parts.specs.Page.{held_item, view_of};
     ghost use Rattle.pool_parts.specs.declared.page.word.TheConstants.{PAGE_ITEMS};
 
     pub(crate) fn new(pool: P, item: PulledItem<Option<T>, T>) -> LazyReusableOf<T, P>
@@ -169,10 +169,12 @@ impl<T: Drop, P: SharedLazyPool<T>> LazyReusableOf<T, P> {
         self.holding.witness(&self.pool.pool().places.shared)
     }
 
-    /// Resets the value and returns it, as the drop does. The note knows the pool's history up to
-    /// this return.
+    /// Resets the value and returns it, as the drop does. If the reset rejects it, its place is
+    /// empty, and a later pull makes an item there. The note knows the pool's history up to this
+    /// return.
     pub fn give_back(self) -> PoolNote<Option<T>>
-        ensures { IsBroughtBack (P.Reset.leaves (P.shown self.pool).reset) self.item self.value result }
+        ensures { IsBroughtBack (P.Reset.leaves (P.shown self.pool).reset)
+            (P.Reset.rejects (P.shown self.pool).reset) self.item self.value result }
     {
         let LazyReusableOf {
             pool,

@@ -30,9 +30,9 @@ pub struct Near<'p, T, I: Init<T, K>, R: Reset<T, K>, K: Clean<T> = AnyValue> {
 }
 
 impl<'p, T: Drop, I: Init<T, K>, R: Reset<T, K>, K: Clean<T>> Near<'p, T, I, R, K> {
-    ghost use Rattle.pool_parts.specs.Answers.{IsMadeOrReset, Refuses};
+    ghost use Rattle.pool_parts.specs.Answers.{Refuses};
     ghost use Rattle.fixed_pools.specs.FixedPool.{returns_since, IsWithin};
-    ghost use Rattle.lazy_pools.specs.LazyPool.{Pulls, lazy_init, lazy_view};
+    ghost use Rattle.lazy_pools.specs.LazyPool.{Pulls, lazy_view};
 
     pub(crate) fn new(pool: &'p LazyObjectPool<T, I, R, K>, page: usize) -> Near<'p, T, I, R, K>
         ensures { result.pool.now ≡ pool.now }
@@ -48,15 +48,13 @@ impl<'p, T: Drop, I: Init<T, K>, R: Reset<T, K>, K: Clean<T>> Near<'p, T, I, R, 
     /// As of [`LazyObjectPool::pull`].
     pub fn pull(&self) -> Result<LazyReusable<'p, T, I, R, K>, PullError>
         ensures pool { IfOk result (λ item. item.pool.now ≡ self.now.pool.now) }
-        ensures pulled { IfOk result (λ item. Pulls (lazy_view self.now.pool.now)
-            (I.answers (lazy_init self.now.pool.now)) item.item item.value) }
-        ensures meets { IfOk result (λ item. K.meets item.value) }
-        ensures made_or_reset { IfOk result (λ item. IsMadeOrReset I.answers R.leaves item.value) }
+        ensures pulled { IfOk result (λ item.
+            Pulls K.meets I.answers R.leaves (lazy_view self.now.pool.now) item.item item.value) }
         ensures brief { IfOk result (λ item.
             IsWithin ((lazy_view self.now.pool.now).pages * (returns_since item.known
             + 1)) 0 0 item.known) }
         ensures refused { IfErr result
-            (Refuses ⊥ (I.answers (lazy_init self.now.pool.now) None) ⊤) }
+            (Refuses ⊥ (I.answers (lazy_view self.now.pool.now).init None) ⊤) }
     {
         let pool = self.pool;
         let start = pool.places.page_round(self.page);

@@ -1,6 +1,6 @@
 -- What a linear pool and its reusables show, and what a pull gives.
 use mir.Syntax.{named}
-use Rattle.std.specs.Prelude.{◌≡◌, ℕ, ◌<◌, [], Option, IfSome, Some}
+use Rattle.std.specs.Prelude.{ℕ, ◌<◌, [], Option, IfSome, Some}
 use Rattle.std.specs.Borrow.{Lends, Fml, RattleType, MutBor}
 use Rattle.std.specs.Option.{option_map}
 use Rattle.pool_parts.specs.Answers.{IsMadeOrReset}
@@ -10,7 +10,7 @@ use Rattle.pool_parts.specs.declared.closures.Init as Init
 use Rattle.pool_parts.specs.declared.closures.Reset as Reset
 use Rattle.pool_parts.specs.declared.made_or_reset.MadeOrReset.{MadeOrReset}
 use Rattle.pool_parts.specs.declared.page.word.TheConstants.{PAGE_ITEMS}
-use Rattle.page_chain.specs.Walk.{ChainPage, ChainItem, first_page, IsWalkedTo}
+use Rattle.page_chain.specs.Walk.{ChainPage, ChainItem, first_page, page_of_item, IsWalkedTo}
 use Rattle.page_chain.specs.declared.linear_page.page_number.PageNumber.{PageNumber}
 use Rattle.linear_pools.specs.contracts.linear_owned_reusable.LinearOwnedReusable as Owned
 use Rattle.linear_pools.specs.contracts.linear_reusable.LinearReusable as Borrowed
@@ -42,12 +42,10 @@ module _ {T I R K : Type 0} where
       (pool : LinearObjectPool T I R K) (number : PageNumber T (MadeOrReset I R K) (AnswerOf I K)) (item : Item T)
       : Type 0 where
     pub in_page : item.id < PAGE_ITEMS
-    pub on_page : IsWalkedTo (linear_view pool).start number item.page
+    pub on_page : IsWalkedTo (linear_view pool).start number (page_of_item item)
     pub within : IfSome (linear_view pool).limit (λ pages. number.number < pages)
     -- the page opened with 32 answers of init
     pub opened : IsFilled PAGE_ITEMS (λ value. (initializer : I) × answers initializer (Some value)) item.opening
-    -- the histories of two items of the first page begin with the same values
-    pub same_opening : number.number ≡ 0 → item.opening ≡ (linear_view pool).start.opening
     -- a new user of its page pulled it
     pub pulled : IsPulled item.page (new_user item.opening item.holder) item
     pub meets_condition : meets item.value

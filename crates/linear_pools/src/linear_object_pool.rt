@@ -20,8 +20,8 @@ use std::fmt::{self, Debug, Formatter, Write};
 use std::marker::PhantomData;
 use std::sync::Arc;
 
-/// Why [`LinearObjectPool::try_pull`] took no item: each page up to the pool's limit was found
-/// full, or no further page could be made.
+/// Why [`LinearObjectPool::try_pull`] took no item: the pages up to the pool's limit were found
+/// full, of which it has the evidence of the last one, or no further page could be made.
 ///
 /// # Examples
 ///
@@ -106,8 +106,9 @@ impl<T: Drop, I: Init<T, K>, R: Reset<T, K>, K: Clean<T>> LinearObjectPool<T, I,
     ghost use Rattle.pool_parts.specs.Answers.{IsMadeOrReset, Refuses};
     ghost use Rattle.linear_pools.specs.LinearPool.{linear_view, Pulls};
     ghost use Rattle.pool_parts.specs.Item.{IsPageItem, IsPulled};
-    ghost use Rattle.pool_parts.specs.Page.{view_of};
-    ghost use Rattle.page_chain.specs.Walk.{IsRefusedBy};
+    ghost use Rattle.pool_parts.specs.Slot.{IsFullPage};
+    ghost use Rattle.pool_parts.specs.Page.{page_view, view_of};
+    ghost use Rattle.page_chain.specs.Walk.{IsRefusedBy, page_of_item};
 
     /// Creates a pool of one page, which grows by a page if each is full.
     ///
@@ -202,6 +203,7 @@ impl<T: Drop, I: Init<T, K>, R: Reset<T, K>, K: Clean<T>> LinearObjectPool<T, I,
     /// - `Memory`, or `Init` at the first `None`, if it has to make a page. Then no page is linked.
     pub fn pull(&self) -> Result<LinearReusable<'_, T, I, R, K>, PullError>
         ensures pool { IfOk result (λ item. item.pool ≡ self.now) }
+        ensures opening { IfOk result (λ item. item.opening ≡ item.item.opening) }
         ensures pulled { IfOk result (λ item. Pulls K.meets I.answers R.leaves self.now item.number
             item.item) }
         ensures refused { IfErr result (Refuses ⊤ (I.answers (linear_view self.now).init None)
@@ -211,10 +213,12 @@ impl<T: Drop, I: Init<T, K>, R: Reset<T, K>, K: Clean<T>> LinearObjectPool<T, I,
         match self.chain.take_first(&pass) {
             Allocated::Slot(slot) => {
                 let number = self.chain.first_number();
-                Ok(LinearReusable::new(self, slot, number))
+                Ok(LinearReusable::new(self, self.chain.first_items(), slot, number))
             }
             Allocated::Full(seen) => match self.pull_further(seen) {
-                Ok(reached) => Ok(LinearReusable::new(self, reached.slot, reached.number)),
+                Ok(WalkEnd { slot, page, number }) => Ok(LinearReusable::new(
+                    self, page, slot, number,
+                )),
                 Err(refusal) => Err(refusal.cause()),
             },
         }
@@ -224,10 +228,12 @@ impl<T: Drop, I: Init<T, K>, R: Reset<T, K>, K: Clean<T>> LinearObjectPool<T, I,
     ///
     /// # Errors
     ///
-    /// - `Limit`, with the evidence that each page up to the limit was full during this call.
+    /// - `Limit`, with the evidence that each item of the last page up to the limit was seen in use
+    ///   during this call. The pull comes to that page only past others that it found full.
     /// - `Making`, with the reason why no further page could be made.
     pub fn try_pull<'s, 'p>(&'s self, pass: &'p PullPass) -> LinearPulled<'s, 'p, T, I, R, K>
         ensures pool { IfOk result (λ item. item.pool ≡ self.now) }
+        ensures opening { IfOk result (λ item. item.opening ≡ item.item.opening) }
         ensures pulled { IfOk result (λ item. Pulls K.meets I.answers R.leaves self.now item.number
             item.item) }
         ensures refused { IfErr result (IsRefusedBy (linear_view self.now).start
@@ -236,10 +242,12 @@ impl<T: Drop, I: Init<T, K>, R: Reset<T, K>, K: Clean<T>> LinearObjectPool<T, I,
         match self.chain.take_first(pass) {
             Allocated::Slot(slot) => {
                 let number = self.chain.first_number();
-                Ok(LinearReusable::new(self, slot, number))
+                Ok(LinearReusable::new(self, self.chain.first_items(), slot, number))
             }
             Allocated::Full(seen) => match self.pull_further(seen) {
-                Ok(reached) => Ok(LinearReusable::new(self, reached.slot, reached.number)),
+                Ok(WalkEnd { slot, page, number }) => Ok(LinearReusable::new(
+                    self, page, slot, number,
+                )),
                 Err(refusal) => Err(refusal),
             },
         }
@@ -256,23 +264,28 @@ impl<T: Drop, I: Init<T, K>, R: Reset<T, K>, K: Clean<T>> LinearObjectPool<T, I,
         pass: &'p PullPass,
         note: PageNote<T>,
     ) -> LinearPulled<'s, 'p, T, I, R, K>
-        requires { note.seat.table_id ≡ (linear_view self.now).start.page }
+        requires { note.seat.table_id ≡ (linear_view self.now).start.page.identity }
         ensures pool { IfOk result (λ item. item.pool ≡ self.now) }
+        ensures opening { IfOk result (λ item. item.number.number ≡ 0
+            → item.opening ≡ (linear_view self.now).start.page.opening) }
         ensures first { IfOk result (λ item. item.number.number ≡ 0
             → IsPageItem (λ value. K.meets value × IsMadeOrReset I.answers R.leaves value) item.item
-            × IsPulled (linear_view self.now).start.page (view_of note.seat) item.item) }
+            × IsPulled (linear_view self.now).start.page.identity (view_of note.seat) item.item) }
         ensures further { IfOk result (λ item. 0 < item.number.number
-            → Pulls K.meets I.answers R.leaves self.now item.number item.item) }
+            → Pulls K.meets I.answers R.leaves self.now item.number item.item
+            × (item.opening ≡ item.item.opening)) }
         ensures refused { IfErr result (IsRefusedBy (linear_view self.now).start
             (linear_view self.now).limit (I.answers (linear_view self.now).init None)) }
     {
         match self.chain.take_first_from(pass, note) {
             Allocated::Slot(slot) => {
                 let number = self.chain.first_number();
-                Ok(LinearReusable::new(self, slot, number))
+                Ok(LinearReusable::new(self, self.chain.first_items(), slot, number))
             }
             Allocated::Full(seen) => match self.pull_further(seen) {
-                Ok(reached) => Ok(LinearReusable::new(self, reached.slot, reached.number)),
+                Ok(WalkEnd { slot, page, number }) => Ok(LinearReusable::new(
+                    self, page, slot, number,
+                )),
                 Err(refusal) => Err(refusal),
             },
         }
@@ -335,9 +348,11 @@ impl<T: Drop, I: Init<T, K>, R: Reset<T, K>, K: Clean<T>> LinearObjectPool<T, I,
         &'s self,
         seen: FullSeen<'p, T>,
     ) -> Result<WalkEnd<'s, T, MadeOrReset<I, R, K>, AnswerOf<I, K>>, LinearRefusal<'p, T, I, R, K>>
-        requires { seen.seat.table_id ≡ (linear_view self.now).start.page }
+        requires { IsFullPage (linear_view self.now).start.page.identity seen }
         ensures pulled { IfOk result (λ reached.
             Pulls K.meets I.answers R.leaves self.now reached.number reached.slot.item) }
+        ensures page { IfOk result (λ reached.
+            page_of_item reached.slot.item ≡ page_view (arc_value reached.page.now)) }
         ensures past_first { IfOk result (λ reached. 0 < reached.number.number) }
         ensures refused { IfErr result (IsRefusedBy (linear_view self.now).start
             (linear_view self.now).limit (I.answers (linear_view self.now).init None)) }

@@ -1,7 +1,7 @@
 //! A value that was pulled from a linear pool, with an owner of the pool.
 ghost use Rattle.std.specs.Prelude.{◌≡◌, ◌<◌};
 ghost use Rattle.std.specs.Arc.{arc_value};
-ghost use Rattle.page_chain.specs.Walk.{IsWalkedTo, first_page};
+ghost use Rattle.page_chain.specs.Walk.{IsWalkedTo, first_page, page_of_item};
 ghost use Rattle.pool_parts.specs.declared.page.word.TheConstants.{PAGE_ITEMS};
 
 use crate::linear_object_pool::{AnswerOf, LinearObjectPool};
@@ -18,7 +18,8 @@ use std::sync::Arc;
 
 /// A pulled value. Its drop resets it and returns it to its page, which is found by its number.
 ///
-/// In a clause it is the pool, the number of the item's page, and the item.
+/// In a clause it is the pool, the number of the item's page, the item, and the values that the page
+/// opened with.
 ///
 /// # Examples
 ///
@@ -39,7 +40,7 @@ impl<T: Drop, I: Init<T, K>, R: Reset<T, K>, K: Clean<T>> Model
     for LinearOwnedReusable<T, I, R, K> {
     ghost use Rattle.std.specs.Prelude.{◌<◌};
     ghost use Rattle.std.specs.Arc.{arc_value};
-    ghost use Rattle.pool_parts.specs.Page.{held_item};
+    ghost use Rattle.pool_parts.specs.Page.{held_item, held_page};
     ghost use Rattle.pool_parts.specs.declared.made_or_reset.MadeOrReset.{MadeOrReset};
     ghost use Rattle.pool_parts.specs.declared.page.word.TheConstants.{PAGE_ITEMS};
     ghost use Rattle.page_chain.specs.Walk.{ChainItem, IsWalkedTo, first_page};
@@ -53,11 +54,12 @@ impl<T: Drop, I: Init<T, K>, R: Reset<T, K>, K: Clean<T>> Model
           pool = arc_value reusable.pool;
           number = reusable.number;
           item = held_item reusable.holding reusable.value;
+          opening = (held_page reusable.holding).opening;
         } };
 
     ghost invariant = { λ reusable.
         ∥ IsWalkedTo (first_page (arc_value reusable.pool).chain) reusable.number
-        reusable.holding.seat.table_id ∥₁
+        (held_page reusable.holding) ∥₁
         × (reusable.holding.number < PAGE_ITEMS) };
 }
 
@@ -71,7 +73,7 @@ impl<T: Drop, I: Init<T, K>, R: Reset<T, K>, K: Clean<T>> LinearOwnedReusable<T,
         slot: PageSlot<'_, T, MadeOrReset<I, R, K>>,
         number: PageNumber<T, MadeOrReset<I, R, K>, AnswerOf<I, K>>,
     ) -> LinearOwnedReusable<T, I, R, K>
-        requires { IsWalkedTo (linear_view (arc_value pool)).start number slot.item.page }
+        requires { IsWalkedTo (linear_view (arc_value pool)).start number (page_of_item slot.item) }
         ensures pool { result.pool ≡ arc_value pool }
         ensures item { result.item ≡ slot.entry.item }
         ensures page { result.number ≡ number }
@@ -96,9 +98,7 @@ impl<T: Drop, I: Init<T, K>, R: Reset<T, K>, K: Clean<T>> LinearOwnedReusable<T,
     pub fn witness(&mut self) -> Witness<T>
         ensures page { result.seat.table_id ≡ self.old.item.page }
         ensures history { (view_of result.seat).operations ≡ self.old.item.history }
-        ensures same_item { self.new.item ≡ self.old.item }
-        ensures same_pool { self.new.pool ≡ self.old.pool }
-        ensures same_page { self.new.number ≡ self.old.number }
+        ensures same { self.new ≡ self.old }
     {
         let page = self.pool.chain.page_at(&mut self.number, &self.holding);
         page.witness(&mut self.holding)
@@ -108,10 +108,8 @@ impl<T: Drop, I: Init<T, K>, R: Reset<T, K>, K: Clean<T>> LinearOwnedReusable<T,
     ///
     /// It knows some prefix of the page's history; which one, no contract can say.
     pub fn note(&mut self) -> PageNote<T>
-        ensures note { IsNoteOf self.old.item.page (view_of result.seat).opening result }
-        ensures same_item { self.new.item ≡ self.old.item }
-        ensures same_pool { self.new.pool ≡ self.old.pool }
-        ensures same_page { self.new.number ≡ self.old.number }
+        ensures note { IsNoteOf self.old.item.page self.old.opening result }
+        ensures same { self.new ≡ self.old }
     {
         let page = self.pool.chain.page_at(&mut self.number, &self.holding);
         page.note()
@@ -123,9 +121,7 @@ impl<T: Drop, I: Init<T, K>, R: Reset<T, K>, K: Clean<T>> LinearOwnedReusable<T,
         requires note { note.old.seat.table_id ≡ self.old.item.page }
         requires other { other.seat.table_id ≡ self.old.item.page }
         ensures learned { HasLearned note.old other note.new }
-        ensures same_item { self.new.item ≡ self.old.item }
-        ensures same_pool { self.new.pool ≡ self.old.pool }
-        ensures same_page { self.new.number ≡ self.old.number }
+        ensures same { self.new ≡ self.old }
     {
         let page = self.pool.chain.page_at(&mut self.number, &self.holding);
         page.tell(note, other);

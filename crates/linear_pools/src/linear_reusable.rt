@@ -15,7 +15,8 @@ use std::ops::{Deref, DerefMut};
 
 /// A pulled value. Its drop resets it and returns it to its page.
 ///
-/// In a clause it is the pool, the number of the item's page, and the item.
+/// In a clause it is the pool, the number of the item's page, the item, and the values that the page
+/// opened with.
 ///
 /// # Examples
 ///
@@ -35,7 +36,7 @@ pub struct LinearReusable<'p, T: Drop, I: Init<T, K>, R: Reset<T, K>, K: Clean<T
 impl<'p, T: Drop, I: Init<T, K>, R: Reset<T, K>, K: Clean<T>> Model
     for LinearReusable<'p, T, I, R, K> {
     ghost use Rattle.std.specs.Prelude.{◌≡◌, ◌<◌};
-    ghost use Rattle.pool_parts.specs.Page.{page_identity, held_item};
+    ghost use Rattle.pool_parts.specs.Page.{page_identity, page_opening, held_item};
     ghost use Rattle.pool_parts.specs.declared.made_or_reset.MadeOrReset.{MadeOrReset};
     ghost use Rattle.pool_parts.specs.declared.page.word.TheConstants.{PAGE_ITEMS};
     ghost use Rattle.page_chain.specs.Walk.{ChainItem};
@@ -49,6 +50,7 @@ impl<'p, T: Drop, I: Init<T, K>, R: Reset<T, K>, K: Clean<T>> Model
           pool = reusable.pool.now;
           number = reusable.number;
           item = held_item reusable.holding reusable.value;
+          opening = page_opening reusable.page.now;
         } };
 
     ghost invariant = { λ reusable.
@@ -57,19 +59,22 @@ impl<'p, T: Drop, I: Init<T, K>, R: Reset<T, K>, K: Clean<T>> Model
 }
 
 impl<'p, T: Drop, I: Init<T, K>, R: Reset<T, K>, K: Clean<T>> LinearReusable<'p, T, I, R, K> {
-    ghost use Rattle.pool_parts.specs.Page.{IsGivenBack, IsNoteOf, HasLearned, view_of};
+    ghost use Rattle.pool_parts.specs.Page.{IsGivenBack, IsNoteOf, HasLearned, page_identity, page_opening, view_of};
     ghost use Rattle.linear_pools.specs.LinearPool.{linear_view};
 
     pub(crate) fn new(
         pool: &'p LinearObjectPool<T, I, R, K>,
+        page: &'p Page<T, MadeOrReset<I, R, K>>,
         slot: PageSlot<'p, T, MadeOrReset<I, R, K>>,
         number: PageNumber<T, MadeOrReset<I, R, K>, AnswerOf<I, K>>,
     ) -> LinearReusable<'p, T, I, R, K>
+        requires { slot.item.page ≡ page_identity page.now }
         ensures pool { result.pool ≡ pool.now }
         ensures item { result.item ≡ slot.entry.item }
         ensures page { result.number ≡ number }
+        ensures opening { result.opening ≡ page_opening page.now }
     {
-        let (page, holding, value) = slot.into_parts();
+        let (_, holding, value) = slot.into_parts();
         LinearReusable {
             pool,
             page,
@@ -90,9 +95,7 @@ impl<'p, T: Drop, I: Init<T, K>, R: Reset<T, K>, K: Clean<T>> LinearReusable<'p,
     pub fn witness(&mut self) -> Witness<T>
         ensures page { result.seat.table_id ≡ self.old.item.page }
         ensures history { (view_of result.seat).operations ≡ self.old.item.history }
-        ensures same_item { self.new.item ≡ self.old.item }
-        ensures same_pool { self.new.pool ≡ self.old.pool }
-        ensures same_page { self.new.number ≡ self.old.number }
+        ensures same { self.new ≡ self.old }
     {
         self.page.witness(&mut self.holding)
     }
@@ -103,12 +106,8 @@ impl<'p, T: Drop, I: Init<T, K>, R: Reset<T, K>, K: Clean<T>> LinearReusable<'p,
     pub fn differs_from(&mut self, other: &mut LinearReusable<'_, T, I, R, K>)
         requires page { other.old.item.page ≡ self.old.item.page }
         ensures differ { self.old.item.id ≢ other.old.item.id }
-        ensures same_item { self.new.item ≡ self.old.item }
-        ensures same_pool { self.new.pool ≡ self.old.pool }
-        ensures same_page { self.new.number ≡ self.old.number }
-        ensures same_other { other.new.item ≡ other.old.item }
-        ensures same_others_pool { other.new.pool ≡ other.old.pool }
-        ensures same_others_page { other.new.number ≡ other.old.number }
+        ensures same { self.new ≡ self.old }
+        ensures same_other { other.new ≡ other.old }
     {
         self.page.are_two(&mut self.holding, &mut other.holding);
     }
@@ -117,7 +116,7 @@ impl<'p, T: Drop, I: Init<T, K>, R: Reset<T, K>, K: Clean<T>> LinearReusable<'p,
     ///
     /// It knows some prefix of the page's history; which one, no contract can say.
     pub fn note(&self) -> PageNote<T>
-        ensures { IsNoteOf self.now.item.page (view_of result.seat).opening result }
+        ensures { IsNoteOf self.now.item.page self.now.opening result }
     {
         self.page.note()
     }

@@ -1,48 +1,48 @@
 //! Object pools with automatic return: a used object is kept and handed out again.
 //!
-//! A port of the Rust crate `lockfree-object-pool` 0.1.6 to Rattle. The pools that never wait are
-//! defined in `nonblocking_pools`, the pool that makes its items when they are needed in
-//! `lazy_pools`, and their parts in the crates below these. This crate exports all their names.
+//! A port of the Rust crate `lockfree-object-pool` 0.1.6 to Rattle. This crate only exports names:
+//! each kind of pool has a crate of its own, `linear_pools`, `fixed_pools`, `lazy_pools`,
+//! `stack_pools` and `none_pools`.
 #![tactic(auto)]
 
-pub mod free_list;
-pub mod mutex_object_pool;
 pub mod recycling;
-pub mod spin_lock;
-pub mod spin_lock_object_pool;
-pub mod stack_object_pool;
-pub mod stack_reusable;
 
-pub use kept_values::stack;
+pub use fixed_pools::{
+    FixedObjectPool, FixedOwnedReusable, FixedReusable, fixed_object_pool, fixed_owned_reusable,
+    fixed_reusable,
+};
 pub use lazy_pools::{
     LazyObjectPool, LazyOwnedReusable, LazyReusable, lazy_object_pool, lazy_owned_reusable,
     lazy_reusable,
 };
-pub use mutex_object_pool::{MutexObjectPool, MutexOwnedReusable, MutexReusable};
-pub use nonblocking_pools::{
-    FixedObjectPool, FixedOwnedReusable, FixedReusable, LinearObjectPool, LinearOwnedReusable,
-    LinearReusable, NoneObjectPool, NoneReusable, PullError, clean, closures, fixed_object_pool,
-    fixed_owned_reusable, fixed_reusable, linear_object_pool, linear_owned_reusable, linear_page,
-    linear_reusable, made_or_reset, none_object_pool, none_reusable, page,
+pub use linear_pools::{
+    LinearObjectPool, LinearOwnedReusable, LinearReusable, linear_object_pool,
+    linear_owned_reusable, linear_page, linear_reusable,
 };
-pub use spin_lock_object_pool::{SpinLockObjectPool, SpinLockOwnedReusable, SpinLockReusable};
+pub use none_pools::{NoneObjectPool, NoneReusable, none_object_pool, none_reusable};
+pub use pool_parts::{PullError, clean, closures, made_or_reset, page};
+pub use stack_pools::{
+    MutexObjectPool, MutexOwnedReusable, MutexReusable, SpinLockObjectPool, SpinLockOwnedReusable,
+    SpinLockReusable, free_list, mutex_object_pool, spin_lock, spin_lock_object_pool, stack,
+    stack_object_pool, stack_reusable,
+};
 
 /// The reusables of the stack pools, by the modules of the original.
 pub mod mutex_reusable {
-    pub use crate::mutex_object_pool::MutexReusable;
+    pub use stack_pools::MutexReusable;
 }
 
 /// As `mutex_reusable`.
 pub mod mutex_owned_reusable {
-    pub use crate::mutex_object_pool::MutexOwnedReusable;
+    pub use stack_pools::MutexOwnedReusable;
 }
 
 /// As `mutex_reusable`.
 pub mod spin_lock_reusable {
-    pub use crate::spin_lock_object_pool::SpinLockReusable;
+    pub use stack_pools::SpinLockReusable;
 }
 
 /// As `mutex_reusable`.
 pub mod spin_lock_owned_reusable {
-    pub use crate::spin_lock_object_pool::SpinLockOwnedReusable;
+    pub use stack_pools::SpinLockOwnedReusable;
 }

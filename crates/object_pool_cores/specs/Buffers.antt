@@ -2,7 +2,7 @@
 use Rattle.std.specs.Prelude.{ℕ, List, Option, vec_capacity}
 use Rattle.std.specs.Global.{Vec}
 use Rattle.linear_pools.specs.LinearPool.{linear_view}
-use Rattle.page_chain.specs.Walk.{IsWalkedTo}
+use Rattle.page_chain.specs.Walk.{IsWalkedTo, page_of_item}
 use Rattle.object_pool_cores.specs.declared.buffers.BufferPool.{BufferPool}
 use Rattle.object_pool_cores.specs.declared.buffers.buffer.Buffer.{Buffer}
 
@@ -18,7 +18,7 @@ module _ {I R K : Type 0} where
   -- the buffer is of the pool's page of the number that it shows
   abbrev pub IsOnItsPage : BufferPool I R (Vec ℕ) K → Buffer I R (Vec ℕ) K → Type 0
   IsOnItsPage buffers buffer =
-      IsWalkedTo (linear_view buffers.pool).start buffer.item.number buffer.item.item.page
+      IsWalkedTo (linear_view buffers.pool).start buffer.item.number (page_of_item buffer.item.item)
 
   -- the bytes in the buffer
   abbrev pub bytes_of : Buffer I R (Vec ℕ) K → List ℕ

@@ -1,4 +1,2 @@
-pub mod FullPages
 pub mod LinkPlaces
 pub mod NumberShared
-pub mod TakenItems

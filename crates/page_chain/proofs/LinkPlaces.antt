@@ -2,17 +2,16 @@
 -- the number's place.
 use Rattle.std.proofs.Common.{◌≡◌, List, ℕ, suc, ◌+◌, ◌^◌, ◌<◌, ◌≤◌, Some, ap, subst, sym, ◌∙◌, arith}
 use Rattle.std.specs.Arc.{arc_value}
-use Rattle.std.specs.Coded.{Coded-set, coded_ℕ, coded_option, coded×}
+use Rattle.std.specs.Coded.{Coded, Coded-set, coded_ℕ, coded_option, coded×}
 use Rattle.std.specs.Option.{option_map}
 use Rattle.std.specs.declared.alloc.Global.{Global}
 use Rattle.std.specs.Prelude.{slice_get}
 use Rattle.std.proofs.Math.Logic.{∥∥₁_elim}
 use Rattle.std.proofs.Math.Nat.{pow-le-pow_right, two-pow-succ}
-use Rattle.atomic_table.specs.Seated.{TableId, table_id_coded}
 use Rattle.once_cell.specs.Once.{cell_name}
 use Rattle.page_chain.specs.Links.{IsLinkTo, cell_in_row}
 use Rattle.pool_parts.specs.Item.{same_holding}
-use Rattle.pool_parts.specs.Page.{page_identity}
+use Rattle.pool_parts.specs.Page.{PageView, page_view, page_coded}
 use Rattle.page_chain.specs.Walk.{IsLinkedAt}
 use Rattle.page_chain.specs.declared.linear_page.page_number.PageNumber.{PageNumber}
 
@@ -50,18 +49,18 @@ one_link rows number one other is was =
     λ i. (same_cell i, same_offset i)
 
 -- what a page's number knows of the link at the number's place
-pub record KnowsLink {T K O : Type 0} (link : ℕ × ℕ) (known : PageNumber T K O) (page : TableId) : Type 0 where
+pub record KnowsLink {T K O : Type 0} (link : ℕ × ℕ) (known : PageNumber T K O) (page : PageView T) : Type 0 where
   pub place : (known.row.cell, link.1) ≡ link
   pub in_row : cell_in_row known.row.known link.1 ≡ Some known.link.cell
-  pub leads_here : option_map (λ page. page_identity (arc_value page)) known.link.known ≡ Some page
+  pub leads_here : option_map (λ page. page_view (arc_value page)) known.link.known ≡ Some page
 
-pub knows_link : {T K O : Type 0} (links : List (Global × ℕ)) (link : ℕ × ℕ) (known : PageNumber T K O)
-    (page : TableId) → ∥ IsLinkedAt links known page ∥₁ → IsLinkTo links known.number link → KnowsLink link known page
-knows_link links link known page linked here = record {
+pub knows_link : {T K O : Type 0} → Coded T → (links : List (Global × ℕ)) (link : ℕ × ℕ) (known : PageNumber T K O)
+    (page : PageView T) → ∥ IsLinkedAt links known page ∥₁ → IsLinkTo links known.number link → KnowsLink link known page
+knows_link code links link known page linked here = record {
   place = ∥∥₁_elim linked (Coded-set (coded× coded_ℕ coded_ℕ) _ _) (λ it.
       λ i. ((one_link _ _ _ _ it.is_link here i).0, link.1));
   in_row = ∥∥₁_elim linked (same_holding _ _) (λ it.
       subst (λ offset. cell_in_row known.row.known offset ≡ Some known.link.cell)
       (ap (λ link. link.1) (one_link _ _ _ _ it.is_link here)) it.in_row);
-  leads_here = ∥∥₁_elim linked (Coded-set (coded_option table_id_coded) _ _) (λ it. it.leads_here);
+  leads_here = ∥∥₁_elim linked (Coded-set (coded_option (page_coded code)) _ _) (λ it. it.leads_here);
 }

@@ -5,13 +5,12 @@ use Rattle.std.specs.Prelude.{◌≡◌, ◌⊎◌, ℕ, ◌+◌, ◌-◌, ◌<�
 use Rattle.std.specs.Arc.{arc_value}
 use Rattle.std.specs.Option.{option_map}
 use Rattle.std.specs.declared.alloc.Global.{Global}
-use Rattle.atomic_table.specs.Seated.{TableId}
 use Rattle.once_cell.specs.Once.{cell_name}
 use Rattle.pool_parts.specs.Answers.{Refuses}
 use Rattle.pool_parts.specs.Item.{Item, IsPageItem, IsPulled, IsFilled, new_user}
-use Rattle.pool_parts.specs.Page.{page_identity, page_opening}
+use Rattle.pool_parts.specs.Page.{PageView, page_view}
 use Rattle.pool_parts.specs.declared.clean.Clean.{Ghosts}
-use Rattle.pool_parts.specs.declared.page.full_seen.FullSeen.{FullSeen}
+use Rattle.pool_parts.specs.Slot.{IsFullPage}
 use Rattle.pool_parts.specs.declared.page.word.TheConstants.{PAGE_ITEMS}
 use Rattle.pool_parts.specs.declared.pull_error.PullError.{PullError}
 use Rattle.pool_parts.specs.declared.pull_error.PullError.TheVariants.{Limit as LimitCause}
@@ -24,32 +23,23 @@ use Rattle.page_chain.specs.declared.linear_page.walk.LimitSeen.{LimitSeen}
 use Rattle.page_chain.specs.declared.linear_page.walk.WalkRefusal.{WalkRefusal}
 use Rattle.page_chain.specs.declared.linear_page.walk.WalkRefusal.TheVariants.{Limit, Making}
 
--- a page of a chain: the chain's links, the page, its first values, and how many links lead to it from the first one
+-- a page of a chain: the chain's links, the page, and how many links lead to it from the first one
 pub record ChainPage (T : Type 0) : Type 0 where
   pub links : List (Global × ℕ)
-  pub page : TableId
-  -- the values that the page opened with, by id
-  pub opening : List (Option T)
+  pub page : PageView T
   pub number : ℕ
 
 module _ {T K O : Type 0} where
   -- the chain's first page
   abbrev pub first_page : Chain T K O → ChainPage T
   first_page chain =
-      let first = arc_value chain.first in
-      record { links = chain.directory; page = page_identity first; opening = page_opening first; number = 0 }
+      record { links = chain.directory; page = page_view (arc_value chain.first); number = 0 }
 
 module _ {T K O : Type 0} {opens : Ghosts O T} where
   -- which page of its chain it is
   abbrev pub shown_page : LinearPage T K O opens → ChainPage T
   shown_page page =
-      let here = arc_value page.page.now in
-      record {
-        links = page.directory.now;
-        page = page_identity here;
-        opening = page_opening here;
-        number = page.number;
-      }
+      record { links = page.directory.now; page = page_view (arc_value page.page.now); number = page.number }
 
   -- which link leads on from a page
   abbrev pub next_link : LinearPage T K O opens → ℕ × ℕ
@@ -60,8 +50,8 @@ module _ {T K O : Type 0} {opens : Ghosts O T} where
   known_link note = (note.row.cell, note.offset.value)
 
   -- which page the note knows to be linked
-  abbrev pub known_next : LinkNote T K O opens → Option TableId
-  known_next note = option_map (λ page. page_identity (arc_value page)) note.link.known
+  abbrev pub known_next : LinkNote T K O opens → Option (PageView T)
+  known_next note = option_map (λ page. page_view (arc_value page)) note.link.known
 
   -- the page after a page: this note is of the link between them, and knows it
   pub record IsNext (page : LinearPage T K O opens) (note : LinkNote T K O opens) (next : LinearPage T K O opens)
@@ -73,46 +63,44 @@ module _ {T K O : Type 0} {opens : Ghosts O T} where
 module _ {T K O : Type 0} where
   -- the link to the page of this number leads to this page, as the notes of its row and of itself
   -- know
-  pub record IsLinkedAt (links : List (Global × ℕ)) (known : PageNumber T K O) (page : TableId) : Type 0 where
+  pub record IsLinkedAt (links : List (Global × ℕ)) (known : PageNumber T K O) (page : PageView T) : Type 0 where
     -- where in its row that link lies
     pub offset : ℕ
     pub is_link : IsLinkTo links known.number (known.row.cell, offset)
     pub in_row : cell_in_row known.row.known offset ≡ Some known.link.cell
-    pub leads_here : option_map (λ page. page_identity (arc_value page)) known.link.known ≡ Some page
+    pub leads_here : option_map (λ page. page_view (arc_value page)) known.link.known ≡ Some page
 
   -- a walk came to the page of this number: it is the start's, or the one to which the link of that
   -- number leads
-  abbrev pub IsWalkedTo : ChainPage T → PageNumber T K O → TableId → Type 0
+  abbrev pub IsWalkedTo : ChainPage T → PageNumber T K O → PageView T → Type 0
   IsWalkedTo start known page =
       ((known.number ≡ start.number) × (page ≡ start.page)) ⊎ IsLinkedAt start.links known page
 
 -- what a value shows that was pulled from a chain: its pool, the number of its page with what the pull learned of the
--- link to it, and its item
+-- link to it, its item, and the values that the page opened with
 pub record ChainItem (P T K O : Type 0) : Type 0 where
   pub pool : P
   pub number : PageNumber T K O
   pub item : Item T
+  pub opening : List (Option T)
 
--- the page of this number, as a walk comes to it, was found full in one pull
-pub record WasFull (T K O : Type 0) (start : ChainPage T) (number : ℕ) : Type 0 where
-  -- the number with what was learned of the link to the page
-  pub known : PageNumber T K O
-  pub is_number : known.number ≡ number
-  -- each of its ids was observed taken
-  pub full : FullSeen T
-  pub on_page : IsWalkedTo start known full.seat.table_id
+-- the page of an item, as the item shows it
+abbrev pub page_of_item : {T : Type 0} → Item T → PageView T
+page_of_item item = record { identity = item.page; opening = item.opening }
 
--- each of so many pages from a walk's start was found full, and this is of the last of them
-pub record IsAllFull {T K O : Type 0} (start : ChainPage T) (pages : ℕ) (seen : LimitSeen T K O) : Type 0 where
+-- the last of so many pages from a walk's start was found full
+pub record IsLastFull {T K O : Type 0} (start : ChainPage T) (pages : ℕ) (seen : LimitSeen T K O) : Type 0 where
   pub last : seen.number.number + 1 ≡ start.number + pages
-  pub on_page : IsWalkedTo start seen.number seen.seen.seat.table_id
-  pub each : (number : ℕ) → start.number ≤ number → number < start.number + pages → WasFull T K O start number
+  -- that page
+  pub page : PageView T
+  pub on_page : IsWalkedTo start seen.number page
+  pub all_out : IsFullPage page.identity seen.seen
 
 module _ {T K O : Type 0} where
-  -- why a walk has no item: there is a limit, and each page up to it was found full; or no further
-  -- page could be made
+  -- why a walk has no item: there is a limit, and the last page up to it was found full; or no further page could be
+  -- made
   abbrev pub IsRefusedBy : ChainPage T → Option ℕ → Type 0 → WalkRefusal T K O → Type 0
-  IsRefusedBy start limit init_refuses (Limit seen) = (pages : ℕ) × (limit ≡ Some pages) × IsAllFull start pages seen
+  IsRefusedBy start limit init_refuses (Limit seen) = (pages : ℕ) × (limit ≡ Some pages) × IsLastFull start pages seen
   IsRefusedBy start limit init_refuses (Making cause) = Refuses ⊤ init_refuses ⊥ cause
 
   -- the name of a walk's refusal
@@ -129,12 +117,22 @@ pub record Pulls {T K O : Type 0} (meets may_open : T → Type 0) (start : Chain
   -- a new user of its page pulled it
   pub pulled : IsPulled item.page (new_user item.opening item.holder) item
   pub from_start : start.number ≤ number.number
-  pub on_page : IsWalkedTo start number item.page
-  pub of_start : number.number ≡ start.number → item.page ≡ start.page
+  pub on_page : IsWalkedTo start number (page_of_item item)
+  pub of_start : number.number ≡ start.number → page_of_item item ≡ start.page
   pub within : IfSome limit (λ pages. number.number - start.number < pages)
 
+-- what a pull along the links gives that has passed so many of them: an item, whose page opened with 32 values of this
+-- kind, and is the start if no link was passed
+pub record PullsAlong {T : Type 0} (meets may_open : T → Type 0) (start : ChainPage T) (passed : ℕ) (item : Item T)
+    : Type 0 where
+  pub is_item : IsPageItem meets item
+  pub of_start : passed ≡ 0 → page_of_item item ≡ start.page
+  pub opened : IsFilled PAGE_ITEMS may_open item.opening
+  -- a new user of its page pulled it
+  pub pulled : IsPulled item.page (new_user item.opening item.holder) item
+
 -- no link leads to the first page
-pub no_link_to_first : {T K O : Type 0} (links : List (Global × ℕ)) (known : PageNumber T K O) (page : TableId)
+pub no_link_to_first : {T K O : Type 0} (links : List (Global × ℕ)) (known : PageNumber T K O) (page : PageView T)
     → IsLinkedAt links known page → known.number ≡ 0 → ⊥
 no_link_to_first links known page linked first =
     let here = linked.is_link in
@@ -143,7 +141,7 @@ no_link_to_first links known page linked first =
 
 -- so the page of number 0 that a walk came to from the chain's start is the first one, as
 -- `on_page` of a pull says
-pub first_of_walk : {T K O : Type 0} (chain : Chain T K O) (known : PageNumber T K O) (page : TableId)
+pub first_of_walk : {T K O : Type 0} (chain : Chain T K O) (known : PageNumber T K O) (page : PageView T)
     → IsWalkedTo (first_page chain) known page → known.number ≡ 0 → page ≡ (first_page chain).page
 first_of_walk chain known page walked first = elim walked [
   | inl here ↦ here.1

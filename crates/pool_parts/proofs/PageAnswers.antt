@@ -1,18 +1,18 @@
 -- What a page answers, told by what the answer shows and no longer by its user's view.
-use Rattle.std.proofs.Common.{◌≡◌, List, [], ◌∷◌, ◌++◌, ℕ, ◌<◌, Option, refl, ap, sym, ◌∙◌, subst}
+use Rattle.std.proofs.Common.{◌≡◌, List, [], ◌∷◌, ◌++◌, ℕ, ◌<◌, Option, refl, ap, sym, ◌∙◌, subst, append-nil}
 use Rattle.atomic_table.specs.Seated.{TableId}
 use Rattle.pool_parts.specs.declared.page.history.Operation.TheVariants.{Pull, Return}
 use Rattle.pool_parts.specs.declared.page.user_view.UserView.{UserView}
 use Rattle.pool_parts.specs.declared.page.note.PageNote.{PageNote}
-use Rattle.pool_parts.specs.declared.page.full_seen.FullSeen.{FullSeen}
 use Rattle.pool_parts.specs.declared.page.full_seen.Allocated.{Allocated}
 use Rattle.pool_parts.specs.declared.page.full_seen.Allocated.TheVariants.{Slot, Full}
-use Rattle.pool_parts.specs.Item.{Item, IsPulled}
+use Rattle.pool_parts.specs.Item.{Item, SeenView, IsPulled}
 use Rattle.pool_parts.specs.Page.{IsReturned, view_of}
 use Rattle.pool_parts.specs.Ledger.{History, operations_of, IsLegal, IsPrefixOf, WasOutBetween}
 use Rattle.pool_parts.specs.PageRule.{GoesOn, IsSound}
 use Rattle.pool_parts.proofs.Views.{StartsFrom}
-use Rattle.pool_parts.specs.Slot.{IsAllOut, IsAnswerOf}
+use Rattle.pool_parts.specs.Slot.{IsAllOut, IsFullPage, IsAnswerOf}
+use Rattle.pool_parts.specs.declared.page.word.TheConstants.{PAGE_ITEMS}
 use Rattle.pool_parts.proofs.Ledger.{legal_of, prefix_further, out_longer}
 use Rattle.pool_parts.proofs.LedgerHolders.{spared_return}
 
@@ -76,40 +76,65 @@ module _ {T : Type 0} where
       }
 
   -- what a call found that observed each of so many items taken, since its user stood here at its load
-  pub found_out : (count : ℕ) (page : TableId) (start : UserView T) (seen : FullSeen T) → seen.seat.table_id ≡ page
-      → start.since ≡ start.operations → GoesOn [] start (view_of seen.seat)
-      → ((id : ℕ) → id < count → WasOutBetween (view_of seen.seat).opening start.operations
-      (view_of seen.seat).operations id)
+  pub found_out : (count : ℕ) (page : TableId) (start : UserView T) (seen : SeenView T) → seen.page ≡ page
+      → start.since ≡ start.operations → GoesOn [] start seen.known
+      → ((id : ℕ) → id < count → WasOutBetween seen.known.opening start.operations seen.known.operations id)
       → IsAllOut count page start seen
   found_out count page start seen of_page from_now goes each =
-      let known = view_of seen.seat in
+      let known = seen.known in
       let since = goes.same_since ∙ from_now in
       record {
         of_page = of_page;
-        same_user = goes.same_user;
-        same_opening = goes.same_opening;
-        legal = legal_of start.opening known goes.same_opening goes.sound;
-        after_known = subst (IsPrefixOf start.operations) (sym since) ([], refl);
-        goes_on = goes.sound.since_load;
+        knows = record {
+          same_user = goes.same_user;
+          same_opening = goes.same_opening;
+          legal = legal_of start.opening known goes.same_opening goes.sound;
+          after_known = subst (IsPrefixOf start.operations) (sym since) ([], refl);
+          goes_on = goes.sound.since_load;
+        };
         each_was_out = λ id within.
             subst (λ (p : List (Option T) × History T). WasOutBetween p.0 p.1 known.operations id) (λ i.
             (goes.same_opening i, sym since i)) (each id within);
       }
 
   -- and so it is of the user as it was before that load
-  pub out_since : (count : ℕ) (page : TableId) (before start : UserView T) (seen : FullSeen T)
+  pub out_since : (count : ℕ) (page : TableId) (before start : UserView T) (seen : SeenView T)
       → StartsFrom before start → IsAllOut count page start seen → IsAllOut count page before seen
   out_since count page before start seen starts is =
-      let known = view_of seen.seat in
+      let known = seen.known in
+      let knew = is.knows in
       record {
         of_page = is.of_page;
-        same_user = is.same_user ∙ starts.same_user;
-        same_opening = is.same_opening ∙ starts.same_opening;
-        legal = subst (λ opening. IsLegal opening known.operations) starts.same_opening is.legal;
-        after_known = prefix_further before.operations start.operations known.since starts.after_known is.after_known;
-        goes_on = is.goes_on;
+        knows = record {
+          same_user = knew.same_user ∙ starts.same_user;
+          same_opening = knew.same_opening ∙ starts.same_opening;
+          legal = subst (λ opening. IsLegal opening known.operations) starts.same_opening knew.legal;
+          after_known = prefix_further before.operations start.operations known.since starts.after_known
+              knew.after_known;
+          goes_on = knew.goes_on;
+        };
         each_was_out = λ id within.
             subst (λ opening. WasOutBetween opening known.since known.operations id) starts.same_opening
+            (is.each_was_out id within);
+      }
+
+  -- whatever the user had known before, each item of the page was seen in use
+  pub full_page : (page : TableId) (before : UserView T) (seen : SeenView T)
+      → IsAllOut PAGE_ITEMS page before seen → IsFullPage page seen
+  full_page page before seen is =
+      let known = seen.known in
+      let opened = sym is.knows.same_opening in
+      record {
+        of_page = is.of_page;
+        knows = record {
+          same_user = refl;
+          same_opening = refl;
+          legal = subst (λ opening. IsLegal opening known.operations) opened is.knows.legal;
+          after_known = (known.since, sym (append-nil known.since));
+          goes_on = is.knows.goes_on;
+        };
+        each_was_out = λ id within.
+            subst (λ opening. WasOutBetween opening known.since known.operations id) opened
             (is.each_was_out id within);
       }
 

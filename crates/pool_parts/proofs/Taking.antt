@@ -1,13 +1,12 @@
 -- What a user has seen that tried the bits of a word.
-use Rattle.std.proofs.Common.{◌≡◌, ◌≢◌, List, [], ◌∷◌, get_or, Option, None, Some, ℕ, ◌+◌, ◌-◌, ◌*◌, ◌<◌, ◌≤◌}
+use Rattle.std.proofs.Common.{◌≡◌, ◌≢◌, [], ℕ, ◌+◌, ◌-◌, ◌*◌, ◌<◌, ◌≤◌}
 use Rattle.std.proofs.Common.{ap, sym, ◌∙◌, subst, arith}
 use Rattle.std.specs.Int.{bit_at}
 use native.Mathlib.Decide.{ℕ_discrete}
 use mathlib.Core.Logic.{dite}
 use Rattle.pool_parts.specs.Word.{ClearsBit, IsLeastBit}
 use Rattle.pool_parts.specs.Ledger.{History, IsPrefixOf, WasOutBetween}
-use Rattle.atomic_table.specs.Table.{rest}
-use Rattle.pool_parts.specs.PageRule.{User, GoesOn, Misses, TakesOne, MissesAll}
+use Rattle.pool_parts.specs.PageRule.{User, GoesOn, Misses, MissesAll}
 use Rattle.pool_parts.proofs.Ledger.{still_out, out_since}
 
 -- the bits are tried from the lowest on, so a bit that is left has at most as many tries before it as there are bits

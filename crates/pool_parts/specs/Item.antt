@@ -4,7 +4,7 @@ use Rattle.std.specs.Coded.{Coded, Coded-set, coded_ℕ, coded_option, coded_lis
 use Rattle.atomic_table.specs.Seated.{TableId, table_id_coded}
 use Rattle.pool_parts.specs.declared.page.history.Operation.TheVariants.{Pull}
 use Rattle.pool_parts.specs.declared.page.user_view.UserView.{UserView}
-use Rattle.pool_parts.specs.Ledger.{History, operations_of, IsLegal}
+use Rattle.pool_parts.specs.Ledger.{History, operations_of, IsLegal, WasOutBetween}
 use Rattle.pool_parts.specs.declared.page.word.TheConstants.{PAGE_ITEMS}
 
 -- so many values, by number, each of which meets the condition
@@ -30,6 +30,18 @@ pub record Item (T : Type 0) : Type 0 where
 pub record SlotView (T : Type 0) : Type 0 where
   pub item : Item T
   pub known : UserView T
+
+-- what the evidence shows that each item of a page or of a fixed pool was seen in use: which one it is, and what its
+-- user knows
+pub record SeenView (T : Type 0) : Type 0 where
+  pub page : TableId
+  pub known : UserView T
+
+-- what that evidence keeps: each item was out at some place between the first load of its user's last call and now
+abbrev pub SawEachOut : {T : Type 0} → SeenView T → Type 0
+SawEachOut seen =
+    ∥ ((id : ℕ) → id < seen.page.slots
+    → WasOutBetween seen.known.opening seen.known.since seen.known.operations id) ∥₁
 
 -- what a pulled value shows that has no number: the borrow or the owner of its pool, and the value
 pub record ValueView (P T : Type 0) : Type 0 where

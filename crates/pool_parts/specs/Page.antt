@@ -1,6 +1,8 @@
 -- What a page shows, and what somebody knows of its history: the holder of an item, a note, a witness.
 use Rattle.std.specs.Prelude.{◌≡◌, List, [], ◌∷◌, ◌++◌, Option, Some}
-use Rattle.atomic_table.specs.Seated.{TableId}
+use base.Stored.{coded_via}
+use Rattle.std.specs.Coded.{Coded, Coded-set, coded_option, coded_list, coded×}
+use Rattle.atomic_table.specs.Seated.{TableId, table_id_coded}
 use Rattle.atomic_table.specs.declared.shared.Seat.{Seat}
 use Rattle.pool_parts.specs.declared.page.shared_page.Page.{Page}
 use Rattle.pool_parts.specs.declared.page.history.Operation.TheVariants.{Return}
@@ -11,6 +13,21 @@ use Rattle.pool_parts.specs.declared.page.user_view.UserView.{UserView}
 use Rattle.pool_parts.specs.Item.{Item}
 use Rattle.pool_parts.specs.Ledger.{History, operations_of, IsLegal, IsPrefixOf, NoOperationOn}
 
+-- which page it is, and the values that it opened with, by id
+pub record PageView (T : Type 0) : Type 0 where
+  pub identity : TableId
+  pub opening : List (Option T)
+
+-- a page is told from another by what it shows
+pub page_coded : {T : Type 0} → Coded T → Coded (PageView T)
+page_coded code =
+    coded_via (coded× table_id_coded (coded_list (coded_option code))) (λ page. (page.identity, page.opening))
+    (λ one other same i. record { identity = (same i).0; opening = (same i).1 })
+
+-- that two pages are equal
+pub same_opened : {T : Type 0} → Coded T → (a b : PageView T) → IsProp (a ≡ b)
+same_opened code = Coded-set (page_coded code)
+
 module _ {T K : Type 0} where
   -- which page it is
   abbrev pub page_identity : Page T K → TableId
@@ -20,10 +37,18 @@ module _ {T K : Type 0} where
   abbrev pub page_opening : Page T K → List (Option T)
   page_opening page = page.items.table.shared.key.values.value.items
 
+  -- what contracts see of a page
+  abbrev pub page_view : Page T K → PageView T
+  page_view page = record { identity = page_identity page; opening = page_opening page }
+
 module _ {T : Type 0} where
   -- what the user of a seat knows
   abbrev pub view_of : Seat (Option T) (UserView T) → UserView T
   view_of seat = seat.me.0
+
+  -- the page of which a holder has an item, as it knows it
+  abbrev pub held_page : Holding T → PageView T
+  held_page holding = record { identity = holding.seat.table_id; opening = (view_of holding.seat).opening }
 
   -- the item that a holder has, with a value
   abbrev pub held_item : Holding T → T → Item T

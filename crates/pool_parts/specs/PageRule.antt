@@ -103,6 +103,13 @@ module _ {T : Type 0} where
   abbrev pub IsOutNow : UserView T → ℕ → Type 0
   IsOutNow known id = value_at known.opening known.operations id ≡ None
 
+  -- the user may take an item: it is there, holds and carries nothing, and what it knows is so
+  pub record MayTake (user : User T) : Type 0 where
+    pub carries_none : user.1 ≡ []
+    pub holds_none : user.0.held ≡ None
+    pub here : user.0.gone ≡ false
+    pub sound : IsSound user.0
+
   -- the user has taken one item of a pool with so many; it carries the item's value, or nothing once that has moved out
   pub record TakesOne (meets : T → Type 0) (items id : ℕ) (value : T) (carried : Option T) (old new : User T)
       : Type 0 where

@@ -1,4 +1,4 @@
--- What a page answers to a pull: a slot with an item, or that each of its items was observed taken.
+-- What a page answers to a pull: a slot with an item, or that each of its items was seen in use.
 use mir.Syntax.{named}
 use Rattle.std.specs.Prelude.{◌≡◌, ℕ, ◌+◌, ◌<◌, ◌≤◌, []}
 use Rattle.std.specs.Borrow.{Lends, Fml, RattleType, MutBor}
@@ -8,27 +8,32 @@ use Rattle.pool_parts.specs.contracts.page.slot.PageSlot as SlotRow
 use Rattle.pool_parts.specs.declared.clean.Clean as Clean
 use Rattle.pool_parts.specs.declared.page.full_seen.Allocated.{Allocated}
 use Rattle.pool_parts.specs.declared.page.full_seen.Allocated.TheVariants.{Slot, Full}
-use Rattle.pool_parts.specs.declared.page.full_seen.FullSeen.{FullSeen}
 use Rattle.pool_parts.specs.declared.page.user_view.UserView.{UserView}
 use Rattle.pool_parts.specs.declared.page.word.TheConstants.{PAGE_ITEMS}
-use Rattle.pool_parts.specs.Item.{SlotView, IsPageItem, IsPulled}
+use Rattle.pool_parts.specs.Item.{SlotView, SeenView, IsPageItem, IsPulled, new_user}
 use Rattle.pool_parts.specs.Ledger.{IsLegal, IsPrefixOf, WasOutBetween}
-use Rattle.pool_parts.specs.Page.{view_of}
 
 module _ {T : Type 0} where
-  -- each of the items of this page or fixed pool, which has so many, was observed taken in one call, by a user that had
+  -- a user knows more than it had known before: by a load that came after all of that, and by what came since
+  pub record KnowsMore (before known : UserView T) : Type 0 where
+    pub same_user : known.user ≡ before.user
+    pub same_opening : known.opening ≡ before.opening
+    pub legal : IsLegal before.opening known.operations
+    pub after_known : IsPrefixOf before.operations known.since
+    pub goes_on : IsPrefixOf known.since known.operations
+
+  -- each of the items of this page or fixed pool, which has so many, was seen in use in one call, by a user that had
   -- known this before
-  pub record IsAllOut (count : ℕ) (page : TableId) (before : UserView T) (seen : FullSeen T) : Type 0 where
-    pub of_page : seen.seat.table_id ≡ page
-    pub same_user : (view_of seen.seat).user ≡ before.user
-    pub same_opening : (view_of seen.seat).opening ≡ before.opening
-    pub legal : IsLegal before.opening (view_of seen.seat).operations
-    -- the call's first load stands after all that the user knew before, and the history goes on from there
-    pub after_known : IsPrefixOf before.operations (view_of seen.seat).since
-    pub goes_on : IsPrefixOf (view_of seen.seat).since (view_of seen.seat).operations
-    -- each item was out at some place between that load and now
+  pub record IsAllOut (count : ℕ) (page : TableId) (before : UserView T) (seen : SeenView T) : Type 0 where
+    pub of_page : seen.page ≡ page
+    pub knows : KnowsMore before seen.known
+    -- each item was out at some place between the call's first load and now
     pub each_was_out : (id : ℕ) → id < count
-        → WasOutBetween before.opening (view_of seen.seat).since (view_of seen.seat).operations id
+        → WasOutBetween before.opening seen.known.since seen.known.operations id
+
+  -- each of the items of this page was seen in use in one call
+  abbrev pub IsFullPage : TableId → SeenView T → Type 0
+  IsFullPage page seen = IsAllOut PAGE_ITEMS page (new_user seen.known.opening seen.known.user) seen
 
   -- a user that had made so many loads and tries has read the page's word once more, and has tried 32 bits more at most
   pub record IsBrief (read tried : ℕ) (known : UserView T) : Type 0 where
@@ -39,10 +44,10 @@ module _ {T K : Type 0} where
   -- what the user of the call knows of the page, whatever it answers
   abbrev pub answer_view : Allocated T K → UserView T
   answer_view (Slot slot) = slot.known
-  answer_view (Full seen) = view_of seen.seat
+  answer_view (Full seen) = seen.known
 
   -- what this page answers to a user that had known this before: an item of it, which the user pulled; or each of its
-  -- items was observed taken
+  -- items was seen in use
   abbrev pub IsAnswerOf : (T → Type 0) → TableId → UserView T → Allocated T K → Type 0
   IsAnswerOf meets page before (Slot slot) = IsPageItem meets slot.item × IsPulled page before slot.item
   IsAnswerOf meets page before (Full seen) = IsAllOut PAGE_ITEMS page before seen

@@ -6,7 +6,7 @@
 //! directly. Closures go through [`Makes`] and [`Resets`], in code that is generic in [`InitBy`]
 //! and [`ResetBy`]. A type that defines how its values are made and reset implements `Recyclable`,
 //! which is defined with the pools.
-ghost use Rattle.std.specs.Prelude.{⊤, Option, IfSome};
+ghost use Rattle.std.specs.Prelude.{⊤, Option, IfSome, MatchOption};
 
 use crate::clean::Clean;
 
@@ -60,8 +60,38 @@ pub trait Reset<T, K: Clean<T>>: Drop {
     /// any value that meets the condition.
     ghost leaves: { Self → T → T → Type 0 } = { λ _ _ _. ⊤ };
 
+    /// The values that `try_reset` may reject. By default it rejects none.
+    ghost rejects: { Self → T → Type 0 } = { λ _ _. ⊥ };
+
     /// Makes a value ready to be kept.
     fn reset(&self, value: &mut T)
         ensures leaves { leaves self.now value.old value.new }
         ensures meets { K.meets value.new };
+
+    /// Makes a value ready to be kept, as `reset`, or rejects it by `None`. By default it rejects
+    /// none.
+    ///
+    /// The lazy pool calls it at each return. The place of a rejected value is empty, and a later
+    /// pull makes another value. The linear and the fixed pool call `reset`.
+    ///
+    /// # Examples
+    ///
+    /// ```rust
+    /// fn try_reset(&self, mut session: Session) -> Option<Session> {
+    ///     if session.is_broken {
+    ///         return None; // it is dropped, and a later pull makes another one
+    ///     }
+    ///     self.reset(&mut session);
+    ///     Some(session)
+    /// }
+    /// ```
+    #[inline(always)]
+    fn try_reset(&self, value: T) -> Option<T>
+        ensures { MatchOption result (rejects self.now value)
+            (λ new. leaves self.now value new × K.meets new) }
+    {
+        let mut left = value;
+        self.reset(&mut left);
+        Some(left)
+    }
 }

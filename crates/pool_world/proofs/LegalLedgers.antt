@@ -57,11 +57,17 @@ module _ {T : Type 0} where
   held-inside opening history legal user id holds =
       inside opening history legal id (λ none past. untouched-held history user id none holds)
 
-  free-inside : (opening : List (Option T)) (history : History T) → IsLegal opening history → (id : ℕ) (value : T)
+  pub free-inside : (opening : List (Option T)) (history : History T) → IsLegal opening history → (id : ℕ) (value : T)
       → value_at opening history id ≡ Some value → id < length opening
   free-inside opening history legal id value lies =
       inside opening history legal id (λ none past.
       let is = untouched-value opening history id none ∙ get_or_past opening id None past in cc)
+
+  -- an operation that may follow is on a number with which the pool opened
+  pub may-inside : (opening : List (Option T)) (history : History T) → IsLegal opening history
+      → (operation : Operation T) → MayFollow opening history operation → id_of operation < length opening
+  may-inside opening history legal (Pull user id value) may = free-inside opening history legal id value may.0
+  may-inside opening history legal (Return user id value) may = held-inside opening history legal user id may.1
 
   -- further numbers leave what lies at the others, and a legal ledger legal
   pub value_at-more : (opening more : List (Option T)) (history : History T) (id : ℕ) → id < length opening

@@ -1,4 +1,5 @@
--- Facts of runs: a run's ledger is legal, and its pool is what the ledger says.
+-- Facts of runs: a run's pulls, returns and growths are a legal history of one pool, its ledger is
+-- legal, its pool is what the ledger says, and each number that is out has one holder.
 use Rattle.std.proofs.Common.{◌≡◌, ◌≢◌, inl, inr, ℕ, ◌+◌, ◌-◌, ◌*◌, ◌<◌, ◌≤◌, ◌==◌, nat_lt, Bool, true, false}
 use Rattle.std.proofs.Common.{if◌then◌else◌, Option, Some, None, List, [], ◌∷◌, ◌++◌, map, length, get_or, slice_get}
 use Rattle.std.proofs.Common.{zero, suc, refl, ap, sym, ◌∙◌, arith, length-append}
@@ -12,7 +13,7 @@ use Rattle.pool_parts.proofs.Ledger.{operations_of_own, value_at-here, value_at-
 use Rattle.pool_parts.proofs.LedgerHolders.{held}
 use Rattle.pool_world.specs.Pool.{Place, Pool, Absent, Free, Out, IsPool, AllowsPages, place_of, free_with}
 use Rattle.pool_world.specs.Run.{Act, Opens, Writes, Operates, Grows, agent_of, acts_of, ledger_of}
-use Rattle.pool_world.specs.Run.{pages_of, made, opened, pool_of, Looks, last_value, Holds, Since, MayCome, Run}
+use Rattle.pool_world.specs.Run.{pages_of, made, opened, pool_of, Looks, last_value, Holds, Since, MayCome, Run, AreLegalActs}
 use Rattle.pool_world.specs.Run.{HasHolders, AtEachPlace}
 use Rattle.pool_world.proofs.Places.{place_of-free, place_of-out, place_of-there}
 use Rattle.pool_world.proofs.Places.{slice_get-append_back}
@@ -93,13 +94,13 @@ module _ {T : Type 0} where
   has-value (act ∷ own) n holds = has-value own n holds
 
   -- values with which a page comes are free
-  free-values : (values : List T) (n : ℕ) → n < length values
+  pub free-values : (values : List T) (n : ℕ) → n < length values
       → place_of (Some (get_or (map Some values) n None)) ≡ free_with (slice_get values n)
   free-values [] n below = absurd (omega arith)
   free-values (value ∷ values) zero below = refl
   free-values (value ∷ values) (suc n) below = free-values values n (omega arith)
 
-  some-values : (values : List T) (n : ℕ) → n < length values → get_or (map Some values) n None ≢ None
+  pub some-values : (values : List T) (n : ℕ) → n < length values → get_or (map Some values) n None ≢ None
   some-values [] n below none = absurd (omega arith)
   some-values (value ∷ values) zero below none = cc
   some-values (value ∷ values) (suc n) below none = some-values values n (omega arith) none
@@ -122,7 +123,7 @@ if-some false x y is = absurd (cc)
 
 module _ {T : Type 0} (first : List T) where
   -- what there is at a number: what the ledger says at those of the pages, and nothing past them
-  pool-inside : (acts : List (Act T)) (n : ℕ) → n < 32 * pages_of acts
+  pub pool-inside : (acts : List (Act T)) (n : ℕ) → n < 32 * pages_of acts
       → (pool_of first acts).at n ≡ place_of (Some (value_at (opened first acts) (ledger_of acts) n))
   pool-inside acts n below = rw (lt-ltb n (32 * pages_of acts) below) refl
 
@@ -132,11 +133,11 @@ module _ {T : Type 0} (first : List T) where
   pool-past : (acts : List (Act T)) (n : ℕ) → 32 * pages_of acts ≤ n → (pool_of first acts).at n ≡ Absent
   pool-past acts n past = rw (le-ltb n (32 * pages_of acts) past) refl
 
-  free-lies : (acts : List (Act T)) (n : ℕ) (value : T) → (pool_of first acts).at n ≡ Free value
+  pub free-lies : (acts : List (Act T)) (n : ℕ) (value : T) → (pool_of first acts).at n ≡ Free value
       → value_at (opened first acts) (ledger_of acts) n ≡ Some value
   free-lies acts n value free = (if-some _ _ _ (place_of-free _ value free)).1
 
-  out-lies : (acts : List (Act T)) (n : ℕ) → (pool_of first acts).at n ≡ Out
+  pub out-lies : (acts : List (Act T)) (n : ℕ) → (pool_of first acts).at n ≡ Out
       → (n < 32 * pages_of acts) × (value_at (opened first acts) (ledger_of acts) n ≡ None)
   out-lies acts n out =
       let is = if-some (nat_lt n (32 * pages_of acts)) _ _ (place_of-out _ out) in
@@ -158,7 +159,7 @@ module _ {T : Type 0} (first : List T) where
       }
 
   -- a number on which no operation was is free with the value with which its page came
-  pool-untouched : (acts : List (Act T)) → length (made first acts) ≡ 32 * pages_of acts → (n : ℕ)
+  pub pool-untouched : (acts : List (Act T)) → length (made first acts) ≡ 32 * pages_of acts → (n : ℕ)
       → NoOperationOn n (ledger_of acts) → (pool_of first acts).at n ≡ free_with (slice_get (made first acts) n)
   pool-untouched acts count n none = elim (cases_lt n (32 * pages_of acts)) [
     | inl below ↦
@@ -177,16 +178,66 @@ module _ {T : Type 0} (first : List T) where
         pool-untouched [] full n tt ∙ ap (λ m. free_with (slice_get first m)) same;
   }
 
-module _ {T : Type 0} (Leaves : T → T → Type 0) (limit : Option ℕ) (first : List T) where
-  -- the ledger of a run is legal, from the values with which its pages came
-  pub legal-run : (acts : List (Act T)) → Run Leaves limit first acts → IsLegal (opened first acts) (ledger_of acts)
-  legal-run [] run = tt
-  legal-run (Operates (Pull a n value) ∷ acts) run = (run.0.0, legal-run acts run.1)
-  legal-run (Operates (Return a n kept) ∷ acts) run = (run.0.0, legal-run acts run.1)
-  legal-run (Grows a values ∷ acts) run =
+module _ {T : Type 0} (first : List T) where
+  -- the ledger of a legal history of one pool is legal, from all the values that came
+  pub legal-acts : (acts : List (Act T)) → AreLegalActs first acts → IsLegal (opened first acts) (ledger_of acts)
+  legal-acts [] legal = tt
+  legal-acts (Operates operation ∷ acts) legal = (legal.0, legal-acts acts legal.1)
+  legal-acts (Grows a values ∷ acts) legal =
       rw (map-append Some (made first acts) values)
-      (legal-more (opened first acts) (map Some values) (ledger_of acts) (legal-run acts run.1))
-  legal-run (act ∷ acts) run = legal-run acts run.1
+      (legal-more (opened first acts) (map Some values) (ledger_of acts) (legal-acts acts legal.1))
+  legal-acts (act ∷ acts) legal = legal-acts acts legal
+
+module _ {T : Type 0} (first : List T) (full : length first ≡ 32) where
+  -- pages come with a value for each of their numbers
+  pub made-count : (acts : List (Act T)) → AreLegalActs first acts → length (made first acts) ≡ 32 * pages_of acts
+  made-count [] legal = omega arith
+  made-count (Grows a values ∷ acts) legal =
+      let before = made-count acts legal.1 in
+      let more = length-append (made first acts) values in
+      let page = legal.0 in
+      omega arith
+  made-count (Operates operation ∷ acts) legal = made-count acts legal.1
+  made-count (act ∷ acts) legal = made-count acts legal
+
+  -- a growth brings a page
+  pub pool-grown : (acts : List (Act T)) → AreLegalActs first acts → (a : ℕ) (values : List T)
+      → length values ≡ 32 → IsGrown (pool_of first acts) values (pool_of first (Grows a values ∷ acts))
+  pool-grown acts legal a values page =
+      let longer = Grows a values ∷ acts in
+      let opening = opened first acts in
+      let history = ledger_of acts in
+      let count = made-count acts legal in
+      let numbers = length-map (made first acts) (λ value. Some value) in
+      let more = length-append (made first acts) values in
+      let split = map-append Some (made first acts) values in
+      record {
+        pages = refl;
+        before = λ n below.
+            pool-inside first longer n (omega arith)
+            ∙ ap (λ lies. place_of (Some lies)) (ap (λ opens. value_at opens history n) split
+            ∙ value_at-more opening (map Some values) history n (omega arith))
+            ∙ sym (pool-inside first acts n below);
+        page = λ n past.
+            let none = untouched-past opening history (legal-acts first acts legal) n (omega arith) in
+            let same : n ≡ n - 32 * pages_of acts + length (made first acts) = omega arith in
+            pool-untouched first longer (omega arith) n none
+            ∙ ap free_with (ap (slice_get (made first acts ++ values)) same
+            ∙ slice_get-append_back (made first acts) values (n - 32 * pages_of acts));
+      }
+
+module _ {T : Type 0} (Leaves : T → T → Type 0) (limit : Option ℕ) (first : List T) where
+  -- the pulls, returns and growths of a run are a legal history of one pool that grows
+  pub run-acts : (acts : List (Act T)) → Run Leaves limit first acts → AreLegalActs first acts
+  run-acts [] run = tt
+  run-acts (Operates (Pull a n value) ∷ acts) run = (run.0.0, run-acts acts run.1)
+  run-acts (Operates (Return a n kept) ∷ acts) run = (run.0.0, run-acts acts run.1)
+  run-acts (Grows a values ∷ acts) run = (run.0.1.0, run-acts acts run.1)
+  run-acts (act ∷ acts) run = run-acts acts run.1
+
+  -- so the ledger of a run is legal
+  pub legal-run : (acts : List (Act T)) → Run Leaves limit first acts → IsLegal (opened first acts) (ledger_of acts)
+  legal-run acts run = legal-acts first acts (run-acts acts run)
 
   -- no more pages came than there may be
   allowed-run : AllowsPages limit 1 → (acts : List (Act T)) → Run Leaves limit first acts
@@ -224,42 +275,6 @@ module _ {T : Type 0} (Leaves : T → T → Type 0) (limit : Option ℕ) (first 
       ((out, holds.number), (value, holds.has, leaves))
 
   module _ (full : length first ≡ 32) where
-    -- pages come with a value for each of their numbers
-    made-count : (acts : List (Act T)) → Run Leaves limit first acts → length (made first acts) ≡ 32 * pages_of acts
-    made-count [] run = omega arith
-    made-count (Grows a values ∷ acts) run =
-        let before = made-count acts run.1 in
-        let more = length-append (made first acts) values in
-        let page = run.0.1.0 in
-        omega arith
-    made-count (act ∷ acts) run = made-count acts run.1
-
-    -- a growth brings a page
-    pub pool-grown : (acts : List (Act T)) → Run Leaves limit first acts → (a : ℕ) (values : List T)
-        → length values ≡ 32 → IsGrown (pool_of first acts) values (pool_of first (Grows a values ∷ acts))
-    pool-grown acts run a values page =
-        let longer = Grows a values ∷ acts in
-        let opening = opened first acts in
-        let history = ledger_of acts in
-        let count = made-count acts run in
-        let numbers = length-map (made first acts) (λ value. Some value) in
-        let more = length-append (made first acts) values in
-        let split = map-append Some (made first acts) values in
-        record {
-          pages = refl;
-          before = λ n below.
-              pool-inside first longer n (omega arith)
-              ∙ ap (λ lies. place_of (Some lies)) (ap (λ opens. value_at opens history n) split
-              ∙ value_at-more opening (map Some values) history n (omega arith))
-              ∙ sym (pool-inside first acts n below);
-          page = λ n past.
-              let none = untouched-past opening history (legal-run acts run) n (omega arith) in
-              let same : n ≡ n - 32 * pages_of acts + length (made first acts) = omega arith in
-              pool-untouched first longer (omega arith) n none
-              ∙ ap free_with (ap (slice_get (made first acts ++ values)) same
-              ∙ slice_get-append_back (made first acts) values (n - 32 * pages_of acts));
-        }
-
     -- each number that is out has one holder, and each other number none
     pub holders-run : (acts : List (Act T)) → Run Leaves limit first acts → HasHolders first acts
     holders-run acts run =
@@ -267,7 +282,7 @@ module _ {T : Type 0} (Leaves : T → T → Type 0) (limit : Option ℕ) (first 
         let history = ledger_of acts in
         let legal = legal-run acts run in
         let has = held opening history legal in
-        let count = made-count acts run in
+        let count = made-count first full acts (run-acts acts run) in
         let numbers = length-map (made first acts) (λ value. Some value) in
         record {
           some = λ n out.

@@ -2,7 +2,7 @@
 -- agents, with openings, writes, growths and refusals beside it. As in a ledger, the last act
 -- stands first.
 use Rattle.std.specs.Prelude.{◌≡◌, ◌≢◌, ◌⊎◌, ℕ, ◌+◌, ◌*◌, ◌<◌, ◌≤◌, ◌==◌, nat_lt, if◌then◌else◌, Option, Some, None}
-use Rattle.std.specs.Prelude.{List, [], ◌∷◌, ◌++◌, map, ⊤}
+use Rattle.std.specs.Prelude.{List, [], ◌∷◌, ◌++◌, map, length, ⊤}
 use Rattle.pool_parts.specs.declared.page.history.Operation.{Operation}
 use Rattle.pool_parts.specs.declared.page.history.Operation.TheVariants.{Pull, Return}
 use Rattle.pool_parts.specs.declared.page.word.TheConstants.{PAGE_ITEMS}
@@ -55,6 +55,15 @@ module _ {T : Type 0} where
   -- from these the ledger opens
   abbrev pub opened : List T → List (Act T) → List (Option T)
   opened first acts = map Some (made first acts)
+
+  -- the pulls, returns and growths are a legal history of one pool that grows: each operation may
+  -- follow those before it, from the values that have come by then, and each growth brings 32 values
+  abbrev pub AreLegalActs : List T → List (Act T) → Type 0
+  AreLegalActs first [] = ⊤
+  AreLegalActs first (Operates operation ∷ acts) =
+      MayFollow (opened first acts) (ledger_of acts) operation × AreLegalActs first acts
+  AreLegalActs first (Grows a values ∷ acts) = (length values ≡ PAGE_ITEMS) × AreLegalActs first acts
+  AreLegalActs first (_ ∷ acts) = AreLegalActs first acts
 
   -- the pool to which a run has led: a number of its pages is free with the value that the ledger
   -- says lies there, and out where nothing does

@@ -11,7 +11,6 @@ mod machine;
 mod moves;
 mod point;
 mod prepared;
-mod reachable_world;
 mod world;
 mod world_page;
 

@@ -19,8 +19,8 @@ mod observer;
 mod openings;
 mod others;
 mod pages;
+mod pools_behind_a_lock;
 mod refused_openings;
-mod stack_pools;
 mod supply;
 mod worlds;
 
@@ -45,7 +45,7 @@ fn observe_all<R: Files + AllocGlobal + Print + Wait + Copy>(rt: R, turns: usize
     pages::observe(rt.alloc(), &mut observer)?;
     observer.observe_each(rt.alloc(), &linear_pool::KINDS)?;
     observer.observe_each(rt.alloc(), &fixed_pool::KINDS)?;
-    observer.observe_each(rt.alloc(), &stack_pools::KINDS)?;
+    observer.observe_each(rt.alloc(), &pools_behind_a_lock::KINDS)?;
     observer.observe_each(rt.alloc(), &others::KINDS)?;
     observer.observe_each(rt.alloc(), &cores::KINDS)?;
     observer.observe_each(rt.alloc(), &worlds::KINDS)?;

@@ -1,6 +1,6 @@
 //! Pulls that make their item by a closure of the call, whose error reaches the caller.
 use crate::assert_equal::assert_equal;
-use crate::numbers::{Numbers, numbers, opened, opened_shared, wait_for_use};
+use crate::numbers::{Numbers, numbers, opened, opened_shared, wait_for_use, wait_until};
 use lazy_pools::lazy_object_pool::lazy_refused::PullWithError;
 use std::ops::Deref;
 use std::rt::Clock;
@@ -130,4 +130,57 @@ fn a_filling_makes_an_item_beside_one_in_the_making(rt: HostRuntime) {
     let pool = numbers(rt.alloc(), 2).expect(&rt, "a pool is made");
     let gave = outcome_of(&pool.pull_with(|| five_beside_one(&pool)));
     assert_equal(&rt, (gave, pool.made()), (Gave::Value(5), 2));
+}
+
+/// What pulls that wait give: one whose making fails, one that makes a five, and beside it one that
+/// waits for no time.
+fn waiting<R: Wait + Clock>(rt: &R, pool: &Numbers) -> [Gave; 3] {
+    let failed = outcome_of(&pool.pull_wait_with(rt, down));
+    let item = pool.pull_timeout_with(rt, Duration::from_secs(1), five);
+    let beside = outcome_of(&pool.pull_timeout_with(rt, Duration::from_secs(0), five));
+    [failed, outcome_of(&item), beside]
+}
+
+/// The same of owned pulls.
+fn waiting_owned<R: Wait + Clock>(rt: &R, pool: &Arc<Numbers>) -> [Gave; 3] {
+    let failed = outcome_of(&pool.pull_owned_wait_with(rt, down));
+    let item = pool.pull_owned_timeout_with(rt, Duration::from_secs(1), five);
+    let beside = outcome_of(&pool.pull_owned_timeout_with(rt, Duration::from_secs(0), five));
+    [failed, outcome_of(&item), beside]
+}
+
+#[test]
+fn a_pull_that_waits_tells_why_its_making_failed(rt: HostRuntime) {
+    let pool = opened(&rt, rt.alloc());
+    let gave = [Gave::Make("down"), Gave::Value(5), Gave::Limit];
+    assert_equal(&rt, waiting(&rt, &pool), gave);
+    assert_equal(&rt, (pool.made(), pool.in_use()), (1, 0));
+    let pool = opened_shared(&rt, rt.alloc());
+    let gave = [Gave::Make("down"), Gave::Value(5), Gave::Limit];
+    assert_equal(&rt, waiting_owned(&rt, &pool), gave);
+    assert_equal(&rt, (pool.made(), pool.in_use()), (1, 0));
+}
+
+/// One thread holds the item until two others wait, whose making fails, and discards it. Whether it
+/// saw them wait, and each of them was told its own cause.
+fn told_both<R: Threads + Wait + Clock + Sync>(rt: &R, pool: &Numbers) -> Option<bool> {
+    let item = pool.pull().ok()?;
+    let wait = || outcome_of(&pool.pull_wait_with(rt, down));
+    let (seen, causes) = thread::join(
+        rt,
+        || {
+            let seen = wait_until(rt, || pool.waiting() == 2);
+            item.discard();
+            seen
+        },
+        || thread::join(rt, &wait, &wait),
+    );
+    Some(seen && causes == (Gave::Make("down"), Gave::Make("down")))
+}
+
+#[test]
+fn each_that_waits_is_told_its_cause(rt: HostRuntime) {
+    let pool = opened(&rt, rt.alloc());
+    assert_equal(&rt, told_both(&rt, &pool), Some(true));
+    assert_equal(&rt, (pool.in_use(), pool.waiting()), (0, 0));
 }

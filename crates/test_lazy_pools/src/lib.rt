@@ -6,7 +6,11 @@ mod assert_equal;
 #[cfg(test)]
 mod causes;
 #[cfg(test)]
+mod clearing;
+#[cfg(test)]
 mod gone;
+#[cfg(test)]
+mod limits;
 #[cfg(test)]
 mod makings;
 #[cfg(test)]
@@ -19,6 +23,10 @@ mod owners;
 mod recycling;
 #[cfg(test)]
 mod refusals;
+#[cfg(test)]
+mod rejecting;
+#[cfg(test)]
+mod schedules;
 #[cfg(test)]
 mod sends;
 #[cfg(test)]

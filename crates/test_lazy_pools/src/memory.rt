@@ -3,7 +3,9 @@ use crate::assert_equal::assert_equal;
 use crate::numbers::{Numbers, numbers};
 use lazy_pools::PullError;
 use std::alloc::Global;
-use std::sync::Arc;
+use std::process::Abort;
+use std::rt::Clock;
+use std::sync::{Arc, Wait};
 use std::time::Duration;
 use test_values::again;
 
@@ -37,4 +39,40 @@ fn an_item_takes_no_memory(rt: HostRuntime) {
     }
     let three = pool.pull().map(|item| *item);
     assert_equal(&rt, (three, pool.made()), (Ok(3), 2));
+}
+
+fn five() -> Result<u32, ()> {
+    Ok(5)
+}
+
+/// Pulls two items by each kind of pull that waits and makes by a closure, and drops them.
+fn wait_and_clear<R: Abort + Wait + Clock>(rt: &R, pool: &Arc<Numbers>) {
+    let time = Duration::from_millis(1);
+    let first = pool.pull_wait_with(rt, five).is_ok();
+    let second = pool.pull_timeout_with(rt, time, five).is_ok();
+    let third = pool.pull_owned_wait_with(rt, five).is_ok();
+    let fourth = pool.pull_owned_timeout_with(rt, time, five).is_ok();
+    let fifth = pool.pull_owned_wait(rt).is_ok();
+    pool.clear();
+    assert_equal(
+        rt,
+        (
+            first && second && third && fourth && fifth,
+            pool.waiting(),
+            pool.in_use(),
+        ),
+        (true, 0, 0),
+    );
+}
+
+#[test]
+fn waits_and_clearings_of_a_lazy_pool_ask_for_no_memory(rt: HostRuntime) {
+    let Ok(pool) = owned_numbers(rt.alloc()) else {
+        return;
+    };
+    let told = println!(rt; "from here on no memory is asked for");
+    told.expect(&rt, "standard output is there");
+    for _ in 0..3 {
+        wait_and_clear(&rt, &pool);
+    }
 }

@@ -6,8 +6,10 @@ use lazy_pools::closures::Copied;
 use lazy_pools::{LazyObjectPool, PullError};
 use std::alloc::Global;
 use std::process::Abort;
+use std::rt::Clock;
 use std::sync::Arc;
 use std::thread;
+use std::time::Duration;
 
 /// A pool whose items are made as one number, and reset to another.
 pub type Numbers = LazyObjectPool<u32, Copied<u32, AnyValue>, Copied<u32, AnyValue>>;
@@ -37,4 +39,17 @@ pub fn wait_for_use(pool: &Numbers) {
         }
         thread::yield_now();
     }
+}
+
+/// Whether something comes within 10 seconds, which is asked each millisecond.
+pub fn wait_until<R: Clock, F: Fn() -> bool>(rt: &R, has_come: F) -> bool
+    requires { F.pre has_come }
+{
+    for _ in 0..10_000u32 {
+        if has_come() {
+            return true;
+        }
+        thread::sleep(rt, Duration::from_millis(1));
+    }
+    false
 }

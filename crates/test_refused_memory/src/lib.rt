@@ -21,10 +21,10 @@ mod pages;
 #[cfg(test)]
 mod players;
 #[cfg(test)]
+mod pools_behind_a_lock;
+#[cfg(test)]
 mod refusals;
 #[cfg(test)]
 mod sequential_cores;
-#[cfg(test)]
-mod stack_pools;
 #[cfg(test)]
 mod worlds;

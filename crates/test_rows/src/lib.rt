@@ -11,10 +11,10 @@ mod linear_pool;
 #[cfg(test)]
 mod none_pool;
 #[cfg(test)]
+mod pools_behind_a_lock;
+#[cfg(test)]
 mod pulls;
 #[cfg(test)]
 mod refusals;
 #[cfg(test)]
 mod stack;
-#[cfg(test)]
-mod stack_pools;

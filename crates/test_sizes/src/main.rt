@@ -20,9 +20,9 @@ mod lazy;
 mod linear_pool;
 mod numbers;
 mod players;
+mod pools_behind_a_lock;
 mod pulls;
 mod rounds;
-mod stack_pools;
 mod wrong;
 
 use std::alloc::Global;
@@ -140,8 +140,8 @@ fn outcome_of<W: Wait + Copy>(rt: &W, alloc: Global, kind: Kind, pages: u16) -> 
         Kind::Fixed => fixed_pool::borrowed(rt, alloc, pages),
         Kind::FixedOwned => fixed_pool::owned(rt, alloc, pages),
         Kind::Lazy => lazy::borrowed(rt, alloc, pages),
-        Kind::Mutex => stack_pools::mutex(rt, alloc, pages),
-        Kind::SpinLock => stack_pools::spin_lock(rt, alloc, pages),
+        Kind::Mutex => pools_behind_a_lock::mutex(rt, alloc, pages),
+        Kind::SpinLock => pools_behind_a_lock::spin_lock(rt, alloc, pages),
         Kind::BoundedLinearCore => cores::bounded_linear(alloc, pages),
         Kind::LinearCore => cores::linear(alloc, pages),
         Kind::StackCore => cores::stack(alloc, pages),

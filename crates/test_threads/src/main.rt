@@ -10,14 +10,18 @@
 //! 1.
 //!
 //! Where each of as many threads as a fixed pool has items has one at a time, no pull may be
-//! refused: the last line tells.
+//! refused: a line tells. Another one tells how often the closure of a pull was called though a value
+//! was kept: never. The last one tells whether a thread that waits for the only item of a lazy
+//! pool has it once it is returned, also where nothing is returned later.
 //!
 //! Behind the threads each pool is asked for all its items: those that were not forgotten come, and
 //! of a pool that has a limit no more.
 #![tactic(auto)]
 
+mod handed;
 mod item;
 mod lazy;
+mod made_once;
 mod one_each;
 mod pools;
 mod report;
@@ -64,7 +68,7 @@ enum Kind {
 }
 
 /// Each pool with each kind of item.
-fn use_all<R: Print + AllocGlobal + Threads + Wait + Clock + Copy + Send + 'static>(
+fn use_all<R: Print + AllocGlobal + Threads + Wait + Clock + Copy + Send + Sync + 'static>(
     rt: &R,
     rounds: u32,
 ) -> io::Result<ExitCode> {
@@ -75,7 +79,27 @@ fn use_all<R: Print + AllocGlobal + Threads + Wait + Clock + Copy + Send + 'stat
         is_good &= use_kind::<Tallied, R>(rt, kind, rounds)?;
     }
     is_good &= use_lazy(rt, rounds)?;
-    is_good &= tell_refused(rt, &one_each::refused(rt, rt.alloc(), rounds))?;
+    let refused = one_each::refused(rt, rt.alloc(), rounds);
+    is_good &= tell_count(
+        rt,
+        "fixed, an item for each thread",
+        "pulls refused",
+        &refused,
+    )?;
+    let again = made_once::made_again(rt, rt.alloc(), rounds);
+    is_good &= tell_count(
+        rt,
+        "lazy, made by the closure of a pull",
+        "made again",
+        &again,
+    )?;
+    let lost = handed::lost(rt, rt.alloc(), rounds / WAITS);
+    is_good &= tell_count(
+        rt,
+        "lazy of 1 item, returned once to one that waits",
+        "lost",
+        &lost,
+    )?;
     Ok(if is_good {
         ExitCode::SUCCESS
     } else {
@@ -111,15 +135,20 @@ fn use_lazy<R: Print + AllocGlobal + Threads + Wait + Clock + Copy + Send + 'sta
     Ok(is_good)
 }
 
-/// Prints how many pulls were refused though an item was free. Whether none was.
-fn tell_refused<R: Print>(rt: &R, refused: &Result<u32, PullError>) -> io::Result<bool> {
-    match refused {
-        Ok(refused) => {
-            println!(rt; "fixed, an item for each thread: {refused} pulls refused")?;
-            Ok(*refused == 0)
+/// Prints how often something was seen that may not be. Whether it wasn't.
+fn tell_count<R: Print>(
+    rt: &R,
+    pool: &str,
+    what: &str,
+    count: &Result<usize, PullError>,
+) -> io::Result<bool> {
+    match count {
+        Ok(count) => {
+            println!(rt; "{pool}: {count} {what}")?;
+            Ok(*count == 0)
         }
         Err(refusal) => {
-            println!(rt; "fixed, an item for each thread: {refusal}")?;
+            println!(rt; "{pool}: {refusal}")?;
             Ok(false)
         }
     }

@@ -14,8 +14,8 @@ const THREADS: usize = 8;
 type Pool = FixedObjectPool<u32, Copied<u32, AnyValue>, Copied<u32, AnyValue>, AnyValue>;
 
 /// Pulls an item in each round and returns it. How many pulls were refused.
-fn refusals(pool: &Arc<Pool>, rounds: u32) -> u32 {
-    let mut refused = 0u32;
+fn refusals(pool: &Arc<Pool>, rounds: u32) -> usize {
+    let mut refused = 0usize;
     for round in 0..rounds {
         let is_pulled = match round % 3 {
             0 => pool.pull().is_ok(),
@@ -30,7 +30,7 @@ fn refusals(pool: &Arc<Pool>, rounds: u32) -> u32 {
 }
 
 /// Counts how many pulls of the eight threads were refused.
-pub fn refused<R: Threads>(rt: &R, alloc: Global, rounds: u32) -> Result<u32, PullError> {
+pub fn refused<R: Threads>(rt: &R, alloc: Global, rounds: u32) -> Result<usize, PullError> {
     let pool: Pool = FixedObjectPool::new(alloc, Copied::new(0), Copied::new(0), THREADS)?;
     let pool = Arc::new(alloc, pool)?;
     let mut threads = Vec::with_capacity(alloc, THREADS)?;
@@ -41,7 +41,7 @@ pub fn refused<R: Threads>(rt: &R, alloc: Global, rounds: u32) -> Result<u32, Pu
         })?;
         threads.push(thread)?;
     }
-    let mut refused = 0u32;
+    let mut refused = 0usize;
     for thread in threads {
         refused = refused.saturating_add(thread.join(rt));
     }

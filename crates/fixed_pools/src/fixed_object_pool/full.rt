@@ -1,6 +1,6 @@
 //! How a pull finds that no item was free at one moment, or takes one: it goes round until it has
 //! either.
-ghost use Rattle.std.specs.Prelude.{◌≡◌, ◌+◌, ◌*◌, ◌<◌, ◌≤◌, ℕ, [], None, MatchOption, false};
+ghost use Rattle.std.specs.Prelude.{◌≡◌, ◌+◌, ◌*◌, ◌<◌, ◌≤◌, ℕ, None, MatchOption};
 ghost use Rattle.std.specs.Int.{bit_at};
 
 use super::items::FixedItems;
@@ -14,7 +14,7 @@ impl<T, K: Clean<T>> FixedItems<T, K> {
     ghost use Rattle.fixed_pools.specs.FixedPool.{returns_between, IsFullSince};
     ghost use Rattle.fixed_pools.specs.FixedCount.{Tallies, is_beside, passes_of, ReadsOn};
     ghost use Rattle.pool_parts.specs.PageItems.{items_view};
-    ghost use Rattle.pool_parts.specs.PageRule.{IsOutNow, IsSound, MissesAll, TakesOne};
+    ghost use Rattle.pool_parts.specs.PageRule.{IsOutNow, MayTake, MissesAll, TakesOne};
 
     /// Takes an item that is free, by a user that has read the first word. `None` if no item was
     /// free at one moment. Most pulls take one of the first word, so that is inlined.
@@ -28,10 +28,7 @@ impl<T, K: Clean<T>> FixedItems<T, K> {
     ) -> Option<TakenValue<T>>
         requires pool { seat.old.table_id ≡ (items_view self.now.shared).identity }
         requires in_pool { start < (items_view self.now.shared).identity.words }
-        requires carries_none { seat.old.me.1 ≡ [] }
-        requires holds_none { seat.old.me.0.held ≡ None }
-        requires here { seat.old.me.0.gone ≡ false }
-        requires sound { IsSound seat.old.me.0 }
+        requires ready { MayTake seat.old.me }
         requires found { (bit : ℕ) → bit < 32 → bit_at word bit ≡ 0
             → IsOutNow seat.old.me.0 (32 * start + bit) }
         ensures pool { seat.new.table_id ≡ seat.old.table_id }
@@ -70,10 +67,7 @@ impl<T, K: Clean<T>> FixedItems<T, K> {
     ) -> Option<TakenValue<T>>
         requires pool { seat.old.table_id ≡ (items_view self.now.shared).identity }
         requires in_pool { start < (items_view self.now.shared).identity.words }
-        requires carries_none { first.value.me.1 ≡ [] }
-        requires holds_none { first.value.me.0.held ≡ None }
-        requires here { first.value.me.0.gone ≡ false }
-        requires sound { IsSound first.value.me.0 }
+        requires ready { MayTake first.value.me }
         requires missed { MissesAll (32 * start) (32 * start + 32) first.value.me seat.old.me }
         requires loads { seat.old.me.0.loads ≡ first.value.me.0.loads }
         requires tries { seat.old.me.0.tries ≤ first.value.me.0.tries + 32 }
@@ -114,10 +108,7 @@ impl<T, K: Clean<T>> FixedItems<T, K> {
     ) -> Option<TakenValue<T>>
         requires pool { seat.old.table_id ≡ (items_view self.now.shared).identity }
         requires in_pool { start < (items_view self.now.shared).identity.words }
-        requires carries_none { first.value.me.1 ≡ [] }
-        requires holds_none { first.value.me.0.held ≡ None }
-        requires here { first.value.me.0.gone ≡ false }
-        requires sound { IsSound first.value.me.0 }
+        requires ready { MayTake first.value.me }
         requires missed { MissesAll 0 (items_view self.now.shared).identity.slots first.value.me
             seat.old.me }
         requires counted { Tallies (is_beside 0 (items_view self.now.shared).identity.words start)

@@ -3,13 +3,14 @@ ghost use Rattle.std.specs.Prelude.{◌≡◌, ◌+◌, ◌-◌, ◌*◌, ◌/�
 ghost use Rattle.pool_parts.specs.PageItems.{items_view};
 ghost use Rattle.pool_parts.specs.PageRule.{IsAllFree};
 
+use super::busy_seen::BusySeen;
 use super::order::Order;
 use pool_parts::PullError;
 use pool_parts::clean::Clean;
 use pool_parts::page::holding::Holding;
 use pool_parts::page::items::{Items, TakenValue};
 use pool_parts::page::user_view::UserSeat;
-use pool_parts::page::{FullSeen, PAGE_ITEMS, PageNote, PullPass};
+use pool_parts::page::{PAGE_ITEMS, PageNote, PullPass};
 use std::alloc::{AllocError, Global};
 use std::sync::atomic::AtomicU64;
 use std::sync::atomic::Ordering::SeqCst;
@@ -162,7 +163,7 @@ impl<T, K: Clean<T>> FixedItems<T, K> {
     /// It begins at the hinted page, and goes on in the pool's order. Each word is read once at
     /// most, and each bit that was set in it is cleared, lowest first, until one was still set.
     /// Beyond its first page it hints at the page of its item.
-    pub fn try_pull<'p>(&self, pass: &'p PullPass) -> Result<PulledItem<T>, FullSeen<'p, T>>
+    pub fn try_pull<'p>(&self, pass: &'p PullPass) -> Result<PulledItem<T>, BusySeen<'p, T>>
         ensures pulled { IfOk result (λ pulled. IsPulled (items_view self.now.shared).identity
             (new_user (items_view self.now.shared).opening (view_of pulled.holding.seat).user)
             (held_item pulled.holding pulled.value)) }
@@ -172,14 +173,14 @@ impl<T, K: Clean<T>> FixedItems<T, K> {
             (view_of pulled.holding.seat)) }
         ensures busy { IfErr result (λ busy. IsAllOut (items_view self.now.shared).identity.slots
             (items_view self.now.shared).identity
-            (new_user (items_view self.now.shared).opening (view_of busy.seat).user) busy) }
+            (new_user (items_view self.now.shared).opening busy.known.user) busy) }
         ensures busy_brief { IfErr result
-            (λ busy. IsWithin (items_view self.now.shared).identity.words 0 0 (view_of busy.seat)) }
+            (λ busy. IsWithin (items_view self.now.shared).identity.words 0 0 busy.known) }
     {
         let page = self.hinted();
         let (word, mut seat) = self.shared.look(page);
         let Ok(taken) = self.take(&mut seat, page, word, None) else {
-            return Err(FullSeen { seat, pass });
+            return Err(BusySeen { seat, pass });
         };
         Ok(PulledItem {
             holding: Holding {
@@ -257,7 +258,7 @@ impl<T, K: Clean<T>> FixedItems<T, K> {
         &self,
         pass: &'p PullPass,
         note: PageNote<T>,
-    ) -> Result<PulledItem<T>, FullSeen<'p, T>>
+    ) -> Result<PulledItem<T>, BusySeen<'p, T>>
         requires { note.seat.table_id ≡ (items_view self.now.shared).identity }
         ensures pulled { IfOk result
             (λ pulled. IsPulled (items_view self.now.shared).identity (view_of note.seat)
@@ -269,13 +270,13 @@ impl<T, K: Clean<T>> FixedItems<T, K> {
             (items_view self.now.shared).identity (view_of note.seat)) }
         ensures busy_brief { IfErr result
             (λ busy. IsWithin (items_view self.now.shared).identity.words (view_of note.seat).loads
-            (view_of note.seat).tries (view_of busy.seat)) }
+            (view_of note.seat).tries busy.known) }
     {
         let PageNote { mut seat } = note;
         let start = self.hinted();
         let word = self.shared.look_again(&mut seat, start);
         let Ok(taken) = self.take(&mut seat, start, word, None) else {
-            return Err(FullSeen { seat, pass });
+            return Err(BusySeen { seat, pass });
         };
         Ok(PulledItem {
             holding: Holding {

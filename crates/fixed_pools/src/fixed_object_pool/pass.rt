@@ -1,6 +1,6 @@
 //! How a pull passes over the words of a pool: each is read once, and each bit that was set in it
 //! is tried once.
-ghost use Rattle.std.specs.Prelude.{◌≡◌, ◌+◌, ◌-◌, ◌*◌, ◌<◌, ◌≤◌, ℕ, [], None, IfOk, IfErr, false};
+ghost use Rattle.std.specs.Prelude.{◌≡◌, ◌+◌, ◌-◌, ◌*◌, ◌<◌, ◌≤◌, ℕ, IfOk, IfErr, None};
 ghost use Rattle.std.specs.Int.{bit_at};
 
 use super::items::FixedItems;
@@ -14,7 +14,7 @@ impl<T, K: Clean<T>> FixedItems<T, K> {
     ghost use Rattle.fixed_pools.specs.FixedCount.{PassesOver, Tallies, is_beside};
     ghost use Rattle.pool_parts.specs.PageItems.{items_view};
     ghost use Rattle.fixed_pools.specs.FixedPool.{IsWithin};
-    ghost use Rattle.pool_parts.specs.PageRule.{IsOutNow, IsSound, MissesAll, TakesOne};
+    ghost use Rattle.pool_parts.specs.PageRule.{IsOutNow, MayTake, MissesAll, TakesOne};
 
     /// Takes an item that is free, by a user that has read the first word. It hints at a page
     /// behind the first one.
@@ -32,10 +32,7 @@ impl<T, K: Clean<T>> FixedItems<T, K> {
     ) -> Result<TakenValue<T>, u32>
         requires pool { seat.old.table_id ≡ (items_view self.now.shared).identity }
         requires in_pool { start < (items_view self.now.shared).identity.words }
-        requires carries_none { seat.old.me.1 ≡ [] }
-        requires holds_none { seat.old.me.0.held ≡ None }
-        requires here { seat.old.me.0.gone ≡ false }
-        requires sound { IsSound seat.old.me.0 }
+        requires ready { MayTake seat.old.me }
         requires found { (bit : ℕ) → bit < 32 → bit_at word bit ≡ 0
             → IsOutNow seat.old.me.0 (32 * start + bit) }
         ensures pool { seat.new.table_id ≡ seat.old.table_id }
@@ -73,10 +70,7 @@ impl<T, K: Clean<T>> FixedItems<T, K> {
     ) -> Result<TakenValue<T>, u32>
         requires pool { seat.old.table_id ≡ (items_view self.now.shared).identity }
         requires in_pool { start < (items_view self.now.shared).identity.words }
-        requires carries_none { seat.old.me.1 ≡ [] }
-        requires holds_none { seat.old.me.0.held ≡ None }
-        requires here { seat.old.me.0.gone ≡ false }
-        requires sound { IsSound seat.old.me.0 }
+        requires ready { MayTake seat.old.me }
         ensures pool { seat.new.table_id ≡ seat.old.table_id }
         ensures steps { IsWithin ((items_view self.now.shared).identity.words - 1)
             seat.old.me.0.loads seat.old.me.0.tries seat.new.me.0 }
@@ -113,10 +107,7 @@ impl<T, K: Clean<T>> FixedItems<T, K> {
         requires pool { seat.old.table_id ≡ (items_view self.now.shared).identity }
         requires in_pool { start < (items_view self.now.shared).identity.words }
         requires next_in_pool { next ≤ (items_view self.now.shared).identity.words }
-        requires carries_none { seat.old.me.1 ≡ [] }
-        requires holds_none { seat.old.me.0.held ≡ None }
-        requires here { seat.old.me.0.gone ≡ false }
-        requires sound { IsSound seat.old.me.0 }
+        requires ready { MayTake seat.old.me }
         ensures pool { seat.new.table_id ≡ seat.old.table_id }
         ensures steps { IsWithin ((items_view self.now.shared).identity.words - 1)
             seat.old.me.0.loads seat.old.me.0.tries seat.new.me.0 }
@@ -154,10 +145,7 @@ impl<T, K: Clean<T>> FixedItems<T, K> {
         requires pool { seat.old.table_id ≡ (items_view self.now.shared).identity }
         requires ordered { from ≤ to }
         requires in_pool { to ≤ (items_view self.now.shared).identity.words }
-        requires carries_none { seat.old.me.1 ≡ [] }
-        requires holds_none { seat.old.me.0.held ≡ None }
-        requires here { seat.old.me.0.gone ≡ false }
-        requires sound { IsSound seat.old.me.0 }
+        requires ready { MayTake seat.old.me }
         ensures pool { seat.new.table_id ≡ seat.old.table_id }
         ensures steps { IsWithin (to - from) seat.old.me.0.loads seat.old.me.0.tries seat.new.me.0 }
         ensures fewer_steps { from ≤ skipped → skipped < to

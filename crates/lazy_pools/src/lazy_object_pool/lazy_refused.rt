@@ -20,7 +20,7 @@ pub enum LazyRefused<'p, T> {
     NotMade,
 }
 
-/// Why [`super::LazyObjectPool::pull_with`] gave no item.
+/// Why a pull by a closure of the call, as [`super::LazyObjectPool::pull_with`], gave no item.
 ///
 /// # Examples
 ///
@@ -33,9 +33,10 @@ pub enum LazyRefused<'p, T> {
 /// ```
 #[derive(Drop)]
 pub enum PullWithError<T, E> {
-    /// The pool can have no more owners. Only of `pull_owned_with`.
+    /// The pool can have no more owners. Only of owned pulls.
     Memory,
-    /// No item was free at one moment of the call, as this note knows.
+    /// No item was free at one moment of the call, as this note knows. Not of pulls that wait
+    /// however long.
     Limit(PoolNote<Option<T>>),
     /// The closure of the call failed. The place is free again, and empty.
     Make(E),

@@ -15,8 +15,8 @@
 ghost use Rattle.std.specs.Prelude.{◌≡◌, ◌≤◌, ◌<◌, None, IfSome, IsSome, IfOk, IfErr, ⊤};
 ghost use Rattle.std.specs.Arc.{arc_value};
 ghost use Rattle.pool_parts.specs.Answers.{MayMake, Refuses};
-ghost use Rattle.pool_parts.specs.Page.{held_item, IsReturned, page_identity, view_of};
-ghost use Rattle.pool_parts.specs.Slot.{IsAnswerOf};
+ghost use Rattle.pool_parts.specs.Page.{held_item, held_page, IsReturned, page_view, view_of};
+ghost use Rattle.pool_parts.specs.Slot.{IsAnswerOf, IsFullPage};
 ghost use Rattle.pool_parts.specs.declared.page.word.TheConstants.{PAGE_ITEMS};
 
 use super::directory::{Directory, HintedLink};
@@ -58,7 +58,7 @@ impl<T: Drop, K: Clean<T>, O: Clean<T>> Drop for Chain<T, K, O> {
 }
 
 impl<T: Drop, K: Clean<T>, O: Clean<T>> Chain<T, K, O> {
-    ghost use Rattle.page_chain.specs.Walk.{shown_page, first_page, Pulls, IsRefusedBy, IsWalkedTo, cause_of};
+    ghost use Rattle.page_chain.specs.Walk.{shown_page, first_page, page_of_item, Pulls, IsRefusedBy, IsWalkedTo, cause_of};
     ghost use Rattle.page_chain.specs.WalkSteps.{IsAnsweredBy, IsKnownAt};
 
     /// Creates a chain of one page, made as by [`Page::new`].
@@ -84,17 +84,21 @@ impl<T: Drop, K: Clean<T>, O: Clean<T>> Chain<T, K, O> {
 
     /// Returns the page with number 0.
     pub fn first(&self) -> LinearPage<'_, T, K, O>
-        ensures page { (shown_page result).page ≡ (first_page self.now).page }
-        ensures number { (shown_page result).number ≡ 0 }
-        ensures start { shown_page result ≡ first_page self.now }
+        ensures { shown_page result ≡ first_page self.now }
     {
         LinearPage::new(&self.directory, &self.first, 0)
     }
 
+    /// Returns the first page with its items.
+    pub fn first_items(&self) -> &Page<T, K>
+        ensures { page_view result.now ≡ (first_page self.now).page }
+    {
+        self.first.owner()
+    }
+
     /// Pulls from the first page.
     pub fn take_first<'s, 'p>(&'s self, pass: &'p PullPass) -> Allocated<'s, 'p, T, K>
-        ensures { IsAnsweredBy K.meets O.meets (first_page self.now).page
-            (first_page self.now).opening result }
+        ensures { IsAnsweredBy K.meets O.meets (first_page self.now).page result }
     {
         self.first.take(pass).answer
     }
@@ -106,8 +110,8 @@ impl<T: Drop, K: Clean<T>, O: Clean<T>> Chain<T, K, O> {
         pass: &'p PullPass,
         note: PageNote<T>,
     ) -> Allocated<'s, 'p, T, K>
-        requires { note.seat.table_id ≡ (first_page self.now).page }
-        ensures { IsAnswerOf K.meets (first_page self.now).page (view_of note.seat) result }
+        requires { note.seat.table_id ≡ (first_page self.now).page.identity }
+        ensures { IsAnswerOf K.meets (first_page self.now).page.identity (view_of note.seat) result }
     {
         self.first.owner().take_from(pass, note)
     }
@@ -131,12 +135,14 @@ impl<T: Drop, K: Clean<T>, O: Clean<T>> Chain<T, K, O> {
         limit: Option<usize>,
         init: &I,
     ) -> Result<WalkEnd<'s, T, K, O>, WalkRefusal<'p, T, K, O>>
-        requires of_first { seen.seat.table_id ≡ (first_page self.now).page }
+        requires of_first { IsFullPage (first_page self.now).page.identity seen }
         requires some_page { IfSome limit (λ pages. 1 ≤ pages) }
         requires may_make { MayMake I.pre I.post K.meets init.now }
         requires opens { MayMake I.pre I.post O.meets init.now }
         ensures taken { IfOk result (λ reached.
             Pulls K.meets O.meets (first_page self.now) limit reached.number reached.slot.item) }
+        ensures page { IfOk result (λ reached.
+            page_of_item reached.slot.item ≡ page_view (arc_value reached.page.now)) }
         ensures past_first { IfOk result (λ reached. 0 < reached.number.number) }
         ensures evidence { IfErr result
             (IsRefusedBy (first_page self.now) limit (I.post init.now None)) }
@@ -145,7 +151,7 @@ impl<T: Drop, K: Clean<T>, O: Clean<T>> Chain<T, K, O> {
     {
         let mut known = None;
         if let Some((number, page, note)) = self.hinted_page(limit) {
-            let taken = page.take(seen.pass);
+            let taken = page.take(seen.pass());
             if taken.left_full {
                 self.left_full(number, page.owner());
             }
@@ -176,7 +182,7 @@ impl<T: Drop, K: Clean<T>, O: Clean<T>> Chain<T, K, O> {
         limit: Option<usize>,
     ) -> Option<(usize, &OpenedPage<T, K, O>, LinkNote<T, K, O>)>
         ensures known { IfSome result (λ hinted. IsKnownAt self.now.directory hinted.0 hinted.2
-            (page_identity (arc_value hinted.1.now))) }
+            (page_view (arc_value hinted.1.now))) }
         ensures past_first { IfSome result (λ hinted. 0 < hinted.0) }
         ensures within { IfSome result (λ hinted. IfSome limit (λ pages. hinted.0 < pages)) }
     {
@@ -220,7 +226,7 @@ impl<T: Drop, K: Clean<T>, O: Clean<T>> Chain<T, K, O> {
     /// Returns an item to the page of this number, with its value. If the page was full, it sets
     /// the page's hint. The note knows the page's history up to the return.
     pub fn give(&self, number: PageNumber<T, K, O>, holding: Holding<T>, value: T) -> PageNote<T>
-        requires on_page { ∥ IsWalkedTo (first_page self.now) number holding.seat.table_id ∥₁ }
+        requires on_page { ∥ IsWalkedTo (first_page self.now) number (held_page holding) ∥₁ }
         requires in_page { holding.number < PAGE_ITEMS }
         requires meets { K.meets value }
         ensures { IsReturned (held_item holding value) result }
@@ -240,8 +246,8 @@ impl<T: Drop, K: Clean<T>, O: Clean<T>> Chain<T, K, O> {
         number: &mut PageNumber<T, K, O>,
         holding: &Holding<T>,
     ) -> &'s Page<T, K>
-        requires { ∥ IsWalkedTo (first_page self.now) number.old holding.now.seat.table_id ∥₁ }
-        ensures page { page_identity result.now ≡ holding.now.seat.table_id }
+        requires { ∥ IsWalkedTo (first_page self.now) number.old (held_page holding.now) ∥₁ }
+        ensures page { page_view result.now ≡ held_page holding.now }
         ensures same_number { number.new ≡ number.old }
     {
         self.page_of(number.again(), holding)
@@ -249,8 +255,8 @@ impl<T: Drop, K: Clean<T>, O: Clean<T>> Chain<T, K, O> {
 
     /// Returns the page of an item, by the page's number. The first page needs no look at a link.
     fn page_of(&self, number: PageNumber<T, K, O>, holding: &Holding<T>) -> &Page<T, K>
-        requires { ∥ IsWalkedTo (first_page self.now) number holding.now.seat.table_id ∥₁ }
-        ensures { page_identity result.now ≡ holding.now.seat.table_id }
+        requires { ∥ IsWalkedTo (first_page self.now) number (held_page holding.now) ∥₁ }
+        ensures { page_view result.now ≡ held_page holding.now }
     {
         if number.get() == 0 {
             self.first.owner()

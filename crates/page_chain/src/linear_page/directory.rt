@@ -100,7 +100,7 @@ impl<T: Drop, K: Clean<T>, O: Clean<T>> Directory<T, K, O> {
     ghost use Rattle.std.specs.Arc.{arc_value};
     ghost use Rattle.page_chain.specs.Walk.{known_link, IsLinkedAt};
     ghost use Rattle.page_chain.specs.Links.{IsLinkTo};
-    ghost use Rattle.pool_parts.specs.Page.{page_identity};
+    ghost use Rattle.pool_parts.specs.Page.{held_page, page_view};
 
     /// Creates a directory of no links.
     ///
@@ -128,8 +128,8 @@ impl<T: Drop, K: Clean<T>, O: Clean<T>> Directory<T, K, O> {
         number: PageNumber<T, K, O>,
         holding: &Holding<T>,
     ) -> &OpenedPage<T, K, O>
-        requires { ∥ IsLinkedAt self.now number holding.now.seat.table_id ∥₁ }
-        ensures { page_identity (arc_value result.now) ≡ holding.now.seat.table_id }
+        requires { ∥ IsLinkedAt self.now number (held_page holding.now) ∥₁ }
+        ensures { page_view (arc_value result.now) ≡ held_page holding.now }
     {
         let place = self.place(number.get());
         let mut note = number.into_note(&place);
@@ -260,7 +260,7 @@ impl<'c, T: Drop, K: Clean<T>, O: Clean<T>> LinkPlace<'c, T, K, O> {
     ghost use Rattle.std.specs.Prelude.{None, Some, IfNone};
     ghost use Rattle.std.specs.Arc.{arc_value};
     ghost use Rattle.page_chain.specs.Walk.{known_link, known_next};
-    ghost use Rattle.pool_parts.specs.Page.{page_identity};
+    ghost use Rattle.pool_parts.specs.Page.{page_view};
 
     /// Returns the word of the page's hint, if the row exists.
     fn hint_word(&self) -> Option<&'c HintWord> {
@@ -331,9 +331,9 @@ impl<'c, T: Drop, K: Clean<T>, O: Clean<T>> LinkPlace<'c, T, K, O> {
         ensures none { IfNone result (known_next note.old ≡ None) }
         ensures unlearned { IfNone result (known_next note.new ≡ known_next note.old) }
         ensures known { IfSome result
-            (λ page. known_next note.new ≡ Some (page_identity (arc_value page.now))) }
+            (λ page. known_next note.new ≡ Some (page_view (arc_value page.now))) }
         ensures agrees { IfSome result (λ page. IfSome (known_next note.old)
-            (λ known. known ≡ page_identity (arc_value page.now))) }
+            (λ known. known ≡ page_view (arc_value page.now))) }
     {
         self.link(note).get_as(&mut note.link)
     }

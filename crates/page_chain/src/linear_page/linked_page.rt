@@ -8,7 +8,7 @@ ghost use Rattle.pool_parts.specs.Answers.{MayMake, Refuses};
 ghost use Rattle.page_chain.specs.Links.{IsLinkTo};
 ghost use Rattle.pool_parts.specs.Item.{IsFilled};
 ghost use Rattle.pool_parts.specs.declared.page.word.TheConstants.{PAGE_ITEMS};
-ghost use Rattle.pool_parts.specs.Page.{page_identity, page_opening};
+ghost use Rattle.pool_parts.specs.Page.{page_opening, page_view};
 
 use super::directory::{Directory, LinkPlace};
 use super::link_note::LinkNote;
@@ -61,9 +61,8 @@ impl<'c, T: Drop, K: Clean<T>, O: Clean<T>> LinearPage<'c, T, K, O> {
         page: &'c OpenedPage<T, K, O>,
         number: usize,
     ) -> LinearPage<'c, T, K, O>
-        ensures page { (shown_page result).page ≡ page_identity (arc_value page.now) }
+        ensures page { (shown_page result).page ≡ page_view (arc_value page.now) }
         ensures number { (shown_page result).number ≡ number }
-        ensures opening { (shown_page result).opening ≡ page_opening (arc_value page.now) }
         ensures links { (shown_page result).links ≡ directory.now }
         ensures next { number + 1 < 2 ^ 64
             → IsLinkTo directory.now (number + 1) (next_link result) }
@@ -78,7 +77,7 @@ impl<'c, T: Drop, K: Clean<T>, O: Clean<T>> LinearPage<'c, T, K, O> {
 
     /// Returns the page with its items.
     pub fn page(&self) -> &'c Page<T, K>
-        ensures page { page_identity result.now ≡ (shown_page self.now).page }
+        ensures page { page_view result.now ≡ (shown_page self.now).page }
         ensures opened { IsFilled PAGE_ITEMS O.meets (page_opening result.now) }
     {
         self.page.owner()
@@ -147,7 +146,7 @@ impl<'c, T: Drop, K: Clean<T>, O: Clean<T>> LinearPage<'c, T, K, O> {
         seen: FullSeen<'_, T>,
         init: &I,
     ) -> Result<(LinearPage<'c, T, K, O>, LinkNote<T, K, O>), PullError>
-        requires of_page { seen.seat.table_id ≡ (shown_page self.now).page }
+        requires of_page { seen.page ≡ (shown_page self.now).page.identity }
         requires may_make { MayMake I.pre I.post K.meets init.now }
         requires opens { MayMake I.pre I.post O.meets init.now }
         ensures next { IfOk result (λ answer. IsNext self.now answer.1 answer.0) }
@@ -174,7 +173,7 @@ impl<'c, T: Drop, K: Clean<T>, O: Clean<T>> LinearPage<'c, T, K, O> {
         init: &I,
         note: &mut LinkNote<T, K, O>,
     ) -> Result<LinearPage<'c, T, K, O>, PullError>
-        requires of_page { seen.seat.table_id ≡ (shown_page self.now).page }
+        requires of_page { seen.page ≡ (shown_page self.now).page.identity }
         requires may_make { MayMake I.pre I.post K.meets init.now }
         requires opens { MayMake I.pre I.post O.meets init.now }
         requires link { known_link note.old ≡ next_link self.now }

@@ -4,7 +4,7 @@ ghost use Rattle.std.specs.Arc.{arc_value};
 ghost use Rattle.pool_parts.specs.Answers.{MayMake, Refuses};
 ghost use Rattle.pool_parts.specs.Item.{IsFilled};
 ghost use Rattle.pool_parts.specs.declared.page.word.TheConstants.{PAGE_ITEMS};
-ghost use Rattle.pool_parts.specs.Page.{page_identity, page_opening};
+ghost use Rattle.pool_parts.specs.Page.{page_opening, page_view};
 ghost use Rattle.page_chain.specs.WalkSteps.{IsAnsweredBy};
 
 use atomic_table::Badge;
@@ -64,8 +64,7 @@ impl<T, K: Clean<T>, O: Clean<T>> OpenedPage<T, K, O> {
 
     /// Pulls from the page.
     pub(super) fn take<'s, 'p>(&'s self, pass: &'p PullPass) -> PageAnswer<'s, 'p, T, K>
-        ensures { IsAnsweredBy K.meets O.meets (page_identity (arc_value self.now))
-            (page_opening (arc_value self.now)) result.answer }
+        ensures { IsAnsweredBy K.meets O.meets (page_view (arc_value self.now)) result.answer }
     {
         self.owner().take(pass)
     }

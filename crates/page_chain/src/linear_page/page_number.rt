@@ -3,10 +3,9 @@ ghost use Rattle.std.specs.Prelude.{◌≡◌, ℕ, List, Some};
 ghost use Rattle.std.specs.Arc.{arc_value};
 ghost use Rattle.std.specs.Option.{option_map};
 ghost use Rattle.std.specs.declared.alloc.Global.{Global};
-ghost use Rattle.atomic_table.specs.Seated.{TableId};
 ghost use Rattle.page_chain.specs.Walk.{known_link, known_next, IsLinkedAt};
 ghost use Rattle.page_chain.specs.Links.{cell_in_row};
-ghost use Rattle.pool_parts.specs.Page.{page_identity};
+ghost use Rattle.pool_parts.specs.Page.{PageView, page_view};
 ghost use Rattle.page_chain.specs.WalkSteps.{IsKnownAt};
 
 use super::directory::{LinkPlace, Row};
@@ -46,7 +45,7 @@ impl<T: Drop, K: Clean<T>, O: Clean<T>> PageNumber<T, K, O> {
     /// Returns the number of the page to which the link of this note leads.
     pub(super) fn of_link(number: usize, note: LinkNote<T, K, O>) -> PageNumber<T, K, O>
         ensures number { result.number ≡ number }
-        ensures linked { (links : List (Global × ℕ)) (page : TableId) →
+        ensures linked { (links : List (Global × ℕ)) (page : PageView T) →
             IsKnownAt links number note page → IsLinkedAt links result page }
     {
         let LinkNote {
@@ -64,7 +63,7 @@ impl<T: Drop, K: Clean<T>, O: Clean<T>> PageNumber<T, K, O> {
         ensures row { (known_link result).0 ≡ self.row.cell }
         ensures offset { (known_link result).1 ≡ place.now.offset }
         ensures next { known_next result ≡ option_map
-            (λ page. page_identity (arc_value page)) self.link.known }
+            (λ page. page_view (arc_value page)) self.link.known }
     {
         let PageNumber {
             number: _,

@@ -2,10 +2,10 @@
 ghost use Rattle.std.specs.Prelude.{◌≡◌, ◌+◌, ◌-◌, ◌^◌, ◌≤◌, ◌<◌, ⊤, Option, None, Some, IfSome, IsSome, IsTrue, IsFalse, IfOk, IfErr};
 ghost use Rattle.std.specs.Arc.{arc_value};
 ghost use Rattle.pool_parts.specs.Answers.{MayMake, Refuses};
-ghost use Rattle.pool_parts.specs.Item.{IsPageItem, IsPulled, IsFilled, new_user};
-ghost use Rattle.page_chain.specs.Walk.{shown_page, Pulls, IsRefusedBy, cause_of};
-ghost use Rattle.pool_parts.specs.Page.{page_identity, page_opening};
-ghost use Rattle.page_chain.specs.WalkSteps.{IsAnsweredBy, IsKnownAt};
+ghost use Rattle.page_chain.specs.Walk.{shown_page, page_of_item, Pulls, PullsAlong, IsRefusedBy, cause_of};
+ghost use Rattle.pool_parts.specs.Page.{page_view};
+ghost use Rattle.pool_parts.specs.Slot.{IsFullPage};
+ghost use Rattle.page_chain.specs.WalkSteps.{IsAnsweredBy, IsFullAt, IsKnownAt};
 ghost use Rattle.page_chain.specs.declared.linear_page.walk.WalkRefusal.TheVariants.{Making};
 ghost use Rattle.pool_parts.specs.declared.page.word.TheConstants.{PAGE_ITEMS};
 
@@ -28,8 +28,8 @@ pub struct WalkEnd<'c, T, K: Clean<T>, O: Clean<T>> {
     pub number: PageNumber<T, K, O>,
 }
 
-/// The last page within a limit, which was found full in this pull, and its number. Each page
-/// before it was found full too.
+/// The last page within a limit, which was found full in this pull, and its number. The walk comes
+/// to it only after it has found each page before it full; it spends their evidence on the way.
 #[derive(Drop)]
 pub struct LimitSeen<'p, T, K: Clean<T>, O: Clean<T>> {
     /// The page's number, with what was learned of the link to it.
@@ -123,13 +123,8 @@ impl<'c, T: Drop, K: Clean<T>, O: Clean<T>> LinearPage<'c, T, K, O> {
     ) -> Result<(PageSlot<'c, T, K>, usize), PullError>
         requires may_make { MayMake I.pre I.post K.meets init.now }
         requires opens { MayMake I.pre I.post O.meets init.now }
-        ensures item { IfOk result (λ reached. IsPageItem K.meets reached.0.item) }
-        ensures of_start { IfOk result (λ reached.
-            reached.1 ≡ 0 → reached.0.item.page ≡ (shown_page self.now).page) }
-        ensures opened { IfOk result
-            (λ reached. IsFilled PAGE_ITEMS O.meets reached.0.item.opening) }
-        ensures pulled { IfOk result (λ reached. IsPulled reached.0.item.page
-            (new_user reached.0.item.opening reached.0.item.holder) reached.0.item) }
+        ensures pulled { IfOk result (λ reached. PullsAlong K.meets O.meets (shown_page self.now)
+            reached.1 reached.0.item) }
         ensures refused { IfErr result (Refuses ⊤ (I.post init.now None) ⊥) }
     {
         let reached = self.walk(None, init)?;
@@ -151,13 +146,8 @@ impl<'c, T: Drop, K: Clean<T>, O: Clean<T>> LinearPage<'c, T, K, O> {
         requires some_page { 1 ≤ pages }
         requires may_make { MayMake I.pre I.post K.meets init.now }
         requires opens { MayMake I.pre I.post O.meets init.now }
-        ensures item { IfOk result (λ reached. IsPageItem K.meets reached.0.item) }
-        ensures of_start { IfOk result (λ reached.
-            reached.1 ≡ 0 → reached.0.item.page ≡ (shown_page self.now).page) }
-        ensures opened { IfOk result
-            (λ reached. IsFilled PAGE_ITEMS O.meets reached.0.item.opening) }
-        ensures pulled { IfOk result (λ reached. IsPulled reached.0.item.page
-            (new_user reached.0.item.opening reached.0.item.holder) reached.0.item) }
+        ensures pulled { IfOk result (λ reached. PullsAlong K.meets O.meets (shown_page self.now)
+            reached.1 reached.0.item) }
         ensures within { IfOk result (λ reached. reached.1 < pages) }
         ensures refused { IfErr result (Refuses ⊤ (I.post init.now None) ⊤) }
     {
@@ -178,13 +168,8 @@ impl<'c, T: Drop, K: Clean<T>, O: Clean<T>> LinearPage<'c, T, K, O> {
     ) -> Result<(OwnedSlot<T, K>, usize), PullError>
         requires may_make { MayMake I.pre I.post K.meets init.now }
         requires opens { MayMake I.pre I.post O.meets init.now }
-        ensures item { IfOk result (λ reached. IsPageItem K.meets reached.0.item) }
-        ensures of_start { IfOk result (λ reached.
-            reached.1 ≡ 0 → reached.0.item.page ≡ (shown_page self.now).page) }
-        ensures opened { IfOk result
-            (λ reached. IsFilled PAGE_ITEMS O.meets reached.0.item.opening) }
-        ensures pulled { IfOk result (λ reached. IsPulled reached.0.item.page
-            (new_user reached.0.item.opening reached.0.item.holder) reached.0.item) }
+        ensures pulled { IfOk result (λ reached. PullsAlong K.meets O.meets (shown_page self.now)
+            reached.1 reached.0.item) }
         ensures refused { IfErr result (Refuses ⊤ (I.post init.now None) ⊥) }
     {
         let (slot, number) = self.walk(None, init)?.into_owned()?;
@@ -205,13 +190,8 @@ impl<'c, T: Drop, K: Clean<T>, O: Clean<T>> LinearPage<'c, T, K, O> {
         requires some_page { 1 ≤ pages }
         requires may_make { MayMake I.pre I.post K.meets init.now }
         requires opens { MayMake I.pre I.post O.meets init.now }
-        ensures item { IfOk result (λ reached. IsPageItem K.meets reached.0.item) }
-        ensures of_start { IfOk result (λ reached.
-            reached.1 ≡ 0 → reached.0.item.page ≡ (shown_page self.now).page) }
-        ensures opened { IfOk result
-            (λ reached. IsFilled PAGE_ITEMS O.meets reached.0.item.opening) }
-        ensures pulled { IfOk result (λ reached. IsPulled reached.0.item.page
-            (new_user reached.0.item.opening reached.0.item.holder) reached.0.item) }
+        ensures pulled { IfOk result (λ reached. PullsAlong K.meets O.meets (shown_page self.now)
+            reached.1 reached.0.item) }
         ensures within { IfOk result (λ reached. reached.1 < pages) }
         ensures refused { IfErr result (Refuses ⊤ (I.post init.now None) ⊤) }
     {
@@ -235,7 +215,7 @@ impl<'c, T: Drop, K: Clean<T>, O: Clean<T>> LinearPage<'c, T, K, O> {
         ensures taken { IfOk result (λ reached.
             Pulls K.meets O.meets (shown_page self.now) limit reached.number reached.slot.item) }
         ensures page { IfOk result (λ reached.
-            reached.slot.item.page ≡ page_identity (arc_value reached.page.now)) }
+            page_of_item reached.slot.item ≡ page_view (arc_value reached.page.now)) }
         ensures refused { IfErr result (Refuses ⊤ (I.post init.now None) (IsSome limit)) }
     {
         let pass = PullPass::new();
@@ -270,16 +250,15 @@ impl<'c, T: Drop, K: Clean<T>, O: Clean<T>> LinearPage<'c, T, K, O> {
         limit: Option<usize>,
         init: &I,
     ) -> Result<WalkEnd<'c, T, K, O>, WalkRefusal<'p, T, K, O>>
-        requires of_page { seen.seat.table_id ≡ (shown_page self.now).page }
-        requires hinted { IfSome hinted.old (λ full. IsKnownAt self.now.directory.now
-            full.number full.note full.seen.seat.table_id) }
+        requires of_page { IsFullPage (shown_page self.now).page.identity seen }
+        requires hinted { IfSome hinted.old (IsFullAt self.now.directory.now) }
         requires some_page { IfSome limit (λ pages. 1 ≤ pages) }
         requires may_make { MayMake I.pre I.post K.meets init.now }
         requires opens { MayMake I.pre I.post O.meets init.now }
         ensures taken { IfOk result (λ reached.
             Pulls K.meets O.meets (shown_page self.now) limit reached.number reached.slot.item) }
         ensures page { IfOk result (λ reached.
-            reached.slot.item.page ≡ page_identity (arc_value reached.page.now)) }
+            page_of_item reached.slot.item ≡ page_view (arc_value reached.page.now)) }
         ensures further { IfOk result (λ reached. (shown_page self.now).number
             < reached.number.number) }
         ensures evidence { IfErr result (IsRefusedBy (shown_page self.now) limit
@@ -287,7 +266,7 @@ impl<'c, T: Drop, K: Clean<T>, O: Clean<T>> LinearPage<'c, T, K, O> {
         ensures refused { IfErr result (λ refusal.
             Refuses ⊤ (I.post init.now None) (IsSome limit) (cause_of refusal)) }
     {
-        let pass = seen.pass;
+        let pass = seen.pass();
         let mut page: &'c OpenedPage<T, K, O> = self.page;
         let mut at = PageNumber::of_start(self.directory.allocator(), self.number);
         let mut full = seen;
@@ -327,12 +306,12 @@ impl<'c, T: Drop, K: Clean<T>, O: Clean<T>> LinearPage<'c, T, K, O> {
         seen: FullSeen<'_, T>,
         init: &I,
     ) -> Result<(&'c OpenedPage<T, K, O>, LinkNote<T, K, O>), PullError>
-        requires of_page { seen.seat.table_id ≡ page_identity (arc_value before.now) }
+        requires of_page { seen.page ≡ (page_view (arc_value before.now)).identity }
         requires may_make { MayMake I.pre I.post K.meets init.now }
         requires opens { MayMake I.pre I.post O.meets init.now }
         ensures fits { IfOk result (λ _. number + 1 < 2 ^ 64) }
         ensures known { IfOk result (λ next. IsKnownAt self.now.directory.now (number + 1) next.1
-            (page_identity (arc_value next.0.now))) }
+            (page_view (arc_value next.0.now))) }
         ensures refused { IfErr result (Refuses ⊤ (I.post init.now None) ⊥) }
     {
         let before = LinearPage::new(self.directory, before, number);
@@ -351,15 +330,12 @@ impl<'c, T: Drop, K: Clean<T>, O: Clean<T>> LinearPage<'c, T, K, O> {
         pass: &'p PullPass,
     ) -> Allocated<'c, 'p, T, K>
         requires linked { IsKnownAt self.now.directory.now number note.old
-            (page_identity (arc_value page.now)) }
-        requires full { IfSome hinted.old (λ full. IsKnownAt self.now.directory.now
-            full.number full.note full.seen.seat.table_id) }
-        ensures full { IfSome hinted.new (λ full. IsKnownAt self.now.directory.now
-            full.number full.note full.seen.seat.table_id) }
+            (page_view (arc_value page.now)) }
+        requires full { IfSome hinted.old (IsFullAt self.now.directory.now) }
+        ensures full { IfSome hinted.new (IsFullAt self.now.directory.now) }
         ensures linked { IsKnownAt self.now.directory.now number note.new
-            (page_identity (arc_value page.now)) }
-        ensures answer { IsAnsweredBy K.meets O.meets (page_identity (arc_value page.now))
-            (page_opening (arc_value page.now)) result }
+            (page_view (arc_value page.now)) }
+        ensures answer { IsAnsweredBy K.meets O.meets (page_view (arc_value page.now)) result }
     {
         match known_at(hinted, number) {
             Some(known) => Allocated::Full(known.into_seen(note)),
@@ -404,7 +380,7 @@ impl<T: Drop, K: Clean<T>, O: Clean<T>> WalkEnd<'_, T, K, O> {
     ///
     /// `Memory` if the page can have no more owners. Then the item is returned to its page.
     pub fn into_owned(self) -> Result<(OwnedSlot<T, K>, PageNumber<T, K, O>), PullError>
-        requires of_page { self.slot.item.page ≡ page_identity (arc_value self.page.now) }
+        requires of_page { page_of_item self.slot.item ≡ page_view (arc_value self.page.now) }
         requires meets { K.meets self.slot.item.value }
         ensures item { IfOk result (λ reached. reached.0.item ≡ self.entry.slot.item) }
         ensures number { IfOk result (λ reached. reached.1 ≡ self.entry.number) }

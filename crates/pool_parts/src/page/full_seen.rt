@@ -1,12 +1,14 @@
-//! What a pull has once it has seen each item of a page, or of a fixed pool, in use.
-ghost use Rattle.std.specs.Prelude.{ℕ, ◌<◌};
-ghost use Rattle.pool_parts.specs.Ledger.{WasOutBetween};
-
+//! What a pull has once it has seen each item of a page in use.
 use super::slot::PageSlot;
 use super::user_view::UserSeat;
 use crate::clean::Clean;
+use std::marker::Model;
 
 /// One pull, from page to page. It has no bytes.
+///
+/// The evidence that a page was full borrows it. So the evidence ends with the pull, and says that
+/// each item was in use at some moment since the pass was made. It binds no more than that: if a
+/// pass is kept, its evidence may be kept too, while items are returned.
 ///
 /// # Examples
 ///
@@ -21,10 +23,13 @@ use crate::clean::Clean;
 /// };
 /// ```
 #[derive(Default, Drop)]
-pub struct PullPass;
+pub struct PullPass {
+    /// Private, so that only a call makes a pass: a constant could be borrowed for good.
+    begun: (),
+}
 
 impl PullPass {
-    /// Begins a pull. The evidence that a page was full borrows it, so it can't outlive the pull.
+    /// Begins a pull.
     ///
     /// # Examples
     ///
@@ -32,14 +37,17 @@ impl PullPass {
     /// let pass = PullPass::new();
     /// ```
     pub fn new() -> PullPass {
-        PullPass
+        PullPass { begun: () }
     }
 }
 
-/// The evidence that each item of one page, or of one fixed pool, was seen in use since the pass
-/// was made: by a word that was read, or by a try of its own bit.
+/// The evidence that each item of one page was seen in use since the pass was made: by a word that
+/// was read, or by a try of its own bit.
 ///
-/// It borrows its pass, so it can't be kept past the pull.
+/// It borrows its pass, and can't be taken apart: so it can't be kept past the pull, nor be put
+/// under a later pass.
+///
+/// In a clause it is the page, and what its user knows.
 ///
 /// # Examples
 ///
@@ -55,11 +63,28 @@ impl PullPass {
 /// ```
 #[derive(Drop)]
 pub struct FullSeen<'p, T> {
-    pub seat: UserSeat<T>,
+    pub(super) seat: UserSeat<T>,
     /// Only its lifetime is needed.
-    pub pass: &'p PullPass,
-    ghost found: { ∥ ((id : ℕ) → id < seat.table_id.slots → WasOutBetween seat.me.0.opening
-        seat.me.0.since seat.me.0.operations id) ∥₁ },
+    pub(super) pass: &'p PullPass,
+}
+
+impl<'p, T> Model for FullSeen<'p, T> {
+    ghost use Rattle.pool_parts.specs.Item.{SeenView, SawEachOut};
+    ghost use Rattle.pool_parts.specs.Page.{view_of};
+
+    ghost Value = { SeenView T };
+
+    ghost view = { λ seen. record { page = seen.seat.table_id; known = view_of seen.seat } };
+
+    ghost invariant = { λ seen.
+        SawEachOut (record { page = seen.seat.table_id; known = view_of seen.seat }) };
+}
+
+impl<'p, T> FullSeen<'p, T> {
+    /// Returns the pass of the pull that saw the page full.
+    pub fn pass(&self) -> &'p PullPass {
+        self.pass
+    }
 }
 
 /// What a page answers to a pull.

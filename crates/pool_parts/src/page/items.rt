@@ -36,7 +36,7 @@ pub struct Items<T, K: Clean<T>> {
 
 impl<T, K: Clean<T>> Items<T, K> {
     ghost use Rattle.pool_parts.specs.Answers.{MayMake, Refuses};
-    ghost use Rattle.pool_parts.specs.PageRule.{MissesAll, TakesOne, IsOutNow, IsSound, IsAllFree};
+    ghost use Rattle.pool_parts.specs.PageRule.{MayTake, MissesAll, TakesOne, IsOutNow, IsAllFree};
     ghost use Rattle.pool_parts.specs.PageItems.{items_view};
     ghost use Rattle.pool_parts.specs.Item.{IsFilled};
     ghost use Rattle.pool_parts.specs.Page.{IsNoteOf, HasLearned, view_of};
@@ -169,10 +169,7 @@ impl<T, K: Clean<T>> Items<T, K> {
     ) -> Option<TakenValue<T>>
         requires items { seat.old.table_id ≡ (items_view self.now).identity }
         requires in_items { page < (items_view self.now).identity.words }
-        requires carries_none { seat.old.me.1 ≡ [] }
-        requires holds_none { seat.old.me.0.held ≡ None }
-        requires here { seat.old.me.0.gone ≡ false }
-        requires sound { IsSound seat.old.me.0 }
+        requires ready { MayTake seat.old.me }
         requires found { (bit : ℕ) → bit < 32 → bit_at word bit ≡ 0
             → IsOutNow seat.old.me.0 (32 * page + bit) }
         ensures items { seat.new.table_id ≡ seat.old.table_id }

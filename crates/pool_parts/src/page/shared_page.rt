@@ -44,7 +44,7 @@ impl<T, K: Clean<T>> Page<T, K> {
     ghost use Rattle.pool_parts.specs.Slot.{IsAnswerOf, IsBrief, answer_view};
     ghost use Rattle.pool_parts.specs.Page.{held_item, HoldsSame, IsReturned, IsNoteOf, HasLearned, page_identity, page_opening, view_of};
     ghost use Rattle.pool_parts.specs.Item.{IsPageItem, IsPulled, IsFilled, new_user};
-    ghost use Rattle.pool_parts.specs.PageRule.{IsSound, IsOutNow};
+    ghost use Rattle.pool_parts.specs.PageRule.{MayTake, IsOutNow};
 
     /// Creates a page of 32 free items. Item `i` is the answer of call `i` of `init`, counted from
     /// 0.
@@ -217,10 +217,7 @@ impl<T, K: Clean<T>> Page<T, K> {
         mut seat: UserSeat<T>,
     ) -> PageAnswer<'s, 'p, T, K>
         requires page { seat.table_id ≡ page_identity self.now }
-        requires carries_none { seat.me.1 ≡ [] }
-        requires holds_none { seat.me.0.held ≡ None }
-        requires here { seat.me.0.gone ≡ false }
-        requires sound { IsSound seat.me.0 }
+        requires ready { MayTake seat.me }
         requires from_now { seat.me.0.since ≡ seat.me.0.operations }
         requires found { (id : ℕ) → id < PAGE_ITEMS → bit_at word id ≡ 0
             → IsOutNow seat.me.0 (32 * 0 + id) }

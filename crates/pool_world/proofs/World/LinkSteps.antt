@@ -22,7 +22,7 @@ use Rattle.pool_world.specs.World.Machine.{linked_page}
 use Rattle.pool_world.specs.World.Trace.{Log, IsHidden, last_made}
 use Rattle.pool_world.specs.World.Inside.Invariant.{SawFull, IsPast, Agrees}
 use Rattle.pool_world.proofs.Places.{slice_get-append_front}
-use Rattle.pool_world.proofs.Runs.{since-now, since-later, acts_of-own, pool-grown}
+use Rattle.pool_world.proofs.Runs.{since-now, since-later, acts_of-own, pool-grown, run-acts}
 use Rattle.pool_world.proofs.World.AbstractPool.{value-at, pushed-all, same-grown}
 use Rattle.pool_world.proofs.World.Invariant.{GoesOn, pages-stay, visible-step, stays, allows-fewer}
 use Rattle.pool_world.proofs.World.Moves.{moved, known}
@@ -195,7 +195,7 @@ module _ {T : Type 0} {Leaves : T → T → Type 0} {first : List T} {log : Log 
         same =
             same-grown (pool_of first acts) (pool_of first (act ∷ acts)) old
             (record { pages = pages; agents = old.agents; limit = old.limit }) values full
-            (pool-grown Leaves old.limit first begun acts agrees.run a values full) agrees.same refl;
+            (pool-grown first begun acts (run-acts Leaves old.limit first acts agrees.run) a values full) agrees.same refl;
         words = pushed-all (λ p. p.word < 2 ^ 32) old.pages (linked_page values) (lit< tt) agrees.words;
         places = pushed-all (λ p. length p.places ≡ 32) old.pages (linked_page values)
             (length-map values Some ∙ full) agrees.places;

@@ -11,6 +11,10 @@ pub new-reachable : {T : Type 0} (world : WorldState T) → IsNew world → IsRe
 new-reachable world is_new = record { start = world; is_new = is_new; log = []; ran = refl }
 
 module _ {T : Type 0} (Leaves : T → T → Type 0) where
+  -- and nothing was done before it
+  pub new-past : (world : WorldState T) → IsNew world → Past Leaves world
+  new-past world is_new = record { start = world; is_new = is_new; log = []; ran = refl }
+
   -- steps that follow others
   pub executes-append : (old between : WorldState T) (earlier : Log T) → Executes Leaves old earlier between
       → (later : Log T) (new : WorldState T)
@@ -20,19 +24,19 @@ module _ {T : Type 0} (Leaves : T → T → Type 0) where
       (last, executes-append old between earlier before later last ran, step, exact)
 
   -- the steps that a call did
-  pub bounded-call : (old : WorldState T) → IsReachable old → (log : Log T) (new : WorldState T)
+  pub bounded-call : (old : WorldState T) → Past Leaves old → (log : Log T) (new : WorldState T)
       → Executes Leaves old log new → BoundsOwnSteps Leaves new
       → IsBounded (record { from = old; log = log; to = new })
-  bounded-call old reached log new ran bounds =
-      bounds old reached (record { from = old; log = log; to = new })
-      (record { earlier = []; before = refl; steps = ran; later = []; after = refl })
+  bounded-call old past log new ran bounds =
+      bounds past.start (new-reachable past.start past.is_new) (record { from = old; log = log; to = new })
+      (record { earlier = past.log; before = past.ran; steps = ran; later = []; after = refl })
 
   -- and all steps since the world was new
   pub bounded-since_new : (old : WorldState T) (past : Past Leaves old) (log : Log T) (new : WorldState T)
       → Executes Leaves old log new → BoundsOwnSteps Leaves new
       → IsBounded (record { from = past.start; log = log ++ past.log; to = new })
   bounded-since_new old past log new ran bounds =
-      bounded-call past.start (new-reachable past.start past.is_new) (log ++ past.log) new
+      bounded-call past.start (new-past past.start past.is_new) (log ++ past.log) new
       (executes-append past.start old past.log past.ran log new ran) bounds
 
   -- so under a limit an agent that looks took fewer than 36 * limit - 2 since the world was new

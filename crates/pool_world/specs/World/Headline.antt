@@ -97,6 +97,6 @@ module _ {T : Type 0} (Leaves : T → T → Type 0) where
     pub steps : Executes before.world log after.world
 
 -- a world can be reached: some steps lead to it from a world in which no agent has begun, with a
--- reset that may leave any value
+-- reset that may leave any value, since the bounds on own steps hold for each
 abbrev pub IsReachable : {T : Type 0} → WorldState T → Type 0
 IsReachable world = Past (λ old kept. ⊤) world

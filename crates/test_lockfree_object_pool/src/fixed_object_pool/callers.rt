@@ -90,8 +90,8 @@ fn refused_while_out<'p>(
 ) -> Option<BusySeen<'p, usize>>
     requires { number < (fixed_view pool.now).items }
     ensures { IfSome result (λ busy.
-        WasOutBetween (fixed_view pool.now).opening (view_of busy.seat).since
-        (view_of busy.seat).operations number) }
+        WasOutBetween (fixed_view pool.now).opening busy.known.since
+        busy.known.operations number) }
 {
     match pool.try_pull(pass) {
         Ok(_) => None,

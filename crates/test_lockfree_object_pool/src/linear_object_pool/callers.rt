@@ -66,7 +66,7 @@ fn read_back<K: Clean<u32>, I: Init<u32, K>, R: Reset<u32, K>>(
 fn of_first<'p>(
     pool: &'p LinearObjectPool<u32, CountedZeros, ToZero, Zero>,
 ) -> Option<LinearReusable<'p, u32, CountedZeros, ToZero, Zero>>
-    ensures { IfSome result (λ item. item.item.page ≡ (linear_view pool.now).start.page) }
+    ensures { IfSome result (λ item. item.item.page ≡ (linear_view pool.now).start.page.identity) }
 {
     let item = pool.pull().ok()?;
     if item.page_number() == 0 {

@@ -18,7 +18,7 @@ type NumberItem<'p> = LinearReusable<'p, u32, Copied<u32, AnyValue>, Keep>;
 /// Writes a number to item 0 of the first page and returns it: this return is the last operation
 /// that the note knows.
 fn returned_first(pool: &NumberPool, number: u32) -> Option<PageNote<u32>>
-    ensures page { IfSome result (λ note. note.seat.table_id ≡ (linear_view pool.now).start.page) }
+    ensures page { IfSome result (λ note. note.seat.table_id ≡ (linear_view pool.now).start.page.identity) }
     ensures last { IfSome result (λ note. EndsWithReturnOf 0 number
         (view_of note.seat).operations) }
 {
@@ -38,7 +38,7 @@ fn pulled_again<'p>(
     note: PageNote<u32>,
     number: u32,
 ) -> Option<(NumberItem<'p>, bool)>
-    requires of_page { note.seat.table_id ≡ (linear_view pool.now).start.page }
+    requires of_page { note.seat.table_id ≡ (linear_view pool.now).start.page.identity }
     requires returned { EndsWithReturnOf 0 number (view_of note.seat).operations }
     ensures returned { IfSome result (λ pulled. WasReturnedBefore pulled.0.item) }
     ensures same { IfSome result (λ pulled. IsTrue pulled.1 ↔ (pulled.0.item.value ≡ number)) }

@@ -1,17 +1,14 @@
 //! Pools that may have so many pages and no more.
-ghost use Rattle.std.specs.Prelude.{◌≡◌, ℕ, ◌+◌, ◌≤◌, Some, IfSome};
+ghost use Rattle.std.specs.Prelude.{◌≡◌, ◌≤◌, ℕ, Some, IfSome};
 ghost use Rattle.linear_pools.specs.LinearPool.{linear_view};
-ghost use Rattle.lockfree_object_pool.specs.Walk.{WasFull};
-ghost use Rattle.pool_parts.specs.declared.made_or_reset.MadeOrReset.{MadeOrReset};
-ghost use Rattle.linear_pools.specs.declared.linear_object_pool.AnswerOf.{AnswerOf};
-ghost use Rattle.test_values.specs.declared.zeros.CountedZeros.{CountedZeros};
-ghost use Rattle.test_values.specs.declared.zeros.ToZero.{ToZero};
-ghost use Rattle.test_values.specs.declared.zeros.Zero.{Zero};
+ghost use Rattle.lockfree_object_pool.specs.Walk.{IsLastFull};
 
 use super::*;
 use crate::assert_equal::{assert_equal, assert_shown};
 use crate::made::count_of_calls;
-use lockfree_object_pool::linear_page::WalkRefusal;
+use lockfree_object_pool::linear_object_pool::AnswerOf;
+use lockfree_object_pool::linear_page::{LimitSeen, WalkRefusal};
+use lockfree_object_pool::made_or_reset::MadeOrReset;
 use lockfree_object_pool::page::PullPass;
 use std::process::Abort;
 
@@ -27,30 +24,42 @@ fn a_limit_is_told(rt: HostRuntime) {
     assert_equal(&rt, (unlimited, limited), (None, Some(3)));
 }
 
-/// The number of the last page, where a pull is refused at the limit: each page up to it was found
-/// full.
-fn last_full_page(pool: &ClearedPool) -> Option<usize>
-    ensures limit { IfSome result (λ last. (linear_view pool.now).limit ≡ Some (last + 1)) }
-    ensures each_full { IfSome result (λ last. (number : ℕ) → number ≤ last
-        → WasFull ℕ (MadeOrReset CountedZeros ToZero Zero) (AnswerOf CountedZeros Zero)
-        (linear_view pool.now).start number) }
+/// The evidence of the last page.
+type LastSeen<'p> = LimitSeen<
+    'p,
+    u32,
+    MadeOrReset<CountedZeros, ToZero, Zero>,
+    AnswerOf<CountedZeros, Zero>,
+>;
+
+/// What a pull that is refused at the limit has of the last page: each of its items was seen in
+/// use.
+fn last_full_page<'p>(pool: &ClearedPool, pass: &'p PullPass) -> Option<LastSeen<'p>>
+    ensures { IfSome result (λ last. (pages : ℕ) × ((linear_view pool.now).limit ≡ Some pages)
+        × IsLastFull (linear_view pool.now).start pages last) }
 {
-    let pass = PullPass::new();
-    match pool.try_pull(&pass) {
-        Err(WalkRefusal::Limit(last)) => Some(last.number.get()),
+    match pool.try_pull(pass) {
+        Err(WalkRefusal::Limit(last)) => Some(last),
         _ => None,
     }
 }
 
+/// The number of that page.
+fn number_of_last(pool: &ClearedPool) -> Option<usize> {
+    let pass = PullPass::new();
+    let last = last_full_page(pool, &pass)?;
+    Some(last.number.get())
+}
+
 #[test]
-fn a_refused_pull_saw_each_page_full(rt: HostRuntime) {
+fn a_refused_pull_saw_the_last_page_full(rt: HostRuntime) {
     let calls = count_of_calls(&rt, rt.alloc());
     let pool = bounded(rt.alloc(), &calls, 3).expect(&rt, "a pool is made");
     keep_out(&pool, 95).expect(&rt, "95 items are free");
     let item = pool.pull().expect(&rt, "an item is free");
-    assert_equal(&rt, last_full_page(&pool), Some(2));
+    assert_equal(&rt, number_of_last(&pool), Some(2));
     drop(item);
-    assert_equal(&rt, last_full_page(&pool), None);
+    assert_equal(&rt, number_of_last(&pool), None);
 }
 
 /// The limit of a pool is shown by this text.

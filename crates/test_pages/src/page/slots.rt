@@ -80,7 +80,7 @@ fn own_first(page: Arc<Page<u32, Zero>>) -> Option<u32>
 /// What tells a pull that a page is full is of that page, and has all of its ids.
 fn full_of<'p>(page: &Page<u32, Zero>, pass: &'p PullPass) -> Option<FullSeen<'p, u32>>
     ensures { IfSome result (λ seen. IsAllOut PAGE_ITEMS (page_identity page.now)
-        (new_user (page_opening page.now) (view_of seen.seat).user) seen) }
+        (new_user (page_opening page.now) seen.known.user) seen) }
 {
     match page.try_alloc(pass) {
         Ok(Allocated::Full(seen)) => Some(seen),

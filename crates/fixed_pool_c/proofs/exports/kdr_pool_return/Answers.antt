@@ -15,11 +15,12 @@ returns-in-Some-Empty c =
         kept.0,
         c.in-Some.ensures.taken,
         kept.1,
+        kept.2 ∙ ap (λ (held : Held). held.tag) c.deref_mut.ensures.value,
         record {
           idle =
               c.in-Some-Empty.idle;
           held_none = had;
-          holds_none = kept.2;
+          holds_none = kept.3;
         },
       ),
     ))
@@ -37,11 +38,12 @@ returns-in-Some-Full c =
         kept.0,
         c.in-Some.ensures.taken,
         kept.1,
+        kept.2 ∙ ap (λ (held : Held). held.tag) c.deref_mut.ensures.value,
         record {
           out = c.in-Some-Full.out;
           held_one = had;
           idle = _;
-          holds_none = kept.2;
+          holds_none = kept.3;
           same_pool = ap arc_value given.owner;
           given_back = given.given_back;
         },

@@ -15,11 +15,12 @@ returns-in-Some-Full c =
         kept.0,
         refl,
         kept.1,
+        kept.2 ∙ ap (λ (held : Held). held.tag) c.deref_mut.ensures.value,
         record {
           out = c.in-Some-Full.out;
           held_one =
               had;
-          holds_same = kept.2;
+          holds_same = kept.3;
         },
       ),
     )))
@@ -37,11 +38,13 @@ returns-in-Ok c =
         kept.0,
         refl,
         kept.1,
+        kept.2 ∙ ap (λ (held : Held). held.tag) c.deref_mut-in-Ok.ensures.value
+            ∙ ap (λ (held : Held). held.tag) c.deref_mut.ensures.value,
         record {
           idle = c.in-Some-Empty.field-0-0;
           held_none = had;
           out = c.in-Ok.out;
-          holds = kept.2;
+          holds = kept.3;
           same_pool = pulled.pool;
           pulled = pulled.pulled.pulled;
           number = c.number.ensures.value;
@@ -64,11 +67,12 @@ returns-in-Err c =
         kept.0,
         refl,
         kept.1,
+        kept.2 ∙ ap (λ (held : Held). held.tag) c.deref_mut.ensures.value,
         record {
           idle = c.in-Some-Empty.field-0-0;
           held_none = had;
           later = _;
-          holds_none = kept.2;
+          holds_none = kept.3;
           same_pool = refused.same_owner;
           full = refused.full;
           brief = refused.full_brief;

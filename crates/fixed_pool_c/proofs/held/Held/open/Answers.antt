@@ -9,6 +9,7 @@ pub returns-in-Ok : goal.returns-in-Ok
 returns-in-Ok c = record {
   idle = _;
   holds_none = ap (λ (held : Held). held.hand) c.in-Ok.ensures.ok;
+  same_tag = ap (λ (held : Held). held.tag) c.in-Ok.ensures.ok;
   same_pool = refl;
   note = subst (λ (pool : PlacePool). IsNoteOf (fixed_view pool).identity (fixed_view pool).opening c.note-note.result)
       c.deref-3.ensures c.note-note.ensures;

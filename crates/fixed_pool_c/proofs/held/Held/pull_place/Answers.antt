@@ -1,19 +1,19 @@
-use Rattle.std.proofs.Common.{refl, ◌∙◌, subst, inl, inr}
+use Rattle.std.proofs.Common.{refl, sym, ◌∙◌, subst, inl, inr}
 use Rattle.fixed_pool_c.specs.Places.{PullsPlace, FindsNoPlace}
-use Rattle.fixed_pool_c.proofs.Numbers.{has_right, no_right}
+use Rattle.fixed_pool_c.proofs.Numbers.{no_right}
 use Rattle.fixed_pool_c.proofs.held.Held.pull_place.Goals as goal
 
-pub returns-then-place : goal.returns-then-place
-returns-then-place c =
-    let place = c.args.place.now in
-    inr (inr (inl (refl, refl, has_right place.right.held place.number place.told c.if-place.true)))
+pub returns-then-place-ne0 : goal.returns-then-place-ne0
+returns-then-place-ne0 c =
+    inr (inr (inl (refl, refl, c.if-place-ne0.true)))
 
 pub returns-in-Ok : goal.returns-in-Ok
 returns-in-Ok c =
     let place = c.args.place.now in let owner = c.in-Some.ensures in
     inl (
       refl,
-      (c.if-place.false, no_right place.right.held place.number place.told c.if-place.false),
+      (c.if-place-ne0.false, no_right place.right.held place.after place.told c.if-place-ne0.false),
+      (c.args.self.now, refl, sym c.hold.ensures.tag),
       (
         c.args.self.now,
         owner.0,
@@ -34,7 +34,7 @@ returns-in-Err c =
     let place = c.args.place.now in let owner = c.in-Some.ensures in
     inr (inl (
       refl,
-      (c.if-place.false, no_right place.right.held place.number place.told c.if-place.false),
+      (c.if-place-ne0.false, no_right place.right.held place.after place.told c.if-place-ne0.false),
       (
         c.args.self.now,
         owner.0,

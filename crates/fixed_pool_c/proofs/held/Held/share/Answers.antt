@@ -9,6 +9,6 @@ returns-in-Some-open-clause-shares c =
     record {
       hand = owner.0;
       has = owner.1;
-      opens = subst (λ (pool : PlacePool). OpensOf pool c.in-Some-open.other.value) (c.in-Ok.ensures
+      opens = subst (λ (pool : PlacePool). OpensOf pool c.args.self.now.tag c.in-Some-open.other.value) (c.in-Ok.ensures
           ∙ owner.2) c.in-Some-open.ensures;
     }

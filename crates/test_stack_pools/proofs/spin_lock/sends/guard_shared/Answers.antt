@@ -1,6 +1,6 @@
 use denote.Exit.{no}
 use denote.Param.Send.{arg_sync, param_sync}
-use Rattle.lockfree_object_pool.proofs.GuardShared.{guard_sync}
+use Rattle.stack_pools.proofs.GuardShared.{guard_sync}
 use Rattle.test_stack_pools.proofs.spin_lock.sends.guard_shared.Goals as goal
 
 pub shared-requires-sync-X : goal.shared-requires-sync-X

@@ -12,14 +12,12 @@ returns-clause-pulled g c =
 
 pub returns-in_default-clause-busy : goal.returns-in_default-clause-busy
 returns-in_default-clause-busy g c =
-    found_all_out _ _ _ _ _ (c.take.ensures.pool ∙ c.look_again-word.ensures.items ∙ c.requires)
+    found_all_out _ _ _ _ _ _ (c.take.ensures.pool ∙ c.look_again-word.ensures.items ∙ c.requires)
     (starts_from _ _ _ _ c.look_again-word.ensures.found) c.in_default.ensures.missed
 
 pub invariant_of-result : goal.invariant_of-result
 invariant_of-result g c =
     let same = ap (λ (pool : TableId). pool.slots) (c.take.ensures.pool ∙ c.look_again-word.ensures.items
     ∙ c.requires) in
-    record {
-      found = ∣ (λ id within. knows_all_out _ _ _ c.look_again-word.ensures.found.sound c.in_default.ensures.missed id
-          (omega arith)) ∣₁;
-    }
+    ∣ (λ id within. knows_all_out _ _ _ c.look_again-word.ensures.found.sound c.in_default.ensures.missed id
+    (omega arith)) ∣₁

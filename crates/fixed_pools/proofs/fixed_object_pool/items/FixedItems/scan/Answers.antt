@@ -8,12 +8,12 @@ use Rattle.fixed_pools.proofs.fixed_object_pool.items.FixedItems.scan.Goals as g
 pub loop-page-init : goal.loop-page-init
 loop-page-init g c = record {
   same_pool = refl;
-  carries_none = c.requires.carries_none;
-  holds_none = c.requires.holds_none;
+  carries_none = c.requires.ready.carries_none;
+  holds_none = c.requires.ready.holds_none;
   steps = record { loads = omega arith; tries = omega arith };
   fewer_steps = λ from to. absurd (omega arith);
   missed = passes_none c.args.from c.args.skipped c.args.seat.now.me
-      (reads_none c.args.seat.now.me c.requires.here c.requires.sound);
+      (reads_none c.args.seat.now.me c.requires.ready.here c.requires.ready.sound);
 }
 
 pub returns-in-Some-clause-taken : goal.returns-in-Some-clause-taken

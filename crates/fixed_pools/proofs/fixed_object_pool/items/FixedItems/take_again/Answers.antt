@@ -11,7 +11,7 @@ loop-init g c =
     record {
       same_pool = refl;
       passed = passed_once _ _ _ _ _ _ c.requires.in_pool
-          (reads_none c.args.first.value.me c.requires.here c.requires.sound) c.requires.missed c.requires.counted;
+          (reads_none c.args.first.value.me c.requires.ready.here c.requires.ready.sound) c.requires.missed c.requires.counted;
       loads = omega (arith, c.requires.loads);
       tries = omega (arith, c.requires.tries);
     }

@@ -1,14 +1,13 @@
 use Rattle.std.proofs.Common.{ap, inl, inr, sym, ◌∙◌}
 use Rattle.std.specs.Arc.{arc_value}
 use Rattle.std.proofs.Math.Logic.{∥∥₁_elim, ∥∥₁_map}
-use Rattle.pool_parts.specs.Item.{same_page}
-use Rattle.pool_parts.specs.Page.{page_identity}
+use Rattle.pool_parts.specs.Page.{page_view, same_opened}
 use Rattle.page_chain.specs.Walk.{no_link_to_first}
 use Rattle.page_chain.proofs.linear_page.chain.Chain.page_of.Goals as goal
 
 pub returns-then-get-eq0 : goal.returns-then-get-eq0
-returns-then-get-eq0 g c = ∥∥₁_elim c.requires (same_page _ _) (λ reached. elim reached [
-  | inl first ↦ ap page_identity (c.deref.ensures ∙ ap arc_value c.owner.ensures.page) ∙ sym first.1
+returns-then-get-eq0 g c = ∥∥₁_elim c.requires (same_opened g.row.T.coded _ _) (λ reached. elim reached [
+  | inl first ↦ ap page_view (c.deref.ensures ∙ ap arc_value c.owner.ensures.page) ∙ sym first.1
   | inr linked ↦ absurd (no_link_to_first _ _ _ linked (sym c.get.ensures ∙ c.if-get-eq0.true))
 ])
 

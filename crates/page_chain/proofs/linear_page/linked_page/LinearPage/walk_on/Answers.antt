@@ -1,7 +1,5 @@
-use Rattle.std.proofs.Common.{◌≡◌, ◌+◌, ◌-◌, ◌<◌, IfSome, arith, sym, subst, inr}
+use Rattle.std.proofs.Common.{◌≡◌, ◌+◌, ◌-◌, ◌<◌, IfSome, arith, subst, inr}
 use Rattle.page_chain.specs.Walk.{shown_page}
-use Rattle.page_chain.specs.WalkSteps.{IsKnownAt}
-use Rattle.page_chain.proofs.FullPages.{one_more_full}
 use Rattle.page_chain.proofs.linear_page.linked_page.LinearPage.walk_on.Goals as goal
 
 pub returns-then-is_last-clause-evidence : goal.returns-then-is_last-clause-evidence
@@ -12,10 +10,9 @@ returns-then-is_last-clause-evidence g c =
       c.is_last.ensures.last c.if-is_last.true,
       record {
         last = omega (arith, c.get-number.ensures, kept.from_start);
+        page = _;
         on_page = kept.on_page;
-        each = λ number from within. one_more_full start c.loop-pass.at c.loop-pass.full kept.on_page kept.each number
-            from
-            (omega (arith, within, c.get-number.ensures, kept.from_start));
+        all_out = kept.full;
       },
     )
 
@@ -31,11 +28,7 @@ loop-pass-preserved g c =
     record {
       from_start = omega (arith, kept.from_start, here, next);
       full = c.in-Full.ensures.answer;
-      on_page = inr (c.of_link-at.ensures.linked _ _
-          (subst (IsKnownAt {opens = g.O.Clean} links _ _) (sym c.in-Full.ensures.answer) c.in-Full.ensures.linked));
-      each = λ number from within. one_more_full start c.loop-pass.at c.loop-pass.full kept.on_page kept.each number
-          from
-          (omega (arith, within, here, next));
+      on_page = inr (c.of_link-at.ensures.linked _ _ c.in-Full.ensures.linked);
       hinted = c.in-Full.ensures.full;
       within = subst (λ passed. IfSome c.args.limit (λ pages. passed < pages)) further
           (c.is_last.ensures.not_last c.if-is_last.false);

@@ -15,7 +15,7 @@ returns-in-Some-clear-clause-outcome g c =
       meets_condition = took.0.meets_condition;
       holds = took.0.holds;
       carries = took.0.carries ∙ ap (λ l.
-          (32 * c.args.page + c.in-Some.bit, None) ∷ l) (before.carries_none ∙ sym c.requires.carries_none);
+          (32 * c.args.page + c.in-Some.bit, None) ∷ l) (before.carries_none ∙ sym c.requires.ready.carries_none);
       goes_on = goes_on_further _ _ _ _ before.follows
           took.0.goes_on;
     }
@@ -47,5 +47,5 @@ returns-clause-outcome g c =
     → WasOutBetween c.loop-rest.seat.me.0.opening c.args.seat.now.me.0.operations c.loop-rest.seat.me.0.operations
     (32 * c.args.page + bit) =
     λ bit within. at_end.out_or_untried bit within (ap (λ w. bit_at w bit) none_left ∙ bit_at-zero bit) in
-    word_missed c.args.page c.args.seat.now.me c.loop-rest.seat.me (at_end.holds_none ∙ sym c.requires.holds_none)
-    (at_end.carries_none ∙ sym c.requires.carries_none) at_end.follows all
+    word_missed c.args.page c.args.seat.now.me c.loop-rest.seat.me (at_end.holds_none ∙ sym c.requires.ready.holds_none)
+    (at_end.carries_none ∙ sym c.requires.ready.carries_none) at_end.follows all

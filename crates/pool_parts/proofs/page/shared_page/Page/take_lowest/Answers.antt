@@ -14,7 +14,5 @@ invariant_of-result g c =
     let missed = c.in-None.ensures.outcome in
     let sized = c.args.self.now.sized in
     let same = ap (λ (page : TableId). page.slots) (c.take_lowest.ensures.items ∙ c.requires.page) in
-    record {
-      found = ∣ (λ id within. knows_out c.args.seat.me.0 c.take_lowest.new.seat.me.0 id missed.goes_on
-          c.requires.sound.since_load (missed.each_was_out id (omega arith) (omega arith))) ∣₁;
-    }
+    ∣ (λ id within. knows_out c.args.seat.me.0 c.take_lowest.new.seat.me.0 id missed.goes_on
+    c.requires.ready.sound.since_load (missed.each_was_out id (omega arith) (omega arith))) ∣₁

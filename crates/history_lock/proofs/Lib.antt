@@ -1,0 +1,3 @@
+pub mod LockSteps
+pub mod Prefixes
+pub mod SeenShared

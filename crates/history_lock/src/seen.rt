@@ -1,0 +1,53 @@
+//! What somebody knows of a lock who doesn't hold it.
+ghost use Rattle.std.specs.Prelude.{◌≡◌, [], ◌∷◌, false};
+
+use crate::rule::Visitor;
+use atomic_table::{Badge, Seat};
+use std::marker::Model;
+
+/// The operations of a lock up to some moment. It has no bytes.
+///
+/// In a clause it is which lock it is of, and these operations, of which the last stands first.
+pub struct Seen<E> {
+    badge: Badge<Visitor<E>>,
+}
+
+impl<E> Model for Seen<E> {
+    ghost use Rattle.history_lock.specs.History.{Known};
+    ghost use Rattle.history_lock.specs.LockRule.{IsPassing, history_of};
+
+    ghost Value = { Known E };
+
+    ghost view = { λ seen.
+        record { table = seen.badge.table_id; history = history_of seen.badge.views } };
+
+    ghost invariant = { λ seen. IsPassing seen.badge.views };
+}
+
+impl<E> Seen<E> {
+    /// Returns what a visitor knows that holds nothing.
+    pub(crate) fn of_seat<T>(seat: Seat<Option<T>, Visitor<E>>) -> Seen<E>
+        requires { (seat.me.0.holds ≡ false) × (seat.me.1 ≡ []) }
+        ensures { result ≡ record { table = seat.table_id; history = seat.me.0.history } }
+    {
+        Seen {
+            badge: seat.into_badge(),
+        }
+    }
+
+    /// Returns the visitor that knows this.
+    pub(crate) fn into_seat<T>(self) -> Seat<Option<T>, Visitor<E>>
+        ensures table { result.table_id ≡ self.table }
+        ensures history { result.me.0.history ≡ self.history }
+        ensures passing { (result.me.0.holds ≡ false) × (result.me.1 ≡ []) }
+    {
+        let Seen { badge } = self;
+        badge.into_seat()
+    }
+}
+
+impl<E> Drop for Seen<E> {
+    fn drop(self) {
+        let Seen { badge: _ } = self;
+    }
+}

@@ -1,0 +1,84 @@
+//! Threads that wait until an item is returned: an event count of two words.
+//!
+//! A waiter counts itself, reads how many returns were told, tries once more, and sleeps only if no
+//! return was told since. A return sets the bit of its item, and then reads whether anybody waits.
+//! Each step is sequentially consistent. So if a waiter's try missed the item, the return finds the
+//! waiter counted, and the waiter finds the return told. While nobody waits, a return costs one
+//! load more, of a word that nobody writes.
+//!
+//! A waiter that gives up may have been woken in place of another, so it wakes one. No contract
+//! says any of this: `ci/waiting_model` explores these steps.
+use std::sync::Wait;
+use std::sync::atomic::AtomicU64;
+use std::sync::atomic::Ordering::SeqCst;
+use std::time::Duration;
+
+/// How many threads wait for an item, and how many returns were told.
+#[derive(Drop)]
+pub(crate) struct Waiters {
+    waiting: AtomicU64,
+    /// It may wrap. A sleep misses a return only if 2^32 others come between its look and its
+    /// sleep.
+    told: AtomicU64,
+}
+
+impl Waiters {
+    /// Creates the words that say that nobody waits.
+    pub(crate) const fn new() -> Waiters {
+        Waiters {
+            waiting: AtomicU64::new(0),
+            told: AtomicU64::new(0),
+        }
+    }
+
+    /// Returns how many wait.
+    pub(crate) fn count(&self) -> usize {
+        self.waiting.load(SeqCst) as usize
+    }
+
+    /// Counts one more that waits. From now on each return tells.
+    pub(crate) fn enter(&self) {
+        self.waiting.fetch_add(1, SeqCst);
+    }
+
+    /// Counts one less, which has its item.
+    pub(crate) fn leave(&self) {
+        self.waiting.fetch_sub(1, SeqCst);
+    }
+
+    /// Counts one less, which has no item, and wakes another.
+    pub(crate) fn give_up(&self) {
+        self.leave();
+        self.tell();
+    }
+
+    /// Returns the number of returns told, which a waiter reads before its try and hands to its
+    /// sleep.
+    pub(crate) fn seen(&self) -> u32 {
+        (self.told.load(SeqCst) & 0xffff_ffff) as u32
+    }
+
+    /// Sleeps until a return is told, unless one was since `seen`. It may also end for no reason.
+    pub(crate) fn sleep<W: Wait>(&self, rt: &W, seen: u32) {
+        self.told.park(rt, seen);
+    }
+
+    /// Sleeps as `sleep` does, for `time` at most.
+    pub(crate) fn sleep_for<W: Wait>(&self, rt: &W, seen: u32, time: Duration) {
+        self.told.park_timeout(rt, seen, time);
+    }
+
+    /// Wakes one that waits, after the bit of an item was set.
+    #[inline(always)]
+    pub(crate) fn tell(&self) {
+        if self.waiting.load(SeqCst) != 0 {
+            self.wake();
+        }
+    }
+
+    #[cold]
+    fn wake(&self) {
+        self.told.fetch_add(1, SeqCst);
+        self.told.wake_one();
+    }
+}

@@ -1,2 +1,0 @@
-pub mod GuardShared
-pub mod LockSteps

@@ -1,0 +1,135 @@
+//! A lock that tries again until it has the value, and lets other threads run in between.
+//!
+//! It is a lock with a history of which nothing is asked. The guard has the value itself. Its drop
+//! puts the value back before it frees the lock. A holder that stops keeps all others waiting.
+ghost use Rattle.std.specs.Prelude.{◌≡◌, IfErr, IfSome};
+ghost use Rattle.stack_pools.specs.StackPool.{lock_of, guard_value};
+
+use history_lock::{HistoryLock, Turn};
+use std::alloc::Global;
+use std::fmt::{self, Debug, Formatter, Write};
+use std::marker::Model;
+use std::ops::{Deref, DerefMut};
+use std::sync::Wait;
+use unrecorded::{NoLaw, Unrecorded};
+
+mod unrecorded;
+
+/// A lock round a value, which one guard at a time has.
+///
+/// In a clause it is the table in which the value lies.
+///
+/// # Examples
+///
+/// ```rust
+/// let lock = SpinLock::new(alloc, 5)?;
+/// *lock.lock(&rt) = 6; // the guard's drop frees the lock
+/// ```
+pub struct SpinLock<T> {
+    lock: HistoryLock<T, (), NoLaw>,
+}
+
+/// Not derived: the proof of a caller that drops it has one call here, and a derived drop has that
+/// of each field.
+impl<T: Drop> Drop for SpinLock<T> {
+    fn drop(self) {
+        let SpinLock { lock: _ } = self;
+    }
+}
+
+impl<T> Model for SpinLock<T> {
+    ghost use Rattle.atomic_table.specs.Seated.{TableId};
+
+    ghost Value = { TableId };
+
+    ghost view = { λ lock. lock.lock };
+}
+
+impl<T: Drop> SpinLock<T> {
+    /// Creates a free lock with this value in it.
+    ///
+    /// # Errors
+    ///
+    /// The value, if there is no memory for the lock.
+    ///
+    /// # Examples
+    ///
+    /// ```rust
+    /// let lock = SpinLock::new(alloc, 5)?;
+    /// ```
+    pub fn new(alloc: Global, value: T) -> Result<SpinLock<T>, T>
+        ensures refused { IfErr result (λ back. back ≡ value) }
+    {
+        let lock = HistoryLock::new(alloc, value)?;
+        Ok(SpinLock { lock })
+    }
+
+    /// Takes the lock, and waits while another guard has it. A guard that leaks keeps the lock
+    /// taken for good.
+    pub fn lock<W: Wait>(&self, rt: &W) -> SpinLockGuard<'_, T>
+        ensures { lock_of result ≡ self.now }
+    {
+        let (value, turn) = self.lock.lock(rt);
+        SpinLockGuard { turn, value }
+    }
+
+    /// Takes the lock if it is free at this moment.
+    pub fn try_lock(&self) -> Option<SpinLockGuard<'_, T>>
+        ensures { IfSome result (λ guard. lock_of guard ≡ self.now) }
+    {
+        let (value, turn) = self.lock.try_lock()?;
+        Some(SpinLockGuard { turn, value })
+    }
+}
+
+/// The value of a lock. Its drop puts the value back and frees the lock.
+///
+/// # Examples
+///
+/// ```rust
+/// *lock.lock(&rt) = 6; // the guard's drop frees the lock
+/// assert_eq!(rt; *lock.lock(&rt), 6);
+/// ```
+pub struct SpinLockGuard<'s, T> {
+    turn: Turn<'s, T, (), NoLaw>,
+    value: T,
+}
+
+impl<T> Deref for SpinLockGuard<'_, T> {
+    type Target = T;
+
+    ghost deref_gives = { λ guard shown. shown ≡ guard_value guard };
+
+    fn deref(&self) -> &T {
+        &self.value
+    }
+}
+
+impl<T> DerefMut for SpinLockGuard<'_, T> {
+    ghost use Rattle.std.specs.Borrow.{sem};
+    ghost use Rattle.stack_pools.specs.StackPool.{LendsGuardedValue};
+
+    ghost deref_mut_gives = { λ guard shown. shown ≡ guard_value guard };
+
+    fn deref_mut(&mut self) -> &mut T
+        ensures* writes_back { sem 𝓛 (LendsGuardedValue T.row self.entry result) }
+        ensures shows { result.now ≡ guard_value self.old }
+    {
+        &mut self.value
+    }
+}
+
+impl<T> Drop for SpinLockGuard<'_, T> {
+    fn drop(self) {
+        let Self { turn, value } = self;
+        drop(turn.release::<Unrecorded>(value));
+    }
+}
+
+impl<T: Debug> Debug for SpinLockGuard<'_, T> {
+    ghost debug_output = { λ guard. T.debug_output (guard_value guard) };
+
+    fn fmt<W: Write>(&self, f: &mut Formatter<W>) -> fmt::Result {
+        Debug::fmt(&self.value, f)
+    }
+}

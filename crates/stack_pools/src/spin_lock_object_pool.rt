@@ -1,0 +1,105 @@
+//! A pool over a stack of kept values under a spin lock.
+//!
+//! It isn't lock free: a thread that stops while it has the lock keeps all others waiting.
+ghost use Rattle.std.specs.Prelude.{◌≡◌, IfOk, IfErr, ⊤};
+
+use crate::spin_lock::SpinLock;
+use crate::stack_object_pool::StackObjectPool;
+use crate::stack_reusable::StackReusable;
+use kept_values::stack::Stack;
+use pool_parts::PullError;
+use pool_parts::clean::{AnyValue, Clean};
+use pool_parts::closures::{Init, Reset};
+use pool_parts::made_or_reset::MadeOrReset;
+use std::alloc::Global;
+use std::fmt::{self, Debug, Formatter, Write};
+use std::sync::Arc;
+
+/// A pool that keeps returned values in a stack under a spin lock.
+///
+/// A pull takes the value that was returned last, or makes one if none is kept.
+///
+/// # Examples
+///
+/// ```rust
+/// let pool: SpinLockObjectPool<u32, _, _> = SpinLockObjectPool::new(alloc, Copied::new(0), Keep)?;
+/// *pool.pull(&rt)? = 5; // its drop keeps it
+/// assert_eq!(rt; *pool.pull(&rt)?, 5);
+/// ```
+pub type SpinLockObjectPool<T, I, R, K = AnyValue> = StackObjectPool<
+    T,
+    I,
+    R,
+    K,
+    SpinLock<Stack<T, MadeOrReset<I, R, K>>>,
+>;
+
+/// A value that was pulled from a spin lock pool or attached to it, under a borrow of it.
+///
+/// It has the room for its return: its drop resets the value, waits for the pool's lock and returns
+/// the value.
+///
+/// # Examples
+///
+/// ```rust
+/// let item = SpinLockReusable::new(&rt, &pool, 5)?; // its drop gives the pool a value
+/// ```
+pub type SpinLockReusable<'p, T, I, R, K, W> = StackReusable<
+    T,
+    &'p SpinLockObjectPool<T, I, R, K>,
+    W,
+>;
+
+/// A value that was pulled from a spin lock pool or attached to it, with an owner of it.
+///
+/// It has the room for its return: its drop resets the value, waits for the pool's lock and returns
+/// the value.
+///
+/// # Examples
+///
+/// ```rust
+/// let pool = Arc::new(alloc, pool)?;
+/// let item = pool.pull_owned(&rt)?; // may go to any thread
+/// ```
+pub type SpinLockOwnedReusable<T, I, R, K, W> = StackReusable<
+    T,
+    Arc<SpinLockObjectPool<T, I, R, K>>,
+    W,
+>;
+
+impl<T: Drop, I: Init<T, K>, R: Reset<T, K>, K: Clean<T>> SpinLockObjectPool<T, I, R, K> {
+    ghost use Rattle.stack_pools.specs.StackPool.{stack_init, stack_reset};
+    ghost use Rattle.pool_parts.specs.Answers.{Refuses};
+
+    /// Creates a pool that keeps nothing yet.
+    ///
+    /// # Errors
+    ///
+    /// `Memory` if there is no memory for the lock.
+    ///
+    /// # Examples
+    ///
+    /// ```rust
+    /// let pool = SpinLockObjectPool::<u32, _, _>::new(alloc, Copied::new(0), Keep)?;
+    /// ```
+    pub fn new(
+        alloc: Global,
+        init: I,
+        reset: R,
+    ) -> Result<SpinLockObjectPool<T, I, R, K>, PullError>
+        ensures init { IfOk result (λ pool. stack_init pool ≡ init) }
+        ensures reset { IfOk result (λ pool. stack_reset pool ≡ reset) }
+        ensures refused { IfErr result (Refuses ⊤ ⊥ ⊥) }
+    {
+        match SpinLock::new(alloc, Stack::new()) {
+            Ok(kept) => Ok(StackObjectPool::over(alloc, init, reset, kept)),
+            Err(_) => Err(PullError::Memory),
+        }
+    }
+}
+
+impl<T: Drop, I: Init<T, K>, R: Reset<T, K>, K: Clean<T>> Debug for SpinLockObjectPool<T, I, R, K> {
+    fn fmt<W: Write>(&self, f: &mut Formatter<W>) -> fmt::Result {
+        f.debug_struct("SpinLockObjectPool").finish_non_exhaustive()
+    }
+}
