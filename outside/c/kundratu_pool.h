@@ -1,41 +1,57 @@
+/*
+ * SPDX-License-Identifier: BSL-1.0
+ *
+ * Kundratu's pool of places for C and C++: a fixed number of places, which threads take and return
+ * without a lock.
+ */
 /**
  * @file kundratu_pool.h
- * @brief A pool of places for C: a fixed number of places, which threads take and return without a lock.
  *
- * A place is a number below the number of items of its pool. What lies at a place is the caller's: an array of buffers, of
- * sessions, of messages. While a place is held, nobody else holds it.
+ * A place is a number below the number of places of its pool. What lies at a place is yours: an
+ * array of buffers, of sessions, of messages. While somebody holds a place, nobody else holds it.
  *
- * A handle is the way into a pool. It holds one place at a time, or none. A handle is used by one call at a time, and goes from
- * thread to thread, with its place, as any other value does: under a lock, by the start or the end of a thread, or by a release
- * store and the acquire load that reads it, as a channel does.
+ * A handle (kdr_handle) opens a pool to one thread at a time. Each thread has a handle of its own,
+ * made by kdr_pool_share(). A handle holds one place at a time, or none. A thread that needs many
+ * places at a time has many kdr_place: any handle of the pool takes and returns them.
  *
- * Who needs many places at a time has one handle and many kdr_place: any handle of the pool takes and returns them. A place goes
- * from thread to thread as a handle does, by its number alone.
+ * A handle and a place go from thread to thread as any other value does: under a lock, by the start
+ * or the end of a thread, or by a release store and the acquire load that reads it. A place goes as
+ * its bytes; what it was moved from isn't used again.
  *
- * No call waits for another thread. kdr_pool_new() and kdr_pool_share() ask for memory; the other calls ask for none. The pool
- * ends with its last handle, also where a kdr_place of it is held: that one can't be returned any more.
+ * No call waits for another thread. kdr_pool_new() and kdr_pool_share() allocate memory, and no
+ * other call does. A pool ends with its last handle; places that are in use can't be returned then.
  *
- * The calls are proved: see docs/PROMISES.md. The proofs rest on what the caller owes, which nothing checks:
+ * The calls are proved, under these conditions, which nothing checks:
  *
- * - Each pointer that is passed is valid, aligned and not null, and two that are passed to one call point to different things.
- * - A handle is KDR_HANDLE_EMPTY, or what the last call with it left. It is neither copied nor written to otherwise.
- * - A handle is used by one call at a time.
- * - A place is KDR_PLACE_EMPTY, or what the last call with it left. It is neither copied nor written to otherwise. It may be
- *   moved, as its number to another thread: what it was moved from isn't used again.
- * - A place is returned by a handle of the pool that it is of.
- * - A place is used by one call at a time.
- * - No call is made from a signal handler, or in the child of a fork of a process that has threads.
+ * - Each pointer is valid, aligned and not null. Two pointers that go to one call point to
+ *   different things.
+ * - A handle is KDR_HANDLE_EMPTY, or what the last call with it left. It isn't copied.
+ * - One call at a time uses a handle or a place.
+ * - No call is made by a signal handler, or in the child of a fork of a process that has threads.
  * - malloc, realloc and free come from one allocator, and align as C says.
  *
- * That a handle's place is returned once, by who pulled it, needs no care: a handle returns the place that it holds, and a handle
- * that holds none answers KDR_HOLDS_NONE. So does a place that was returned.
+ * These mistakes have an answer, and change nothing:
  *
- * ThreadSanitizer doesn't see the library's atomic steps. Where a program is built with it, tell it the order that is promised:
+ * - A handle or a place whose bytes are all 0 is empty.
+ * - A place is pulled that isn't empty: KDR_HOLDS_ONE. An empty one is returned, such as one that
+ *   was returned before: KDR_HOLDS_NONE.
+ * - A place is returned by a handle of another pool, even of one that has ended: KDR_OTHER_POOL.
+ *   It is returned there, if a handle of its own pool returns it later.
+ * - A place is returned whose bytes were made up: KDR_OTHER_POOL, or KDR_NO_SUCH_PLACE if its
+ *   number is none of the pool's. If they name a place of that pool, they are a copy.
+ *
+ * A place must not be copied and returned twice. If the place is free at the second return, the
+ * program ends by a signal (SIGILL on x86-64, SIGTRAP on AArch64). With KDR_DEBUG defined before
+ * this header is included, it says where and aborts. If somebody else holds the place by then, the
+ * second return is done: the place is free while it is held.
+ *
+ * ThreadSanitizer doesn't see the library's atomic steps. If a program is built with it, tell it
+ * their order:
  *
  *     #include <sanitizer/tsan_interface.h>
  *     static char order[ITEMS];       // one for each place
- *     __tsan_acquire(&order[place]);  // after each pull
- *     __tsan_release(&order[place]);  // before each return
+ *     __tsan_acquire(&order[number]); // after each pull
+ *     __tsan_release(&order[number]); // before each return
  */
 #ifndef KUNDRATU_POOL_H
 #define KUNDRATU_POOL_H
@@ -47,130 +63,172 @@
 extern "C" {
 #endif
 
+/** The version of this header, in numbers and as a string. kdr_version() has the library's. */
+#define KDR_VERSION_MAJOR 0
+#define KDR_VERSION_MINOR 1
+#define KDR_VERSION_PATCH 0
+#define KDR_VERSION "0.1.0"
+
+/** No pointer argument may be null. */
 #if defined(__GNUC__)
-#define KDR_POINTERS_ARE_VALID __attribute__((nonnull))
-#define KDR_ANSWER_MATTERS __attribute__((warn_unused_result))
+#define KDR_NONNULL __attribute__((nonnull))
 #else
-#define KDR_POINTERS_ARE_VALID
-#define KDR_ANSWER_MATTERS
+#define KDR_NONNULL
 #endif
 
-/** What a call answers. */
-typedef uint32_t kdr_answer;
+/** The result must be looked at. */
+#if defined(__GNUC__)
+#define KDR_NODISCARD __attribute__((warn_unused_result))
+#else
+#define KDR_NODISCARD
+#endif
+
+/** What a call returns. kdr_status_name() names it. */
+typedef uint32_t kdr_status;
 
 enum {
-    KDR_DONE = 0,       /**< It was done. */
-    KDR_ALL_OUT = 1,    /**< All places were out at one moment of the call (or as kdr_pool_pull() says). */
-    KDR_HOLDS_ONE = 2,  /**< The handle holds a place already; or the place isn't empty. */
-    KDR_HOLDS_NONE = 3, /**< The handle holds no place; or the place is empty. */
-    KDR_NO_POOL = 4,    /**< The handle has no pool. */
-    KDR_IN_USE = 5,     /**< The handle that was to be made has a pool already. */
-    KDR_NO_PLACES = 6,  /**< A pool of no places was asked for. */
-    KDR_NO_MEMORY = 7   /**< Memory was refused, or the pool can have no more handles. */
+    KDR_DONE = 0,         /**< The call did what it is for. */
+    KDR_ALL_IN_USE = 1,   /**< All places were in use at one moment (see kdr_pool_pull()). */
+    KDR_HOLDS_ONE = 2,    /**< The handle holds a place already, or the place isn't empty. */
+    KDR_HOLDS_NONE = 3,   /**< The handle holds no place, or the place is empty. */
+    KDR_NO_POOL = 4,      /**< The handle is empty. */
+    KDR_HAS_POOL = 5,     /**< The handle that was to be made isn't empty. */
+    KDR_NO_PLACES = 6,    /**< A pool of no places was asked for. */
+    KDR_NO_MEMORY = 7,    /**< Memory was refused, or the pool can have no more handles. */
+    KDR_OTHER_POOL = 8,   /**< The place is of another pool. */
+    KDR_NO_SUCH_PLACE = 9 /**< The pool has no place of that number. */
 };
 
-/** How many places a page has: kdr_pool_pull_near() counts pages. */
+/** How many places a page has. kdr_pool_pull_near() and kdr_place_pull() begin at a page. */
 #define KDR_PAGE_PLACES 32
 
-/** A handle. Its field is none of the caller's. */
+/** A handle of a pool, or an empty one. Its field is private. */
 typedef struct kdr_handle {
     void *at;
 } kdr_handle;
 
-/** A handle that has no pool. */
-#define KDR_HANDLE_EMPTY {NULL}
-
-/** The number of a place that is empty. */
-#define KDR_NO_PLACE SIZE_MAX
-
-/** A place by itself. The caller may read its number, and doesn't write it. */
+/** A place by itself, or an empty one. Its fields are private: see kdr_place_number(). */
 typedef struct kdr_place {
-    size_t number;
+    size_t after;
+    size_t pool;
 } kdr_place;
 
-/** A place that is empty. */
-#define KDR_PLACE_EMPTY {KDR_NO_PLACE}
+/** What kdr_place_number() returns for an empty place. */
+#define KDR_NO_PLACE SIZE_MAX
+
+/** An empty handle and an empty place, to initialize one and to assign to one. */
+#ifdef __cplusplus
+#define KDR_HANDLE_EMPTY (kdr_handle())
+#define KDR_PLACE_EMPTY (kdr_place())
+#else
+#define KDR_HANDLE_EMPTY ((kdr_handle){NULL})
+#define KDR_PLACE_EMPTY ((kdr_place){0, 0})
+#endif
+
+/** Returns the number of a place, or KDR_NO_PLACE if it is empty. */
+static inline size_t kdr_place_number(const kdr_place *place) {
+    return place->after - 1;
+}
+
+/** Returns the version of the library, such as "0.1.0". */
+const char *kdr_version(void);
+
+/** Returns the name of a status, such as "KDR_DONE", or "unknown" if it is none. */
+const char *kdr_status_name(kdr_status status);
 
 /**
- * @brief Makes a pool of so many free places.
+ * Creates a pool of so many free places.
  *
- * @param items how many places: 0 up to items - 1.
- * @param out   an empty handle, which is the first handle of the new pool where the answer is KDR_DONE. It holds no place.
- * @return KDR_DONE; KDR_NO_PLACES where items is 0; KDR_NO_MEMORY; KDR_IN_USE where out has a pool. Where it isn't KDR_DONE, out is
- *         as it was, and nothing was kept.
+ * @param items the number of places. They are numbered from 0.
+ * @param out   an empty handle, which becomes the first handle of the pool. It holds no place.
+ * @return KDR_DONE; KDR_NO_PLACES if items is 0; KDR_NO_MEMORY; KDR_HAS_POOL if out isn't empty.
+ *         After a failure out is as before, and nothing is kept.
  */
-kdr_answer kdr_pool_new(size_t items, kdr_handle *out) KDR_POINTERS_ARE_VALID KDR_ANSWER_MATTERS;
+KDR_NODISCARD kdr_status kdr_pool_new(size_t items, kdr_handle *out) KDR_NONNULL;
 
 /**
- * @brief Makes a further handle of the same pool, as for another thread or a further place.
+ * Creates a further handle of the same pool.
  *
- * While there are pages, handles begin their pulls at pages of their own, so threads that have one each seldom meet.
+ * Handles begin their pulls at pages of their own while there are pages, so threads that have one
+ * each seldom meet.
  *
- * @param handle a handle of the pool, whether it holds a place or not. It stays as it was.
- * @param out    another handle, which is empty. Where the answer is KDR_DONE it is a handle of the pool and holds no place.
- * @return KDR_DONE; KDR_NO_POOL where handle has no pool; KDR_NO_MEMORY; KDR_IN_USE where out has a pool.
+ * @param handle a handle of the pool, which may hold a place. Nothing else may use it meanwhile.
+ * @param out    an empty handle, which becomes a handle of the pool. It holds no place.
+ * @return KDR_DONE; KDR_NO_POOL if handle is empty; KDR_NO_MEMORY; KDR_HAS_POOL if out isn't empty.
  */
-kdr_answer kdr_pool_share(kdr_handle *handle, kdr_handle *out) KDR_POINTERS_ARE_VALID KDR_ANSWER_MATTERS;
+KDR_NODISCARD kdr_status kdr_pool_share(const kdr_handle *handle, kdr_handle *out) KDR_NONNULL;
 
 /**
- * @brief Takes a place.
+ * Pulls a free place, which the handle holds from then on.
  *
- * It is one that was free. Which one, is not said. In all the pulls and returns of the pool, whatever threads make them, there is
- * one order in which each of them takes a place that was free just before, and gives back one that was held.
+ * The pulls and returns of a pool, by whatever threads, have one order in which each pull takes a
+ * place that is free just before it, and each return gives back one that is held.
  *
  * @param handle a handle that holds no place.
- * @param place  where the number of the place goes, if the answer is KDR_DONE: it is below kdr_pool_items(). It is left alone else.
- * @return KDR_DONE; KDR_ALL_OUT where all places were out at one moment of the call (or 2^32 returns came within it);
- *         KDR_HOLDS_ONE; KDR_NO_POOL.
+ * @param number receives the number of the place, which is below kdr_pool_items(). It is left as it
+ *               is if the call fails.
+ * @return KDR_DONE; KDR_ALL_IN_USE if all places were in use at one moment of the call (or 2^32
+ *         places and more were returned during it); KDR_HOLDS_ONE; KDR_NO_POOL.
  */
-kdr_answer kdr_pool_pull(kdr_handle *handle, size_t *place) KDR_POINTERS_ARE_VALID KDR_ANSWER_MATTERS;
+KDR_NODISCARD kdr_status kdr_pool_pull(kdr_handle *handle, size_t *number) KDR_NONNULL;
 
 /**
- * @brief Takes a place as kdr_pool_pull() does, and looks for it first at this page.
+ * Pulls a place as kdr_pool_pull() does, but looks at this page first.
  *
- * @param page a number of KDR_PAGE_PLACES places, counted round and round, so that each number will do.
+ * @param page the number of a page of KDR_PAGE_PLACES places. Pages are counted round and round, so
+ *             any number will do.
  */
-kdr_answer kdr_pool_pull_near(kdr_handle *handle, size_t page, size_t *place) KDR_POINTERS_ARE_VALID KDR_ANSWER_MATTERS;
+KDR_NODISCARD kdr_status kdr_pool_pull_near(kdr_handle *handle, size_t page, size_t *number)
+    KDR_NONNULL;
 
 /**
- * @brief Returns the place that the handle holds. From then on others may hold it.
+ * Returns the place that the handle holds. Others may hold it from then on.
  *
- * @return KDR_DONE; KDR_HOLDS_NONE, as where it was returned before; KDR_NO_POOL.
+ * @return KDR_DONE; KDR_HOLDS_NONE if the handle holds no place; KDR_NO_POOL.
  */
-kdr_answer kdr_pool_return(kdr_handle *handle) KDR_POINTERS_ARE_VALID;
+kdr_status kdr_pool_return(kdr_handle *handle) KDR_NONNULL;
 
 /**
- * @brief Takes a place of the handle's pool by itself. It is one that was free, as by kdr_pool_pull().
+ * Pulls a free place by itself, as kdr_pool_pull() does. The handle stays as it is, whether it
+ * holds a place or not.
  *
- * The handle stays as it was, whether it holds a place of its own or not. So one handle takes as many places as there are.
- *
- * @param page  a number of KDR_PAGE_PLACES places, counted round and round, at which the call looks first.
- * @param place an empty place. Where the answer is KDR_DONE, its number is the place's, below kdr_pool_items(). It has the number
- *              that it had else.
- * @return KDR_DONE; KDR_ALL_OUT where all places were out at one moment of the call (or 2^32 returns came within it);
- *         KDR_HOLDS_ONE where the place isn't empty; KDR_NO_POOL.
+ * @param page  the page at which the call looks first, as kdr_pool_pull_near() has it.
+ * @param place an empty place, which becomes the one that was pulled. After a failure it is as
+ *              before.
+ * @return KDR_DONE; KDR_ALL_IN_USE as kdr_pool_pull(); KDR_HOLDS_ONE if the place isn't empty;
+ *         KDR_NO_POOL.
  */
-kdr_answer kdr_place_pull(kdr_handle *handle, size_t page, kdr_place *place) KDR_POINTERS_ARE_VALID KDR_ANSWER_MATTERS;
+KDR_NODISCARD kdr_status kdr_place_pull(kdr_handle *handle, size_t page, kdr_place *place)
+    KDR_NONNULL;
 
 /**
- * @brief Returns a place, which is empty from then on. Others may hold it then.
+ * Returns a place, which is empty from then on. Others may hold it.
  *
- * @param handle any handle of the pool that the place is of. It stays as it was.
- * @return KDR_DONE; KDR_HOLDS_NONE where the place is empty, as where it was returned before; KDR_NO_POOL.
+ * @param handle any handle of the place's pool. It stays as it is.
+ * @return KDR_DONE; KDR_HOLDS_NONE if the place is empty; KDR_OTHER_POOL; KDR_NO_SUCH_PLACE;
+ *         KDR_NO_POOL. After a failure the place is as before.
  */
-kdr_answer kdr_place_return(kdr_handle *handle, kdr_place *place) KDR_POINTERS_ARE_VALID;
+kdr_status kdr_place_return(kdr_handle *handle, kdr_place *place) KDR_NONNULL;
+
+/** Returns how many places the handle's pool has, or 0 if the handle is empty. */
+size_t kdr_pool_items(const kdr_handle *handle) KDR_NONNULL;
 
 /**
- * @brief How many places the handle's pool has, or 0 where the handle has no pool.
- */
-size_t kdr_pool_items(kdr_handle *handle) KDR_POINTERS_ARE_VALID;
-
-/**
- * @brief Ends the handle, which is empty afterwards. A place that it holds is returned. The pool ends with its last handle.
+ * Closes the handle, which is empty from then on. A place that it holds is returned. The pool ends
+ * with its last handle.
  *
- * @return KDR_DONE; KDR_NO_POOL where the handle has no pool.
+ * @return KDR_DONE; KDR_NO_POOL if the handle is empty.
  */
-kdr_answer kdr_pool_drop(kdr_handle *handle) KDR_POINTERS_ARE_VALID;
+kdr_status kdr_pool_drop(kdr_handle *handle) KDR_NONNULL;
+
+/** Returns a place as kdr_place_return() does. KDR_DEBUG puts it in the place of that call. */
+kdr_status kdr_debug_place_return(kdr_handle *handle, kdr_place *place, const char *file, int line)
+    KDR_NONNULL;
+
+#ifdef KDR_DEBUG
+#define kdr_place_return(handle, place) \
+    kdr_debug_place_return((handle), (place), __FILE__, __LINE__)
+#endif
 
 #ifdef __cplusplus
 }

@@ -24,7 +24,7 @@ static struct packet packets[PACKETS];
 static kdr_place ring[ROOM];
 static atomic_size_t put, taken;
 
-static void must(kdr_answer answer) {
+static void must(kdr_status answer) {
     if (answer != KDR_DONE) {
         fprintf(stderr, "a call answered %d\n", (int)answer);
         exit(1);
@@ -40,7 +40,7 @@ static void *write_all(void *handle) {
         /* There are more places than the ring has room for, so one is free. After some it goes on to another page, apart from
            where the reader returns them. */
         must(kdr_place_pull(handle, number / TOGETHER, place));
-        struct packet *packet = &packets[place->number];
+        struct packet *packet = &packets[kdr_place_number(place)];
         packet->number = number;
         snprintf(packet->text, sizeof packet->text, "packet %zu", number);
         atomic_store(&put, number + 1);
@@ -55,7 +55,7 @@ static void *read_all(void *handle) {
             sched_yield();
         }
         kdr_place *place = &ring[number % ROOM];
-        const struct packet *packet = &packets[place->number];
+        const struct packet *packet = &packets[kdr_place_number(place)];
         snprintf(wanted, sizeof wanted, "packet %zu", number);
         if (packet->number != number || strcmp(packet->text, wanted)) {
             fprintf(stderr, "packet %zu came as '%s'\n", number, packet->text);
@@ -71,7 +71,7 @@ int main(void) {
     kdr_handle writers = KDR_HANDLE_EMPTY, readers = KDR_HANDLE_EMPTY;
     pthread_t writer, reader;
     for (size_t at = 0; at < ROOM; at++) {
-        ring[at] = (kdr_place)KDR_PLACE_EMPTY;
+        ring[at] = KDR_PLACE_EMPTY;
     }
     must(kdr_pool_new(PACKETS, &writers));
     must(kdr_pool_share(&writers, &readers));

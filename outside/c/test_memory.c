@@ -106,7 +106,7 @@ static void take_none_between(void) {
         for (size_t at = 0; at < ITEMS; at++) {
             check(kdr_pool_pull(&all[at], &place) == KDR_DONE, "no place");
         }
-        check(kdr_pool_pull(&all[ITEMS], &place) == KDR_ALL_OUT, "a place too many");
+        check(kdr_pool_pull(&all[ITEMS], &place) == KDR_ALL_IN_USE, "a place too many");
         check(kdr_pool_pull(&all[0], &place) == KDR_HOLDS_ONE, "a second place");
         check(kdr_pool_items(&all[0]) == ITEMS, "another number of places");
         for (size_t at = 0; at < ITEMS; at++) {
@@ -135,10 +135,10 @@ static void take_none_by_places(void) {
     asked = 0;
     for (int turn = 0; turn < 3; turn++) {
         for (size_t at = 0; at < ITEMS; at++) {
-            all[at] = (kdr_place)KDR_PLACE_EMPTY;
+            all[at] = KDR_PLACE_EMPTY;
             check(kdr_place_pull(&one, at, &all[at]) == KDR_DONE, "no place by itself");
         }
-        check(kdr_place_pull(&one, 0, &more) == KDR_ALL_OUT, "a place by itself too many");
+        check(kdr_place_pull(&one, 0, &more) == KDR_ALL_IN_USE, "a place by itself too many");
         for (size_t at = 0; turn < 2 && at < ITEMS; at++) {
             check(kdr_place_return(&one, &all[at]) == KDR_DONE, "no return of a place by itself");
         }

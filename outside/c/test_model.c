@@ -48,7 +48,7 @@ static void check(bool holds, const char *what) {
     }
 }
 
-static void expect(kdr_answer answer, kdr_answer wanted, const char *call) {
+static void expect(kdr_status answer, kdr_status wanted, const char *call) {
     if (answer != wanted) {
         printf("call %llu: %s answered %u, and the model %u\n", calls, call, answer, wanted);
         exit(1);
@@ -71,7 +71,7 @@ static void try_new(size_t at) {
     if (pool == NO_POOL && plain[at].pool == NO_POOL) {
         return;
     }
-    kdr_answer wanted = plain[at].pool != NO_POOL ? KDR_IN_USE : items == 0 ? KDR_NO_PLACES : KDR_DONE;
+    kdr_status wanted = plain[at].pool != NO_POOL ? KDR_HAS_POOL : items == 0 ? KDR_NO_PLACES : KDR_DONE;
     expect(kdr_pool_new(items, &handles[at]), wanted, "new");
     if (wanted == KDR_DONE) {
         pools[pool] = (struct plain_pool){.handles = 1, .items = (int)items};
@@ -86,7 +86,7 @@ static void try_share(size_t from, size_t to) {
     if (from == to) {
         return;
     }
-    kdr_answer wanted = plain[to].pool != NO_POOL ? KDR_IN_USE : plain[from].pool == NO_POOL ? KDR_NO_POOL : KDR_DONE;
+    kdr_status wanted = plain[to].pool != NO_POOL ? KDR_HAS_POOL : plain[from].pool == NO_POOL ? KDR_NO_POOL : KDR_DONE;
     expect(kdr_pool_share(&handles[from], &handles[to]), wanted, "share");
     if (wanted == KDR_DONE) {
         plain[to] = (struct plain_handle){.pool = plain[from].pool, .place = NO_PLACE};
@@ -97,12 +97,12 @@ static void try_share(size_t from, size_t to) {
 static void try_pull(size_t at, bool near) {
     struct plain_handle *one = &plain[at];
     struct plain_pool *pool = one->pool == NO_POOL ? NULL : &pools[one->pool];
-    kdr_answer wanted = !pool                      ? KDR_NO_POOL
+    kdr_status wanted = !pool                      ? KDR_NO_POOL
                         : one->place != NO_PLACE   ? KDR_HOLDS_ONE
-                        : pool->out == pool->items ? KDR_ALL_OUT
+                        : pool->out == pool->items ? KDR_ALL_IN_USE
                                                    : KDR_DONE;
     size_t place = SIZE_MAX;
-    kdr_answer answer = near ? kdr_pool_pull_near(&handles[at], (size_t)next(), &place) : kdr_pool_pull(&handles[at], &place);
+    kdr_status answer = near ? kdr_pool_pull_near(&handles[at], (size_t)next(), &place) : kdr_pool_pull(&handles[at], &place);
     expect(answer, wanted, "pull");
     if (answer != KDR_DONE) {
         check(place == SIZE_MAX, "a refused pull wrote a place");
@@ -123,7 +123,7 @@ static void let_go(struct plain_handle *one) {
 
 static void try_return(size_t at) {
     struct plain_handle *one = &plain[at];
-    kdr_answer wanted = one->pool == NO_POOL ? KDR_NO_POOL : one->place == NO_PLACE ? KDR_HOLDS_NONE : KDR_DONE;
+    kdr_status wanted = one->pool == NO_POOL ? KDR_NO_POOL : one->place == NO_PLACE ? KDR_HOLDS_NONE : KDR_DONE;
     expect(kdr_pool_return(&handles[at]), wanted, "return");
     if (wanted == KDR_DONE) {
         let_go(one);

@@ -1,5 +1,5 @@
 /* Places by themselves: one handle takes all places of a pool, another returns them; what each call refuses; and threads that
-   take places, hand them on as numbers, and return those that others took.
+   take places, hand them on, and return those that others took.
    usage: test_places [TURNS] */
 #include "kundratu_pool.h"
 #include "test_order.h"
@@ -33,28 +33,28 @@ static kdr_handle share(kdr_handle *handle) {
 static kdr_place pull(kdr_handle *handle, size_t page) {
     kdr_place place = KDR_PLACE_EMPTY;
     check(kdr_place_pull(handle, page, &place) == KDR_DONE, "a pull was refused while a place was free");
-    check(place.number < kdr_pool_items(handle), "a number that is no place's");
+    check(kdr_place_number(&place) < kdr_pool_items(handle), "a number that is no place's");
     return place;
 }
 
 static void give_back(kdr_handle *handle, kdr_place *place) {
     check(kdr_place_return(handle, place) == KDR_DONE, "a place wasn't returned");
-    check(place->number == KDR_NO_PLACE, "a place that was returned isn't empty");
+    check(kdr_place_number(place) == KDR_NO_PLACE, "a place that was returned isn't empty");
 }
 
 static void pull_all(kdr_handle *handle, kdr_place places[ITEMS]) {
     bool taken[ITEMS] = {false};
     for (size_t at = 0; at < ITEMS; at++) {
         places[at] = pull(handle, at);
-        check(!taken[places[at].number], "a place was taken twice");
-        taken[places[at].number] = true;
+        check(!taken[kdr_place_number(&places[at])], "a place was taken twice");
+        taken[kdr_place_number(&places[at])] = true;
     }
 }
 
 static void refuse(kdr_handle *handle) {
     kdr_place one_more = KDR_PLACE_EMPTY;
-    check(kdr_place_pull(handle, 0, &one_more) == KDR_ALL_OUT, "a pull past the last place wasn't refused");
-    check(one_more.number == KDR_NO_PLACE, "a refused pull didn't leave its place alone");
+    check(kdr_place_pull(handle, 0, &one_more) == KDR_ALL_IN_USE, "a pull past the last place wasn't refused");
+    check(kdr_place_number(&one_more) == KDR_NO_PLACE, "a refused pull didn't leave its place alone");
 }
 
 /* One handle takes each place once; another handle returns them, in another order; then they are taken again. */
@@ -76,16 +76,16 @@ static void take_all(void) {
 static void refuse_each(void) {
     kdr_handle none = KDR_HANDLE_EMPTY, first = new_pool(ITEMS);
     kdr_place empty = KDR_PLACE_EMPTY, held = pull(&first, 1);
-    size_t number = held.number;
+    size_t number = kdr_place_number(&held);
     check(kdr_place_pull(&first, 0, &held) == KDR_HOLDS_ONE, "a place that holds one was pulled");
-    check(held.number == number, "KDR_HOLDS_ONE changed the place");
+    check(kdr_place_number(&held) == number, "KDR_HOLDS_ONE changed the place");
     check(kdr_place_return(&first, &empty) == KDR_HOLDS_NONE, "an empty place was returned");
-    check(empty.number == KDR_NO_PLACE, "KDR_HOLDS_NONE changed the place");
+    check(kdr_place_number(&empty) == KDR_NO_PLACE, "KDR_HOLDS_NONE changed the place");
     check(kdr_place_pull(&none, 0, &empty) == KDR_NO_POOL, "a handle without a pool pulled");
     check(kdr_place_pull(&none, 0, &held) == KDR_NO_POOL, "a handle without a pool pulled");
     check(kdr_place_return(&none, &held) == KDR_NO_POOL, "a handle without a pool returned");
     check(kdr_place_return(&none, &empty) == KDR_NO_POOL, "a handle without a pool returned");
-    check(empty.number == KDR_NO_PLACE && held.number == number, "KDR_NO_POOL changed a place");
+    check(kdr_place_number(&empty) == KDR_NO_PLACE && kdr_place_number(&held) == number, "KDR_NO_POOL changed a place");
     check(none.at == NULL, "a handle without a pool was changed");
     give_back(&first, &held);
     check(kdr_place_return(&first, &held) == KDR_HOLDS_NONE, "a place was returned twice");
@@ -100,10 +100,10 @@ static void hold_beside(void) {
     check(kdr_pool_pull(&first, &own) == KDR_DONE, "no place for the handle");
     for (size_t at = 0; at < ITEMS - 1; at++) {
         places[at] = pull(&first, 0);
-        check(places[at].number != own, "the handle's own place was taken");
+        check(kdr_place_number(&places[at]) != own, "the handle's own place was taken");
     }
     refuse(&first);
-    check(kdr_pool_pull(&second, &other) == KDR_ALL_OUT, "a handle took a place that is out");
+    check(kdr_pool_pull(&second, &other) == KDR_ALL_IN_USE, "a handle took a place that is out");
     check(kdr_pool_return(&second) == KDR_HOLDS_NONE, "a handle returned a place that isn't its own");
     check(kdr_pool_return(&first) == KDR_DONE, "the handle's own place wasn't returned");
     check(kdr_pool_return(&first) == KDR_HOLDS_NONE, "a handle returned a place that isn't its own");
@@ -123,17 +123,17 @@ static void begin_at_a_page(void) {
     for (size_t at = 0; at < KDR_PAGE_PLACES; at++) {
         for (size_t page = 0; page < PAGES; page++) {
             kdr_place place = pull(&first, page + at * PAGES);
-            check(place.number / KDR_PAGE_PLACES == page, "a pull began elsewhere than at its page");
+            check(kdr_place_number(&place) / KDR_PAGE_PLACES == page, "a pull began elsewhere than at its page");
         }
     }
     kdr_pool_drop(&first);
 }
 
-/* Numbers that were handed on, under a lock. */
+/* Places that were handed on, under a lock. */
 struct handed {
     pthread_mutex_t lock;
     size_t count;
-    size_t numbers[HANDED];
+    kdr_place places[HANDED];
 };
 
 struct job {
@@ -158,7 +158,7 @@ static struct cell cells[ITEMS];
 static kdr_place take(struct job *job, size_t page) {
     kdr_place place = KDR_PLACE_EMPTY;
     if (kdr_place_pull(&job->handle, page, &place) == KDR_DONE) {
-        struct cell *cell = &cells[place.number];
+        struct cell *cell = &cells[kdr_place_number(&place)];
         COMES_AFTER_THE_RETURN(&cell->order);
         check(cell->holder == 0, "a place was held by two");
         cell->holder = job->number;
@@ -170,11 +170,11 @@ static kdr_place take(struct job *job, size_t page) {
 
 /* Whoever returns it found it in the hands of one thread, and not of two. */
 static void bring_back(struct job *job, kdr_place *place) {
-    if (place->number == KDR_NO_PLACE) {
+    if (kdr_place_number(place) == KDR_NO_PLACE) {
         check(kdr_place_return(&job->handle, place) == KDR_HOLDS_NONE, "an empty place was returned");
         return;
     }
-    struct cell *cell = &cells[place->number];
+    struct cell *cell = &cells[kdr_place_number(place)];
     job->received += cell->holder != job->number;
     check(cell->holder != 0, "a place was returned by two");
     cell->holder = 0;
@@ -182,18 +182,17 @@ static void bring_back(struct job *job, kdr_place *place) {
     give_back(&job->handle, place);
 }
 
-/* Hands a place on, as its number, and gets one that was handed on before, if there is one. */
+/* Hands a place on, and gets one that was handed on before, if there is one. */
 static void swap(kdr_place *place, size_t at) {
     pthread_mutex_lock(&handed.lock);
-    size_t number = place->number;
-    if (number != KDR_NO_PLACE && handed.count < HANDED) {
-        *place = (kdr_place)KDR_PLACE_EMPTY;
-        handed.numbers[handed.count++] = number;
+    if (kdr_place_number(place) != KDR_NO_PLACE && handed.count < HANDED) {
+        handed.places[handed.count++] = *place;
+        *place = KDR_PLACE_EMPTY;
     }
-    if (place->number == KDR_NO_PLACE && handed.count > HANDED / 2) {
-        size_t *from = &handed.numbers[at % handed.count];
-        *place = (kdr_place){*from};
-        *from = handed.numbers[--handed.count];
+    if (kdr_place_number(place) == KDR_NO_PLACE && handed.count > HANDED / 2) {
+        kdr_place *from = &handed.places[at % handed.count];
+        *place = *from;
+        *from = handed.places[--handed.count];
     }
     pthread_mutex_unlock(&handed.lock);
 }
@@ -231,8 +230,8 @@ static void hand_on(unsigned long turns) {
         check(kdr_pool_drop(&jobs[at].handle) == KDR_DONE, "a handle wasn't dropped");
     }
     while (handed.count > 0) {
-        kdr_place place = {handed.numbers[--handed.count]};
-        cells[place.number].holder = 0;
+        kdr_place place = handed.places[--handed.count];
+        cells[kdr_place_number(&place)].holder = 0;
         give_back(&first, &place);
     }
     for (size_t place = 0; place < ITEMS; place++) {
@@ -251,7 +250,6 @@ static void hand_on(unsigned long turns) {
 int main(int count, char **words) {
     unsigned long turns = count > 1 ? strtoul(words[1], NULL, 10) : 20000;
     alarm(SECONDS);
-    check(sizeof(kdr_place) == sizeof(size_t), "a place has another size than its number");
     take_all();
     refuse_each();
     hold_beside();

@@ -41,7 +41,7 @@ static void hold_all(kdr_handle *spare) {
 
 static void refuse(kdr_handle *spare) {
     size_t place;
-    check(kdr_pool_pull_near(spare, 0, &place) == KDR_ALL_OUT, "a pull wasn't refused while all places were held");
+    check(kdr_pool_pull_near(spare, 0, &place) == KDR_ALL_IN_USE, "a pull wasn't refused while all places were held");
 }
 
 static void read_words(kdr_handle *spare) {

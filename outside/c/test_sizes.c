@@ -55,7 +55,7 @@ static void make(size_t wanted) {
     spare = &handles[items];
 }
 
-static void hold(kdr_handle *handle, kdr_answer answer, size_t place) {
+static void hold(kdr_handle *handle, kdr_status answer, size_t place) {
     check(answer == KDR_DONE, "a pull was refused while a place was free");
     check(place < items, "a place was pulled that isn't the pool's");
     check(holder[place] == NULL, "a place was pulled that is held");
@@ -64,13 +64,13 @@ static void hold(kdr_handle *handle, kdr_answer answer, size_t place) {
 
 static void pull(kdr_handle *handle) {
     size_t place = SIZE_MAX;
-    kdr_answer answer = kdr_pool_pull(handle, &place);
+    kdr_status answer = kdr_pool_pull(handle, &place);
     hold(handle, answer, place);
 }
 
 static void pull_near(kdr_handle *handle, size_t name, size_t wanted) {
     size_t place = SIZE_MAX;
-    kdr_answer answer = kdr_pool_pull_near(handle, name, &place);
+    kdr_status answer = kdr_pool_pull_near(handle, name, &place);
     hold(handle, answer, place);
     check(place == wanted, "a pull near a page took another place than the one that is free there");
 }
@@ -84,9 +84,9 @@ static void give_back(size_t place) {
 
 static void refuses(void) {
     size_t place = SIZE_MAX;
-    check(kdr_pool_pull(spare, &place) == KDR_ALL_OUT, "a pull wasn't refused while each place was out");
-    check(kdr_pool_pull_near(spare, pages - 1, &place) == KDR_ALL_OUT, "a pull near the last page wasn't refused");
-    check(kdr_pool_pull_near(spare, SIZE_MAX, &place) == KDR_ALL_OUT, "a pull near the greatest number wasn't refused");
+    check(kdr_pool_pull(spare, &place) == KDR_ALL_IN_USE, "a pull wasn't refused while each place was out");
+    check(kdr_pool_pull_near(spare, pages - 1, &place) == KDR_ALL_IN_USE, "a pull near the last page wasn't refused");
+    check(kdr_pool_pull_near(spare, SIZE_MAX, &place) == KDR_ALL_IN_USE, "a pull near the greatest number wasn't refused");
     check(place == SIZE_MAX, "a refused pull wrote a place");
 }
 

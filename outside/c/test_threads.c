@@ -52,7 +52,7 @@ static void take(struct job *job, size_t at, size_t places[HANDLES]) {
         job->held++;
         job->faults += places[at] >= ITEMS || !enter(job, places[at]);
         break;
-    case KDR_ALL_OUT:
+    case KDR_ALL_IN_USE:
         places[at] = ITEMS;
         job->refused++;
         break;

@@ -1,65 +1,153 @@
-//! An item that is out, and what its pool is made of.
-use crate::lanes::{Cells, Lane, Lanes, Out};
-use crate::sys::Handle;
+//! An item that is held.
+use crate::cells::Slot;
 use std::fmt::{self, Debug, Formatter};
+use std::marker::PhantomData;
+use std::mem::ManuallyDrop;
 use std::ops::{Deref, DerefMut};
+use std::ptr;
+use std::sync::Arc;
 
-/// A pool whose items lie in one part or in several, each of them a pool of the library.
-#[doc(hidden)]
-pub trait Source: Sized {
+/// A pool whose items are held by guards. Only this crate's pools are such.
+///
+/// # Safety
+///
+/// Each place has a slot of its own.
+pub unsafe trait Source: Sized {
+    /// What a guard gives.
     type Item;
-    type Reset: Fn(&mut Self::Item);
-    /// How many parts it may have.
-    const PARTS: usize;
+    /// What lies at a place.
+    #[doc(hidden)]
+    type Value;
 
-    /// Returns a place's part, the lanes and the reset. It calls nothing of the user's.
-    fn at(&self, at: usize) -> (&Cells<Self::Item>, &Lanes, &Self::Reset);
+    /// Returns the slot of a place.
+    #[doc(hidden)]
+    fn slot(&self, at: usize) -> &Slot<Self::Value>;
 
-    /// Returns a lane's handle of this part.
-    fn handle<'l>(&'l self, lane: &'l mut Lane, part: usize) -> &'l mut Option<Handle>;
+    /// Borrows the item of a value, which a held place has.
+    #[doc(hidden)]
+    fn item(value: &Self::Value) -> &Self::Item;
 
-    /// Brings a lane to another part, where others don't return what it pulled just now.
-    fn go_further(&self, _lane: &mut Lane) {}
+    /// Borrows the item of a value to write.
+    #[doc(hidden)]
+    fn item_mut(value: &mut Self::Value) -> &mut Self::Item;
+
+    /// Resets a value whose place is returned.
+    #[doc(hidden)]
+    fn reset(&self, value: &mut Self::Value);
+
+    /// Returns a place.
+    ///
+    /// # Safety
+    ///
+    /// The place was pulled from this pool, and is returned once.
+    #[doc(hidden)]
+    unsafe fn give_back(&self, at: usize);
+
+    /// Resets the value of a place, and returns the place.
+    ///
+    /// # Safety
+    ///
+    /// As `give_back`, and nobody borrows the value.
+    #[doc(hidden)]
+    #[inline(always)]
+    unsafe fn end(&self, at: usize) {
+        // SAFETY: the caller says it.
+        self.reset(unsafe { &mut *self.slot(at).0.get() });
+        // SAFETY: the caller says it.
+        unsafe { self.give_back(at) };
+    }
 }
 
-/// An item that is out, of a pool that is held by a borrow or by an owner. Its end resets the item
-/// and brings it back. Threads share a guard only if they may share its item:
+/// An item that is held, of a pool that is held by a borrow or by an owner. Its end resets the item
+/// and returns it. Threads share a guard only if they may share its item:
 ///
 /// ```compile_fail,E0277
 /// fn is_shared<S: Sync>() {}
 /// is_shared::<kundratu_pool::Reusable<'static, std::cell::Cell<u32>>>();
 /// ```
-pub struct Guard<P: Deref<Target: Source>> {
-    pub(crate) pool: P,
-    /// It is given back at the guard's end, and nowhere else.
-    pub(crate) out: Out<P::Target>,
+#[must_use = "the item is returned at once"]
+pub struct Guard<P: Deref<Target: Source<Item = T>>, T> {
+    pool: P,
+    /// The place of the item, which this guard alone holds.
+    at: usize,
+    /// A guard goes to threads, and is shared by them, as its item may.
+    item: PhantomData<T>,
 }
 
-impl<P: Deref<Target: Source>> Deref for Guard<P> {
-    type Target = <P::Target as Source>::Item;
+/// A guard keeps its item's address, but it doesn't promise to.
+impl<P: Deref<Target: Source<Item = T>>, T> Unpin for Guard<P, T> {}
 
-    fn deref(&self) -> &Self::Target {
-        self.pool.at(self.out.at).0.item(&self.out)
+impl<'p, S: Source> Guard<&'p S, S::Item> {
+    /// Creates the guard of a place.
+    ///
+    /// # Safety
+    ///
+    /// The place was pulled from this pool, and nobody else has it.
+    #[inline(always)]
+    pub(crate) unsafe fn new(pool: &'p S, at: usize) -> Self {
+        let item = PhantomData;
+        Guard { pool, at, item }
+    }
+
+    /// Changes to a guard that keeps the pool, of which this is an owner.
+    #[inline(always)]
+    pub(crate) fn owned(self, pool: &Arc<S>) -> Guard<Arc<S>, S::Item> {
+        let pool = Arc::clone(pool);
+        let this = ManuallyDrop::new(self);
+        assert!(ptr::eq(this.pool, &*pool), "the owner is of another pool");
+        let (at, item) = (this.at, PhantomData);
+        Guard { pool, at, item }
     }
 }
 
-impl<P: Deref<Target: Source>> DerefMut for Guard<P> {
-    fn deref_mut(&mut self) -> &mut Self::Target {
-        self.pool.at(self.out.at).0.item_mut(&mut self.out)
+impl<P: Deref<Target: Source<Item = T>>, T> Guard<P, T> {
+    /// Returns the item's place in its pool.
+    #[inline(always)]
+    pub(crate) fn place(&self) -> usize {
+        self.at
+    }
+
+    /// Borrows what lies at the place.
+    #[inline(always)]
+    pub(crate) fn value(&self) -> &<P::Target as Source>::Value {
+        // SAFETY: the guard alone has the place, and who writes there borrows it to write.
+        unsafe { &*self.pool.slot(self.at).0.get() }
+    }
+
+    /// Borrows what lies at the place, to write.
+    #[inline(always)]
+    pub(crate) fn value_mut(&mut self) -> &mut <P::Target as Source>::Value {
+        // SAFETY: the guard alone has the place, and nobody else borrows it.
+        unsafe { &mut *self.pool.slot(self.at).0.get() }
     }
 }
 
-impl<P: Deref<Target: Source>> Drop for Guard<P> {
-    /// Resets the item and brings it back. If the reset panics, the item is never pulled again.
+impl<P: Deref<Target: Source<Item = T>>, T> Deref for Guard<P, T> {
+    type Target = T;
+
+    #[inline(always)]
+    fn deref(&self) -> &T {
+        P::Target::item(self.value())
+    }
+}
+
+impl<P: Deref<Target: Source<Item = T>>, T> DerefMut for Guard<P, T> {
+    #[inline(always)]
+    fn deref_mut(&mut self) -> &mut T {
+        P::Target::item_mut(self.value_mut())
+    }
+}
+
+impl<P: Deref<Target: Source<Item = T>>, T> Drop for Guard<P, T> {
+    /// Resets the item and returns it. If the reset panics, the item is never pulled again.
     #[inline(always)]
     fn drop(&mut self) {
-        let (items, lanes, reset) = self.pool.at(self.out.at);
-        reset(items.item_mut(&mut self.out));
-        lanes.give_back(&mut self.out, &*self.pool);
+        // SAFETY: the guard has the place, and ends here.
+        unsafe { self.pool.end(self.at) };
     }
 }
 
-impl<P: Deref<Target: Source<Item: Debug>>> Debug for Guard<P> {
+impl<P: Deref<Target: Source<Item = T>>, T: Debug> Debug for Guard<P, T> {
     fn fmt(&self, f: &mut Formatter<'_>) -> fmt::Result {
         (**self).fmt(f)
     }

@@ -1,23 +1,24 @@
 //! The pool of a fixed number of items.
+use crate::cells::{Cells, Slot};
+use crate::fixed::Fixed;
 use crate::guard::{Guard, Source};
-use crate::lanes::{Cells, Lane, Lanes};
-use crate::sys::{open, Handle, PAGE};
+use std::collections::TryReserveError;
 use std::fmt::{self, Debug, Display, Formatter};
 use std::{error::Error, iter, ops::Deref, sync::Arc};
 
 /// A reset of any closure.
 pub type Reset<T> = Box<dyn Fn(&mut T) + Send + Sync>;
 /// An item that was pulled under a borrow of its pool.
-pub type Reusable<'p, T, R = Reset<T>> = Guard<&'p Pool<T, R>>;
+pub type Reusable<'p, T, R = Reset<T>> = Guard<&'p Pool<T, R>, T>;
 /// An item that was pulled with an owner of its pool.
-pub type OwnedReusable<T, R = Reset<T>> = Guard<Arc<Pool<T, R>>>;
+pub type OwnedReusable<T, R = Reset<T>> = Guard<Arc<Pool<T, R>>, T>;
 
 /// A pool of a fixed number of items, all made at first.
 ///
 /// A pull waits for no other one, and asks for no memory, but where [what it costs](crate) says so.
 pub struct Pool<T, R = Reset<T>> {
-    part: Cells<T>,
-    lanes: Lanes,
+    places: Fixed,
+    items: Cells<T>,
     reset: R,
 }
 
@@ -52,55 +53,76 @@ impl<T, R: Fn(&mut T)> Pool<T, R> {
         if items == 0 {
             return Err(NewError::NoItems);
         }
-        let part = Cells::new(iter::repeat_with(init).take(items));
-        let lanes = Lanes::new(1, items.div_ceil(PAGE));
-        let (part, mut lanes) = part.zip(lanes).ok_or(NewError::Memory)?;
-        open(items, lanes.all().map(|lane| &mut lane.own)).ok_or(NewError::Memory)?;
-        Ok(Pool { part, lanes, reset })
+        let made = Cells::new(iter::repeat_with(init).take(items)).zip(Fixed::new(items));
+        let (items, places) = made.ok_or(NewError::Memory)?;
+        Ok(Pool {
+            places,
+            items,
+            reset,
+        })
     }
 
-    /// Returns an item that was free. `None` if all were out at one moment of the call.
+    /// Returns an item that was free. `None` if all were held at one moment of the call.
     #[inline(always)]
     pub fn pull(&self) -> Option<Reusable<'_, T, R>> {
-        self.lanes.pull(self).map(|out| Guard { pool: self, out })
+        // SAFETY: it was pulled just now.
+        self.places.pull().map(|at| unsafe { Guard::new(self, at) })
     }
 
-    /// As [`pull`](Pool::pull), with a guard that keeps the pool.
+    /// Returns an item as [`pull`](Pool::pull) does, with a guard that keeps the pool.
     #[inline(always)]
     pub fn pull_owned(self: &Arc<Self>) -> Option<OwnedReusable<T, R>> {
-        let (out, pool) = (self.lanes.pull(&**self)?, Arc::clone(self));
-        Some(Guard { pool, out })
+        self.pull().map(|guard| guard.owned(self))
     }
 
     /// Returns the number of items.
     pub fn items(&self) -> usize {
-        self.part.0.len()
+        self.places.places()
     }
 }
 
-impl<T, R: Fn(&mut T)> Source for Pool<T, R> {
+// SAFETY: each place has a slot of its own.
+unsafe impl<T, R: Fn(&mut T)> Source for Pool<T, R> {
     type Item = T;
-    type Reset = R;
-    const PARTS: usize = 1;
+    type Value = T;
 
-    fn at(&self, _: usize) -> (&Cells<T>, &Lanes, &R) {
-        (&self.part, &self.lanes, &self.reset)
+    #[inline(always)]
+    fn slot(&self, at: usize) -> &Slot<T> {
+        self.items.slot(at)
     }
 
-    fn handle<'l>(&'l self, lane: &'l mut Lane, _: usize) -> &'l mut Option<Handle> {
-        &mut lane.own
+    #[inline(always)]
+    fn item(value: &T) -> &T {
+        value
+    }
+
+    #[inline(always)]
+    fn item_mut(value: &mut T) -> &mut T {
+        value
+    }
+
+    #[inline(always)]
+    fn reset(&self, value: &mut T) {
+        (self.reset)(value);
+    }
+
+    #[inline(always)]
+    unsafe fn give_back(&self, at: usize) {
+        // SAFETY: the caller says it.
+        unsafe { self.places.give_back(at) };
     }
 }
 
-impl<T, R: Fn(&mut T), P: Deref<Target = Pool<T, R>>> Guard<P> {
+impl<T, R: Fn(&mut T), P: Deref<Target = Pool<T, R>>> Guard<P, T> {
     /// Returns the item's number in its pool, counted from 0.
     pub fn number(&self) -> usize {
-        self.out.at
+        self.place()
     }
 }
 
 /// Why a pool wasn't made.
 #[derive(Clone, Copy, Debug, PartialEq, Eq)]
+#[non_exhaustive]
 pub enum NewError {
     /// A pool of no items was asked for.
     NoItems,
@@ -109,6 +131,12 @@ pub enum NewError {
 }
 
 impl Error for NewError {}
+
+impl From<TryReserveError> for NewError {
+    fn from(_: TryReserveError) -> NewError {
+        NewError::Memory
+    }
+}
 
 impl Display for NewError {
     fn fmt(&self, f: &mut Formatter<'_>) -> fmt::Result {

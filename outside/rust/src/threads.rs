@@ -1,43 +1,173 @@
-//! Numbers of threads: while a thread runs, no other one has its number. It is a place of one pool
-//! of the proved library, which a thread holds from its first pull to its end.
+//! Numbers of threads, and values that one thread at a time has by its number.
+//!
+//! While a thread runs, no other one has its number. It is a place of a pool of the proved library,
+//! which the thread holds from its first call to its end.
+use crate::growing::Growing;
+use crate::refuse;
 use crate::sys::{kdr_pool_new, kdr_pool_pull_near, kdr_pool_share, Handle};
-use std::cell::Cell;
-use std::sync::{Mutex, PoisonError};
+use std::cell::{Cell, RefCell, UnsafeCell};
+use std::iter;
+use std::sync::{Mutex, PoisonError, Weak};
 
-/// How many threads have a number at a time. A thread has this as its number if it came when all
-/// were out, or is at its end.
-pub(crate) const NUMBERS: usize = 64;
+/// How many numbers come first. Those after them come in groups, each of as many as all before.
+pub(crate) const FIRST: usize = 8;
+/// How many such groups there are.
+pub(crate) const GROUPS: usize = 9;
+/// How many threads have a number at a time.
+pub(crate) const NUMBERS: usize = FIRST << GROUPS;
 
-/// A handle of the pool of numbers, of which those of threads are made.
-static FIRST: Mutex<Option<Handle>> = Mutex::new(None);
+/// What a thread has in place of a number: before its first call, where all numbers were out,
+/// within a call, and at its end.
+const UNKNOWN: usize = NUMBERS;
+const NONE: usize = NUMBERS + 1;
+const WITHIN: usize = NUMBERS + 2;
+const ENDED: usize = NUMBERS + 3;
+
+/// After so many calls a thread that came when all numbers were out asks again.
+const CALLS: u32 = 64;
 
 thread_local! {
-    /// The thread's number, or a greater one than `NUMBERS` before the first call of `own`.
-    pub(crate) static KNOWN: Cell<usize> = const { Cell::new(usize::MAX) };
-    static HOLDER: Holder = pull();
+    /// The thread's number, or one of the four above.
+    static KNOWN: Cell<usize> = const { Cell::new(UNKNOWN) };
+    /// How many calls a thread without a number makes before it asks again.
+    static LEFT: Cell<u32> = const { Cell::new(0) };
+    static HOLDER: Holder = const {
+        Holder { handle: RefCell::new(None), pools: RefCell::new(Vec::new()) }
+    };
 }
 
-/// What holds a thread's number.
-struct Holder(#[allow(dead_code)] Option<Handle>);
+/// The number of a thread. It is borrowed by one call at a time.
+pub(crate) struct Number(usize);
 
-impl Drop for Holder {
-    fn drop(&mut self) {
-        KNOWN.set(NUMBERS);
+impl Number {
+    /// Returns the number, of which there are `NUMBERS`.
+    #[inline(always)]
+    pub(crate) fn get(&self) -> usize {
+        self.0
     }
 }
 
-/// Pulls the least number that is free. The end of its handle returns it.
-fn pull() -> Holder {
-    let first = &mut *FIRST.lock().unwrap_or_else(PoisonError::into_inner);
-    kdr_pool_new(NUMBERS, first); // it is left alone if it has a pool
-    let (mut number, mut own) = (NUMBERS, None);
-    kdr_pool_share(first, &mut own);
-    kdr_pool_pull_near(&mut own, 0, &mut number);
-    KNOWN.set(number);
-    Holder(own)
+/// A number that goes back to its thread at the end of a call.
+struct Lent(Number);
+
+impl Drop for Lent {
+    #[inline(always)]
+    fn drop(&mut self) {
+        KNOWN.set(self.0 .0);
+    }
 }
 
-/// Returns this thread's number, or `NUMBERS`.
-pub(crate) fn own() -> usize {
-    HOLDER.try_with(|_| KNOWN.get()).unwrap_or(NUMBERS)
+/// Makes this call with the thread's number. There is none if all are out, at the thread's end, and
+/// in a call within a call.
+#[inline(always)]
+pub(crate) fn with<A>(call: impl FnOnce(Option<&mut Number>) -> A) -> A {
+    let known = KNOWN.get();
+    let known = if known < NUMBERS { known } else { find() };
+    if known < NUMBERS {
+        KNOWN.set(WITHIN);
+        call(Some(&mut Lent(Number(known)).0))
+    } else {
+        call(None)
+    }
+}
+
+/// Returns the number of a thread that isn't known to have one, or no number.
+#[inline(never)]
+fn find() -> usize {
+    let left = LEFT.get();
+    match KNOWN.get() {
+        NONE if left > 0 => LEFT.set(left - 1),
+        UNKNOWN | NONE => {
+            LEFT.set(CALLS);
+            KNOWN.set(WITHIN);
+            // Of a holder that has ended there is no number any more.
+            KNOWN.set(HOLDER.try_with(Holder::pull).unwrap_or(ENDED));
+        }
+        _ => {}
+    }
+    KNOWN.get()
+}
+
+/// A value of the thread that has a number.
+pub(crate) struct Owned<T> {
+    number: usize,
+    value: UnsafeCell<T>,
+}
+
+// SAFETY: the value is reached by the number, which one thread has at a time. So to share it is to
+// send it from one to another.
+unsafe impl<T: Send> Sync for Owned<T> {}
+
+impl<T> Owned<T> {
+    /// Creates the value of this number.
+    pub(crate) fn new(number: &Number, value: T) -> Owned<T> {
+        Owned {
+            number: number.0,
+            value: UnsafeCell::new(value),
+        }
+    }
+
+    /// Borrows the value, by its number.
+    #[inline(always)]
+    pub(crate) fn get<'o>(&'o self, number: &'o mut Number) -> &'o mut T {
+        if self.number != number.0 {
+            refuse();
+        }
+        // SAFETY: one thread at a time has the number, and this borrow of it is the only one.
+        unsafe { &mut *self.value.get() }
+    }
+}
+
+/// What a thread holds until its end: its number, and the pools where it may keep places.
+struct Holder {
+    handle: RefCell<Option<Handle>>,
+    pools: RefCell<Vec<Weak<Growing>>>,
+}
+
+/// Handles of the pools of numbers, of which those of threads are made.
+static GROUPS_OF_NUMBERS: [Mutex<Option<Handle>>; GROUPS + 1] =
+    [const { Mutex::new(None) }; GROUPS + 1];
+
+impl Holder {
+    /// Pulls a number of the first group that has one. The end of its handle returns it.
+    fn pull(&self) -> usize {
+        let sizes = iter::once(0).chain((0..GROUPS).map(|group| FIRST << group));
+        for (group, before) in GROUPS_OF_NUMBERS.iter().zip(sizes) {
+            let first = &mut *group.lock().unwrap_or_else(PoisonError::into_inner);
+            kdr_pool_new(before.max(FIRST), first); // it is left alone if it has a pool
+            let (mut number, mut own) = (NUMBERS, None);
+            kdr_pool_share(first, &mut own);
+            kdr_pool_pull_near(&mut own, 0, &mut number);
+            if number < NUMBERS {
+                self.handle.replace(own);
+                return before + number;
+            }
+        }
+        NONE
+    }
+}
+
+impl Drop for Holder {
+    /// Returns what the thread keeps, and then its number.
+    fn drop(&mut self) {
+        let mut number = Number(KNOWN.replace(ENDED));
+        let pools = self.pools.get_mut().drain(..);
+        for pool in pools.filter_map(|pool| pool.upgrade()) {
+            pool.return_kept(&mut number);
+        }
+    }
+}
+
+/// Notes a pool where this thread keeps places, until its end. `None` if memory is refused.
+pub(crate) fn note(pool: Weak<Growing>) -> Option<()> {
+    let note = |holder: &Holder| {
+        let pools = &mut *holder.pools.borrow_mut();
+        if pools.len() == pools.capacity() {
+            pools.retain(|pool| pool.strong_count() > 0);
+            pools.try_reserve(pools.len() + 1).ok()?;
+        }
+        pools.push(pool);
+        Some(())
+    };
+    HOLDER.try_with(note).ok()?
 }

@@ -1,9 +1,15 @@
-//! When a `LinearObjectPool` makes items, which the original does page by page.
+//! When a `LinearObjectPool` makes items: one at a time, where those that were made are held or
+//! kept by other threads.
 use kundratu_pool::LinearObjectPool;
+use std::collections::VecDeque;
 use std::panic::{catch_unwind, AssertUnwindSafe};
 use std::sync::atomic::{AtomicUsize, Ordering::SeqCst};
-use std::sync::{Arc, Mutex};
+use std::sync::{mpsc, Arc, Mutex};
 use std::thread;
+use std::time::Duration;
+
+/// How many places a thread keeps.
+const KEPT: usize = 8;
 
 /// A pool whose items are owners of one value, that value, and how often `init` was called.
 fn counting_pool() -> (LinearObjectPool<Arc<()>>, Arc<()>, Arc<AtomicUsize>) {
@@ -14,78 +20,202 @@ fn counting_pool() -> (LinearObjectPool<Arc<()>>, Arc<()>, Arc<AtomicUsize>) {
 }
 
 #[test]
-fn chunks_double_and_each_is_made_only_where_all_items_are_out() {
+fn an_item_is_made_only_where_all_that_were_made_are_held() {
     let (pool, one, calls) = counting_pool();
     let all_made = || [Arc::strong_count(&one) - 2, calls.load(SeqCst)];
     let mut items = Vec::new();
-    for chunk in 0..12 {
-        let made = 32 * ((2 << chunk) - 1);
+    for held in 0..3_000 {
+        assert_eq!(all_made(), [held; 2]);
         items.push(pool.pull());
-        assert_eq!(all_made(), [made; 2]);
-        items.extend((items.len()..made).map(|_| pool.pull()));
-        assert_eq!(all_made(), [made; 2]);
-        items.swap_remove(made / 2);
+        let other = items.swap_remove(held / 2);
+        drop(other);
         items.push(pool.pull());
-        assert_eq!(all_made(), [made; 2]);
+    }
+    drop(items);
+    for _ in 0..3 {
+        let _items: Vec<_> = (0..3_000).map(|_| pool.pull()).collect();
+        assert_eq!(all_made(), [3_000; 2]);
     }
 }
 
 #[test]
-fn threads_that_hold_no_more_items_than_there_are_make_no_chunk() {
+fn a_pool_grows_to_many_items() {
+    let pool = LinearObjectPool::<u8>::new(|| 0, |_| ());
+    let mut items: Vec<_> = (0..200_000).map(|_| pool.pull()).collect();
+    items.iter_mut().for_each(|item| **item += 1);
+    assert!(items.iter().all(|item| **item == 1), "two hold one");
+}
+
+#[test]
+fn threads_make_no_more_items_than_they_hold_and_keep() {
+    const THREADS: usize = 8;
     let (pool, _one, calls) = counting_pool();
     thread::scope(|scope| {
-        for _ in 0..8 {
+        for _ in 0..THREADS {
             scope.spawn(|| {
                 for turn in 0..10_000 {
-                    let _items: Vec<_> = (0..turn % 5).map(|_| pool.pull()).collect();
+                    let _items: Vec<_> = (0..turn % 20).map(|_| pool.pull()).collect();
                 }
             });
         }
     });
-    assert_eq!(calls.load(SeqCst), 32);
+    let made = calls.load(SeqCst);
+    let most = THREADS * (19 + KEPT);
+    assert!(made <= most + most / 4, "{made} items");
 }
 
-/// Each thread returns what others pulled. At most 20 items are out at a time.
+/// A queue of at most five items between two threads.
+#[test]
+fn a_short_queue_needs_few_items() {
+    let (pool, _one, calls) = counting_pool();
+    let (sender, receiver) = mpsc::sync_channel(5);
+    thread::scope(|scope| {
+        scope.spawn(move || receiver.iter().for_each(drop));
+        let pool = &pool;
+        scope
+            .spawn(move || (0..50_000).for_each(|_| sender.send(pool.pull()).expect("it is read")));
+    });
+    // One more is on its way at each end.
+    let (made, most) = (calls.load(SeqCst), 5 + 2 + 2 * KEPT);
+    assert!(made <= most + most / 4, "{made} items");
+}
+
+/// Each thread returns what others pulled. At most 20 items are held at a time.
 #[test]
 fn items_that_other_threads_return_all_come_back() {
+    const THREADS: usize = 8;
     let (pool, _one, calls) = counting_pool();
     let slots = [(); 4].map(|()| Mutex::new(None));
-    thread::scope(|scope| {
-        for thread in 0..8 {
-            let (pool, slots) = (&pool, &slots);
-            scope.spawn(move || {
-                for turn in thread..50_000 {
-                    let item = pool.pull();
-                    let others = slots[turn % 4].lock().expect("no panic").replace(item);
-                    drop(others);
-                }
-            });
+    let run = |thread: usize| {
+        for turn in thread..50_000 {
+            let item = pool.pull();
+            let others = slots[turn % 4].lock().expect("no panic").replace(item);
+            drop(others);
         }
+    };
+    thread::scope(|scope| {
+        let run = &run;
+        let threads: Vec<_> = (0..THREADS)
+            .map(|thread| scope.spawn(move || run(thread)))
+            .collect();
+        // From then on a thread keeps nothing.
+        threads
+            .into_iter()
+            .for_each(|thread| thread.join().expect("it ends"));
     });
     drop(slots);
-    let _items: Vec<_> = (0..32).map(|_| pool.pull()).collect();
-    assert_eq!(calls.load(SeqCst), 32);
+    let (made, most) = (calls.load(SeqCst), 20 + THREADS * KEPT);
+    assert!(made <= most + most / 4, "{made} items");
+    let _items: Vec<_> = (0..made).map(|_| pool.pull()).collect();
+    assert_eq!(calls.load(SeqCst), made, "some item didn't come back");
+}
+
+/// Runs it in a thread until that has ended.
+fn in_a_thread(run: impl FnOnce() + Send) {
+    thread::scope(|scope| scope.spawn(run).join()).expect("it ends");
+}
+
+/// The items lie in parts of 8, 16, 32 places and so on, all full but some of a first one.
+#[test]
+fn items_of_each_part_that_another_thread_returned_are_found() {
+    for part in [0..8, 8..24, 24..56, 56..96] {
+        let (pool, _one, calls) = counting_pool();
+        let mut items: VecDeque<_> = (0..96).map(|_| pool.pull()).collect();
+        let returned: Vec<_> = items.drain(part.clone()).collect();
+        in_a_thread(move || drop(returned));
+        let _again: Vec<_> = part.map(|_| pool.pull()).collect();
+        assert_eq!(
+            calls.load(SeqCst),
+            96,
+            "one was made though others were free"
+        );
+    }
 }
 
 #[test]
-fn threads_that_need_a_chunk_at_once_make_it_once() {
+fn items_of_another_threads_part_are_found() {
     let (pool, _one, calls) = counting_pool();
-    let _first: Vec<_> = (0..32).map(|_| pool.pull()).collect();
     thread::scope(|scope| {
-        for _ in 0..8 {
-            scope.spawn(|| (0..8).map(|_| pool.pull()).for_each(std::mem::forget));
-        }
+        let threads: Vec<_> = (0..4)
+            .map(|_| scope.spawn(|| (0..100).map(|_| pool.pull()).collect::<Vec<_>>()))
+            .collect();
+        let items = threads
+            .into_iter()
+            .map(|thread| thread.join().expect("it ends"));
+        drop(items.collect::<Vec<_>>());
     });
-    assert_eq!(calls.load(SeqCst), 32 + 64);
+    let made = calls.load(SeqCst);
+    let _items: Vec<_> = (0..made).map(|_| pool.pull()).collect();
+    assert_eq!(calls.load(SeqCst), made);
+}
+
+/// Threads that come one after the other have one number, and so the same lane.
+#[test]
+fn a_thread_returns_what_it_kept_at_its_end() {
+    for count in 0..20 {
+        let (pool, _one, calls) = counting_pool();
+        for _ in 0..3 {
+            in_a_thread(|| drop((0..count).map(|_| pool.pull()).collect::<Vec<_>>()));
+            let items: Vec<_> = (0..count).map(|_| pool.pull()).collect();
+            assert_eq!(calls.load(SeqCst), count);
+            in_a_thread(move || drop(items));
+        }
+    }
 }
 
 #[test]
-fn a_chunk_whose_making_panics_is_made_at_a_later_pull() {
+fn an_item_whose_making_panics_is_made_at_a_later_pull() {
     static CALLS: AtomicUsize = AtomicUsize::new(0);
-    let init = || assert_ne!(CALLS.fetch_add(1, SeqCst), 40, "on purpose");
-    let pool = LinearObjectPool::<()>::new(init, |()| {});
-    let _first: Vec<_> = (0..32).map(|_| pool.pull()).collect();
-    assert!(catch_unwind(AssertUnwindSafe(|| drop(pool.pull()))).is_err());
-    let _item = pool.pull();
-    assert_eq!(CALLS.load(SeqCst), 41 + 64);
+    let init = || {
+        let call = CALLS.fetch_add(1, SeqCst);
+        assert_ne!(call % 10, 5, "on purpose");
+        call
+    };
+    let resets = Arc::new(Mutex::new(Vec::new()));
+    let reset = Arc::clone(&resets);
+    let pool = LinearObjectPool::new(init, move |call: &mut usize| {
+        reset.lock().expect("no panic").push(*call);
+    });
+    let mut items = Vec::new();
+    for _ in 0..70 {
+        items.extend(catch_unwind(AssertUnwindSafe(|| pool.pull())).ok());
+    }
+    assert_eq!((CALLS.load(SeqCst), items.len()), (70, 63));
+    let made: Vec<usize> = items.iter().map(|item| **item).collect();
+    let right: Vec<usize> = (0..70).filter(|call| call % 10 != 5).collect();
+    assert_eq!(made, right);
+    drop(items);
+    assert_eq!(
+        *resets.lock().expect("no panic"),
+        right,
+        "what was never made isn't reset"
+    );
+}
+
+#[test]
+fn a_pull_does_not_wait_for_another_threads_init() {
+    let (begun, begins) = mpsc::channel();
+    let (end, ends) = mpsc::channel::<()>();
+    let first = Mutex::new(Some((begun, ends)));
+    let first = Arc::new(first);
+    let init = move || {
+        let first = first.lock().expect("no panic").take();
+        if let Some((begun, ends)) = first {
+            begun.send(()).expect("somebody waits");
+            ends.recv().expect("it ends");
+        }
+    };
+    let pool = Arc::new(LinearObjectPool::<()>::new(init, |()| {}));
+    let slow = Arc::clone(&pool);
+    let slow = thread::spawn(move || drop(slow.pull()));
+    begins.recv().expect("the first pull begins");
+    let (sender, receiver) = mpsc::channel();
+    thread::spawn(move || {
+        drop(pool.pull());
+        sender.send(()).expect("somebody waits");
+    });
+    let answer = receiver.recv_timeout(Duration::from_secs(10));
+    end.send(()).expect("it waits");
+    slow.join().expect("it ends");
+    assert_eq!(answer, Ok(()), "it waited for the first pull's `init`");
 }

@@ -296,18 +296,19 @@ fn counted(count: &Arc<AtomicUsize>) -> impl Fn() -> Counted + Clone {
 }
 
 #[test]
-fn items_are_made_before_they_are_needed_and_dropped_with_their_pool() {
+fn as_many_items_are_made_as_are_needed_and_dropped_with_their_pool() {
     let count = Arc::new(AtomicUsize::new(0));
     let pool = LinearObjectPool::new(counted(&count), |_| {});
-    assert_eq!(count.load(SeqCst), 32);
-    let mut items: Vec<_> = (0..32).map(|_| pool.pull()).collect();
-    assert_eq!(count.load(SeqCst), 32);
-    items.pop();
-    items.push(pool.pull());
-    assert_eq!(count.load(SeqCst), 32);
-    items.push(pool.pull());
-    assert!(count.load(SeqCst) > 32);
+    let mut items: Vec<_> = (0..33).map(|_| pool.pull()).collect();
+    let made = count.load(SeqCst);
+    assert!((33..=64).contains(&made));
+    for _ in 0..5 {
+        items.pop();
+        items.push(pool.pull());
+        assert_eq!(count.load(SeqCst), made);
+    }
     drop(items);
+    assert_eq!(count.load(SeqCst), made);
     drop(pool);
     assert_eq!(count.load(SeqCst), 0);
 }
@@ -357,6 +358,81 @@ macro_rules! init_may_pull {
 }
 
 init_may_pull!(
+    init_of_a_linear_pool_may_pull: LinearObjectPool,
     init_of_a_mutex_pool_may_pull: MutexObjectPool,
     init_of_a_spin_lock_pool_may_pull: SpinLockObjectPool
 );
+
+/// A guard of a longer borrow is one of a shorter borrow.
+macro_rules! is_covariant {
+    ($($name:ident: $guard:ident),*) => { $(
+        fn $name<'l: 's, 's>(item: $guard<'l, u32>, _: &'s ()) -> $guard<'s, u32> {
+            item
+        }
+    )* };
+}
+
+is_covariant!(
+    linear_is_covariant: LinearReusable,
+    mutex_is_covariant: MutexReusable,
+    spin_lock_is_covariant: SpinLockReusable
+);
+
+/// Guards of a pool that lives on, beside a name that doesn't.
+struct Batch<'a> {
+    items: Vec<LinearReusable<'a, u32>>,
+    name: &'a str,
+}
+
+#[test]
+fn a_guard_of_a_longer_borrow_is_put_beside_others() {
+    static POOLS: OnceLock<LinearObjectPool<u32>> = OnceLock::new();
+    let (pool, name) = (POOLS.get_or_init(zeros), String::from("a name"));
+    let pull = || -> LinearReusable<'static, u32> { pool.pull() };
+    let items = vec![pull(), linear_is_covariant(pull(), &())];
+    let batch = Batch { items, name: &name };
+    assert_eq!((batch.items.len(), batch.name), (2, "a name"));
+    let (mutex, spin_lock) = (
+        MutexObjectPool::new(|| 0, |_| ()),
+        SpinLockObjectPool::new(|| 0, |_| ()),
+    );
+    assert_eq!(*mutex_is_covariant(mutex.pull(), &()), 0);
+    assert_eq!(*spin_lock_is_covariant(spin_lock.pull(), &()), 0);
+}
+
+fn is_unpin<T: Unpin>() {}
+fn is_sent<T: Send>() {}
+fn is_shared<T: Sync>() {}
+
+/// The traits that a compiler finds, where the original has them and is right.
+#[test]
+fn pools_and_guards_are_sent_shared_and_unpinned() {
+    use std::marker::PhantomPinned;
+    is_unpin::<LinearReusable<'static, PhantomPinned>>();
+    is_unpin::<LinearOwnedReusable<PhantomPinned>>();
+    is_unpin::<NoneObjectPool<PhantomPinned>>();
+    is_unpin::<MutexObjectPool<u32>>();
+    is_unpin::<SpinLockObjectPool<u32>>();
+    is_unpin::<LinearObjectPool<u32>>();
+    is_unpin::<MutexReusable<'static, u32>>();
+    is_unpin::<SpinLockOwnedReusable<u32>>();
+    is_sent::<NoneObjectPool<*const u8>>();
+    is_shared::<NoneObjectPool<*const u8>>();
+    is_sent::<MutexObjectPool<std::cell::Cell<u32>>>();
+    is_shared::<MutexObjectPool<std::cell::Cell<u32>>>();
+    macro_rules! all {
+        ($($type:ty),*) => { $( is_sent::<$type>(); is_shared::<$type>(); )* };
+    }
+    all!(
+        LinearObjectPool<u32>,
+        MutexObjectPool<u32>,
+        SpinLockObjectPool<u32>
+    );
+    all!(
+        LinearReusable<'static, u32>,
+        LinearOwnedReusable<u32>,
+        NoneReusable<u32>
+    );
+    all!(MutexReusable<'static, u32>, MutexOwnedReusable<u32>);
+    all!(SpinLockReusable<'static, u32>, SpinLockOwnedReusable<u32>);
+}

@@ -1,10 +1,10 @@
 //! What a pool asks of the allocator: nothing for a turn, little where items go from thread to
 //! thread, and all of it comes back. Where memory is refused, it says so, and nothing is left.
-use kundratu_pool::sys::{kdr_pool_new, kdr_pool_share};
-use kundratu_pool::{LinearObjectPool, NewError, OwnedReusable, Pool};
+use kundratu_pool::{LazyPool, LinearObjectPool, NewError, OwnedReusable, Pool};
 use std::cell::Cell;
 use std::ffi::c_void;
 use std::fs::read_to_string;
+use std::panic::{catch_unwind, resume_unwind, AssertUnwindSafe};
 use std::process::Command;
 use std::ptr::null_mut;
 use std::sync::{mpsc, Arc, Barrier, Mutex, PoisonError};
@@ -88,22 +88,30 @@ fn an_opening_that_is_refused_memory_says_so_and_leaves_nothing() {
     let open = || {
         let pool = Pool::with_reset(100, || 0, |number| *number = 0);
         assert!(pool.is_ok() || matches!(pool, Err(NewError::Memory)));
+        REFUSED.set(usize::MAX);
+        assert!(pool.iter().all(|pool| pool.pull().is_some()));
         pool.ok()
     };
-    assert!(65 <= refuse_each(open), "each of 65 handles asks");
+    drop(zeros(1).pull()); // the thread has its number
+    assert!(
+        3 <= refuse_each(open),
+        "the items, the library's pool and a handle ask"
+    );
 }
 
-/// A thread asks for the memory of its number at its first call, and does without it.
+/// A thread asks for the memory of its number and of its lane at its first call, and does without.
 #[test]
 fn a_pull_whose_thread_is_refused_memory_answers_an_item() {
     let _alone = MEASURED.lock().unwrap_or_else(PoisonError::into_inner);
-    let pool = zeros(20);
     let is_refused = |&request: &usize| {
+        let pool = zeros(20);
         let run = || {
             ASKED.set(0);
             REFUSED.set(request);
-            let items = [(); 20].map(|()| pool.pull());
+            let mut items = [(); 20].map(|()| pool.pull());
             let is_none = pool.pull().is_none();
+            items[7] = None;
+            items[7] = pool.pull();
             REFUSED.set(usize::MAX);
             assert!(items.iter().all(Option::is_some) && is_none);
             request < ASKED.get()
@@ -111,21 +119,53 @@ fn a_pull_whose_thread_is_refused_memory_answers_an_item() {
         let ran = thread::scope(|scope| scope.spawn(run).join());
         ran.expect("each pull answers")
     };
-    assert!(1 <= (0..).take_while(is_refused).count());
+    assert!(3 <= (0..).take_while(is_refused).count());
+}
+
+/// The same where the first call of a thread is a return.
+#[test]
+fn a_return_whose_thread_is_refused_memory_returns_its_item() {
+    let _alone = MEASURED.lock().unwrap_or_else(PoisonError::into_inner);
+    let is_refused = |&request: &usize| {
+        let pool = zeros(20);
+        let items: Vec<_> = iter::from_fn(|| pool.pull()).collect();
+        let run = || {
+            ASKED.set(0);
+            REFUSED.set(request);
+            drop(items);
+            REFUSED.set(usize::MAX);
+            request < ASKED.get()
+        };
+        let ran = thread::scope(|scope| scope.spawn(run).join());
+        assert_eq!(count_free(&pool), 20);
+        ran.expect("each return is made")
+    };
+    assert!(3 <= (0..).take_while(is_refused).count());
+}
+
+// The calls of the library under the crate. A handle that is empty is null.
+unsafe extern "C" {
+    #[link_name = "kdr_0_1_0_handle_new"]
+    safe fn handle_new(items: usize, tag: usize, out: &mut *mut c_void) -> u32;
+    #[link_name = "kdr_0_1_0_handle_share"]
+    safe fn handle_share(handle: &mut *mut c_void, out: &mut *mut c_void) -> u32;
+    #[link_name = "kdr_0_1_0_pool_drop"]
+    safe fn pool_drop(handle: &mut *mut c_void) -> u32;
 }
 
 #[test]
 fn a_million_handles_are_opened_and_closed() {
-    let (mut first, held) = (None, HELD.get());
-    assert_eq!(kdr_pool_new(1, &mut first), 0);
+    drop(zeros(1)); // the crate, and so the library, is linked
+    let (mut first, held) = (null_mut(), HELD.get());
+    assert_eq!(handle_new(1, 0, &mut first), 0);
     let opened = HELD.get();
     for _ in 0..1_000_000 {
-        let mut other = None;
-        assert_eq!(kdr_pool_share(&mut first, &mut other), 0);
-        drop(other);
+        let mut other = null_mut();
+        assert_eq!(handle_share(&mut first, &mut other), 0);
+        assert_eq!(pool_drop(&mut other), 0);
     }
     assert_eq!(HELD.get(), opened);
-    drop(first);
+    assert_eq!(pool_drop(&mut first), 0);
     assert_eq!(HELD.get(), held);
 }
 
@@ -166,6 +206,11 @@ fn zeros(items: usize) -> Pool<u32> {
     Pool::new(items, || 0, |number| *number = 0).expect("there is memory")
 }
 
+/// Pulls all that is free, for good.
+fn count_free(pool: &Pool<u32>) -> usize {
+    iter::from_fn(|| pool.pull().map(mem::forget)).count()
+}
+
 #[test]
 fn turns_ask_for_no_memory() {
     let _alone = MEASURED.lock().unwrap_or_else(PoisonError::into_inner);
@@ -194,11 +239,11 @@ fn returns_ask_for_no_memory_whoever_makes_them() {
     };
     assert_eq!(ask(iter::from_fn(|| pool.pull()).collect()), 0);
     for _ in 0..3 {
-        let held: Vec<_> = iter::from_fn(|| pool.pull()).collect();
+        let mut held: Vec<_> = iter::from_fn(|| pool.pull()).collect();
         assert_eq!(held.len(), 200);
         let other = thread::scope(|scope| {
             let other = scope.spawn(|| {
-                drop(zeros(1).pull()); // the thread has its number
+                held.pop(); // the thread has its lane
                 ask(held)
             });
             other.join().expect("it ends")
@@ -211,35 +256,72 @@ fn returns_ask_for_no_memory_whoever_makes_them() {
 fn forgotten_items_keep_their_places_and_no_memory() {
     let _alone = MEASURED.lock().unwrap_or_else(PoisonError::into_inner);
     drop(zeros(1).pull()); // the thread has its number
+    let pools = || {
+        let (pool, grows) = (zeros(64), LinearObjectPool::<u32>::new(|| 0, |_| ()));
+        (0..40).for_each(|_| mem::forget((pool.pull(), grows.pull())));
+        assert_eq!(iter::from_fn(|| pool.pull()).collect::<Vec<_>>().len(), 24);
+    };
+    // A thread notes the linear pools where it keeps places, for a while past their ends.
+    (0..100).for_each(|_| pools());
     let held = HELD.get();
-    let (pool, grows) = (zeros(64), LinearObjectPool::<u32>::new(|| 0, |_| ()));
-    (0..40).for_each(|_| mem::forget((pool.pull(), grows.pull())));
-    assert_eq!(iter::from_fn(|| pool.pull()).collect::<Vec<_>>().len(), 24);
-    drop((pool, grows));
-    assert_eq!(HELD.get(), held);
+    (0..1_000).for_each(|_| pools());
+    assert!((HELD.get() - held).abs() < 200);
 }
 
-/// 64 threads have a lane each, and all others one.
+/// A thread asks for memory at its first pull of a pool. Later it asks for none, and a linear pool
+/// for none but where it grows.
 #[test]
-fn the_first_pulls_of_threads_ask_for_no_memory() {
+fn later_pulls_of_threads_ask_for_no_memory() {
     let _alone = MEASURED.lock().unwrap_or_else(PoisonError::into_inner);
     const THREADS: usize = 70;
     let grows = LinearObjectPool::<u32>::new(|| 0, |_| ());
     let (pool, all_hold) = (zeros(THREADS), Barrier::new(THREADS));
-    let run = |thread: usize| {
-        drop(zeros(1).pull()); // the thread has its number
+    let run = || {
+        drop((pool.pull(), grows.pull()));
         let before = ASKED.get();
-        let (item, _other) = (pool.pull(), (thread < 8).then(|| grows.pull()));
-        assert_eq!(ASKED.get(), before);
+        let items = (pool.pull(), grows.pull());
         all_hold.wait();
-        assert!(item.is_some());
+        let is_held = items.0.is_some();
+        drop(items);
+        (is_held, ASKED.get() - before)
     };
-    thread::scope(|scope| {
-        for thread in 0..THREADS {
-            let run = &run;
-            scope.spawn(move || run(thread));
-        }
+    let threads = thread::scope(|scope| {
+        let threads: Vec<_> = (0..THREADS).map(|_| scope.spawn(run)).collect();
+        let ran = threads.into_iter().map(|thread| thread.join());
+        ran.map(|ran| ran.expect("it ends")).collect::<Vec<_>>()
     });
+    assert_eq!(threads, [(true, 0); THREADS]);
+}
+
+/// Bytes of the heap that this takes, and what it made.
+fn bytes<A>(make: impl FnOnce() -> A) -> (usize, A) {
+    let before = used();
+    let made = make();
+    (used() - before, made)
+}
+
+/// A place whose item wasn't made since that panicked is used again.
+#[test]
+fn an_init_that_panics_leaves_its_place_free() {
+    let _alone = MEASURED.lock().unwrap_or_else(PoisonError::into_inner);
+    let pool = LinearObjectPool::<u64>::new(|| resume_unwind(Box::new(())), |_| ());
+    let pull = || assert!(catch_unwind(AssertUnwindSafe(|| drop(pool.pull()))).is_err());
+    pull();
+    let before = used();
+    (0..10_000).for_each(|_| pull());
+    let grown = used().saturating_sub(before);
+    assert!(grown < 10_000, "{grown} bytes more");
+}
+
+#[test]
+fn an_unused_pool_is_small() {
+    let _alone = MEASURED.lock().unwrap_or_else(PoisonError::into_inner);
+    drop(zeros(1).pull()); // the thread has its number
+    let make = || LinearObjectPool::<u64>::new(|| 0, |number| *number = 0);
+    let (empty, pool) = bytes(|| Box::new(make()));
+    assert!(empty <= 2_048, "{empty} bytes");
+    let (pulled, ()) = bytes(|| drop(pool.pull()));
+    assert!(empty + pulled <= 8_192, "{pulled} bytes more");
 }
 
 #[test]
@@ -326,20 +408,44 @@ fn pools_that_end_leave_nothing_behind() {
     let _alone = MEASURED.lock().unwrap_or_else(PoisonError::into_inner);
     let run = |pools: usize| {
         for _ in 0..pools {
-            let pool = zeros(64);
-            let first = pool.pull();
-            let _second = pool.pull();
+            let (pool, grows) = (zeros(64), LinearObjectPool::<u32>::new(|| 0, |_| ()));
+            let first = (pool.pull(), grows.pull());
+            let _second = (pool.pull(), grows.pull());
             drop(first);
             let rest: Vec<_> = iter::from_fn(|| pool.pull()).collect();
             assert!(pool.pull().is_none());
             drop(rest);
         }
     };
-    run(10);
+    run(100);
     let before = used();
     run(3_000);
     let grown = used().saturating_sub(before);
     assert!(grown < 100_000, "{grown} bytes more");
+}
+
+/// A thread keeps places of many pools, and is there past their ends.
+#[test]
+fn pools_end_though_threads_keep_places_of_theirs() {
+    let _alone = MEASURED.lock().unwrap_or_else(PoisonError::into_inner);
+    let (sender, receiver) = mpsc::channel::<Arc<LinearObjectPool<u32>>>();
+    let keeps = thread::spawn(move || receiver.iter().for_each(|pool| drop(pool.pull_owned())));
+    let run = |pools: usize| {
+        for _ in 0..pools {
+            let pool = Arc::new(LinearObjectPool::new(|| 0, |_| ()));
+            sender.send(Arc::clone(&pool)).expect("it is read");
+            while Arc::strong_count(&pool) > 1 {
+                thread::yield_now();
+            }
+        }
+    };
+    run(100);
+    let before = used();
+    run(3_000);
+    let grown = used().saturating_sub(before);
+    assert!(grown < 100_000, "{grown} bytes more");
+    drop(sender);
+    keeps.join().expect("it ends");
 }
 
 /// From here on the process gets little more address space than it has.
@@ -379,7 +485,7 @@ fn where_memory_is_refused_a_pool_is_and_no_pull() {
         return;
     }
     let (pool, other) = (zeros(ITEMS), zeros(1));
-    drop(pool.pull()); // the thread has its number
+    drop((pool.pull(), other.pull())); // the thread has its lanes
     let mut held = Vec::with_capacity(ITEMS);
     let mut blocks = Vec::with_capacity(1 << 20);
     let for_the_harness = vec![0_u8; 1 << 20];
@@ -395,4 +501,84 @@ fn where_memory_is_refused_a_pool_is_and_no_pull() {
     drop((blocks, for_the_harness));
     assert_eq!(refused, (Some(NewError::Memory), true));
     assert_eq!(held.len(), ITEMS);
+}
+
+/// A linear pool that is refused memory ends the process, as `Vec` does: it runs itself once more
+/// for some of its requests. A pull goes by what threads share if its thread's memory is refused.
+#[test]
+fn where_memory_is_refused_a_linear_pool_answers_or_ends_the_process() {
+    const NAME: &str = "where_memory_is_refused_a_linear_pool_answers_or_ends_the_process";
+    if let Ok(request) = env::var("KUNDRATU_REFUSE_REQUEST") {
+        let request = request.parse().expect("it is a number");
+        let pool = LinearObjectPool::<u32>::new(|| 7, |number| *number = 7);
+        let mut items = Vec::with_capacity(100);
+        ASKED.set(0);
+        REFUSED.set(request);
+        items.extend((0..100).map(|_| pool.pull()));
+        items.iter_mut().for_each(|item| **item += 1);
+        REFUSED.set(usize::MAX);
+        let is_done = request >= ASKED.get();
+        assert!(items.iter().all(|item| **item == 8));
+        drop(items);
+        assert_eq!(*pool.pull(), 7);
+        println!("{}", if is_done { "all was given" } else { "went on" });
+        return;
+    }
+    let mut went_on = 0;
+    for request in (0..).step_by(7) {
+        let mut again = Command::new(env::current_exe().expect("it has a name"));
+        again.args(["--exact", NAME, "--nocapture"]);
+        again.env("KUNDRATU_REFUSE_REQUEST", request.to_string());
+        again.env("RUST_BACKTRACE", "0");
+        let ran = again.output().expect("it runs");
+        let said = String::from_utf8_lossy(&ran.stdout).into_owned();
+        let error = String::from_utf8_lossy(&ran.stderr);
+        if ran.status.success() && said.contains("all was given") {
+            break;
+        }
+        went_on += usize::from(said.contains("went on"));
+        let ended = error.contains("memory allocation of");
+        assert!(
+            ended || ran.status.success() && said.contains("went on"),
+            "{request}: {error}"
+        );
+    }
+    assert!(1 <= went_on, "a thread does without its own handle");
+}
+
+fn lazy(items: usize) -> Result<LazyPool<u32, ()>, NewError> {
+    LazyPool::new(items, || Ok(0), |_| true)
+}
+
+#[test]
+fn a_lazy_pool_that_is_refused_memory_says_so_and_leaves_nothing() {
+    let _alone = MEASURED.lock().unwrap_or_else(PoisonError::into_inner);
+    drop(zeros(1).pull()); // the thread has its number
+    let open = || {
+        let pool = lazy(100);
+        assert!(pool.is_ok() || matches!(pool, Err(NewError::Memory)));
+        pool.ok()
+    };
+    assert!(
+        4 <= refuse_each(open),
+        "the states, the items and two pools"
+    );
+}
+
+#[test]
+fn turns_of_a_lazy_pool_ask_for_no_memory() {
+    let _alone = MEASURED.lock().unwrap_or_else(PoisonError::into_inner);
+    drop(zeros(1).pull()); // the thread has its number
+    let (taken, pool) = bytes(|| lazy(4).expect("there is memory"));
+    assert!(taken <= 4_096, "{taken} bytes");
+    let turn = || {
+        let items = [pool.pull(), pool.pull_wait(), pool.pull()];
+        items.into_iter().flatten().for_each(drop);
+        assert_eq!(pool.pull().map(|item| item.detach()), Ok(0));
+        pool.clear();
+    };
+    turn();
+    let before = ASKED.get();
+    (0..100).for_each(|_| turn());
+    assert_eq!(ASKED.get(), before);
 }

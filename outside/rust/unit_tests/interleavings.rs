@@ -1,9 +1,11 @@
-//! All interleavings of two threads: of the library's pulls and returns, each of which is one step.
-//! What a thread does between has no effect on others.
+//! All interleavings of two threads: of the library's pulls and returns, each of which is one step,
+//! and of what threads read and write of each other's kept places. What a thread does between has
+//! no effect on others.
 use crate::{threads, LinearObjectPool, OwnedReusable, Pool};
 use std::cell::{Cell, RefCell};
+use std::collections::VecDeque;
 use std::sync::atomic::{AtomicUsize, Ordering::SeqCst};
-use std::sync::{Arc, Condvar, Mutex, MutexGuard, PoisonError};
+use std::sync::{mpsc, Arc, Condvar, Mutex, MutexGuard, PoisonError};
 use std::{iter, mem, thread};
 
 #[path = "threads.rs"]
@@ -37,20 +39,24 @@ thread_local! {
     static THREAD: Cell<Option<(&'static Schedule, usize)>> = const { Cell::new(None) };
 }
 
-/// What another thread does before a step of this one, and how many steps come before that.
+/// What other threads do before a step of this one, and how many steps come before that, after the
+/// last move.
 type Move = (usize, Box<dyn FnOnce()>);
 
 thread_local! {
-    static MOVE: RefCell<Option<Move>> = const { RefCell::new(None) };
+    static MOVES: RefCell<VecDeque<Move>> = const { RefCell::new(VecDeque::new()) };
 }
 
 /// Is called before each step that other threads may see. It waits for the thread's turn.
 pub(crate) fn step() {
-    let due = MOVE.with_borrow_mut(|next| {
-        let before = &mut next.as_mut()?.0;
-        *before = before.wrapping_sub(1);
-        next.take_if(|next| next.0 == usize::MAX)
+    let due = MOVES.try_with(|moves| {
+        let mut moves = moves.borrow_mut();
+        let next = moves.front_mut()?;
+        let is_due = next.0 == 0;
+        next.0 = next.0.saturating_sub(1);
+        is_due.then(|| moves.pop_front()).flatten()
     });
+    let due = due.ok().flatten(); // at a thread's end there is none
     due.into_iter().for_each(|(_, call)| call());
     if let Some((schedule, thread)) = THREAD.get() {
         let mut turns = schedule.leave(thread, State::Waits);
@@ -109,7 +115,7 @@ fn explore<S: Sync>(least: usize, make: impl Fn() -> S, works: [fn(&S); 2], chec
             for (thread, work) in works.into_iter().enumerate() {
                 let shared = &shared;
                 scope.spawn(move || {
-                    threads::own();
+                    threads::with(|_| ()); // it has its number
                     THREAD.set(Some((schedule, thread)));
                     let _running = Running(schedule, thread);
                     step();
@@ -181,28 +187,237 @@ fn one_thread_returns_what_the_other_pulled() {
     explore(10, two, [pulls, returns], all_are_free);
 }
 
-/// One item is free, and another thread returns one and pulls one at some step of a pull. Then no
-/// chunk is made, wherever these items lie.
+/// A thread that has none keeps one of the two items.
+fn two_of_which_one_is_kept() -> Two {
+    let two = two();
+    drop(two.0.pull());
+    two
+}
+
+#[test]
+fn an_item_that_a_third_thread_keeps_is_pulled_by_one() {
+    let work = |two: &Two| bring_back(pull(two));
+    explore(100, two_of_which_one_is_kept, [work, work], all_are_free);
+}
+
+#[test]
+fn an_item_that_moves_from_lane_to_lane_is_found() {
+    let twice = |two: &Two| (0..2).for_each(|_| bring_back(pull(two)));
+    let once = |two: &Two| bring_back(pull(two));
+    explore(1_000, two_of_which_one_is_kept, [twice, once], all_are_free);
+}
+
+/// A pool of one item, and the calls that began and ended: of each thread which, in their order.
+struct One(Arc<Pool<Cell<u32>>>, Mutex<Vec<(usize, Call)>>);
+
+#[derive(Clone, Copy, PartialEq)]
+enum Call {
+    /// A pull begins, and holds an item until the return has ended.
+    Holds,
+    Ended,
+    /// A pull was refused.
+    Refused,
+}
+
+impl One {
+    fn note(&self, thread: usize, call: Call) {
+        self.1.lock().expect("no panic").push((thread, call));
+    }
+
+    /// Pulls the item and returns it, or is refused.
+    fn turn(&self, thread: usize) {
+        self.note(thread, Call::Holds);
+        if let Some(item) = self.0.pull_owned() {
+            assert_eq!(item.replace(1), 0, "two have it");
+            bring_back(item);
+            self.note(thread, Call::Ended);
+        } else {
+            self.note(thread, Call::Refused);
+        }
+    }
+
+    /// Checks that a thread was refused only while the other one was in a call or held the item.
+    fn check(self) {
+        let calls = self.1.into_inner().expect("no panic");
+        for (end, &(thread, call)) in calls.iter().enumerate() {
+            if call == Call::Refused {
+                let before = &calls[..end];
+                let begin = before
+                    .iter()
+                    .rposition(|other| *other == (thread, Call::Holds));
+                let begin = begin.expect("it began");
+                let other = |(of, _): &&(usize, Call)| *of != thread;
+                let between = calls[begin..end].iter().any(|call| other(&call));
+                let last = calls[..begin].iter().rev().find(other);
+                let is_held = last.is_some_and(|(_, call)| *call == Call::Holds);
+                assert!(between || is_held, "the item was free all the time");
+            }
+        }
+        let item = self.0.pull().expect("it is free");
+        assert_eq!(item.get(), 0);
+        assert!(self.0.pull().is_none());
+    }
+}
+
+#[test]
+fn a_pull_of_one_item_is_refused_only_while_it_is_held() {
+    let free = || {
+        let pool = Pool::new(1, || Cell::new(0), |_| ()).expect("there is memory");
+        One(Arc::new(pool), Mutex::new(Vec::new()))
+    };
+    // A thread that has ended kept it, so one of the two has its lane.
+    let kept = || {
+        let one = free();
+        thread::scope(|scope| scope.spawn(|| drop(one.0.pull())).join()).expect("it ends");
+        one
+    };
+    let works = [|one: &One| one.turn(0), |one: &One| one.turn(1)];
+    explore(500, free, works, One::check);
+    explore(500, kept, works, One::check);
+}
+
+#[test]
+fn an_item_that_a_third_thread_keeps_is_taken_by_one() {
+    let kept = || {
+        let pool = Pool::new(1, || Cell::new(0), |_| ()).expect("there is memory");
+        drop(pool.pull()); // this thread keeps it
+        (pool, AtomicUsize::new(0))
+    };
+    type Shared = (Pool<Cell<u32>>, AtomicUsize);
+    let take = |(pool, taken): &Shared| {
+        if let Some(item) = pool.pull() {
+            taken.fetch_add(1, SeqCst);
+            mem::forget(item);
+        }
+    };
+    explore(20, kept, [take, take], |(_, taken)| {
+        assert_eq!(taken.into_inner(), 1)
+    });
+}
+
+/// One item is free. At some step of a pull another thread returns one and a third one pulls one,
+/// both in parts of the pool. Then none is made, wherever these items lie.
 #[test]
 fn an_item_that_moves_is_found() {
     let _alone = TESTED.lock().unwrap_or_else(PoisonError::into_inner);
-    let parts = || (0..32).step_by(4);
-    for (free, moved) in parts().flat_map(|free| parts().map(move |moved| (free, moved))) {
-        for before in (0..24).filter(|_| free != moved) {
+    // Some of each of three parts, of which the last one has room for more.
+    let places = || (0..40).step_by(5);
+    for (free, moved) in places().flat_map(|free| places().map(move |moved| (free, moved))) {
+        for before in (0..12).filter(|_| free != moved) {
             let count = Arc::new(AtomicUsize::new(0));
             let made = Arc::clone(&count);
             let init = move || made.fetch_add(1, SeqCst);
             let pool = Arc::new(LinearObjectPool::<usize>::new(init, |_| ()));
-            let mut items: Vec<_> = (0..32).map(|_| Some(pool.pull_owned())).collect();
+            let mut items: Vec<_> = (0..40).map(|_| Some(pool.pull_owned())).collect();
             let (free, moved) = (items[free].take(), items[moved].take());
             thread::spawn(move || drop(free)).join().expect("it ends");
+            // The next thread has this one's lane, and begins where this one pulled.
             let other = Arc::clone(&pool);
-            let moves = move || (drop(moved), mem::forget(other.pull())).0;
-            let call = move || thread::spawn(moves).join().expect("it ends");
-            MOVE.set(Some((before, Box::new(call))));
+            thread::spawn(move || drop(other.pull()))
+                .join()
+                .expect("it ends");
+            let other = Arc::clone(&pool);
+            let call = move || {
+                thread::spawn(move || drop(moved)).join().expect("it ends");
+                thread::spawn(move || mem::forget(other.pull()))
+                    .join()
+                    .expect("it ends");
+            };
+            MOVES.set(VecDeque::from([(
+                before,
+                Box::new(call) as Box<dyn FnOnce()>,
+            )]));
             let _item = pool.pull();
-            drop(MOVE.take());
-            assert_eq!(count.load(SeqCst), 32);
+            MOVES.take();
+            assert_eq!(count.load(SeqCst), 40);
         }
     }
+}
+
+/// A thread that pulls an item and returns it as it is told to. It has its number until its end.
+struct Worker {
+    orders: mpsc::Sender<bool>,
+    done: mpsc::Receiver<()>,
+}
+
+impl Worker {
+    fn new(pool: &Arc<Pool<Cell<u32>>>) -> Worker {
+        let (orders, told) = mpsc::channel::<bool>();
+        let (tell, done) = mpsc::channel();
+        let pool = Arc::clone(pool);
+        thread::spawn(move || {
+            let mut item = None;
+            for pulls in told {
+                item = pulls.then(|| pool.pull_owned()).flatten();
+                tell.send(()).expect("somebody waits");
+            }
+            drop(item);
+        });
+        Worker { orders, done }
+    }
+
+    /// Lets it pull an item, or return the one that it has, and waits for that.
+    fn order(&self, pulls: bool) {
+        self.orders.send(pulls).expect("it runs");
+        self.done.recv().expect("it runs");
+    }
+}
+
+/// Of two items one is held and the other one is kept, by two threads. At three steps of a pull one
+/// of them returns its item, and then the other one pulls what it keeps. So one is free all the
+/// time, and is found.
+#[test]
+fn an_item_that_two_threads_keep_in_turn_is_found() {
+    let _alone = TESTED.lock().unwrap_or_else(PoisonError::into_inner);
+    let steps = || 0..8;
+    let all = steps().flat_map(|a| steps().flat_map(move |b| steps().map(move |c| [a, b, c])));
+    let Two(pool, _) = two();
+    let workers = Arc::new([(); 2].map(|()| Worker::new(&pool)));
+    for steps in all {
+        (0..2).for_each(|worker| workers[worker].order(true));
+        workers[1].order(false); // it keeps its item
+        let moves = steps.into_iter().enumerate().map(|(turn, before)| {
+            let workers = Arc::clone(&workers);
+            let call = move || {
+                workers[turn % 2].order(false);
+                workers[(turn + 1) % 2].order(true);
+            };
+            (before, Box::new(call) as Box<dyn FnOnce()>)
+        });
+        MOVES.set(moves.collect());
+        let item = pool.pull();
+        MOVES.take();
+        assert!(item.is_some(), "refused at {steps:?}");
+        drop(item);
+        (0..2).for_each(|worker| workers[worker].order(false));
+    }
+}
+
+/// A thread without a number goes by what threads share, as in a call within a call.
+#[test]
+fn a_thread_without_a_number_pulls_and_returns() {
+    let _alone = TESTED.lock().unwrap_or_else(PoisonError::into_inner);
+    let pool = Pool::<u32>::new(5, || 0, |number| *number = 0).expect("there is memory");
+    let count = Arc::new(AtomicUsize::new(0));
+    let made = Arc::clone(&count);
+    let grows = LinearObjectPool::new(move || made.fetch_add(1, SeqCst), |_| ());
+    drop((pool.pull(), grows.pull())); // this thread keeps one of each
+    let turn = || {
+        let mut items: Vec<_> = iter::from_fn(|| pool.pull()).collect();
+        assert_eq!(items.len(), 5);
+        items
+            .iter_mut()
+            .for_each(|item| assert_eq!(mem::replace(&mut **item, 1), 0));
+        let mut others: Vec<_> = (0..50).map(|_| grows.pull()).collect();
+        others
+            .iter_mut()
+            .for_each(|item| assert_ne!(mem::replace(&mut **item, 99), 99));
+        others.iter_mut().for_each(|item| **item = 0);
+    };
+    for _ in 0..3 {
+        threads::with(|_| turn());
+        assert_eq!(count.load(SeqCst), 51, "one is kept by this thread");
+    }
+    turn();
+    assert!(count.load(SeqCst) <= 51);
 }

@@ -1,13 +1,13 @@
 //! The pools that are measured.
 use crate::{reset_item, use_item, write_item};
 use crossbeam_queue::ArrayQueue;
-use kundratu_pool::sys::{kdr_place_pull, kdr_place_return, Handle, Place};
-use kundratu_pool::sys::{kdr_pool_new, kdr_pool_share, NO_PLACE};
 use kundratu_pool::{LinearObjectPool as Growing, LinearReusable as GrowingReusable};
 use kundratu_pool::{Pool, Reusable};
 use lockfree_object_pool::{LinearObjectPool, LinearReusable};
 use sharded_slab::{Clear, Pool as Slab};
+use std::ffi::c_void;
 use std::hint::black_box;
+use std::ptr::NonNull;
 use std::sync::atomic::{AtomicU64, AtomicUsize, Ordering};
 use std::sync::Mutex;
 
@@ -36,6 +36,36 @@ pub trait Contender: Sync {
     fn take_back(&self, user: &mut Self::User, sent: Self::Sent<'_>);
 }
 
+/// An open handle of the proved pool. At its end it is closed.
+#[repr(transparent)]
+pub struct Handle(NonNull<c_void>);
+
+// SAFETY: it is proved of the library: its handle is `Send`.
+unsafe impl Send for Handle {}
+
+impl Drop for Handle {
+    fn drop(&mut self) {
+        kdr_pool_drop(&mut Some(Handle(self.0))); // it leaves `None`
+    }
+}
+
+/// The number of an empty place.
+const NO_PLACE: usize = usize::MAX;
+
+/// A place by itself, by its number.
+#[repr(transparent)]
+pub struct Place(usize);
+
+// SAFETY: as `kundratu_pool.h` declares them. The last call isn't safe: the place has to be held,
+// and of the handle's pool.
+unsafe extern "C" {
+    safe fn kdr_pool_new(items: usize, out: &mut Option<Handle>) -> u32;
+    safe fn kdr_pool_share(handle: &mut Option<Handle>, out: &mut Option<Handle>) -> u32;
+    safe fn kdr_pool_drop(handle: &mut Option<Handle>) -> u32;
+    safe fn kdr_place_pull(handle: &mut Option<Handle>, page: usize, out: &mut Place) -> u32;
+    fn kdr_place_return(handle: &mut Option<Handle>, place: &mut Place) -> u32;
+}
+
 /// How many places a page has.
 const PAGE: usize = 32;
 
@@ -47,7 +77,7 @@ const APART: usize = 17;
 /// there meanwhile.
 const TOGETHER: usize = 4;
 
-/// The C calls, with a handle a thread, and places by themselves.
+/// The C calls, which the crate links, with a handle a thread, and places by themselves.
 pub struct Places {
     first: Mutex<Option<Handle>>,
     users: AtomicUsize,

@@ -1,31 +1,25 @@
 //! A pool that grows, by the names of lockfree-object-pool 0.1.6.
-use crate::guard::{Guard, Source};
-use crate::lanes::{refuse, Cells, Key, Lane, Lanes, Out};
+use crate::cells::{Cells, Slot};
+use crate::growing::{Growing, Held, PartName, PARTS, SHARDS};
+use crate::once::OnceBox;
 use crate::pool::Reset;
-use crate::sys::{open, Handle, PAGE};
-use crate::threads::NUMBERS;
+use crate::refuse;
 use std::alloc::{handle_alloc_error, Layout};
+use std::fmt::{self, Debug, Formatter};
 use std::iter;
-use std::sync::{Arc, OnceLock};
-
-/// How many chunks a pool may have. The last would have 2^36 items, past the memory of any machine.
-const CHUNKS: usize = 32;
-/// How many parts a chunk has. So many threads pull and return without meeting.
-const PARTS: usize = 8;
-/// How often each part is asked before a chunk is made. An item that others return and pull may
-/// pass by one asking.
-const TIMES: usize = 32;
+use std::mem;
+use std::ops::{Deref, DerefMut};
+use std::ptr::NonNull;
+use std::sync::Arc;
 
 /// An item that was pulled under a borrow of its [`LinearObjectPool`].
-pub type LinearReusable<'a, T> = Guard<&'a LinearObjectPool<T>>;
+pub type LinearReusable<'a, T> = LinearGuard<&'a LinearObjectPool<T>, T>;
 /// An item that was pulled with an owner of its [`LinearObjectPool`].
-pub type LinearOwnedReusable<T> = Guard<Arc<LinearObjectPool<T>>>;
+pub type LinearOwnedReusable<T> = LinearGuard<Arc<LinearObjectPool<T>>, T>;
 
-/// A pool whose pulls are never refused. It has 32 items at first.
+/// A pool whose pulls are never refused.
 ///
-/// Its items lie in chunks, each of twice as many items as the one before. A chunk lies in eight
-/// parts, each a fixed pool. The proved library decides who holds which item of a part. A chunk is
-/// made only after each earlier part answered that all its items were out: this module sees to it.
+/// An item is made when all that were made are held, or kept by other threads.
 ///
 /// ```
 /// use kundratu_pool::LinearObjectPool;
@@ -37,19 +31,12 @@ pub type LinearOwnedReusable<T> = Guard<Arc<LinearObjectPool<T>>>;
 /// assert_eq!(*pool.pull(), 0);
 /// ```
 pub struct LinearObjectPool<T> {
-    chunks: [OnceLock<Chunk<T>>; CHUNKS],
-    lanes: Lanes,
+    places: Arc<Growing>,
+    /// What lies at the places of each part of each shard.
+    shards: [OnceBox<[OnceBox<Cells<Option<T>>>; PARTS]>; SHARDS],
     init: Box<dyn Fn() -> T + Send + Sync>,
     reset: Reset<T>,
 }
-
-/// Some parts, and each lane's handles of them.
-type Chunk<T> = (Box<[Cells<T>; PARTS]>, Cells<Row>);
-
-/// A lane's handles, on a cache line of their own.
-#[derive(Default)]
-#[repr(align(64))]
-struct Row([Option<Handle>; PARTS]);
 
 impl<T> LinearObjectPool<T> {
     /// Creates a pool of items that `init` makes, and `reset` resets as they come back.
@@ -58,72 +45,76 @@ impl<T> LinearObjectPool<T> {
         R: Fn(&mut T) + Send + Sync + 'static,
         I: Fn() -> T + Clone + Send + Sync + 'static,
     {
-        let pool = LinearObjectPool {
-            chunks: [const { OnceLock::new() }; CHUNKS],
-            lanes: Lanes::new(PARTS, 1).unwrap_or_else(Self::refused),
+        LinearObjectPool {
+            places: Arc::new(Growing::new()),
+            shards: [const { OnceBox::new() }; SHARDS],
             init: Box::new(init),
             reset: Box::new(reset),
-        };
-        pool.make(0);
-        pool
+        }
     }
 
-    /// Returns an item that was free, or one of a new chunk. That is made only if no part of an
-    /// earlier chunk had a free item, though each was asked many times.
+    /// Returns an item that was free, or a new one.
     #[inline(always)]
     pub fn pull(&self) -> LinearReusable<'_, T> {
-        let out = self.lanes.pull(self).unwrap_or_else(|| self.find());
-        Guard { pool: self, out }
+        let held = self.places.pull_kept().unwrap_or_else(|| self.find());
+        // SAFETY: it was pulled just now.
+        unsafe { LinearGuard::new(self, held) }
     }
 
-    /// As [`pull`](LinearObjectPool::pull), with a guard that keeps the pool.
+    /// Returns an item as [`pull`](LinearObjectPool::pull) does, with a guard that keeps the pool.
     #[inline(always)]
     pub fn pull_owned(self: &Arc<Self>) -> LinearOwnedReusable<T> {
-        let out = self.lanes.pull(&**self).unwrap_or_else(|| self.find());
-        let pool = Arc::clone(self);
-        Guard { pool, out }
+        let held = self.places.pull_kept().unwrap_or_else(|| self.find());
+        // SAFETY: as above.
+        unsafe { LinearGuard::new(Arc::clone(self), held) }
     }
 
-    /// Asks each part, from the thread's home on, and first those of the greatest chunk, which have
-    /// most items. If all items are out, it creates the next chunk.
-    #[cold]
-    fn find(&self) -> Out<Self> {
-        let made = self.chunks.partition_point(|chunk| chunk.get().is_some());
-        let (at, home) = self.lanes.own(|lane| (lane.part, lane.number.number()));
-        for made in made..=CHUNKS {
-            self.make(made - 1);
-            let first = if at / PARTS == made - 1 { at + 1 } else { home };
-            for step in 0..made * PARTS * TIMES {
-                let part = (made - 1 - step % made) * PARTS + (first + step / made) % PARTS;
-                self.lanes.own(|lane| lane.part = part);
-                if let Some(out) = self.lanes.pull(self) {
-                    return out;
-                }
+    /// Pulls a place that the thread doesn't keep, and makes its item if there is none.
+    #[inline(never)]
+    fn find(&self) -> Held {
+        let at = loop {
+            match self.places.pull() {
+                Ok(at) => break at,
+                Err(name) => self.make(name).unwrap_or_else(Self::refused),
             }
+        };
+        let empty = Empty { pool: self, at };
+        // SAFETY: it was pulled just now, and nobody else has it.
+        let value = unsafe { &mut *self.slot(at).0.get() };
+        let item = NonNull::from(value.get_or_insert_with(&self.init)).cast();
+        mem::forget(empty);
+        Held { at, item }
+    }
+
+    /// Returns where the item of a place lies.
+    fn slot(&self, at: usize) -> &Slot<Option<T>> {
+        let (name, place) = PartName::of(at);
+        let part = self.shards[name.shard]
+            .get()
+            .and_then(|shard| shard[name.part].get());
+        part.unwrap_or_else(|| refuse()).slot(place)
+    }
+
+    /// How many places the first part of a shard has: of great items few, since they have their
+    /// room before they are made.
+    const FIRST: usize = match size_of::<Option<T>>() {
+        0..=64 => 8,
+        65..=256 => 2,
+        _ => 1,
+    };
+
+    /// Makes a part, if it isn't there. `None` if memory is refused, or there are too many.
+    fn make(&self, name: PartName) -> Option<()> {
+        let shard = &self.shards[name.shard];
+        let shard = match shard.get() {
+            Some(shard) => shard,
+            None => shard.set([const { OnceBox::new() }; PARTS])?,
+        };
+        let (part, places) = (shard.get(name.part)?, Self::FIRST << name.part);
+        if part.get().is_none() {
+            part.set(Cells::new(iter::repeat_with(|| None).take(places))?)?;
         }
-        Self::refused()
-    }
-
-    /// Makes the chunk of this number, if it isn't there.
-    fn make(&self, number: usize) {
-        let chunk = || self.new_chunk((PAGE / PARTS) << number);
-        self.chunks[number].get_or_init(|| chunk().unwrap_or_else(Self::refused));
-    }
-
-    /// Creates a chunk of parts of so many items. `None` if memory is refused.
-    fn new_chunk(&self, items: usize) -> Option<Chunk<T>> {
-        let parts = (0..PARTS).map(|_| Cells::new(iter::repeat_with(&self.init).take(items)));
-        let parts = parts.collect::<Option<Vec<_>>>()?.try_into().ok()?;
-        let mut rows = Cells::new(iter::repeat_with(Row::default).take(NUMBERS + 1))?;
-        for part in 0..PARTS {
-            let handles = rows.0.iter_mut().map(|row| &mut row.get_mut().0[part]);
-            open(items, handles)?;
-        }
-        Some((parts, rows))
-    }
-
-    fn chunk(&self, part: usize) -> &Chunk<T> {
-        self.chunks[part / PARTS].get().unwrap_or_else(|| refuse()) // it was made before a pull
+        self.places.make(name, places)
     }
 
     fn refused<A>() -> A {
@@ -131,26 +122,86 @@ impl<T> LinearObjectPool<T> {
     }
 }
 
-impl<T> Source for LinearObjectPool<T> {
-    type Item = T;
-    type Reset = Reset<T>;
-    const PARTS: usize = CHUNKS * PARTS;
+/// A place whose item isn't made yet. If that panics, the place is returned.
+struct Empty<'p, T> {
+    pool: &'p LinearObjectPool<T>,
+    at: usize,
+}
 
-    fn at(&self, at: usize) -> (&Cells<T>, &Lanes, &Reset<T>) {
-        let part = &self.chunk(at % Self::PARTS).0[at % PARTS];
-        (part, &self.lanes, &self.reset)
+impl<T> Drop for Empty<'_, T> {
+    fn drop(&mut self) {
+        // SAFETY: it was pulled, and is returned here.
+        unsafe { self.pool.places.give_back_unkept(self.at) };
     }
+}
 
-    /// A lane comes home with a place of a home.
-    fn handle<'l>(&'l self, lane: &'l mut Lane, part: usize) -> &'l mut Option<Handle> {
-        let home = lane.number.number() % PARTS;
-        if part % PARTS == home && lane.part % PARTS != home {
-            lane.part = part;
-        }
-        &mut self.chunk(part).1.item_mut(&mut lane.number).0[part % PARTS]
+impl<T> Debug for LinearObjectPool<T> {
+    fn fmt(&self, f: &mut Formatter<'_>) -> fmt::Result {
+        f.debug_struct("LinearObjectPool").finish_non_exhaustive()
     }
+}
 
-    fn go_further(&self, lane: &mut Lane) {
-        lane.part = lane.part / PARTS * PARTS + (lane.part + 1) % PARTS;
+/// An item of a [`LinearObjectPool`] that is held. Its end resets it and returns it.
+#[must_use = "the item is returned at once"]
+pub struct LinearGuard<P: Deref<Target = LinearObjectPool<T>>, T> {
+    pool: P,
+    /// The place, which this guard alone holds, and its item, which lies there until the pool ends.
+    at: usize,
+    item: NonNull<T>,
+}
+
+// SAFETY: a guard is the way to its item, which only it has, and an owner or a borrow of the pool.
+unsafe impl<P: Deref<Target = LinearObjectPool<T>> + Send, T: Send> Send for LinearGuard<P, T> {}
+// SAFETY: as above. By a shared guard threads share the item.
+unsafe impl<P: Deref<Target = LinearObjectPool<T>> + Sync, T: Sync> Sync for LinearGuard<P, T> {}
+
+impl<P: Deref<Target = LinearObjectPool<T>>, T> Unpin for LinearGuard<P, T> {}
+
+impl<P: Deref<Target = LinearObjectPool<T>>, T> LinearGuard<P, T> {
+    /// Creates the guard of a place.
+    ///
+    /// # Safety
+    ///
+    /// The place was pulled from this pool with its item, and nobody else has it.
+    #[inline(always)]
+    unsafe fn new(pool: P, held: Held) -> Self {
+        let (at, item) = (held.at, held.item.cast());
+        LinearGuard { pool, at, item }
+    }
+}
+
+impl<P: Deref<Target = LinearObjectPool<T>>, T> Deref for LinearGuard<P, T> {
+    type Target = T;
+
+    #[inline(always)]
+    fn deref(&self) -> &T {
+        // SAFETY: the guard alone has the place, and who writes there borrows it to write.
+        unsafe { self.item.as_ref() }
+    }
+}
+
+impl<P: Deref<Target = LinearObjectPool<T>>, T> DerefMut for LinearGuard<P, T> {
+    #[inline(always)]
+    fn deref_mut(&mut self) -> &mut T {
+        // SAFETY: the guard alone has the place, and nobody else borrows it.
+        unsafe { self.item.as_mut() }
+    }
+}
+
+impl<P: Deref<Target = LinearObjectPool<T>>, T> Drop for LinearGuard<P, T> {
+    /// Resets the item and returns it. If the reset panics, the item is never pulled again.
+    #[inline(always)]
+    fn drop(&mut self) {
+        // SAFETY: as in `deref_mut`.
+        (self.pool.reset)(unsafe { self.item.as_mut() });
+        let (at, item) = (self.at, self.item.cast());
+        // SAFETY: the guard has the place, and ends here.
+        unsafe { self.pool.places.give_back(Held { at, item }) };
+    }
+}
+
+impl<P: Deref<Target = LinearObjectPool<T>>, T: Debug> Debug for LinearGuard<P, T> {
+    fn fmt(&self, f: &mut Formatter<'_>) -> fmt::Result {
+        (**self).fmt(f)
     }
 }

@@ -1,4 +1,5 @@
 //! The pool that keeps nothing, by the names of lockfree-object-pool 0.1.6.
+use std::fmt::{self, Debug, Formatter};
 use std::ops::{Deref, DerefMut};
 use std::sync::Arc;
 
@@ -11,20 +12,28 @@ use std::sync::Arc;
 /// *pool.pull() += 5;
 /// assert_eq!(*pool.pull(), 0);
 /// ```
-pub struct NoneObjectPool<T>(Box<dyn Fn() -> T + Send + Sync>);
+pub struct NoneObjectPool<T> {
+    init: Box<dyn Fn() -> T + Send + Sync>,
+}
 
 /// An item of a [`NoneObjectPool`], which is dropped with it.
-pub struct NoneReusable<T>(T);
+#[derive(Debug)]
+#[must_use = "the item is dropped at once"]
+pub struct NoneReusable<T> {
+    data: T,
+}
 
 impl<T> NoneObjectPool<T> {
     /// Creates a pool of items that `init` makes.
     pub fn new<I: Fn() -> T + Send + Sync + 'static>(init: I) -> Self {
-        NoneObjectPool(Box::new(init))
+        NoneObjectPool {
+            init: Box::new(init),
+        }
     }
 
     /// Returns a new item.
     pub fn pull(&self) -> NoneReusable<T> {
-        NoneReusable::new(self.0())
+        NoneReusable::new((self.init)())
     }
 
     /// Returns a new item.
@@ -36,7 +45,7 @@ impl<T> NoneObjectPool<T> {
 impl<T> NoneReusable<T> {
     /// Creates the item of this value.
     pub fn new(data: T) -> Self {
-        NoneReusable(data)
+        NoneReusable { data }
     }
 }
 
@@ -44,12 +53,18 @@ impl<T> Deref for NoneReusable<T> {
     type Target = T;
 
     fn deref(&self) -> &T {
-        &self.0
+        &self.data
     }
 }
 
 impl<T> DerefMut for NoneReusable<T> {
     fn deref_mut(&mut self) -> &mut T {
-        &mut self.0
+        &mut self.data
+    }
+}
+
+impl<T> Debug for NoneObjectPool<T> {
+    fn fmt(&self, f: &mut Formatter<'_>) -> fmt::Result {
+        f.debug_struct("NoneObjectPool").finish_non_exhaustive()
     }
 }

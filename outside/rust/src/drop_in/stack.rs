@@ -2,6 +2,7 @@
 //! lockfree-object-pool 0.1.6. Nothing here is proved. It is safe Rust, and tested. In Rattle these
 //! pools are proved (`crates/lockfree_object_pool` of this repository).
 use crate::pool::Reset;
+use std::fmt::{self, Debug, Formatter};
 use std::ops::{Deref, DerefMut};
 use std::sync::{Arc, Mutex, PoisonError, TryLockError};
 use std::{hint::spin_loop, mem::ManuallyDrop};
@@ -20,13 +21,22 @@ impl<T> Stack<T> for Mutex<Vec<T>> {
 }
 
 /// A list behind a lock whose taker asks again and again.
-#[derive(Default)]
-pub struct SpinLock<T>(Mutex<Vec<T>>);
+#[derive(Debug)]
+pub struct SpinLock<T> {
+    list: Mutex<Vec<T>>,
+}
+
+impl<T> Default for SpinLock<T> {
+    fn default() -> SpinLock<T> {
+        let list = Mutex::default();
+        SpinLock { list }
+    }
+}
 
 impl<T> Stack<T> for SpinLock<T> {
     fn with<A>(&self, call: impl FnOnce(&mut Vec<T>) -> A) -> A {
         loop {
-            match self.0.try_lock() {
+            match self.list.try_lock() {
                 Ok(mut list) => return call(&mut list),
                 Err(TryLockError::Poisoned(list)) => return call(&mut list.into_inner()),
                 Err(TryLockError::WouldBlock) => spin_loop(),
@@ -42,7 +52,8 @@ pub struct StackObjectPool<T, S> {
     reset: Reset<T>,
 }
 
-/// An item of a stack pool that is out. Its end resets it and keeps it.
+/// An item of a stack pool that is held. Its end resets it and keeps it.
+#[must_use = "the item is returned at once"]
 pub struct StackGuard<T, S: Stack<T>, P: Deref<Target = StackObjectPool<T, S>>> {
     pool: P,
     /// It is taken at the guard's end, and nowhere else.
@@ -130,5 +141,22 @@ impl<T, S: Stack<T>, P: Deref<Target = StackObjectPool<T, S>>> Drop for StackGua
             (self.pool.reset)(&mut data);
             self.pool.kept.with(|list| list.push(data));
         }
+    }
+}
+
+impl<T: Debug, S: Stack<T>, P: Deref<Target = StackObjectPool<T, S>>> Debug
+    for StackGuard<T, S, P>
+{
+    fn fmt(&self, f: &mut Formatter<'_>) -> fmt::Result {
+        (**self).fmt(f)
+    }
+}
+
+impl<T, S: Stack<T>> Debug for StackObjectPool<T, S> {
+    fn fmt(&self, f: &mut Formatter<'_>) -> fmt::Result {
+        let kept = self.kept.with(|list| list.len());
+        f.debug_struct("StackObjectPool")
+            .field("kept", &kept)
+            .finish_non_exhaustive()
     }
 }

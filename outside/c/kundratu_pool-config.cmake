@@ -1,0 +1,9 @@
+# find_package(kundratu_pool) makes the target kundratu_pool::kundratu_pool.
+if(NOT TARGET kundratu_pool::kundratu_pool)
+  get_filename_component(kundratu_pool_libdir "${CMAKE_CURRENT_LIST_DIR}/../.." ABSOLUTE)
+  find_path(kundratu_pool_INCLUDE_DIR kundratu_pool.h HINTS "${kundratu_pool_libdir}/../include" "${kundratu_pool_libdir}/../../include")
+  add_library(kundratu_pool::kundratu_pool STATIC IMPORTED)
+  set_target_properties(kundratu_pool::kundratu_pool PROPERTIES
+    IMPORTED_LOCATION "${kundratu_pool_libdir}/libkundratu_pool.a"
+    INTERFACE_INCLUDE_DIRECTORIES "${kundratu_pool_INCLUDE_DIR}")
+endif()

@@ -1,0 +1,178 @@
+/* Mistakes that C programs make with places, and how each is answered: places of zeroed memory,
+   places whose bytes were made up, places of another pool and of one that has ended, and a place
+   that was copied and is returned while it is free. A place that was refused is as before, and the
+   pools hand out each place once afterwards. */
+#include "kundratu_pool.h"
+#include <signal.h>
+#include <stdbool.h>
+#include <stdio.h>
+#include <stdlib.h>
+#include <string.h>
+#include <sys/wait.h>
+#include <unistd.h>
+
+enum { ITEMS = 40, FEW = 2 };
+
+static void check(bool holds, const char *what) {
+    if (!holds) {
+        puts(what);
+        exit(1);
+    }
+}
+
+static kdr_handle new_pool(size_t items) {
+    kdr_handle first = KDR_HANDLE_EMPTY;
+    check(kdr_pool_new(items, &first) == KDR_DONE, "no pool");
+    return first;
+}
+
+static kdr_place pull(kdr_handle *handle) {
+    kdr_place place = KDR_PLACE_EMPTY;
+    check(kdr_place_pull(handle, 0, &place) == KDR_DONE, "a pull was refused while a place was free");
+    return place;
+}
+
+static bool is_same(const kdr_place *one, const kdr_place *other) {
+    return memcmp(one, other, sizeof *one) == 0;
+}
+
+/* A return of this place is refused, and leaves it as it is. */
+static void refuse(kdr_handle *handle, kdr_place place, kdr_status wanted) {
+    kdr_place before = place;
+    kdr_status status = kdr_place_return(handle, &place);
+    if (status != wanted) {
+        printf("a return of %zu was answered by %s, and not by %s\n", kdr_place_number(&place), kdr_status_name(status),
+               kdr_status_name(wanted));
+        exit(1);
+    }
+    check(is_same(&place, &before), "a return that was refused changed the place");
+}
+
+/* The pool has as many free places as it should, each one of its own, and no further one. Then it is
+   dropped. */
+static void end_pool(kdr_handle *handle, size_t free) {
+    bool taken[ITEMS] = {false};
+    kdr_place more = KDR_PLACE_EMPTY;
+    for (size_t at = 0; at < free; at++) {
+        kdr_place place = pull(handle);
+        size_t number = kdr_place_number(&place);
+        check(number < kdr_pool_items(handle), "a place was pulled that is none of the pool's");
+        check(!taken[number], "a place was pulled twice");
+        taken[number] = true;
+    }
+    check(kdr_place_pull(handle, 0, &more) == KDR_ALL_IN_USE, "a place was free that nobody had returned");
+    check(kdr_pool_drop(handle) == KDR_DONE, "a handle wasn't dropped");
+}
+
+/* All bytes of an empty place and of an empty handle are 0. */
+static void use_zeroed_memory(void) {
+    struct session {
+        kdr_handle handle;
+        kdr_place place;
+    } *session = calloc(1, sizeof *session);
+    check(session != NULL, "no memory");
+    kdr_handle first = new_pool(FEW);
+    kdr_place held = pull(&first), empty = KDR_PLACE_EMPTY;
+    check(is_same(&empty, &session->place), "an empty place isn't one of zeros");
+    check(kdr_place_number(&session->place) == KDR_NO_PLACE, "a zeroed place has a number");
+    refuse(&first, session->place, KDR_HOLDS_NONE);
+    refuse(&session->handle, held, KDR_NO_POOL);
+    check(kdr_pool_items(&session->handle) == 0, "a zeroed handle has a pool");
+    check(kdr_pool_drop(&session->handle) == KDR_NO_POOL, "a zeroed handle was dropped");
+    check(kdr_place_pull(&first, 0, &session->place) == KDR_DONE, "a zeroed place isn't empty");
+    check(!is_same(&held, &session->place), "a place has two holders");
+    check(kdr_place_return(&first, &session->place) == KDR_DONE, "a place wasn't returned");
+    free(session);
+    end_pool(&first, FEW - 1);
+}
+
+/* Numbers that are none of the pool's, with its tag and without. */
+static void make_places_up(void) {
+    static const size_t numbers[] = {FEW, FEW + 1, 31, 32, 70, 1 << 20, (size_t)1 << 40, SIZE_MAX / 2, SIZE_MAX - 1};
+    kdr_handle first = new_pool(FEW);
+    kdr_place held = pull(&first);
+    for (size_t at = 0; at < sizeof numbers / sizeof numbers[0]; at++) {
+        kdr_place made_up = {numbers[at] + 1, held.pool};
+        refuse(&first, made_up, KDR_NO_SUCH_PLACE);
+        check(kdr_place_pull(&first, 0, &made_up) == KDR_HOLDS_ONE, "a place was pulled that isn't empty");
+        made_up.pool = 0;
+        refuse(&first, made_up, KDR_OTHER_POOL);
+    }
+    kdr_place guessed = {kdr_place_number(&held) + 1, 0};
+    refuse(&first, guessed, KDR_OTHER_POOL);
+    check(kdr_place_return(&first, &held) == KDR_DONE, "a place wasn't returned");
+    end_pool(&first, FEW);
+}
+
+/* A place is of the pool that it was pulled from, by whatever handle, also when that has ended. */
+static void take_another_pool(void) {
+    kdr_handle first = new_pool(ITEMS), further = KDR_HANDLE_EMPTY, other = new_pool(ITEMS), few = new_pool(FEW);
+    check(kdr_pool_share(&first, &further) == KDR_DONE, "no further handle");
+    kdr_place held = pull(&first), of_other = pull(&other);
+    refuse(&other, held, KDR_OTHER_POOL);
+    refuse(&few, held, KDR_OTHER_POOL);
+    refuse(&first, of_other, KDR_OTHER_POOL);
+    check(kdr_place_return(&other, &of_other) == KDR_DONE, "a place wasn't returned to its own pool");
+    refuse(&few, held, KDR_OTHER_POOL);
+    check(kdr_place_return(&further, &held) == KDR_DONE, "a place wasn't returned by a further handle");
+    held = pull(&further);
+    check(kdr_pool_drop(&further) == KDR_DONE, "a handle wasn't dropped");
+    end_pool(&first, ITEMS - 1);
+    kdr_handle later = new_pool(ITEMS);
+    refuse(&later, held, KDR_OTHER_POOL);
+    end_pool(&later, ITEMS);
+    end_pool(&other, ITEMS);
+    end_pool(&few, FEW);
+}
+
+/* Returns a place twice by a copy, in a child. How it ended, and what it wrote. */
+static int return_a_copy(bool debug, char *said, size_t room) {
+    int ends[2];
+    check(pipe(ends) == 0, "no pipe");
+    fflush(stdout);
+    pid_t child = fork();
+    check(child >= 0, "no child");
+    if (child == 0) {
+        kdr_handle first = new_pool(ITEMS);
+        kdr_place held = pull(&first), copy = held;
+        dup2(ends[1], STDERR_FILENO);
+        signal(SIGILL, SIG_DFL);
+        signal(SIGTRAP, SIG_DFL);
+        check(kdr_place_return(&first, &held) == KDR_DONE, "a place wasn't returned");
+        if (debug) {
+            (void)kdr_debug_place_return(&first, &copy, "file.c", 12);
+        } else {
+            (void)kdr_place_return(&first, &copy);
+        }
+        _exit(0);
+    }
+    int status = 0;
+    close(ends[1]);
+    check(waitpid(child, &status, 0) == child, "no child ended");
+    ssize_t length = read(ends[0], said, room - 1);
+    close(ends[0]);
+    said[length > 0 ? length : 0] = 0;
+    return status;
+}
+
+/* It ends the program. With the header's debug build it says where. */
+static void copy_a_place(void) {
+    char said[256];
+    int status = return_a_copy(false, said, sizeof said);
+    check(WIFSIGNALED(status) && (WTERMSIG(status) == SIGILL || WTERMSIG(status) == SIGTRAP), "a copied place was returned twice");
+    status = return_a_copy(true, said, sizeof said);
+    check(WIFSIGNALED(status) && WTERMSIG(status) == SIGABRT, "a copied place was returned twice, and nothing aborted");
+    check(strstr(said, "file.c:12: kdr_place_return: place ") && strstr(said, "is free"), "nothing was said of a copied place");
+}
+
+int main(void) {
+    check(strcmp(kdr_version(), KDR_VERSION) == 0, "the header is of another version than the library");
+    check(strcmp(kdr_status_name(KDR_NO_SUCH_PLACE), "KDR_NO_SUCH_PLACE") == 0 && strcmp(kdr_status_name(10), "unknown") == 0,
+          "a status has another name");
+    make_places_up();
+    use_zeroed_memory();
+    take_another_pool();
+    copy_a_place();
+    puts("each mistake was answered, and each place is in use once");
+    return 0;
+}

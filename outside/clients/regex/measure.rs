@@ -1,0 +1,114 @@
+//! How long a match of a short text takes by a `Regex` that threads share, and what a `Regex` costs
+//! that is made and used once: with the pool of regex, and with ours in its place.
+use std::hint::black_box;
+use std::sync::Barrier;
+use std::time::Instant;
+use std::{env, thread};
+
+/// How often each is measured, by turns. The middle one of its times is told.
+const ROUNDS: usize = 15;
+const PATTERN: &str = r"[a-z]+@[a-z]+\.[a-z]+";
+const TEXT: &str = "write to ann@example.org";
+const MADE: usize = 200;
+
+/// What glibc says of its heap.
+#[repr(C)]
+struct Info {
+    before: [usize; 4],
+    mapped: usize,
+    unused: [usize; 2],
+    used: usize,
+    after: [usize; 2],
+}
+
+unsafe extern "C" {
+    safe fn mallinfo2() -> Info;
+}
+
+fn used() -> f64 {
+    let info = mallinfo2();
+    (info.used + info.mapped) as f64
+}
+
+/// The work on the `Regex` of a crate.
+macro_rules! work {
+    ($name:ident) => {
+        mod $name {
+            use super::*;
+            use ::$name::Regex;
+
+            /// Nanoseconds a match, of the thread that took longest.
+            pub fn shared(threads: usize, turns: u32) -> f64 {
+                let regex = Regex::new(PATTERN).expect("it is one");
+                let start = Barrier::new(threads);
+                let run = || {
+                    start.wait();
+                    let begun = Instant::now();
+                    for _ in 0..turns {
+                        assert!(regex.is_match(black_box(TEXT)));
+                    }
+                    begun.elapsed().as_nanos() as f64 / f64::from(turns)
+                };
+                thread::scope(|scope| {
+                    let runs: Vec<_> = (0..threads).map(|_| scope.spawn(run)).collect();
+                    let times = runs.into_iter().map(|run| run.join().expect("it ends"));
+                    times.fold(0.0, f64::max)
+                })
+            }
+
+            /// Microseconds and bytes of a `Regex` that is made and used once.
+            pub fn made() -> [f64; 2] {
+                let mut all = Vec::with_capacity(MADE);
+                let (before, begun) = (used(), Instant::now());
+                for _ in 0..MADE {
+                    let regex = Regex::new(PATTERN).expect("it is one");
+                    assert!(regex.is_match(black_box(TEXT)));
+                    all.push(regex);
+                }
+                let time = begun.elapsed().as_nanos() as f64 / 1000.0;
+                [time, used() - before].map(|all| all / MADE as f64)
+            }
+
+            /// A row of each: a match by 1, 2 and 4 threads, and what is made.
+            pub fn measure(turns: u32) -> [f64; 5] {
+                let [one, two, four] = [1, 2, 4].map(|threads| shared(threads, turns));
+                let [time, bytes] = made();
+                [one, two, four, time, bytes]
+            }
+        }
+    };
+}
+
+work!(theirs);
+work!(ours);
+
+/// The middle one of each column.
+fn middle(rounds: &[[f64; 5]]) -> [f64; 5] {
+    std::array::from_fn(|column| {
+        let mut times: Vec<f64> = rounds.iter().map(|round| round[column]).collect();
+        times.sort_by(f64::total_cmp);
+        times[times.len() / 2]
+    })
+}
+
+fn print(name: &str, row: [f64; 5]) {
+    let cells = row.map(|cell| format!("{cell:.2} |")).join(" ");
+    println!("| {name} | {cells}");
+}
+
+fn main() {
+    let turns = env::args().nth(1).map_or(200_000, |turns| {
+        turns.parse().expect("the number of turns")
+    });
+    let (mut own, mut pools) = (Vec::new(), Vec::new());
+    for _ in 0..ROUNDS {
+        own.push(theirs::measure(turns));
+        pools.push(ours::measure(turns));
+    }
+    let [own, pools] = [middle(&own), middle(&pools)];
+    println!("| Pool | ns, 1 thread | 2 | 4 | made, us | bytes |");
+    println!("|---|---:|---:|---:|---:|---:|");
+    print("regex's own", own);
+    print("ours", pools);
+    print("ratio", std::array::from_fn(|at| pools[at] / own[at]));
+}

@@ -1,0 +1,151 @@
+//! How long a pull and its return of a lazy pool take, and how often threads that wait for few
+//! items get one, beside a vector behind a mutex with a condition variable. Of many short rounds,
+//! by turns, the least time and the most turns are told. `KUNDRATU_BENCH_TURNS` says how many turns
+//! all rounds of a thread have, where it isn't 1,000,000.
+use kundratu_pool::{LazyPool, Pool};
+use std::env;
+use std::hint::{black_box, spin_loop};
+use std::sync::atomic::{AtomicUsize, Ordering::SeqCst};
+use std::sync::{Barrier, Condvar, Mutex};
+use std::thread;
+use std::time::{Duration, Instant};
+
+const ITEMS: usize = 4_096;
+const ROUNDS: usize = 250;
+
+/// A pool as it is written by hand: those wait on the condition variable who found no item.
+struct ByHand {
+    kept: Mutex<Kept>,
+    returned: Condvar,
+}
+
+struct Kept {
+    items: Vec<u64>,
+    waiting: usize,
+}
+
+impl ByHand {
+    fn new(items: usize) -> ByHand {
+        let items = vec![0; items];
+        let kept = Mutex::new(Kept { items, waiting: 0 });
+        let returned = Condvar::new();
+        ByHand { kept, returned }
+    }
+
+    fn turn(&self) {
+        let mut kept = self.kept.lock().expect("no panic");
+        let item = loop {
+            if let Some(item) = kept.items.pop() {
+                break item;
+            }
+            kept.waiting += 1;
+            kept = self.returned.wait(kept).expect("no panic");
+            kept.waiting -= 1;
+        };
+        drop(kept);
+        let item = black_box(item + 1);
+        let mut kept = self.kept.lock().expect("no panic");
+        kept.items.push(item);
+        let is_awaited = kept.waiting > 0;
+        drop(kept);
+        if is_awaited {
+            self.returned.notify_one();
+        }
+    }
+}
+
+fn lazy(items: usize) -> LazyPool<u64, ()> {
+    let reset = |number: &mut u64| {
+        *number = 0;
+        true
+    };
+    LazyPool::new(items, || Ok(0), reset).expect("there is memory")
+}
+
+/// The least nanoseconds a turn of some rounds, each of which is as long as its slowest thread's.
+fn least(threads: usize, turns: usize, turn: impl Fn() + Sync) -> f64 {
+    let (turns, begun, ends) = (
+        turns.div_ceil(ROUNDS),
+        AtomicUsize::new(0),
+        Barrier::new(threads),
+    );
+    let run = || {
+        let rounds = 1..=ROUNDS;
+        let times = rounds.map(|round| {
+            ends.wait();
+            begun.fetch_add(1, SeqCst);
+            while begun.load(SeqCst) < round * threads {
+                spin_loop();
+            }
+            let begun = Instant::now();
+            (0..turns).for_each(|_| turn());
+            begun.elapsed().as_nanos() as f64 / turns as f64
+        });
+        times.collect::<Vec<_>>()
+    };
+    let times = thread::scope(|scope| {
+        let runs: Vec<_> = (0..threads).map(|_| scope.spawn(run)).collect();
+        let times = runs.into_iter().map(|run| run.join().expect("it ends"));
+        times.collect::<Vec<_>>()
+    });
+    let slowest = |round: usize| times.iter().map(|times| times[round]).fold(0.0, f64::max);
+    (0..ROUNDS).map(slowest).fold(f64::INFINITY, f64::min)
+}
+
+/// Millions of turns a second of all threads together.
+fn turns_a_second(threads: usize, turns: usize, turn: impl Fn() + Sync) -> f64 {
+    let begun = Instant::now();
+    thread::scope(|scope| {
+        let run = || (0..turns).for_each(|_| turn());
+        (0..threads).for_each(|_| drop(scope.spawn(run)));
+    });
+    (threads * turns) as f64 / begun.elapsed().as_micros() as f64
+}
+
+fn pulls(turns: usize) {
+    println!("{ITEMS} items, nanoseconds a pull and return, the least of {ROUNDS} rounds");
+    let (made, few, fixed) = (
+        lazy(ITEMS),
+        lazy(ITEMS),
+        Pool::new(ITEMS, || 0, |number| *number = 0),
+    );
+    made.fill(ITEMS).expect("it makes them");
+    let fixed = fixed.expect("there is memory");
+    for threads in [1, 2, 4] {
+        let least = |turn: &(dyn Fn() + Sync)| least(threads, turns, turn);
+        println!(
+            "{threads} threads: {:.1}, if only so many are made {:.1}; pull_wait {:.1}, pull_timeout {:.1}; Pool {:.1}",
+            least(&|| *black_box(made.pull().expect("one is free")) += 1),
+            least(&|| *black_box(few.pull().expect("one is free")) += 1),
+            least(&|| *black_box(made.pull_wait().expect("one is free")) += 1),
+            least(&|| *black_box(made.pull_timeout(LIMIT).expect("one is free")) += 1),
+            least(&|| *black_box(fixed.pull().expect("one is free")) += 1),
+        );
+    }
+}
+
+const LIMIT: Duration = Duration::from_secs(60);
+
+fn waits(turns: usize) {
+    println!("8 threads that wait, millions of turns a second, by turns: lazy pool, by hand");
+    for items in [1, 2, 3] {
+        let (lazy, by_hand) = (lazy(items), ByHand::new(items));
+        let turn = || *black_box(lazy.pull_wait().expect("one comes")) += 1;
+        for _ in 0..7 {
+            let ours = turns_a_second(8, turns / 4, turn);
+            let theirs = turns_a_second(8, turns / 4, || by_hand.turn());
+            println!(
+                "{items} items: {ours:.1}, {theirs:.1}: {:.2} times",
+                ours / theirs
+            );
+        }
+    }
+}
+
+fn main() {
+    let turns = env::var("KUNDRATU_BENCH_TURNS").map_or(1_000_000, |turns| {
+        turns.parse().expect("KUNDRATU_BENCH_TURNS is a number")
+    });
+    pulls(turns);
+    waits(turns);
+}

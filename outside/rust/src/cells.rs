@@ -1,0 +1,32 @@
+//! What lies at the places of a pool.
+use crate::refuse;
+use std::cell::UnsafeCell;
+
+/// A value at a place. Who holds the place reaches it.
+#[doc(hidden)]
+pub struct Slot<V>(pub(crate) UnsafeCell<V>);
+
+// SAFETY: a value is reached by its place's holder, of whom there is one at a time. So to share the
+// slots is to send the values from one to another.
+unsafe impl<V: Send> Sync for Slot<V> {}
+
+/// Values by their places.
+pub(crate) struct Cells<V>(Vec<Slot<V>>);
+
+impl<V> Cells<V> {
+    /// Creates the slots of these values, in their order. `None` if memory is refused.
+    pub(crate) fn new(values: impl ExactSizeIterator<Item = V>) -> Option<Cells<V>> {
+        let mut slots = Vec::new();
+        // Some room behind them stays free, so that no other memory is on their cache lines.
+        let room = values.len().checked_add(128 / size_of::<V>().max(1))?;
+        slots.try_reserve_exact(room).ok()?;
+        slots.extend(values.map(|value| Slot(UnsafeCell::new(value))));
+        Some(Cells(slots))
+    }
+
+    /// Returns the slot of a place.
+    #[inline(always)]
+    pub(crate) fn slot(&self, place: usize) -> &Slot<V> {
+        self.0.get(place).unwrap_or_else(|| refuse())
+    }
+}

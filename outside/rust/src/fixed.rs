@@ -1,0 +1,263 @@
+//! Which places of a fixed number are held. A thread keeps one that it returned, where others may
+//! take it: so a pull is refused only if all places were out at one moment.
+use crate::lanes::Lanes;
+use crate::library::Library;
+use crate::sys::{Handle, PAGE};
+use crate::threads::{self, Number, Owned};
+use std::sync::atomic::{AtomicU64, Ordering::Acquire, Ordering::Release};
+
+/// How many places a lane pulls at one page, if others return them.
+const TOGETHER: isize = 4;
+
+/// The places of a pool.
+pub(crate) struct Fixed {
+    library: Library,
+    lanes: Lanes<Lane>,
+}
+
+/// What a thread has of the pool, on cache lines of its own.
+#[repr(align(128))]
+struct Lane {
+    kept: Kept,
+    own: Owned<Own>,
+}
+
+/// What other threads don't reach.
+struct Own {
+    handle: Option<Handle>,
+    /// At which page the next pull begins.
+    page: usize,
+    /// Where the lane began, and how often it moved.
+    begin: usize,
+    moves: usize,
+    /// How many more places are pulled than returned until the next move.
+    left: isize,
+    /// Whether its last pull was refused.
+    was_refused: bool,
+    /// What the lane's `Kept` is while it has no place.
+    empty: u64,
+}
+
+impl Fixed {
+    /// Creates so many free places. `None` if memory is refused.
+    pub(crate) fn new(places: usize) -> Option<Fixed> {
+        let (library, lanes) = (Library::new(places)?, Lanes::new());
+        Some(Fixed { library, lanes })
+    }
+
+    /// Returns how many places there are.
+    pub(crate) fn places(&self) -> usize {
+        self.library.places()
+    }
+
+    /// Pulls a place. `None` if all were out at one moment.
+    #[inline(always)]
+    pub(crate) fn pull(&self) -> Option<usize> {
+        threads::with(|number| match number.and_then(|number| self.lane(number)) {
+            Some((kept, own)) => match kept.take_own(own.empty) {
+                Some(place) => Some(place),
+                None => own.pull(&self.library).or_else(|| own.look(self)),
+            },
+            None => self.look(&mut None),
+        })
+    }
+
+    /// Returns a place.
+    ///
+    /// # Safety
+    ///
+    /// The place was pulled here, and is returned once.
+    #[inline(always)]
+    pub(crate) unsafe fn give_back(&self, place: usize) {
+        threads::with(|number| match number.and_then(|number| self.lane(number)) {
+            Some((kept, own)) => {
+                if !kept.keep(place, &mut own.empty) {
+                    own.left += 1;
+                    // SAFETY: the handle was opened here, and the caller says the rest.
+                    unsafe { self.library.give_back(&mut own.handle, place) };
+                }
+            }
+            // SAFETY: as above.
+            None => unsafe { self.library.give_back(&mut None, place) },
+        });
+    }
+
+    /// Returns the lane of a thread, which is made if it isn't there. `None` if memory is refused.
+    #[inline(always)]
+    fn lane<'l>(&'l self, number: &'l mut Number) -> Option<(&'l Kept, &'l mut Own)> {
+        let lane = match self.lanes.get(number) {
+            Some(lane) => lane,
+            None => self.new_lane(number)?,
+        };
+        Some((&lane.kept, lane.own.get(number)))
+    }
+
+    #[cold]
+    fn new_lane(&self, number: &Number) -> Option<&Lane> {
+        let pages = self.places().div_ceil(PAGE);
+        let mut own = Own::new(number.get(), pages);
+        self.library.open(&mut own.handle);
+        let (kept, own) = (Kept::new(), Owned::new(number, own));
+        self.lanes.make(number, Lane { kept, own })
+    }
+
+    /// Pulls a place that a lane keeps or that the library has. `None` if all were out at a moment
+    /// of the library's refusal: no lane kept a place then, since none did before and after it, and
+    /// none kept one between.
+    #[cold]
+    #[inline(never)]
+    fn look(&self, handle: &mut Option<Handle>) -> Option<usize> {
+        let mut before = self.take_kept();
+        loop {
+            let count = match before {
+                Ok(place) => return Some(place),
+                Err(count) => count,
+            };
+            if let Some(place) = self.library.pull(handle, 0) {
+                return Some(place);
+            }
+            before = self.take_kept();
+            if before == Err(count) {
+                return None;
+            }
+        }
+    }
+
+    /// Takes a place that a lane keeps.
+    ///
+    /// # Errors
+    ///
+    /// How often lanes kept a place until none did.
+    fn take_kept(&self) -> Result<usize, u64> {
+        let mut count = 0_u64;
+        for lane in self.lanes.all() {
+            match lane.kept.take() {
+                Ok(place) => return Ok(place),
+                Err(often) => count = count.wrapping_add(often),
+            }
+        }
+        Err(count)
+    }
+}
+
+/// A place that a thread keeps, or none, and how often it kept one: so others see that it did.
+/// Only the thread puts one there, if there is none. Whoever takes it out leaves the count.
+struct Kept(AtomicU64);
+
+impl Kept {
+    /// What stands for no place, before any was kept.
+    const NONE: u64 = u32::MAX as u64;
+
+    fn new() -> Kept {
+        Kept(AtomicU64::new(Kept::NONE))
+    }
+
+    /// Takes the place, for any thread.
+    ///
+    /// # Errors
+    ///
+    /// How often one was kept until there was none.
+    fn take(&self) -> Result<usize, u64> {
+        let mut seen = self.load();
+        while seen & Kept::NONE != Kept::NONE {
+            #[cfg(test)]
+            crate::tests::step();
+            let empty = seen | Kept::NONE;
+            match self.0.compare_exchange(seen, empty, Acquire, Acquire) {
+                Ok(_) => return Ok((seen & Kept::NONE) as usize),
+                Err(now) => seen = now,
+            }
+        }
+        Err(seen >> 32)
+    }
+
+    /// Takes the place, for the thread of the lane.
+    #[inline(always)]
+    fn take_own(&self, empty: u64) -> Option<usize> {
+        if self.load() == empty {
+            return None;
+        }
+        #[cfg(test)]
+        crate::tests::step();
+        let seen = self.0.swap(empty, Acquire);
+        (seen != empty).then_some((seen & Kept::NONE) as usize)
+    }
+
+    /// Keeps a place for the thread of the lane, if there is none, and counts it.
+    #[inline(always)]
+    fn keep(&self, place: usize, empty: &mut u64) -> bool {
+        let place = place as u64;
+        let has_room = self.load() == *empty && place < Kept::NONE;
+        if has_room {
+            #[cfg(test)]
+            crate::tests::step();
+            *empty = empty.wrapping_add(1 << 32);
+            self.0.store(*empty ^ Kept::NONE | place, Release);
+        }
+        has_room
+    }
+
+    #[inline(always)]
+    fn load(&self) -> u64 {
+        #[cfg(test)]
+        crate::tests::step();
+        self.0.load(Acquire)
+    }
+}
+
+impl Own {
+    /// Creates what a thread has of so many pages.
+    fn new(number: usize, pages: usize) -> Own {
+        // Threads begin so far apart that the words of their pages lie on cache lines of their own.
+        let far = if pages % 17 == 0 { 1 } else { 17 };
+        let begin = (number + 1) * far;
+        Own {
+            handle: None,
+            page: begin % pages,
+            begin,
+            moves: 0,
+            left: TOGETHER,
+            was_refused: false,
+            empty: Kept::NONE,
+        }
+    }
+
+    /// Looks for a place everywhere.
+    #[cold]
+    fn look(&mut self, places: &Fixed) -> Option<usize> {
+        let place = places.look(&mut self.handle);
+        self.was_refused = place.is_none();
+        place
+    }
+
+    /// Pulls a place of the library. `None` if it refuses, or if the last pull was refused, so that
+    /// it is worth to look everywhere at once.
+    #[inline(always)]
+    fn pull(&mut self, library: &Library) -> Option<usize> {
+        if self.was_refused {
+            return None;
+        }
+        let place = library.pull(&mut self.handle, self.page)?;
+        if place / PAGE != self.page || self.left <= 1 {
+            self.go_on(place / PAGE, library.places().div_ceil(PAGE));
+        }
+        self.left -= 1;
+        Some(place)
+    }
+
+    /// Finds where the next pull begins, after one of a place of this page.
+    #[inline(never)]
+    fn go_on(&mut self, page: usize, pages: usize) {
+        if page != self.page {
+            // Others come there too, so the next pull begins apart from them, behind that page or
+            // before it. If it finds nothing there, the lane keeps to the page of its place.
+            let apart = [self.begin, self.begin.wrapping_neg(), 0][self.moves % 3];
+            self.page = page.wrapping_add(apart) % pages;
+            self.moves += 1;
+        } else {
+            // Others return what this thread pulls, so it goes round some pages, apart from them.
+            (self.left, self.moves) = (TOGETHER + 1, self.moves + 1);
+            self.page = (self.begin + self.moves % 128 * 17) % pages;
+        }
+    }
+}

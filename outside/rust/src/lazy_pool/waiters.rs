@@ -1,0 +1,124 @@
+//! Threads that wait until a place is returned: an event count of two words, and where they sleep.
+//!
+//! A waiter counts itself, reads how many returns were told, tries once more, and sleeps only if
+//! none was told since. A return frees its place, and then reads whether anybody waits. Steps at
+//! these words are sequentially consistent, and a fence lies between them and those at places. So
+//! if a waiter's try missed the place, the return finds the waiter counted, and the waiter finds the
+//! return told.
+//!
+//! One sleeper at a time is woken: a return leaves it at that if one was woken that hasn't looked
+//! yet. So who slept while more than one return was told wakes the next when it has its place. One
+//! that gives up wakes the next too. `tests/waiting_model.rs` explores these steps.
+use std::sync::atomic::{fence, AtomicBool, AtomicUsize, Ordering::SeqCst};
+use std::sync::{Condvar, Mutex, PoisonError};
+use std::time::{Duration, Instant};
+
+/// The bit of `waiting` that says that the pool is closed.
+const CLOSED: usize = 1 << (usize::BITS - 1);
+
+/// When a pull waits no longer, if ever.
+pub(super) type Limit = Option<Instant>;
+
+#[derive(Default)]
+pub(super) struct Waiters {
+    /// How many threads wait, and `CLOSED`.
+    waiting: AtomicUsize,
+    /// How many returns were told, since somebody waited.
+    told: AtomicUsize,
+    /// How many threads sleep, and whether one was woken that hasn't looked yet. They are changed
+    /// under the lock only.
+    asleep: AtomicUsize,
+    is_woken: AtomicBool,
+    lock: Mutex<()>,
+    wakes: Condvar,
+}
+
+impl Waiters {
+    /// Makes this try until it has an answer. `None` if a last try after the limit has none.
+    #[cold]
+    pub(super) fn wait<A>(&self, limit: Limit, attempt: impl Fn() -> Option<A>) -> Option<A> {
+        self.waiting.fetch_add(1, SeqCst);
+        fence(SeqCst);
+        let mut slept = None;
+        loop {
+            let seen = self.told.load(SeqCst);
+            let is_last = is_over(limit);
+            let answer = attempt();
+            if answer.is_some() || is_last {
+                self.waiting.fetch_sub(1, SeqCst);
+                let told = |slept| self.told.load(SeqCst).wrapping_sub(slept);
+                if answer.is_none() || slept.is_some_and(|slept| told(slept) > 1) {
+                    self.tell();
+                }
+                return answer;
+            }
+            slept = self.sleep(seen, limit).then_some(seen);
+        }
+    }
+
+    /// Sleeps until a return is told or the limit is over, or for no reason. Returns `false` if one
+    /// was told since `seen`, so that it didn't sleep.
+    fn sleep(&self, seen: usize, limit: Limit) -> bool {
+        let mut locked = self.lock.lock().unwrap_or_else(PoisonError::into_inner);
+        self.asleep.fetch_add(1, SeqCst);
+        let sleeps = self.told.load(SeqCst) == seen;
+        if sleeps {
+            let left = |limit: Instant| limit.saturating_duration_since(Instant::now());
+            let left = limit.map_or(Duration::MAX, left);
+            let woken = self.wakes.wait_timeout(locked, left);
+            locked = woken.unwrap_or_else(PoisonError::into_inner).0;
+            self.is_woken.store(false, SeqCst);
+        }
+        self.asleep.fetch_sub(1, SeqCst);
+        drop(locked);
+        sleeps
+    }
+
+    /// Wakes one that waits, after a place was returned. Returns whether the pool is closed.
+    #[inline(always)]
+    pub(super) fn tell(&self) -> bool {
+        fence(SeqCst);
+        self.waiting.load(SeqCst) != 0 && self.wake()
+    }
+
+    #[cold]
+    fn wake(&self) -> bool {
+        self.told.fetch_add(1, SeqCst);
+        let is_due = || self.asleep.load(SeqCst) != 0 && !self.is_woken.load(SeqCst);
+        if is_due() {
+            let _locked = self.lock.lock();
+            if is_due() {
+                self.is_woken.store(true, SeqCst);
+                self.wakes.notify_one();
+            }
+        }
+        self.is_closed()
+    }
+
+    /// Says that the pool is closed, and wakes all.
+    pub(super) fn close(&self) {
+        self.waiting.fetch_or(CLOSED, SeqCst);
+        fence(SeqCst);
+        self.told.fetch_add(1, SeqCst);
+        drop(self.lock.lock());
+        self.wakes.notify_all();
+    }
+
+    #[inline(always)]
+    pub(super) fn is_closed(&self) -> bool {
+        self.waiting.load(SeqCst) & CLOSED != 0
+    }
+
+    /// Returns how many wait.
+    pub(super) fn count(&self) -> usize {
+        self.waiting.load(SeqCst) & !CLOSED
+    }
+}
+
+pub(super) fn is_over(limit: Limit) -> bool {
+    limit.is_some_and(|limit| limit <= Instant::now())
+}
+
+#[cfg(test)]
+#[path = "../../unit_tests/waiters.rs"]
+mod tests;
