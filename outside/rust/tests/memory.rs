@@ -8,6 +8,7 @@ use std::panic::{catch_unwind, resume_unwind, AssertUnwindSafe};
 use std::process::Command;
 use std::ptr::null_mut;
 use std::sync::{mpsc, Arc, Barrier, Mutex, PoisonError};
+use std::time::Duration;
 use std::{env, iter, mem, thread};
 
 thread_local! {
@@ -293,8 +294,21 @@ fn later_pulls_of_threads_ask_for_no_memory() {
     assert_eq!(threads, [(true, 0); THREADS]);
 }
 
+/// Waits until no thread of a test that has ended frees memory any more.
+fn settle() {
+    let mut last = used();
+    for _ in 0..500 {
+        thread::sleep(Duration::from_millis(20));
+        if used() == last {
+            return;
+        }
+        last = used();
+    }
+}
+
 /// Bytes of the heap that this takes, and what it made.
 fn bytes<A>(make: impl FnOnce() -> A) -> (usize, A) {
+    settle();
     let before = used();
     let made = make();
     (used() - before, made)
