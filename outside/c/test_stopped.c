@@ -27,6 +27,8 @@ struct item {
 struct thread {
     kdr_handle handle;
     kdr_place place;
+    /* What it holds of a control, which has no library. */
+    size_t of_control;
     enum call call;
     struct item held, pulled;
 };
@@ -63,19 +65,19 @@ static void give_back_to_control(size_t number) {
 static inline bool pull(struct thread *thread, size_t *number) {
     if (kind >= RACE) {
         bool is_pulled = pull_of_control(number);
-        thread->place.number = is_pulled ? *number : KDR_NO_PLACE;
+        thread->of_control = is_pulled ? *number : KDR_NO_PLACE;
         return is_pulled;
     }
     if (kind < PLACE) return kdr_pool_pull(&thread->handle, number) == KDR_DONE;
     if (kdr_place_pull(&thread->handle, 0, &thread->place) != KDR_DONE) return false;
-    *number = thread->place.number;
+    *number = kdr_place_number(&thread->place);
     return true;
 }
 
 static inline void give_back(struct thread *thread) {
     if (kind >= RACE) {
-        if (thread->place.number != KDR_NO_PLACE) give_back_to_control(thread->place.number);
-        thread->place.number = KDR_NO_PLACE;
+        if (thread->of_control != KDR_NO_PLACE) give_back_to_control(thread->of_control);
+        thread->of_control = KDR_NO_PLACE;
     } else if (kind >= PLACE) {
         kdr_place_return(&thread->handle, &thread->place);
     } else {
@@ -132,20 +134,20 @@ static void tell(const char *what, struct item item, const char *behind) {
 /* All places but those that are to be free, which it returns. Each has its number for value. */
 static void hold_but(kdr_handle *handle, size_t free_ones, kdr_place places[ITEMS]) {
     for (size_t at = 0; at < ITEMS; at++) {
-        places[at] = (kdr_place)KDR_PLACE_EMPTY;
+        places[at] = KDR_PLACE_EMPTY;
         check(kdr_place_pull(handle, 0, &places[at]) == KDR_DONE, "a new pool isn't free");
-        values[places[at].number] = places[at].number;
+        values[kdr_place_number(&places[at])] = kdr_place_number(&places[at]);
     }
     for (size_t at = 0; at < ITEMS; at++)
         for (size_t of = 0; of < free_ones; of++)
-            if (places[at].number == FREE[of]) kdr_place_return(handle, &places[at]);
+            if (kdr_place_number(&places[at]) == FREE[of]) kdr_place_return(handle, &places[at]);
 }
 
 static void tell_rest(kdr_handle *handle, size_t free_ones) {
     struct thread rest[FREE_AT_MOST];
     for (size_t at = 0; at < free_ones; at++) {
         size_t number = 0;
-        rest[at] = (struct thread){.handle = KDR_HANDLE_EMPTY, .place = KDR_PLACE_EMPTY};
+        rest[at] = (struct thread){.handle = KDR_HANDLE_EMPTY, .place = KDR_PLACE_EMPTY, .of_control = KDR_NO_PLACE};
         check(kdr_pool_share(handle, &rest[at].handle) == KDR_DONE, "no handle");
         if (pull(&rest[at], &number)) printf(" %zu:%zu", number, values[number]);
     }
@@ -155,7 +157,7 @@ static void tell_rest(kdr_handle *handle, size_t free_ones) {
 }
 
 static void make_round(size_t free_ones, enum call first_call, enum call second_call) {
-    struct thread first = {.handle = KDR_HANDLE_EMPTY, .place = KDR_PLACE_EMPTY, .call = first_call}, second = first;
+    struct thread first = {.handle = KDR_HANDLE_EMPTY, .place = KDR_PLACE_EMPTY, .of_control = KDR_NO_PLACE, .call = first_call}, second = first;
     kdr_handle main_handle = KDR_HANDLE_EMPTY;
     kdr_place held[ITEMS];
     pthread_t other;
