@@ -49,20 +49,31 @@ impl Drop for Handle {
     }
 }
 
-/// The number of an empty place.
-const NO_PLACE: usize = usize::MAX;
+/// A place by itself: one more than its number, or 0 if it is empty, and its pool's tag.
+#[repr(C)]
+pub struct Place {
+    after: usize,
+    tag: usize,
+}
 
-/// A place by itself, by its number.
-#[repr(transparent)]
-pub struct Place(usize);
+impl Place {
+    fn number(&self) -> usize {
+        self.after - 1
+    }
+}
 
 // SAFETY: as `kundratu_pool.h` declares them. The last call isn't safe: the place has to be held,
 // and of the handle's pool.
 unsafe extern "C" {
-    safe fn kdr_pool_new(items: usize, out: &mut Option<Handle>) -> u32;
+    #[link_name = "kdr_0_1_0_handle_new"]
+    safe fn kdr_handle_new(items: usize, tag: usize, out: &mut Option<Handle>) -> u32;
+    #[link_name = "kdr_0_1_0_handle_share"]
     safe fn kdr_pool_share(handle: &mut Option<Handle>, out: &mut Option<Handle>) -> u32;
+    #[link_name = "kdr_0_1_0_pool_drop"]
     safe fn kdr_pool_drop(handle: &mut Option<Handle>) -> u32;
+    #[link_name = "kdr_0_1_0_place_pull"]
     safe fn kdr_place_pull(handle: &mut Option<Handle>, page: usize, out: &mut Place) -> u32;
+    #[link_name = "kdr_0_1_0_place_return"]
     fn kdr_place_return(handle: &mut Option<Handle>, place: &mut Place) -> u32;
 }
 
@@ -94,7 +105,7 @@ pub struct OwnHandle {
 impl Places {
     pub fn new(items: usize, cells: Box<[AtomicU64]>) -> Places {
         let mut first = None;
-        assert_eq!(kdr_pool_new(items, &mut first), 0);
+        assert_eq!(kdr_handle_new(items, 0, &mut first), 0);
         Places {
             first: Mutex::new(first),
             users: AtomicUsize::new(0),
@@ -108,7 +119,7 @@ impl Places {
     }
 
     fn pull(&self, user: &mut OwnHandle) -> Place {
-        let mut place = Place(NO_PLACE);
+        let mut place = Place { after: 0, tag: 0 };
         let answer = kdr_place_pull(&mut user.handle, user.page, &mut place);
         assert_eq!(answer, 0);
         place
@@ -136,7 +147,7 @@ impl Contender for Places {
 
     fn turn(&self, user: &mut OwnHandle) {
         let place = self.pull(user);
-        use_item(&self.cells, place.0);
+        use_item(&self.cells, place.number());
         self.give_back(user, place);
     }
 
@@ -150,12 +161,12 @@ impl Contender for Places {
         if user.lent == TOGETHER {
             (user.lent, user.page) = (0, self.page(user.page + APART));
         }
-        write_item(&self.cells, place.0);
+        write_item(&self.cells, place.number());
         place
     }
 
     fn take_back(&self, user: &mut OwnHandle, place: Place) {
-        reset_item(&self.cells, place.0);
+        reset_item(&self.cells, place.number());
         self.give_back(user, place);
     }
 }
