@@ -63,6 +63,9 @@ WAITS = [
     Work("1 item, 8 threads", "wait 8 1", 50_000, 50_000, threads=8),
     Work("3 items, 8 threads", "wait 8 3", 50_000, 50_000, threads=8),
 ]
+# Threads with a worker of the pool each, which keeps one item. The original's linear pool has none: its threads pull and drop.
+WORKERS = [Work(f"{threads} worker{'s' * (threads > 1)}", f"worker {threads}", 1_000_000, 1_000_000, threads=threads) for threads in (1, 4)]
+WORKER_KINDS = ["linear", "fixed", "lazy"]
 # What the original can't do: a pull that is refused, of a fixed pool whose 65,536 items are all held.
 REFUSE = Work("refused pull of 65,536 items", "refuse", 10_000, 10_000)
 
@@ -154,10 +157,11 @@ def times(bests: dict[str, list[Best]]) -> None:
     """Prints nanoseconds a turn, and their ratio."""
     row(["Work", "Pool", "Here, ns", "Original, ns", "Ratio"])
     row(["---"] * 5)
-    for work in [*WORKS, HOLD]:
-        for kind in KINDS:
-            here, there = [best.nanoseconds / work.turns(kind) for best in bests[work.task(kind)]]
-            row([work.name, kind, f"{here:,.1f}", f"{there:,.1f}", f"{here / there:.2f}"])
+    rows = [(work, kind) for work in [*WORKS, HOLD] for kind in KINDS]
+    rows += [(work, kind) for work in WORKERS for kind in WORKER_KINDS]
+    for work, kind in rows:
+        here, there = [best.nanoseconds / work.turns(kind) for best in bests[work.task(kind)]]
+        row([work.name, kind, f"{here:,.1f}", f"{there:,.1f}", f"{here / there:.2f}"])
 
 
 def refusals(program: Path, rounds: int) -> None:
@@ -213,6 +217,7 @@ def main() -> None:
         raise SystemExit(__doc__)
     works = [*WORKS, HOLD, HOLD_NOTHING]
     tasks = {work.task(kind): work.threads for work in works for kind in KINDS}
+    tasks |= {work.task(kind): work.threads for work in WORKERS for kind in WORKER_KINDS}
     tasks |= {work.task("lazy_wait"): work.threads for work in WAITS}
     tasks |= {drawn(held).task(kind): 1 for held in HELD for kind in ("linear", "fixed")}
     programs = build(Path(sys.argv[1]))

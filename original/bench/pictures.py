@@ -67,7 +67,7 @@ PICTURES = [
         4,
         3,
         "Time of a pull and return, in nanoseconds: lower is better",
-        "One thread of one Rust process, Intel Xeon of 2.5 GHz, 2026-11-28, the middle one of 7 rounds",
+        "One thread of one Rust process, Intel Xeon of 2.5 GHz, 2026-11-29, the middle one of 7 rounds",
         "items held meanwhile",
     ),
 ]
@@ -124,7 +124,7 @@ class Axes:
     def draw(self, below: str) -> List[str]:
         """The grid with its figures, and the names of the columns."""
         parts = []
-        steps = [power * digit for power in (10, 100, 1000) for digit in (1, 2, 5)]
+        steps = [power * digit for power in (1, 10, 100, 1000) for digit in (1, 2, 5)]
         for step in steps:
             if self.low <= math.log10(step) <= self.high:
                 y = self.y(step)

@@ -18,6 +18,24 @@
  * or the end of a thread, or by a release store and the acquire load that reads it. A place goes as
  * its bytes; what it was moved from isn't used again.
  *
+ * A thread may keep places that it returns, and pull them again without a call, in an array of its
+ * own. To all others they are in use: pulls of theirs are refused if too many are kept. A thread
+ * returns them at its end.
+ *
+ *     kdr_place kept[8];
+ *     size_t count = 0;
+ *
+ *     if (count > 0)                  // a pull
+ *         place = kept[--count];
+ *     else
+ *         status = kdr_place_pull(&handle, page, &place);
+ *
+ *     if (count < 8) {                // a return
+ *         kept[count++] = place;
+ *         place = KDR_PLACE_EMPTY;
+ *     } else
+ *         kdr_place_return(&handle, &place);
+ *
  * No call waits for another thread. kdr_pool_new() and kdr_pool_share() allocate memory, and no
  * other call does. A pool ends with its last handle; places that are in use can't be returned then.
  *

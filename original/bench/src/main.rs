@@ -1,6 +1,8 @@
-//! The original pools at the work of the program `test_original` of the workspace, with its arguments and its line of output.
+//! The original pools at the work of the program `test_original` of the workspace, with its arguments and its line of output, and
+//! two pools of the crate `kundratu-pool`.
 mod waiting;
 
+use kundratu_pool::{LinearObjectPool as DropIn, Pool};
 use lockfree_object_pool::{LinearObjectPool, MutexObjectPool, SpinLockObjectPool};
 use std::ops::DerefMut;
 use std::sync::Arc;
@@ -63,6 +65,22 @@ fn measure(words: &[&str]) -> Option<Measured> {
                 pool.pull_owned()
             }))
         }
+        "drop_in" => {
+            let pool = Arc::new(DropIn::new(init, reset));
+            Some(measure_pulls(work, turns, &|| pool.pull(), &|| {
+                pool.pull_owned()
+            }))
+        }
+        "pool" => {
+            let pool = Pool::new(items_of(work, turns), init, reset);
+            let pool = Arc::new(pool.expect("there is memory"));
+            Some(measure_pulls(
+                work,
+                turns,
+                &|| pool.pull().expect("one is free"),
+                &|| pool.pull_owned().expect("one is free"),
+            ))
+        }
         "spin_lock" => {
             let pool = Arc::new(SpinLockObjectPool::new(init, reset));
             Some(measure_pulls(work, turns, &|| pool.pull(), &|| {
@@ -99,6 +117,11 @@ fn work_of(words: &[&str]) -> Option<Work> {
         ["share", threads, held] => Some(Work::Share {
             threads: threads.parse().ok()?,
             held: held.parse().ok()?,
+        }),
+        // the original has no workers: their threads pull from the pool
+        ["worker", threads] => Some(Work::Share {
+            threads: threads.parse().ok()?,
+            held: 0,
         }),
         ["hold"] => Some(Work::Hold),
         ["wait", threads, items] => Some(Work::Wait {

@@ -71,7 +71,7 @@ kdr_0_1_0_grow_amortized:
 .L0_1_0_constant_16_4:
 	.byte 0x01, 0x00, 0x00, 0x00, 0x00, 0x00, 0x00, 0x00, 0x00, 0x00, 0x00, 0x00, 0x00, 0x00, 0x00, 0x00
 
-// fixed_pool_c::held::Held::open
+// fixed_pool_c::open_handle::OpenHandle::open
 	.section .text.kdr_0_1_0_open, "ax", %progbits
 	.p2align 2
 	.type kdr_0_1_0_open, %function
@@ -158,27 +158,23 @@ kdr_0_1_0_open:
 	.p2align 2
 	.type kdr_0_1_0_take_further, %function
 kdr_0_1_0_take_further:
-	sub	sp, sp, #64
-	stp	x29, x30, [sp, #32]
+	str	x21, [sp, #-32]!
+	stp	x20, x19, [sp, #16]
 	add	x8, x1, #88
-	add	x29, sp, #32
-	str	x19, [sp, #48]
-	stp	xzr, xzr, [sp, #8]
-	str	xzr, [sp, #24]
 	ldar	x8, [x8]
-	ldr	x10, [x1, #72]
-	cmp	x8, x10
-	csel	x9, x8, xzr, lo
-	cmp	x9, x10
+	ldr	x9, [x1, #72]
+	cmp	x8, x9
+	csel	x8, x8, xzr, lo
+	cmp	x8, x9
 	b.hs	.L0_1_0_take_further_9
-	mov	w8, wzr
+	mov	w10, wzr
 	add	x11, x2, #1
-	mov	x12, x9
+	mov	x12, x8
 .L0_1_0_take_further_1:
 	cmp	x12, x2
 	csel	x12, x11, x12, eq
 	b.ne	.L0_1_0_take_further_2
-	cmp	x11, x10
+	cmp	x11, x9
 	b.hs	.L0_1_0_take_further_10
 .L0_1_0_take_further_2:
 	ldr	x13, [x1]
@@ -204,7 +200,7 @@ kdr_0_1_0_take_further:
 	sub	w3, w16, #1
 	tst	x17, x18
 	and	w16, w3, w16
-	b.ne	.L0_1_0_take_further_20
+	b.ne	.L0_1_0_take_further_48
 .L0_1_0_take_further_7:
 	cbz	w16, .L0_1_0_take_further_8
 	rbit	w13, w16
@@ -217,22 +213,22 @@ kdr_0_1_0_take_further:
 	b	.L0_1_0_take_further_3
 .L0_1_0_take_further_8:
 	add	x12, x12, #1
-	add	w8, w8, w14
-	cmp	x12, x10
+	add	w10, w10, w14
+	cmp	x12, x9
 	b.lo	.L0_1_0_take_further_1
 	b	.L0_1_0_take_further_10
 .L0_1_0_take_further_9:
-	mov	w8, wzr
-.L0_1_0_take_further_10:
 	mov	w10, wzr
-	cbz	x9, .L0_1_0_take_further_19
+.L0_1_0_take_further_10:
+	mov	w11, wzr
+	cbz	x8, .L0_1_0_take_further_19
 	mov	x12, xzr
-	add	x11, x2, #1
+	add	x9, x2, #1
 .L0_1_0_take_further_11:
 	cmp	x12, x2
-	csel	x12, x11, x12, eq
+	csel	x12, x9, x12, eq
 	b.ne	.L0_1_0_take_further_12
-	cmp	x11, x9
+	cmp	x9, x8
 	b.hs	.L0_1_0_take_further_19
 .L0_1_0_take_further_12:
 	ldr	x13, [x1]
@@ -258,7 +254,7 @@ kdr_0_1_0_take_further:
 	sub	w3, w16, #1
 	tst	x17, x18
 	and	w16, w3, w16
-	b.ne	.L0_1_0_take_further_20
+	b.ne	.L0_1_0_take_further_48
 .L0_1_0_take_further_17:
 	cbz	w16, .L0_1_0_take_further_18
 	rbit	w13, w16
@@ -271,25 +267,181 @@ kdr_0_1_0_take_further:
 	b	.L0_1_0_take_further_13
 .L0_1_0_take_further_18:
 	add	x12, x12, #1
-	add	w10, w10, w14
-	cmp	x12, x9
+	add	w11, w11, w14
+	cmp	x12, x8
 	b.lo	.L0_1_0_take_further_11
 .L0_1_0_take_further_19:
-	mov	x19, x0
-	add	x0, sp, #8
-	add	w3, w10, w8
-	bl	kdr_0_1_0_take_again
-	ldrb	w8, [sp, #8]
-	mov	x0, x19
-	b	.L0_1_0_take_further_22
+	mov	x8, xzr
+	lsl	x9, x2, #3
+	add	w11, w11, w10
+	add	x10, x2, #1
 .L0_1_0_take_further_20:
+	ldr	x12, [x1]
+	add	x12, x12, x9
+	ldar	x12, [x12]
+	mov	w14, w12
+	b	.L0_1_0_take_further_25
+.L0_1_0_take_further_21:
+	ldar	x15, [x18]
+	and	x3, x15, x17
+.L0_1_0_take_further_22:
+	ldaxr	x4, [x18]
+	cmp	x4, x15
+	b.ne	.L0_1_0_take_further_23
+	stlxr	w4, x3, [x18]
+	cbz	w4, .L0_1_0_take_further_24
+	b	.L0_1_0_take_further_22
+.L0_1_0_take_further_23:
+	clrex
+	b	.L0_1_0_take_further_21
+.L0_1_0_take_further_24:
+	sub	w17, w14, #1
+	tst	x15, x16
+	and	w14, w17, w14
+	b.ne	.L0_1_0_take_further_50
+.L0_1_0_take_further_25:
+	cbz	w14, .L0_1_0_take_further_26
+	rbit	w13, w14
+	mov	w15, #1
+	clz	w13, w13
+	lsl	x16, x15, x13
+	ldr	x15, [x1]
+	mvn	x17, x16
+	add	x18, x15, x9
+	b	.L0_1_0_take_further_21
+.L0_1_0_take_further_26:
+	add	x13, x1, #88
+	ldar	x13, [x13]
+	ldr	x15, [x1, #72]
+	cmp	x13, x15
+	csel	x14, x13, xzr, lo
+	cmp	x14, x15
+	b.hs	.L0_1_0_take_further_35
+	mov	w13, wzr
+	mov	x16, x14
+.L0_1_0_take_further_27:
+	cmp	x16, x2
+	csel	x16, x10, x16, eq
+	b.ne	.L0_1_0_take_further_28
+	cmp	x10, x15
+	b.hs	.L0_1_0_take_further_36
+.L0_1_0_take_further_28:
+	ldr	x17, [x1]
+	lsl	x3, x16, #3
+	add	x17, x17, x3
+	ldar	x4, [x17]
+	lsr	x18, x4, #32
+	b	.L0_1_0_take_further_33
+.L0_1_0_take_further_29:
+	ldar	x5, [x19]
+	and	x20, x5, x7
+.L0_1_0_take_further_30:
+	ldaxr	x21, [x19]
+	cmp	x21, x5
+	b.ne	.L0_1_0_take_further_31
+	stlxr	w21, x20, [x19]
+	cbz	w21, .L0_1_0_take_further_32
+	b	.L0_1_0_take_further_30
+.L0_1_0_take_further_31:
+	clrex
+	b	.L0_1_0_take_further_29
+.L0_1_0_take_further_32:
+	sub	w7, w4, #1
+	tst	x5, x6
+	and	w4, w7, w4
+	b.ne	.L0_1_0_take_further_51
+.L0_1_0_take_further_33:
+	cbz	w4, .L0_1_0_take_further_34
+	rbit	w17, w4
+	mov	w5, #1
+	clz	w17, w17
+	lsl	x6, x5, x17
+	ldr	x5, [x1]
+	mvn	x7, x6
+	add	x19, x5, x3
+	b	.L0_1_0_take_further_29
+.L0_1_0_take_further_34:
+	add	x16, x16, #1
+	add	w13, w13, w18
+	cmp	x16, x15
+	b.lo	.L0_1_0_take_further_27
+	b	.L0_1_0_take_further_36
+.L0_1_0_take_further_35:
+	mov	w13, wzr
+.L0_1_0_take_further_36:
+	mov	w15, wzr
+	cbz	x14, .L0_1_0_take_further_45
+	mov	x16, xzr
+.L0_1_0_take_further_37:
+	cmp	x16, x2
+	csel	x16, x10, x16, eq
+	b.ne	.L0_1_0_take_further_38
+	cmp	x10, x14
+	b.hs	.L0_1_0_take_further_45
+.L0_1_0_take_further_38:
+	ldr	x17, [x1]
+	lsl	x3, x16, #3
+	add	x17, x17, x3
+	ldar	x4, [x17]
+	lsr	x18, x4, #32
+	b	.L0_1_0_take_further_43
+.L0_1_0_take_further_39:
+	ldar	x5, [x19]
+	and	x20, x5, x7
+.L0_1_0_take_further_40:
+	ldaxr	x21, [x19]
+	cmp	x21, x5
+	b.ne	.L0_1_0_take_further_41
+	stlxr	w21, x20, [x19]
+	cbz	w21, .L0_1_0_take_further_42
+	b	.L0_1_0_take_further_40
+.L0_1_0_take_further_41:
+	clrex
+	b	.L0_1_0_take_further_39
+.L0_1_0_take_further_42:
+	sub	w7, w4, #1
+	tst	x5, x6
+	and	w4, w7, w4
+	b.ne	.L0_1_0_take_further_51
+.L0_1_0_take_further_43:
+	cbz	w4, .L0_1_0_take_further_44
+	rbit	w17, w4
+	mov	w5, #1
+	clz	w17, w17
+	lsl	x6, x5, x17
+	ldr	x5, [x1]
+	mvn	x7, x6
+	add	x19, x5, x3
+	b	.L0_1_0_take_further_39
+.L0_1_0_take_further_44:
+	add	x16, x16, #1
+	add	w15, w15, w18
+	cmp	x16, x14
+	b.lo	.L0_1_0_take_further_37
+.L0_1_0_take_further_45:
+	add	w13, w15, w13
+	cbnz	w12, .L0_1_0_take_further_46
+	cmp	w13, w11
+	b.eq	.L0_1_0_take_further_47
+.L0_1_0_take_further_46:
+	add	x8, x8, #1
+	mov	w11, w13
+	cmn	x8, #1
+	b.ne	.L0_1_0_take_further_20
+.L0_1_0_take_further_47:
+	stp	xzr, xzr, [x0]
+	str	xzr, [x0, #16]
+	ldp	x20, x19, [sp, #16]
+	ldr	x21, [sp], #32
+	ret
+.L0_1_0_take_further_48:
 	lsl	x8, x12, #5
 	ldr	x9, [x1, #8]
 	add	x9, x9, x8
 	ldrb	w10, [x9, x13]
 	strb	wzr, [x9, x13]
 	cmp	w10, #1
-	b.ne	.L0_1_0_take_further_23
+	b.ne	.L0_1_0_take_further_53
 	mov	w9, #1
 	orr	x8, x8, x13
 	lsl	w9, w9, w13
@@ -299,224 +451,47 @@ kdr_0_1_0_take_further:
 	bic	w9, w17, w9
 	cmp	x12, x11
 	mov	w9, w9
-	b.eq	.L0_1_0_take_further_21
+	b.eq	.L0_1_0_take_further_49
 	stlr	x11, [x10]
-.L0_1_0_take_further_21:
-	stp	x8, x9, [sp, #16]
-	mov	w8, #1
-.L0_1_0_take_further_22:
-	ldur	q0, [sp, #16]
-	ldp	x29, x30, [sp, #32]
-	ldr	x19, [sp, #48]
-	str	x8, [x0]
-	stur	q0, [x0, #8]
-	add	sp, sp, #64
-	ret
-.L0_1_0_take_further_23:
-	brk	#0x1
-	.size kdr_0_1_0_take_further, . - kdr_0_1_0_take_further
-
-// fixed_pools::fixed_object_pool::items::FixedItems::take_again
-	.section .text.kdr_0_1_0_take_again, "ax", %progbits
-	.p2align 2
-	.type kdr_0_1_0_take_again, %function
-kdr_0_1_0_take_again:
-	str	x21, [sp, #-32]!
-	stp	x20, x19, [sp, #16]
-	mov	x8, xzr
-	lsl	x9, x2, #3
-	add	x10, x2, #1
-.L0_1_0_take_again_1:
-	ldr	x11, [x1]
-	add	x11, x11, x9
-	ldar	x11, [x11]
-	mov	w13, w11
-	b	.L0_1_0_take_again_6
-.L0_1_0_take_again_2:
-	ldar	x14, [x17]
-	and	x18, x14, x16
-.L0_1_0_take_again_3:
-	ldaxr	x4, [x17]
-	cmp	x4, x14
-	b.ne	.L0_1_0_take_again_4
-	stlxr	w4, x18, [x17]
-	cbz	w4, .L0_1_0_take_again_5
-	b	.L0_1_0_take_again_3
-.L0_1_0_take_again_4:
-	clrex
-	b	.L0_1_0_take_again_2
-.L0_1_0_take_again_5:
-	sub	w16, w13, #1
-	tst	x14, x15
-	and	w13, w16, w13
-	b.ne	.L0_1_0_take_again_29
-.L0_1_0_take_again_6:
-	cbz	w13, .L0_1_0_take_again_7
-	rbit	w12, w13
-	mov	w14, #1
-	clz	w12, w12
-	lsl	x15, x14, x12
-	ldr	x14, [x1]
-	mvn	x16, x15
-	add	x17, x14, x9
-	b	.L0_1_0_take_again_2
-.L0_1_0_take_again_7:
-	add	x12, x1, #88
-	ldar	x12, [x12]
-	ldr	x14, [x1, #72]
-	cmp	x12, x14
-	csel	x13, x12, xzr, lo
-	cmp	x13, x14
-	b.hs	.L0_1_0_take_again_16
-	mov	w12, wzr
-	mov	x15, x13
-.L0_1_0_take_again_8:
-	cmp	x15, x2
-	csel	x15, x10, x15, eq
-	b.ne	.L0_1_0_take_again_9
-	cmp	x10, x14
-	b.hs	.L0_1_0_take_again_17
-.L0_1_0_take_again_9:
-	ldr	x16, [x1]
-	lsl	x18, x15, #3
-	add	x16, x16, x18
-	ldar	x4, [x16]
-	lsr	x17, x4, #32
-	b	.L0_1_0_take_again_14
-.L0_1_0_take_again_10:
-	ldar	x5, [x19]
-	and	x20, x5, x7
-.L0_1_0_take_again_11:
-	ldaxr	x21, [x19]
-	cmp	x21, x5
-	b.ne	.L0_1_0_take_again_12
-	stlxr	w21, x20, [x19]
-	cbz	w21, .L0_1_0_take_again_13
-	b	.L0_1_0_take_again_11
-.L0_1_0_take_again_12:
-	clrex
-	b	.L0_1_0_take_again_10
-.L0_1_0_take_again_13:
-	sub	w7, w4, #1
-	tst	x5, x6
-	and	w4, w7, w4
-	b.ne	.L0_1_0_take_again_30
-.L0_1_0_take_again_14:
-	cbz	w4, .L0_1_0_take_again_15
-	rbit	w16, w4
-	mov	w5, #1
-	clz	w16, w16
-	lsl	x6, x5, x16
-	ldr	x5, [x1]
-	mvn	x7, x6
-	add	x19, x5, x18
-	b	.L0_1_0_take_again_10
-.L0_1_0_take_again_15:
-	add	x15, x15, #1
-	add	w12, w12, w17
-	cmp	x15, x14
-	b.lo	.L0_1_0_take_again_8
-	b	.L0_1_0_take_again_17
-.L0_1_0_take_again_16:
-	mov	w12, wzr
-.L0_1_0_take_again_17:
-	mov	w14, wzr
-	cbz	x13, .L0_1_0_take_again_26
-	mov	x15, xzr
-.L0_1_0_take_again_18:
-	cmp	x15, x2
-	csel	x15, x10, x15, eq
-	b.ne	.L0_1_0_take_again_19
-	cmp	x10, x13
-	b.hs	.L0_1_0_take_again_26
-.L0_1_0_take_again_19:
-	ldr	x16, [x1]
-	lsl	x18, x15, #3
-	add	x16, x16, x18
-	ldar	x4, [x16]
-	lsr	x17, x4, #32
-	b	.L0_1_0_take_again_24
-.L0_1_0_take_again_20:
-	ldar	x5, [x19]
-	and	x20, x5, x7
-.L0_1_0_take_again_21:
-	ldaxr	x21, [x19]
-	cmp	x21, x5
-	b.ne	.L0_1_0_take_again_22
-	stlxr	w21, x20, [x19]
-	cbz	w21, .L0_1_0_take_again_23
-	b	.L0_1_0_take_again_21
-.L0_1_0_take_again_22:
-	clrex
-	b	.L0_1_0_take_again_20
-.L0_1_0_take_again_23:
-	sub	w7, w4, #1
-	tst	x5, x6
-	and	w4, w7, w4
-	b.ne	.L0_1_0_take_again_30
-.L0_1_0_take_again_24:
-	cbz	w4, .L0_1_0_take_again_25
-	rbit	w16, w4
-	mov	w5, #1
-	clz	w16, w16
-	lsl	x6, x5, x16
-	ldr	x5, [x1]
-	mvn	x7, x6
-	add	x19, x5, x18
-	b	.L0_1_0_take_again_20
-.L0_1_0_take_again_25:
-	add	x15, x15, #1
-	add	w14, w14, w17
-	cmp	x15, x13
-	b.lo	.L0_1_0_take_again_18
-.L0_1_0_take_again_26:
-	add	w12, w14, w12
-	cbnz	w11, .L0_1_0_take_again_27
-	cmp	w12, w3
-	b.eq	.L0_1_0_take_again_28
-.L0_1_0_take_again_27:
-	add	x8, x8, #1
-	mov	w3, w12
-	cmn	x8, #1
-	b.ne	.L0_1_0_take_again_1
-.L0_1_0_take_again_28:
-	stp	xzr, xzr, [x0]
-	str	xzr, [x0, #16]
+.L0_1_0_take_further_49:
+	mov	w10, #1
+	str	x9, [x0, #16]
+	stp	x10, x8, [x0]
 	ldp	x20, x19, [sp, #16]
 	ldr	x21, [sp], #32
 	ret
-.L0_1_0_take_again_29:
+.L0_1_0_take_further_50:
 	lsl	x9, x2, #5
 	ldr	x8, [x1, #8]
 	add	x8, x8, x9
-	ldrb	w10, [x8, x12]
-	strb	wzr, [x8, x12]
+	ldrb	w10, [x8, x13]
+	strb	wzr, [x8, x13]
 	cmp	w10, #1
-	b.ne	.L0_1_0_take_again_32
+	b.ne	.L0_1_0_take_further_53
 	mov	w8, #1
-	orr	x9, x9, x12
-	lsl	w8, w8, w12
-	bic	w8, w14, w8
-	b	.L0_1_0_take_again_31
-.L0_1_0_take_again_30:
-	lsl	x9, x15, #5
+	orr	x9, x9, x13
+	lsl	w8, w8, w13
+	bic	w8, w15, w8
+	b	.L0_1_0_take_further_52
+.L0_1_0_take_further_51:
+	lsl	x9, x16, #5
 	ldr	x8, [x1, #8]
 	add	x8, x8, x9
-	ldrb	w10, [x8, x16]
-	strb	wzr, [x8, x16]
+	ldrb	w10, [x8, x17]
+	strb	wzr, [x8, x17]
 	cmp	w10, #1
-	b.ne	.L0_1_0_take_again_32
+	b.ne	.L0_1_0_take_further_53
 	mov	w8, #1
-	orr	x9, x9, x16
+	orr	x9, x9, x17
 	add	x10, x1, #88
-	lsl	w8, w8, w16
+	lsl	w8, w8, w17
 	lsr	x11, x9, #5
 	ldar	x12, [x10]
 	bic	w8, w5, w8
 	cmp	x12, x11
-	b.eq	.L0_1_0_take_again_31
+	b.eq	.L0_1_0_take_further_52
 	stlr	x11, [x10]
-.L0_1_0_take_again_31:
+.L0_1_0_take_further_52:
 	mov	w10, #1
 	mov	w8, w8
 	stp	x10, x9, [x0]
@@ -524,9 +499,9 @@ kdr_0_1_0_take_again:
 	ldp	x20, x19, [sp, #16]
 	ldr	x21, [sp], #32
 	ret
-.L0_1_0_take_again_32:
+.L0_1_0_take_further_53:
 	brk	#0x1
-	.size kdr_0_1_0_take_again, . - kdr_0_1_0_take_again
+	.size kdr_0_1_0_take_further, . - kdr_0_1_0_take_further
 
 // kdr_handle_items
 	.section .text.kdr_0_1_0_handle_items, "ax", %progbits

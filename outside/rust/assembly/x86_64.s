@@ -64,7 +64,7 @@ kdr_0_1_0_grow_amortized:
 	retq
 	.size kdr_0_1_0_grow_amortized, . - kdr_0_1_0_grow_amortized
 
-# fixed_pool_c::held::Held::open
+# fixed_pool_c::open_handle::OpenHandle::open
 	.section .text.kdr_0_1_0_open, "ax", %progbits
 	.p2align 4
 	.type kdr_0_1_0_open, %function
@@ -149,23 +149,20 @@ kdr_0_1_0_take_further:
 	pushq	%r13
 	pushq	%r12
 	pushq	%rbx
-	subq	$56, %rsp
-	movq	%rdi, 48(%rsp)
-	xorps	%xmm0, %xmm0
-	movaps	%xmm0, 16(%rsp)
-	movq	$0, 32(%rsp)
+	movq	%rdi, -24(%rsp)
 	movq	88(%rsi), %r11
 	movq	72(%rsi), %r14
-	xorl	%eax, %eax
+	xorl	%ecx, %ecx
 	cmpq	%r14, %r11
-	cmovaeq	%rax, %r11
-	movl	$0, %r8d
+	movl	$0, %eax
+	movq	%rax, -32(%rsp)
+	cmovaeq	%rcx, %r11
+	movl	$0, %ebx
 	cmpq	%r14, %r11
 	jae	.L0_1_0_take_further_5
 	leaq	1(%rdx), %rdi
-	xorl	%r8d, %r8d
+	xorl	%ebx, %ebx
 	movq	%r11, %r10
-	movq	%rdi, 8(%rsp)
 .L0_1_0_take_further_1:
 	cmpq	%r14, %rdi
 	setb	%al
@@ -178,7 +175,7 @@ kdr_0_1_0_take_further:
 	movq	(%rax,%r10,8), %r13
 	movq	%r13, %r12
 	shrq	$32, %r12
-	.byte 0x66, 0x66, 0x2e, 0x0f, 0x1f, 0x84, 0x00, 0x00, 0x00, 0x00, 0x00 # nopw %cs:(%rax,%rax)
+	.byte 0x66, 0x66, 0x66, 0x66, 0x2e, 0x0f, 0x1f, 0x84, 0x00, 0x00, 0x00, 0x00, 0x00 # nopw %cs:(%rax,%rax)
 .L0_1_0_take_further_2:
 	testl	%r13d, %r13d
 	je	.L0_1_0_take_further_4
@@ -187,35 +184,33 @@ kdr_0_1_0_take_further:
 	shlq	%cl, %rbp
 	movq	$-2, %r15
 	rolq	%cl, %r15
-	movq	(%rsi), %rbx
+	movq	(%rsi), %rdi
 	.byte 0x90 # nop
 .L0_1_0_take_further_3:
-	movq	(%rbx,%r10,8), %rdi
-	movq	%rdi, %r9
-	andq	%r15, %r9
-	movq	%rdi, %rax
-	lock cmpxchgq	%r9, (%rbx,%r10,8)
+	movq	(%rdi,%r10,8), %r9
+	movq	%r9, %r8
+	andq	%r15, %r8
+	movq	%r9, %rax
+	lock cmpxchgq	%r8, (%rdi,%r10,8)
 	jne	.L0_1_0_take_further_3
 	leal	-1(%r13), %eax
 	andl	%r13d, %eax
 	movl	%eax, %r13d
-	testq	%rbp, %rdi
+	testq	%rbp, %r9
 	je	.L0_1_0_take_further_2
-	jmp	.L0_1_0_take_further_11
+	jmp	.L0_1_0_take_further_27
 	.byte 0x0f, 0x1f, 0x80, 0x00, 0x00, 0x00, 0x00 # nopl (%rax)
 .L0_1_0_take_further_4:
-	addl	%r12d, %r8d
+	addl	%r12d, %ebx
 	incq	%r10
 	cmpq	%r14, %r10
-	movq	8(%rsp), %rdi
+	leaq	1(%rdx), %rdi
 	jb	.L0_1_0_take_further_1
 .L0_1_0_take_further_5:
-	movl	%r8d, 8(%rsp)
 	testq	%r11, %r11
-	movl	$0, %r8d
 	je	.L0_1_0_take_further_10
 	leaq	1(%rdx), %r14
-	xorl	%r8d, %r8d
+	movq	$0, -32(%rsp)
 	xorl	%r10d, %r10d
 .L0_1_0_take_further_6:
 	cmpq	%r11, %r14
@@ -229,285 +224,249 @@ kdr_0_1_0_take_further:
 	movq	(%rax,%r10,8), %r12
 	movq	%r12, %r15
 	shrq	$32, %r15
-	.byte 0x66, 0x66, 0x66, 0x2e, 0x0f, 0x1f, 0x84, 0x00, 0x00, 0x00, 0x00, 0x00 # nopw %cs:(%rax,%rax)
+	.byte 0x66, 0x90 # nop
 .L0_1_0_take_further_7:
 	testl	%r12d, %r12d
 	je	.L0_1_0_take_further_9
 	tzcntl	%r12d, %ecx
 	movl	$1, %r13d
 	shlq	%cl, %r13
-	movq	$-2, %rbp
-	rolq	%cl, %rbp
-	movq	(%rsi), %rbx
+	movq	$-2, %rdi
+	rolq	%cl, %rdi
+	movq	(%rsi), %rbp
 .L0_1_0_take_further_8:
-	movq	(%rbx,%r10,8), %rdi
-	movq	%rdi, %r9
-	andq	%rbp, %r9
-	movq	%rdi, %rax
-	lock cmpxchgq	%r9, (%rbx,%r10,8)
+	movq	(%rbp,%r10,8), %r9
+	movq	%r9, %r8
+	andq	%rdi, %r8
+	movq	%r9, %rax
+	lock cmpxchgq	%r8, (%rbp,%r10,8)
 	jne	.L0_1_0_take_further_8
 	leal	-1(%r12), %eax
 	andl	%r12d, %eax
 	movl	%eax, %r12d
-	testq	%r13, %rdi
+	testq	%r13, %r9
 	je	.L0_1_0_take_further_7
-	jmp	.L0_1_0_take_further_11
-	.byte 0x66, 0x0f, 0x1f, 0x84, 0x00, 0x00, 0x00, 0x00, 0x00 # nopw (%rax,%rax)
+	jmp	.L0_1_0_take_further_27
+	.byte 0x0f, 0x1f, 0x40, 0x00 # nopl (%rax)
 .L0_1_0_take_further_9:
-	addl	%r15d, %r8d
+	movq	-32(%rsp), %rax
+	addl	%r15d, %eax
+	movq	%rax, -32(%rsp)
 	incq	%r10
 	cmpq	%r11, %r10
 	jb	.L0_1_0_take_further_6
 .L0_1_0_take_further_10:
-	addl	8(%rsp), %r8d
-	leaq	16(%rsp), %rdi
-	movl	%r8d, %ecx
-	callq	kdr_0_1_0_take_again
-	movzbl	16(%rsp), %eax
-	jmp	.L0_1_0_take_further_13
+	movq	-32(%rsp), %rdi
+	addl	%ebx, %edi
+	xorl	%r14d, %r14d
 .L0_1_0_take_further_11:
+	movl	%edi, %ebp
+	movq	(%rsi), %rax
+	movq	(%rax,%rdx,8), %r15
+	movl	%r15d, %r9d
+	.byte 0x90 # nop
+.L0_1_0_take_further_12:
+	testl	%r9d, %r9d
+	je	.L0_1_0_take_further_14
+	tzcntl	%r9d, %ecx
+	movl	$1, %r10d
+	shlq	%cl, %r10
+	movq	$-2, %rdi
+	rolq	%cl, %rdi
+	movq	(%rsi), %r11
+.L0_1_0_take_further_13:
+	movq	(%r11,%rdx,8), %r8
+	movq	%r8, %rbx
+	andq	%rdi, %rbx
+	movq	%r8, %rax
+	lock cmpxchgq	%rbx, (%r11,%rdx,8)
+	jne	.L0_1_0_take_further_13
+	leal	-1(%r9), %eax
+	andl	%r9d, %eax
+	movl	%eax, %r9d
+	testq	%r10, %r8
+	je	.L0_1_0_take_further_12
+	jmp	.L0_1_0_take_further_29
+.L0_1_0_take_further_14:
+	movq	%r15, -8(%rsp)
+	movl	%ebp, -12(%rsp)
+	movq	%r14, -32(%rsp)
+	movq	88(%rsi), %r15
+	movq	72(%rsi), %r13
+	xorl	%edi, %edi
+	cmpq	%r13, %r15
+	cmovaeq	%rdi, %r15
+	movl	$0, %ebp
+	cmpq	%r13, %r15
+	jae	.L0_1_0_take_further_19
+	xorl	%ebp, %ebp
+	movq	%r15, %r12
+.L0_1_0_take_further_15:
+	leaq	1(%rdx), %r8
+	cmpq	%r13, %r8
+	setb	%al
+	cmpq	%rdx, %r12
+	setne	%cl
+	cmoveq	%r8, %r12
+	orb	%al, %cl
+	je	.L0_1_0_take_further_19
+	movq	(%rsi), %rax
+	movq	(%rax,%r12,8), %rbx
+	movq	%rbx, %r10
+	shrq	$32, %r10
+	.byte 0x66, 0x66, 0x66, 0x66, 0x66, 0x66, 0x2e, 0x0f, 0x1f, 0x84, 0x00, 0x00, 0x00, 0x00, 0x00 # nopw %cs:(%rax,%rax)
+.L0_1_0_take_further_16:
+	testl	%ebx, %ebx
+	je	.L0_1_0_take_further_18
+	tzcntl	%ebx, %ecx
+	movl	$1, %r11d
+	shlq	%cl, %r11
+	movq	$-2, %rdi
+	rolq	%cl, %rdi
+	movq	(%rsi), %r14
+	.byte 0x66, 0x90 # nop
+.L0_1_0_take_further_17:
+	movq	(%r14,%r12,8), %r8
+	movq	%r8, %r9
+	andq	%rdi, %r9
+	movq	%r8, %rax
+	lock cmpxchgq	%r9, (%r14,%r12,8)
+	jne	.L0_1_0_take_further_17
+	leal	-1(%rbx), %eax
+	andl	%ebx, %eax
+	movl	%eax, %ebx
+	testq	%r11, %r8
+	je	.L0_1_0_take_further_16
+	jmp	.L0_1_0_take_further_30
+.L0_1_0_take_further_18:
+	addl	%r10d, %ebp
+	incq	%r12
+	cmpq	%r13, %r12
+	movl	$0, %edi
+	jb	.L0_1_0_take_further_15
+.L0_1_0_take_further_19:
+	testq	%r15, %r15
+	je	.L0_1_0_take_further_24
+	xorl	%edi, %edi
+	xorl	%r12d, %r12d
+.L0_1_0_take_further_20:
+	leaq	1(%rdx), %r8
+	cmpq	%r15, %r8
+	setb	%al
+	cmpq	%rdx, %r12
+	setne	%cl
+	cmoveq	%r8, %r12
+	orb	%al, %cl
+	je	.L0_1_0_take_further_24
+	movq	%rdi, %r13
+	movq	(%rsi), %rax
+	movq	(%rax,%r12,8), %r10
+	movq	%r10, %rbx
+	shrq	$32, %rbx
+	.byte 0x66, 0x66, 0x66, 0x66, 0x66, 0x66, 0x2e, 0x0f, 0x1f, 0x84, 0x00, 0x00, 0x00, 0x00, 0x00 # nopw %cs:(%rax,%rax)
+.L0_1_0_take_further_21:
+	testl	%r10d, %r10d
+	je	.L0_1_0_take_further_23
+	tzcntl	%r10d, %ecx
+	movl	$1, %r11d
+	shlq	%cl, %r11
+	movq	$-2, %rdi
+	rolq	%cl, %rdi
+	movq	(%rsi), %r14
+.L0_1_0_take_further_22:
+	movq	(%r14,%r12,8), %r8
+	movq	%r8, %r9
+	andq	%rdi, %r9
+	movq	%r8, %rax
+	lock cmpxchgq	%r9, (%r14,%r12,8)
+	jne	.L0_1_0_take_further_22
+	leal	-1(%r10), %eax
+	andl	%r10d, %eax
+	movl	%eax, %r10d
+	testq	%r11, %r8
+	je	.L0_1_0_take_further_21
+	jmp	.L0_1_0_take_further_30
+.L0_1_0_take_further_23:
+	movq	%r13, %rdi
+	addl	%ebx, %edi
+	incq	%r12
+	cmpq	%r15, %r12
+	jb	.L0_1_0_take_further_20
+.L0_1_0_take_further_24:
+	addl	%ebp, %edi
+	cmpl	$0, -8(%rsp)
+	movq	-32(%rsp), %r14
+	jne	.L0_1_0_take_further_25
+	cmpl	-12(%rsp), %edi
+	je	.L0_1_0_take_further_26
+.L0_1_0_take_further_25:
+	incq	%r14
+	cmpq	$-1, %r14
+	jne	.L0_1_0_take_further_11
+.L0_1_0_take_further_26:
+	xorps	%xmm0, %xmm0
+	movq	-24(%rsp), %rax
+	movups	%xmm0, (%rax)
+	movq	$0, 16(%rax)
+	jmp	.L0_1_0_take_further_33
+.L0_1_0_take_further_27:
 	shlq	$5, %r10
 	movq	8(%rsi), %rax
 	addq	%r10, %rax
 	movzbl	(%rcx,%rax), %edx
 	movb	$0, (%rcx,%rax)
 	cmpb	$1, %dl
-	jne	.L0_1_0_take_further_14
-	btrl	%ecx, %edi
+	jne	.L0_1_0_take_further_34
+	btrl	%ecx, %r9d
 	orq	%rcx, %r10
-	movl	%edi, %eax
+	movl	%r9d, %eax
 	movq	%r10, %rcx
 	shrq	$5, %rcx
 	movq	88(%rsi), %rdx
 	cmpq	%rcx, %rdx
-	je	.L0_1_0_take_further_12
+	je	.L0_1_0_take_further_28
 	xchgq	%rcx, 88(%rsi)
-.L0_1_0_take_further_12:
-	movq	%r10, 24(%rsp)
-	movq	%rax, 32(%rsp)
-	movl	$1, %eax
-.L0_1_0_take_further_13:
-	movq	48(%rsp), %rcx
-	movq	%rax, (%rcx)
-	movq	24(%rsp), %rax
-	movq	%rax, 8(%rcx)
-	movq	32(%rsp), %rax
-	movq	%rax, 16(%rcx)
-	addq	$56, %rsp
-	popq	%rbx
-	popq	%r12
-	popq	%r13
-	popq	%r14
-	popq	%r15
-	popq	%rbp
-	retq
-.L0_1_0_take_further_14:
-	ud2
-	.size kdr_0_1_0_take_further, . - kdr_0_1_0_take_further
-
-# fixed_pools::fixed_object_pool::items::FixedItems::take_again
-	.section .text.kdr_0_1_0_take_again, "ax", %progbits
-	.p2align 4
-	.type kdr_0_1_0_take_again, %function
-kdr_0_1_0_take_again:
-	pushq	%rbp
-	pushq	%r15
-	pushq	%r14
-	pushq	%r13
-	pushq	%r12
-	pushq	%rbx
-	movl	%ecx, %r8d
-	xorl	%r14d, %r14d
-.L0_1_0_take_again_1:
-	movl	%r8d, %ebp
-	movq	(%rsi), %rax
-	movq	(%rax,%rdx,8), %r12
-	movl	%r12d, %r8d
-	.byte 0x0f, 0x1f, 0x00 # nopl (%rax)
-.L0_1_0_take_again_2:
-	testl	%r8d, %r8d
-	je	.L0_1_0_take_again_4
-	tzcntl	%r8d, %ecx
-	movl	$1, %r10d
-	shlq	%cl, %r10
-	movq	$-2, %r11
-	rolq	%cl, %r11
-	movq	(%rsi), %rbx
-.L0_1_0_take_again_3:
-	movq	(%rbx,%rdx,8), %r15
-	movq	%r15, %r9
-	andq	%r11, %r9
-	movq	%r15, %rax
-	lock cmpxchgq	%r9, (%rbx,%rdx,8)
-	jne	.L0_1_0_take_again_3
-	leal	-1(%r8), %eax
-	andl	%r8d, %eax
-	movl	%eax, %r8d
-	testq	%r10, %r15
-	je	.L0_1_0_take_again_2
-	jmp	.L0_1_0_take_again_16
-	.byte 0x0f, 0x1f, 0x80, 0x00, 0x00, 0x00, 0x00 # nopl (%rax)
-.L0_1_0_take_again_4:
-	movq	%r12, -16(%rsp)
-	movl	%ebp, -28(%rsp)
-	movq	%r14, -8(%rsp)
-	movq	%rdi, -40(%rsp)
-	movq	88(%rsi), %r10
-	movq	72(%rsi), %r13
-	xorl	%r8d, %r8d
-	cmpq	%r13, %r10
-	cmovaeq	%r8, %r10
-	movl	$0, %edi
-	cmpq	%r13, %r10
-	jae	.L0_1_0_take_again_9
-	xorl	%edi, %edi
-	movq	%r10, %r12
-	movq	%r10, -24(%rsp)
-.L0_1_0_take_again_5:
-	leaq	1(%rdx), %r9
-	cmpq	%r13, %r9
-	setb	%al
-	cmpq	%rdx, %r12
-	setne	%cl
-	cmoveq	%r9, %r12
-	orb	%al, %cl
-	je	.L0_1_0_take_again_9
-	movq	(%rsi), %rax
-	movq	(%rax,%r12,8), %rbx
-	movq	%rbx, %r10
-	shrq	$32, %r10
-	.byte 0x66, 0x0f, 0x1f, 0x84, 0x00, 0x00, 0x00, 0x00, 0x00 # nopw (%rax,%rax)
-.L0_1_0_take_again_6:
-	testl	%ebx, %ebx
-	je	.L0_1_0_take_again_8
-	tzcntl	%ebx, %ecx
-	movl	$1, %r11d
-	shlq	%cl, %r11
-	movq	$-2, %r14
-	rolq	%cl, %r14
-	movq	(%rsi), %rbp
-	.byte 0x66, 0x90 # nop
-.L0_1_0_take_again_7:
-	movq	(%rbp,%r12,8), %r15
-	movq	%r15, %r9
-	andq	%r14, %r9
-	movq	%r15, %rax
-	lock cmpxchgq	%r9, (%rbp,%r12,8)
-	jne	.L0_1_0_take_again_7
-	leal	-1(%rbx), %eax
-	andl	%ebx, %eax
-	movl	%eax, %ebx
-	testq	%r11, %r15
-	je	.L0_1_0_take_again_6
-	jmp	.L0_1_0_take_again_17
-	.byte 0x0f, 0x1f, 0x84, 0x00, 0x00, 0x00, 0x00, 0x00 # nopl (%rax,%rax)
-.L0_1_0_take_again_8:
-	addl	%r10d, %edi
-	incq	%r12
-	cmpq	%r13, %r12
-	movq	-24(%rsp), %r10
-	jb	.L0_1_0_take_again_5
-	.byte 0x66, 0x66, 0x66, 0x2e, 0x0f, 0x1f, 0x84, 0x00, 0x00, 0x00, 0x00, 0x00 # nopw %cs:(%rax,%rax)
-.L0_1_0_take_again_9:
-	movl	%edi, %ebp
-	testq	%r10, %r10
-	je	.L0_1_0_take_again_14
-	xorl	%r8d, %r8d
-	xorl	%r12d, %r12d
-.L0_1_0_take_again_10:
-	leaq	1(%rdx), %r9
-	cmpq	%r10, %r9
-	setb	%al
-	cmpq	%rdx, %r12
-	setne	%cl
-	cmoveq	%r9, %r12
-	orb	%al, %cl
-	je	.L0_1_0_take_again_14
-	movq	%r10, %rdi
-	movq	(%rsi), %rax
-	movq	(%rax,%r12,8), %r10
-	movq	%r10, %rbx
-	shrq	$32, %rbx
-	.byte 0x66, 0x0f, 0x1f, 0x44, 0x00, 0x00 # nopw (%rax,%rax)
-.L0_1_0_take_again_11:
-	testl	%r10d, %r10d
-	je	.L0_1_0_take_again_13
-	tzcntl	%r10d, %ecx
-	movl	$1, %r11d
-	shlq	%cl, %r11
-	movq	$-2, %r14
-	rolq	%cl, %r14
-	movq	(%rsi), %r13
-.L0_1_0_take_again_12:
-	movq	(%r13,%r12,8), %r15
-	movq	%r15, %r9
-	andq	%r14, %r9
-	movq	%r15, %rax
-	lock cmpxchgq	%r9, (%r13,%r12,8)
-	jne	.L0_1_0_take_again_12
-	leal	-1(%r10), %eax
-	andl	%r10d, %eax
-	movl	%eax, %r10d
-	testq	%r11, %r15
-	je	.L0_1_0_take_again_11
-	jmp	.L0_1_0_take_again_17
-.L0_1_0_take_again_13:
-	addl	%ebx, %r8d
-	incq	%r12
-	movq	%rdi, %r10
-	cmpq	%rdi, %r12
-	jb	.L0_1_0_take_again_10
-.L0_1_0_take_again_14:
-	addl	%ebp, %r8d
-	cmpl	$0, -16(%rsp)
-	movq	-8(%rsp), %r14
-	jne	.L0_1_0_take_again_15
-	cmpl	-28(%rsp), %r8d
-	je	.L0_1_0_take_again_20
-.L0_1_0_take_again_15:
-	incq	%r14
-	cmpq	$-1, %r14
-	movq	-40(%rsp), %rdi
-	jne	.L0_1_0_take_again_1
-	xorps	%xmm0, %xmm0
-	movups	%xmm0, (%rdi)
-	movq	$0, 16(%rdi)
-	jmp	.L0_1_0_take_again_19
-.L0_1_0_take_again_16:
+.L0_1_0_take_further_28:
+	movq	-24(%rsp), %rcx
+	movq	$1, (%rcx)
+	movq	%r10, 8(%rcx)
+	jmp	.L0_1_0_take_further_32
+.L0_1_0_take_further_29:
 	shlq	$5, %rdx
 	movq	8(%rsi), %rax
 	addq	%rdx, %rax
 	movzbl	(%rcx,%rax), %esi
 	movb	$0, (%rcx,%rax)
 	cmpb	$1, %sil
-	jne	.L0_1_0_take_again_21
-	btrl	%ecx, %r15d
+	jne	.L0_1_0_take_further_34
+	btrl	%ecx, %r8d
 	orq	%rcx, %rdx
-	jmp	.L0_1_0_take_again_18
-.L0_1_0_take_again_17:
+	jmp	.L0_1_0_take_further_31
+.L0_1_0_take_further_30:
 	shlq	$5, %r12
 	movq	8(%rsi), %rax
 	addq	%r12, %rax
 	movzbl	(%rcx,%rax), %edx
 	movb	$0, (%rcx,%rax)
 	cmpb	$1, %dl
-	jne	.L0_1_0_take_again_21
-	btrl	%ecx, %r15d
+	jne	.L0_1_0_take_further_34
+	btrl	%ecx, %r8d
 	orq	%rcx, %r12
 	movq	%r12, %rdx
 	movq	%r12, %rax
 	shrq	$5, %rax
 	movq	88(%rsi), %rcx
 	cmpq	%rax, %rcx
-	movq	-40(%rsp), %rdi
-	je	.L0_1_0_take_again_18
+	je	.L0_1_0_take_further_31
 	xchgq	%rax, 88(%rsi)
-.L0_1_0_take_again_18:
-	movl	%r15d, %eax
-	movq	$1, (%rdi)
-	movq	%rdx, 8(%rdi)
-	movq	%rax, 16(%rdi)
-.L0_1_0_take_again_19:
+.L0_1_0_take_further_31:
+	movl	%r8d, %eax
+	movq	-24(%rsp), %rcx
+	movq	$1, (%rcx)
+	movq	%rdx, 8(%rcx)
+.L0_1_0_take_further_32:
+	movq	%rax, 16(%rcx)
+.L0_1_0_take_further_33:
 	popq	%rbx
 	popq	%r12
 	popq	%r13
@@ -515,15 +474,9 @@ kdr_0_1_0_take_again:
 	popq	%r15
 	popq	%rbp
 	retq
-.L0_1_0_take_again_20:
-	xorps	%xmm0, %xmm0
-	movq	-40(%rsp), %rax
-	movups	%xmm0, (%rax)
-	movq	$0, 16(%rax)
-	jmp	.L0_1_0_take_again_19
-.L0_1_0_take_again_21:
+.L0_1_0_take_further_34:
 	ud2
-	.size kdr_0_1_0_take_again, . - kdr_0_1_0_take_again
+	.size kdr_0_1_0_take_further, . - kdr_0_1_0_take_further
 
 # kdr_handle_items
 	.section .text.kdr_0_1_0_handle_items, "ax", %progbits

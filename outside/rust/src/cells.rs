@@ -1,6 +1,7 @@
 //! What lies at the places of a pool.
 use crate::refuse;
 use std::cell::UnsafeCell;
+use std::collections::TryReserveError;
 
 /// A value at a place. Who holds the place reaches it.
 #[doc(hidden)]
@@ -29,4 +30,19 @@ impl<V> Cells<V> {
     pub(crate) fn slot(&self, place: usize) -> &Slot<V> {
         self.0.get(place).unwrap_or_else(|| refuse())
     }
+}
+
+/// Creates so many values.
+///
+/// # Errors
+///
+/// If memory is refused.
+pub(crate) fn filled<V>(
+    length: usize,
+    value: impl FnMut() -> V,
+) -> Result<Vec<V>, TryReserveError> {
+    let mut values = Vec::new();
+    values.try_reserve_exact(length)?;
+    values.resize_with(length, value);
+    Ok(values)
 }

@@ -2,8 +2,10 @@
 //! take it: so a pull is refused only if all places were out at one moment.
 use crate::lanes::Lanes;
 use crate::library::Library;
+use crate::pool::NewError;
 use crate::sys::{Handle, PAGE};
 use crate::threads::{self, Number, Owned};
+use std::cell::{Cell, RefCell};
 use std::sync::atomic::{AtomicU64, Ordering::Acquire, Ordering::Release};
 
 /// How many places a lane pulls at one page, if others return them.
@@ -24,6 +26,13 @@ struct Lane {
 
 /// What other threads don't reach.
 struct Own {
+    /// What the lane's `Kept` is while it has no place.
+    empty: Cell<u64>,
+    way: RefCell<Way>,
+}
+
+/// How a thread comes to places that it doesn't keep.
+struct Way {
     handle: Option<Handle>,
     /// At which page the next pull begins.
     page: usize,
@@ -34,15 +43,21 @@ struct Own {
     left: isize,
     /// Whether its last pull was refused.
     was_refused: bool,
-    /// What the lane's `Kept` is while it has no place.
-    empty: u64,
 }
 
 impl Fixed {
-    /// Creates so many free places. `None` if memory is refused.
-    pub(crate) fn new(places: usize) -> Option<Fixed> {
-        let (library, lanes) = (Library::new(places)?, Lanes::new());
-        Some(Fixed { library, lanes })
+    /// Creates so many free places.
+    ///
+    /// # Errors
+    ///
+    /// `NoItems` if there are none, or `Memory`.
+    pub(crate) fn new(places: usize) -> Result<Fixed, NewError> {
+        if places == 0 {
+            return Err(NewError::NoItems);
+        }
+        let library = Library::new(places).ok_or(NewError::Memory)?;
+        let lanes = Lanes::new();
+        Ok(Fixed { library, lanes })
     }
 
     /// Returns how many places there are.
@@ -53,11 +68,21 @@ impl Fixed {
     /// Pulls a place. `None` if all were out at one moment.
     #[inline(always)]
     pub(crate) fn pull(&self) -> Option<usize> {
-        threads::with(|number| match number.and_then(|number| self.lane(number)) {
-            Some((kept, own)) => match kept.take_own(own.empty) {
-                Some(place) => Some(place),
-                None => own.pull(&self.library).or_else(|| own.look(self)),
-            },
+        let kept = threads::with_known(|number| {
+            let lane = self.lanes.get(number)?;
+            lane.kept.take_own(lane.own.get(number).empty.get())
+        });
+        kept.or_else(|| self.pull_further())
+    }
+
+    /// Pulls a place that the thread doesn't keep.
+    #[inline(never)]
+    fn pull_further(&self) -> Option<usize> {
+        threads::with(|number| match number.and_then(|number| self.own(number)) {
+            Some(own) => {
+                let way = &mut *own.way.borrow_mut();
+                way.pull(&self.library).or_else(|| way.look(self))
+            }
             None => self.look(&mut None),
         })
     }
@@ -69,34 +94,53 @@ impl Fixed {
     /// The place was pulled here, and is returned once.
     #[inline(always)]
     pub(crate) unsafe fn give_back(&self, place: usize) {
-        threads::with(|number| match number.and_then(|number| self.lane(number)) {
-            Some((kept, own)) => {
-                if !kept.keep(place, &mut own.empty) {
-                    own.left += 1;
-                    // SAFETY: the handle was opened here, and the caller says the rest.
-                    unsafe { self.library.give_back(&mut own.handle, place) };
-                }
+        let is_kept = threads::with_known(|number| {
+            let lane = self.lanes.get(number);
+            lane.is_some_and(|lane| lane.kept.keep(place, &lane.own.get(number).empty))
+        });
+        if !is_kept {
+            // SAFETY: the caller says it.
+            unsafe { self.give_back_further(place) };
+        }
+    }
+
+    /// Returns a place that the thread doesn't keep.
+    ///
+    /// # Safety
+    ///
+    /// As `give_back`.
+    #[inline(never)]
+    unsafe fn give_back_further(&self, place: usize) {
+        threads::with(|number| match number.and_then(|number| self.own(number)) {
+            Some(own) => {
+                let way = &mut *own.way.borrow_mut();
+                way.left += 1;
+                // SAFETY: the handle was opened here, and the caller says the rest.
+                unsafe { self.library.give_back(&mut way.handle, place) };
             }
             // SAFETY: as above.
             None => unsafe { self.library.give_back(&mut None, place) },
         });
     }
 
-    /// Returns the lane of a thread, which is made if it isn't there. `None` if memory is refused.
-    #[inline(always)]
-    fn lane<'l>(&'l self, number: &'l mut Number) -> Option<(&'l Kept, &'l mut Own)> {
+    /// Returns what a thread has, which is made if it isn't there. `None` if memory is refused.
+    fn own<'o>(&'o self, number: &'o Number) -> Option<&'o Own> {
         let lane = match self.lanes.get(number) {
             Some(lane) => lane,
             None => self.new_lane(number)?,
         };
-        Some((&lane.kept, lane.own.get(number)))
+        Some(lane.own.get(number))
     }
 
     #[cold]
     fn new_lane(&self, number: &Number) -> Option<&Lane> {
         let pages = self.places().div_ceil(PAGE);
-        let mut own = Own::new(number.get(), pages);
-        self.library.open(&mut own.handle);
+        let mut way = Way::new(number.get(), pages);
+        self.library.open(&mut way.handle);
+        let own = Own {
+            empty: Cell::new(Kept::NONE),
+            way: RefCell::new(way),
+        };
         let (kept, own) = (Kept::new(), Owned::new(number, own));
         self.lanes.make(number, Lane { kept, own })
     }
@@ -185,14 +229,14 @@ impl Kept {
 
     /// Keeps a place for the thread of the lane, if there is none, and counts it.
     #[inline(always)]
-    fn keep(&self, place: usize, empty: &mut u64) -> bool {
+    fn keep(&self, place: usize, empty: &Cell<u64>) -> bool {
         let place = place as u64;
-        let has_room = self.load() == *empty && place < Kept::NONE;
+        let has_room = self.load() == empty.get() && place < Kept::NONE;
         if has_room {
             #[cfg(test)]
             crate::tests::step();
-            *empty = empty.wrapping_add(1 << 32);
-            self.0.store(*empty ^ Kept::NONE | place, Release);
+            empty.set(empty.get().wrapping_add(1 << 32));
+            self.0.store(empty.get() ^ Kept::NONE | place, Release);
         }
         has_room
     }
@@ -205,20 +249,19 @@ impl Kept {
     }
 }
 
-impl Own {
-    /// Creates what a thread has of so many pages.
-    fn new(number: usize, pages: usize) -> Own {
+impl Way {
+    /// Creates the way of a thread to so many pages.
+    fn new(number: usize, pages: usize) -> Way {
         // Threads begin so far apart that the words of their pages lie on cache lines of their own.
         let far = if pages % 17 == 0 { 1 } else { 17 };
         let begin = (number + 1) * far;
-        Own {
+        Way {
             handle: None,
             page: begin % pages,
             begin,
             moves: 0,
             left: TOGETHER,
             was_refused: false,
-            empty: Kept::NONE,
         }
     }
 

@@ -1,12 +1,14 @@
 //! Which places of a pool that grows are held. A thread keeps some that it returned, by plain reads
 //! and writes. At its end it returns them.
+mod lane;
+
 use crate::lanes::Lanes;
 use crate::library::Library;
 use crate::once::OnceBox;
 use crate::refuse;
 use crate::sys::{Handle, PAGE};
 use crate::threads::{self, Number, Owned};
-use std::iter;
+use lane::{Lane, Last, Way};
 use std::ptr::NonNull;
 use std::sync::atomic::{AtomicBool, AtomicUsize, Ordering::Relaxed, Ordering::SeqCst};
 use std::sync::Arc;
@@ -17,11 +19,8 @@ pub(crate) const SHARDS: usize = 8;
 pub(crate) const PARTS: usize = 32;
 /// How often all parts are looked at before a fresh place is given, if others return places.
 const ROUNDS: usize = 32;
-/// How many places a thread keeps, and how many of them it returns if there are more.
-const KEPT: usize = 8;
-const SPILLED: usize = 4;
-/// A lane's count while no thread keeps places there. The next one has to be noted first.
-const UNUSED: usize = usize::MAX;
+/// How many of the places that it keeps a thread returns if there are more.
+const SPILLED: usize = 6;
 
 /// A part of a pool.
 #[derive(Clone, Copy, PartialEq, Eq)]
@@ -83,19 +82,6 @@ pub(crate) struct Held {
 // SAFETY: only who has the place goes to the item, if that may be sent to where he is.
 unsafe impl Send for Held {}
 
-/// What a thread has of a pool.
-struct Lane {
-    kept: [Option<Held>; KEPT],
-    count: usize,
-    /// The part of the last pull, where the next one looks first, and the page where that begins.
-    part: Option<PartName>,
-    page: usize,
-    /// Its handles of the parts, by their numbers, if it has some of its own.
-    handles: Option<Vec<Option<Handle>>>,
-    /// An empty handle.
-    none: Option<Handle>,
-}
-
 /// What a look at all parts found.
 enum Look {
     Found(usize),
@@ -113,13 +99,16 @@ impl Growing {
         }
     }
 
-    /// Pulls a place that the thread keeps.
+    /// Pulls the place that the thread returned last, if it keeps it.
+    #[inline(always)]
+    pub(crate) fn pull_last(&self) -> Option<Held> {
+        threads::with_known(|number| self.lanes.get(number)?.0.get(number).take_last())
+    }
+
+    /// Pulls another place that the thread keeps.
     #[inline(always)]
     pub(crate) fn pull_kept(&self) -> Option<Held> {
-        threads::with(|number| {
-            let number = number?;
-            self.lanes.get(number)?.0.get(number).take_kept()
-        })
+        threads::with_known(|number| self.lanes.get(number)?.0.get(number).take_kept())
     }
 
     /// Pulls a place that was returned, or a fresh one.
@@ -132,8 +121,8 @@ impl Growing {
         threads::with(|number| {
             let home = number.as_ref().map_or(0, |number| number.get() % SHARDS);
             match number.and_then(|number| self.lane(number)) {
-                Some(lane) => self.find(lane, home),
-                None => self.find(&mut Lane::without_handles(), home),
+                Some(lane) => self.find(&mut lane.way.borrow_mut(), home),
+                None => self.find(&mut Way::without_handles(), home),
             }
         })
     }
@@ -145,15 +134,46 @@ impl Growing {
     /// The place was pulled here, and is returned once. It has this item.
     #[inline(always)]
     pub(crate) unsafe fn give_back(self: &Arc<Self>, held: Held) {
-        threads::with(|number| {
-            if let Some(lane) = number.and_then(|number| self.lane(number)) {
-                if lane.count < KEPT || self.make_room(lane) {
-                    return lane.keep(held);
-                }
-            }
+        let is_kept = threads::with_known(|number| {
+            let lane = self.lanes.get(number);
+            lane.is_some_and(|lane| lane.0.get(number).keep_last(held))
+        });
+        if !is_kept {
+            // SAFETY: the caller says it.
+            unsafe { self.give_back_further(held) };
+        }
+    }
+
+    /// Returns a place of a thread that keeps one as its last already, or isn't noted.
+    ///
+    /// # Safety
+    ///
+    /// As `give_back`.
+    #[inline(never)]
+    unsafe fn give_back_further(self: &Arc<Self>, held: Held) {
+        let is_kept = threads::with_known(|number| {
+            let lane = self.lanes.get(number);
+            lane.is_some_and(|lane| lane.0.get(number).keep(held))
+        });
+        if !is_kept && threads::with(|number| self.make_room(number?, held)).is_none() {
             // SAFETY: the caller says it.
             unsafe { self.give_back_unkept(held.at) };
-        });
+        }
+    }
+
+    /// Keeps a place of a thread that keeps so many that it returns some, or isn't noted. `None` if
+    /// memory is refused.
+    #[cold]
+    fn make_room(self: &Arc<Self>, number: &Number, held: Held) -> Option<()> {
+        let lane = self.lane(number)?;
+        if let Last::Kept(_) = lane.last.get() {
+            self.spill(lane, SPILLED);
+            lane.keep(held);
+        } else {
+            threads::note(Arc::downgrade(self))?;
+            lane.last.set(Last::Kept(held));
+        }
+        Some(())
     }
 
     /// Returns a place by the handle that threads share. It needn't have an item.
@@ -169,13 +189,14 @@ impl Growing {
     }
 
     /// Returns what a thread keeps, at its end.
-    pub(crate) fn return_kept(&self, number: &mut Number) {
+    pub(crate) fn return_kept(&self, number: &Number) {
         if let Some(lane) = self.lanes.get(number) {
             let lane = lane.0.get(number);
-            if lane.count != UNUSED {
-                self.spill(lane, lane.count);
+            self.spill(lane, usize::MAX);
+            if let Last::Kept(held) = lane.last.replace(Last::Unused) {
+                // SAFETY: the lane kept it, and has it no more.
+                unsafe { self.give_back_kept(&mut lane.way.borrow_mut(), held) };
             }
-            lane.count = UNUSED;
         }
     }
 
@@ -195,7 +216,7 @@ impl Growing {
 
     /// Returns the lane of a thread, which is made if it isn't there. `None` if memory is refused.
     #[inline(always)]
-    fn lane<'l>(self: &'l Arc<Self>, number: &'l mut Number) -> Option<&'l mut Lane> {
+    fn lane<'l>(self: &'l Arc<Self>, number: &'l Number) -> Option<&'l Lane> {
         let lane = match self.lanes.get(number) {
             Some(lane) => lane,
             None => self.new_lane(number)?,
@@ -209,23 +230,12 @@ impl Growing {
             .make(number, OwnLines(Owned::new(number, Lane::new())))
     }
 
-    /// Makes room for a place to be kept. There is none if memory is refused.
-    #[inline(never)]
-    fn make_room(self: &Arc<Self>, lane: &mut Lane) -> bool {
-        if lane.count == KEPT {
-            self.spill(lane, SPILLED);
-        } else if threads::note(Arc::downgrade(self)).is_some() {
-            lane.count = 0;
-        }
-        lane.count < KEPT
-    }
-
     /// Finds a place that was returned, or gives a fresh one. A place that others return and pull
     /// may pass by a look at all parts, so there are more of them while some part says that a place
     /// was returned.
-    fn find(&self, lane: &mut Lane, home: usize) -> Result<usize, PartName> {
+    fn find(&self, way: &mut Way, home: usize) -> Result<usize, PartName> {
         for _ in 0..ROUNDS {
-            match self.look(lane, home) {
+            match self.look(way, home) {
                 Look::Found(at) => return Ok(at),
                 Look::Refused => {}
                 Look::Empty => break,
@@ -241,16 +251,17 @@ impl Growing {
     }
 
     /// Looks at each part, and first at that of the last pull.
-    fn look(&self, lane: &mut Lane, home: usize) -> Look {
+    fn look(&self, way: &mut Way, home: usize) -> Look {
         let mut look = Look::Empty;
-        let last = lane.part.map(|name| (name, self.part(name)));
+        let last = way.part.map(|name| (name, self.part(name)));
         for (name, part) in last.into_iter().chain(self.parts(home)) {
             #[cfg(test)]
             crate::tests::step();
             if part.returned.load(SeqCst) {
                 look = Look::Refused;
-                if let Some(place) = part.pull(name, lane) {
-                    (lane.part, lane.page) = (Some(name), place / PAGE);
+                if let Some(place) = part.pull(name, way) {
+                    way.part = Some(name);
+                    way.go_on(place / PAGE, part.library.places().div_ceil(PAGE));
                     return Look::Found(name.at(place));
                 }
             }
@@ -277,18 +288,26 @@ impl Growing {
         part.unwrap_or_else(|| refuse())
     }
 
-    /// Returns some places that a thread keeps, those that it kept first.
-    fn spill(&self, lane: &mut Lane, count: usize) {
-        let kept = lane.kept;
-        for held in kept.into_iter().take(count).flatten() {
-            let (name, place) = PartName::of(held.at);
-            let part = self.part(name);
-            let handle = lane.handle(name, &part.library);
-            // SAFETY: the lane kept a place that was pulled here, and returns it once.
-            unsafe { part.give_back(handle, place) };
+    /// Returns some places that a thread keeps beside its last one, those that it kept first.
+    fn spill(&self, lane: &Lane, count: usize) {
+        let way = &mut *lane.way.borrow_mut();
+        for held in lane.spill(count) {
+            // SAFETY: the lane kept it, and has it no more.
+            unsafe { self.give_back_kept(way, held) };
         }
-        lane.kept.copy_within(count.., 0);
-        lane.count -= count;
+    }
+
+    /// Returns a place that a thread kept.
+    ///
+    /// # Safety
+    ///
+    /// The place was pulled here, and is returned once.
+    unsafe fn give_back_kept(&self, way: &mut Way, held: Held) {
+        let (name, place) = PartName::of(held.at);
+        let part = self.part(name);
+        let handle = way.handle(name, &part.library);
+        // SAFETY: the handle is of this part, and the caller says the rest.
+        unsafe { part.give_back(handle, place) };
     }
 }
 
@@ -305,9 +324,9 @@ impl Part {
     }
 
     /// Pulls a place that was returned.
-    fn pull(&self, name: PartName, lane: &mut Lane) -> Option<usize> {
-        let page = lane.page;
-        let handle = lane.handle(name, &self.library);
+    fn pull(&self, name: PartName, way: &mut Way) -> Option<usize> {
+        let page = way.page;
+        let handle = way.handle(name, &self.library);
         self.library.pull(handle, page).or_else(|| {
             // Who returns a place from here on says so, or the second look finds it.
             self.returned.store(false, SeqCst);
@@ -344,63 +363,5 @@ impl Part {
         if !self.returned.load(SeqCst) {
             self.returned.store(true, SeqCst);
         }
-    }
-}
-
-impl Lane {
-    /// Creates what a thread has.
-    fn new() -> Lane {
-        Lane {
-            kept: [None; KEPT],
-            count: UNUSED,
-            part: None,
-            page: 0,
-            handles: Some(Vec::new()),
-            none: None,
-        }
-    }
-
-    /// Creates what a call has of a thread that has no number. It opens no handle.
-    fn without_handles() -> Lane {
-        let handles = None;
-        Lane {
-            handles,
-            ..Lane::new()
-        }
-    }
-
-    /// Keeps a place, for which there is room.
-    #[inline(always)]
-    fn keep(&mut self, held: Held) {
-        if let Some(kept) = self.kept.get_mut(self.count) {
-            *kept = Some(held);
-            self.count += 1;
-        }
-    }
-
-    /// Takes the place that was kept last.
-    #[inline(always)]
-    fn take_kept(&mut self) -> Option<Held> {
-        let last = self.count.wrapping_sub(1);
-        let held = *self.kept.get(last)?;
-        self.count = last;
-        held
-    }
-
-    /// Returns the handle of a part, which is opened if it isn't. It is empty if memory is refused.
-    fn handle(&mut self, name: PartName, library: &Library) -> &mut Option<Handle> {
-        let Some(handles) = &mut self.handles else {
-            return &mut self.none;
-        };
-        let missing = (name.number() + 1).saturating_sub(handles.len());
-        if handles.try_reserve(missing).is_err() {
-            return &mut self.none;
-        }
-        handles.extend(iter::repeat_with(|| None).take(missing));
-        let handle = &mut handles[name.number()];
-        if handle.is_none() {
-            library.open(handle);
-        }
-        handle
     }
 }

@@ -31,31 +31,13 @@ pub unsafe trait Source: Sized {
     #[doc(hidden)]
     fn item_mut(value: &mut Self::Value) -> &mut Self::Item;
 
-    /// Resets a value whose place is returned.
-    #[doc(hidden)]
-    fn reset(&self, value: &mut Self::Value);
-
-    /// Returns a place.
-    ///
-    /// # Safety
-    ///
-    /// The place was pulled from this pool, and is returned once.
-    #[doc(hidden)]
-    unsafe fn give_back(&self, at: usize);
-
     /// Resets the value of a place, and returns the place.
     ///
     /// # Safety
     ///
-    /// As `give_back`, and nobody borrows the value.
+    /// The place was pulled from this pool, and is returned once. Nobody borrows its value.
     #[doc(hidden)]
-    #[inline(always)]
-    unsafe fn end(&self, at: usize) {
-        // SAFETY: the caller says it.
-        self.reset(unsafe { &mut *self.slot(at).0.get() });
-        // SAFETY: the caller says it.
-        unsafe { self.give_back(at) };
-    }
+    unsafe fn end(&self, at: usize);
 }
 
 /// An item that is held, of a pool that is held by a borrow or by an owner. Its end resets the item
@@ -150,5 +132,15 @@ impl<P: Deref<Target: Source<Item = T>>, T> Drop for Guard<P, T> {
 impl<P: Deref<Target: Source<Item = T>>, T: Debug> Debug for Guard<P, T> {
     fn fmt(&self, f: &mut Formatter<'_>) -> fmt::Result {
         (**self).fmt(f)
+    }
+}
+
+/// A value of which a call is made at its end, also if something panics, unless it is forgotten.
+pub(crate) struct AtEnd<V, C: FnMut(&mut V)>(pub(crate) V, pub(crate) C);
+
+impl<V, C: FnMut(&mut V)> Drop for AtEnd<V, C> {
+    #[inline(always)]
+    fn drop(&mut self) {
+        (self.1)(&mut self.0);
     }
 }

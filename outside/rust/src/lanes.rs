@@ -1,4 +1,5 @@
 //! What each thread has of a pool, by its number.
+use crate::cells::filled;
 use crate::once::OnceBox;
 use crate::threads::{Number, FIRST, GROUPS};
 
@@ -23,15 +24,16 @@ impl<L> Lanes<L> {
     pub(crate) fn get(&self, number: &Number) -> Option<&L> {
         match self.first.get(number.get()) {
             Some(lane) => lane.get(),
-            None => self.later(number)?.get(),
+            None => self.later(number.get())?.get(),
         }
     }
 
     /// Returns the place of a lane that isn't among the first ones, if its group was made.
-    fn later(&self, number: &Number) -> Option<&OnceBox<L>> {
-        let group = (number.get() / FIRST).ilog2();
-        let lanes = self.groups[group as usize].get()?;
-        lanes.get(number.get() - (FIRST << group))
+    #[inline(never)]
+    fn later(&self, number: usize) -> Option<&OnceBox<L>> {
+        let group = (number / FIRST).ilog2();
+        let lanes = self.groups.get(group as usize)?.get()?;
+        lanes.get(number - (FIRST << group))
     }
 
     /// Makes the lane of a number. `None` if memory is refused.
@@ -41,11 +43,9 @@ impl<L> Lanes<L> {
             return first.set(lane);
         }
         let group = (number.get() / FIRST).ilog2();
-        let mut lanes = Vec::new();
-        lanes.try_reserve_exact(FIRST << group).ok()?;
-        lanes.resize_with(FIRST << group, OnceBox::new);
+        let lanes = filled(FIRST << group, OnceBox::new).ok()?;
         self.groups[group as usize].set(lanes)?;
-        self.later(number)?.set(lane)
+        self.later(number.get())?.set(lane)
     }
 
     /// Returns all lanes that were made.

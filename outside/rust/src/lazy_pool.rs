@@ -1,22 +1,16 @@
 //! A pool whose items are made when they are first needed, by an initializer that may fail.
-mod errors;
 #[allow(unsafe_code)]
 mod held;
 mod waiters;
 
-pub use errors::PullError;
-
-use crate::cells::Cells;
-use crate::fixed::Fixed;
-use crate::guard::Guard;
-use crate::pool::NewError;
-use crate::sys::PAGE;
-use held::{keep_if, Held, Kind, States, IN_USE, MADE};
-use std::fmt::{self, Debug, Formatter};
+use crate::cells::{filled, Cells};
+use crate::{fixed::Fixed, guard::Guard, pool::NewError, sys::PAGE};
+use held::{keep_if, Held};
+use std::fmt::{self, Debug, Display, Formatter};
 use std::sync::atomic::{AtomicU8, Ordering::Relaxed};
-use std::sync::Arc;
 use std::time::{Duration, Instant};
-use waiters::{is_over, Limit, Waiters};
+use std::{error::Error, iter, sync::Arc};
+use waiters::{left, Limit, Waiters};
 
 /// An item that was pulled under a borrow of its [`LazyPool`].
 pub type LazyReusable<'p, T, E> = Guard<&'p LazyPool<T, E>, T>;
@@ -26,8 +20,18 @@ pub type LazyOwnedReusable<T, E> = Guard<Arc<LazyPool<T, E>>, T>;
 /// What a pull returns.
 type Pulled<'p, T, E> = Result<LazyReusable<'p, T, E>, PullError<E>>;
 type PulledOwned<T, E> = Result<LazyOwnedReusable<T, E>, PullError<E>>;
-type Init<T, E> = Box<dyn Fn() -> Result<T, E> + Send + Sync>;
 type Judge<T> = Box<dyn Fn(&mut T) -> bool + Send + Sync>;
+
+/// What lies at a place: nothing, or an item.
+const EMPTY: u8 = 0;
+const MADE: u8 = 1;
+/// What the state of a place has beside that while the place is in use.
+const IN_USE: u8 = 2;
+
+/// The states of a page's places, on a cache line of their own.
+#[derive(Default)]
+#[repr(align(64))]
+struct States([AtomicU8; PAGE]);
 
 /// A pool of at most so many items, each made when it is first needed: a pool of connections.
 ///
@@ -59,10 +63,13 @@ type Judge<T> = Box<dyn Fn(&mut T) -> bool + Send + Sync>;
 /// ```
 pub struct LazyPool<T, E> {
     items: Cells<Option<T>>,
+    /// The places that are empty, and those with an item: two pools of places over the same
+    /// numbers. Each place is held in at least one of them, and who pulled it from either has it
+    /// alone.
     kinds: [Fixed; 2],
     states: Vec<States>,
     waiters: Waiters,
-    init: Init<T, E>,
+    init: Box<dyn Fn() -> Result<T, E> + Send + Sync>,
     reset: Judge<T>,
     check: Option<Judge<T>>,
 }
@@ -105,19 +112,12 @@ impl<T, E> LazyPool<T, E> {
         init: impl Fn() -> Result<T, E> + Send + Sync + 'static,
         reset: impl Fn(&mut T) -> bool + Send + Sync + 'static,
     ) -> Result<Self, NewError> {
-        if items == 0 {
-            return Err(NewError::NoItems);
-        }
-        let pages = items.div_ceil(PAGE);
-        let mut states = Vec::new();
-        states.try_reserve_exact(pages)?;
-        states.resize_with(pages, States::default);
-        let [empty, made] = [(); 2].map(|()| Fixed::new(items).ok_or(NewError::Memory));
-        let kinds = [empty?, made?];
-        while kinds[Kind::Made as usize].pull().is_some() {} // no item is made yet
+        let states = filled(items.div_ceil(PAGE), States::default)?;
+        let [empty, made] = [Fixed::new(items)?, Fixed::new(items)?];
+        while made.pull().is_some() {} // no item is made yet
         Ok(LazyPool {
             items: Cells::new((0..items).map(|_| None)).ok_or(NewError::Memory)?,
-            kinds,
+            kinds: [empty, made],
             states,
             waiters: Waiters::default(),
             init: Box::new(init),
@@ -154,7 +154,7 @@ impl<T, E> LazyPool<T, E> {
     /// - `Init` if `init` failed. Then the place is empty.
     #[inline(always)]
     pub fn pull(&self) -> Pulled<'_, T, E> {
-        self.item(self.held()?, None)
+        self.item(self.any().ok_or(PullError::AllInUse)??, None)
     }
 
     /// Pulls an item as [`pull`](LazyPool::pull) does, with a guard that keeps the pool.
@@ -169,13 +169,8 @@ impl<T, E> LazyPool<T, E> {
     /// Pulls an item that is made and free. `None` if there is none that the check keeps, or if
     /// the pool is closed.
     pub fn try_pull(&self) -> Option<LazyReusable<'_, T, E>> {
-        while !self.is_closed() {
-            let mut held = Held::pull(self, Kind::Made)?;
-            if self.is_kept(&mut held) {
-                return Some(held.guard());
-            }
-        }
-        None
+        let mut made = iter::from_fn(|| self.open(MADE)?.ok());
+        made.find_map(|mut held| self.is_kept(&mut held).then(|| held.guard()))
     }
 
     /// Pulls an item as [`try_pull`](LazyPool::try_pull) does, with a guard that keeps the pool.
@@ -231,19 +226,14 @@ impl<T, E> LazyPool<T, E> {
     ///
     /// `Init` at the first error of `init`, or `Closed`.
     pub fn fill(&self, items: usize) -> Result<(), PullError<E>> {
-        for _ in self.status().made..items.min(self.items()) {
-            match Held::pull(self, Kind::Empty) {
-                _ if self.is_closed() => return Err(PullError::Closed),
-                Some(mut held) => self.make(&mut held, None)?,
-                None => break,
-            }
-        }
-        Ok(())
+        let missing = self.status().made..items.min(self.items());
+        let mut empty = missing.map_while(|_| self.open(EMPTY));
+        empty.try_for_each(|held| self.make(&mut held?, None))
     }
 
     /// Drops the items that are free. Their places are empty then.
     pub fn clear(&self) {
-        let free = (0..self.items()).map_while(|_| Held::pull(self, Kind::Made));
+        let free = (0..self.items()).map_while(|_| Held::pull(self, MADE));
         free.for_each(|mut held| drop(held.item().take()));
     }
 
@@ -261,14 +251,18 @@ impl<T, E> LazyPool<T, E> {
 
     /// Returns how many items there may be, are made, are in use, and are waited for.
     pub fn status(&self) -> Status {
-        let states = || self.states.iter().flat_map(|page| &page.0);
-        let has = |bit| move |state: &&AtomicU8| state.load(Relaxed) & bit != 0;
+        let has = |bit| move |place: &usize| self.state(*place).load(Relaxed) & bit != 0;
         Status {
             items: self.items(),
-            made: states().filter(has(MADE)).count(),
-            in_use: states().filter(has(IN_USE)).count(),
+            made: (0..self.items()).filter(has(MADE)).count(),
+            in_use: (0..self.items()).filter(has(IN_USE)).count(),
             waiting: self.waiters.count(),
         }
+    }
+
+    /// Returns the state of a place: its kind, and whether it is in use.
+    fn state(&self, place: usize) -> &AtomicU8 {
+        &self.states[place / PAGE].0[place % PAGE]
     }
 
     fn items(&self) -> usize {
@@ -278,36 +272,35 @@ impl<T, E> LazyPool<T, E> {
     /// Pulls an item, or waits for one until the limit.
     #[inline(always)]
     fn pull_until(&self, limit: Limit) -> Pulled<'_, T, E> {
-        let attempt = || match self.held() {
-            Err(PullError::AllInUse) => None,
-            held => Some(held),
-        };
-        let held = attempt().or_else(|| self.waiters.wait(limit, attempt));
-        self.item(held.unwrap_or(Err(PullError::TimedOut))?, limit)
+        let wait = || self.waiters.wait(limit, || self.any());
+        self.item(self.any().or_else(wait).ok_or(PullError::TimedOut)??, limit)
     }
 
-    /// Pulls a place, one with an item if it can.
+    /// Pulls a place, one with an item if it can. `None` if all are in use.
     #[inline(always)]
-    fn held(&self) -> Result<Held<'_, T, E>, PullError<E>> {
+    fn any(&self) -> Option<Result<Held<'_, T, E>, PullError<E>>> {
+        self.open(MADE).or_else(|| self.later().map(Ok))
+    }
+
+    /// Pulls a place of this kind, if the pool isn't closed. `None` if there is none.
+    #[inline(always)]
+    fn open(&self, kind: u8) -> Option<Result<Held<'_, T, E>, PullError<E>>> {
         if self.is_closed() {
-            return Err(PullError::Closed);
+            return Some(Err(PullError::Closed));
         }
-        let held = Held::pull(self, Kind::Made).or_else(|| self.held_later());
-        held.ok_or(PullError::AllInUse)
+        Held::pull(self, kind).map(Ok)
     }
 
     /// Pulls an empty place. If there is none, an item may have been returned meanwhile.
     #[cold]
-    fn held_later(&self) -> Option<Held<'_, T, E>> {
-        Held::pull(self, Kind::Empty).or_else(|| Held::pull(self, Kind::Made))
+    fn later(&self) -> Option<Held<'_, T, E>> {
+        Held::pull(self, EMPTY).or_else(|| Held::pull(self, MADE))
     }
 
     /// Returns whether a place has an item that the check keeps.
     fn is_kept(&self, held: &mut Held<'_, T, E>) -> bool {
-        if let Some(check) = &self.check {
-            keep_if(held.item(), check);
-        }
-        held.item().is_some()
+        let check = |item: &mut T| self.check.as_ref().is_none_or(|check| check(item));
+        keep_if(held.item(), check)
     }
 
     /// Returns the item of a place, or makes one if there is none that is kept.
@@ -322,7 +315,7 @@ impl<T, E> LazyPool<T, E> {
     /// Makes the item of an empty place, if the limit isn't over.
     #[cold]
     fn make(&self, held: &mut Held<'_, T, E>, limit: Limit) -> Result<(), PullError<E>> {
-        if is_over(limit) {
+        if left(limit).is_zero() {
             return Err(PullError::TimedOut);
         }
         *held.item() = Some((self.init)()?);
@@ -333,5 +326,55 @@ impl<T, E> LazyPool<T, E> {
 impl<T, E> Debug for LazyPool<T, E> {
     fn fmt(&self, f: &mut Formatter<'_>) -> fmt::Result {
         f.debug_tuple("LazyPool").field(&self.status()).finish()
+    }
+}
+
+/// Why a pull of a [`LazyPool`] gave no item.
+///
+/// ```
+/// # use kundratu_pool::{LazyPool, PullError};
+/// let pool = LazyPool::new(1, || "x".parse::<u32>(), |_| true)?;
+/// match pool.pull() {
+///     Err(PullError::Init(error)) => assert_eq!(error.to_string(), "invalid digit found in string"),
+///     _ => unreachable!("it isn't a number"),
+/// }
+/// # Ok::<(), kundratu_pool::NewError>(())
+/// ```
+#[derive(Clone, Copy, Debug, PartialEq, Eq)]
+#[non_exhaustive]
+pub enum PullError<E> {
+    /// All items were in use.
+    AllInUse,
+    /// The limit of time is over.
+    TimedOut,
+    /// The pool is closed.
+    Closed,
+    /// The initializer failed, with this error.
+    Init(E),
+}
+
+impl<E: Error + 'static> Error for PullError<E> {
+    fn source(&self) -> Option<&(dyn Error + 'static)> {
+        let PullError::Init(error) = self else {
+            return None;
+        };
+        Some(error)
+    }
+}
+
+impl<E> Display for PullError<E> {
+    fn fmt(&self, f: &mut Formatter<'_>) -> fmt::Result {
+        f.write_str(match self {
+            PullError::AllInUse => "all items are in use",
+            PullError::TimedOut => "no item was free in time",
+            PullError::Closed => "the pool is closed",
+            PullError::Init(_) => "the initializer failed",
+        })
+    }
+}
+
+impl<E> From<E> for PullError<E> {
+    fn from(error: E) -> Self {
+        PullError::Init(error)
     }
 }

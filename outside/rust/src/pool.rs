@@ -50,14 +50,10 @@ impl<T, R: Fn(&mut T)> Pool<T, R> {
     /// # Ok::<(), kundratu_pool::NewError>(())
     /// ```
     pub fn with_reset(items: usize, init: impl FnMut() -> T, reset: R) -> Result<Self, NewError> {
-        if items == 0 {
-            return Err(NewError::NoItems);
-        }
-        let made = Cells::new(iter::repeat_with(init).take(items)).zip(Fixed::new(items));
-        let (items, places) = made.ok_or(NewError::Memory)?;
+        let values = iter::repeat_with(init).take(items);
         Ok(Pool {
-            places,
-            items,
+            items: Cells::new(values).ok_or(NewError::Memory)?,
+            places: Fixed::new(items)?,
             reset,
         })
     }
@@ -102,12 +98,9 @@ unsafe impl<T, R: Fn(&mut T)> Source for Pool<T, R> {
     }
 
     #[inline(always)]
-    fn reset(&self, value: &mut T) {
-        (self.reset)(value);
-    }
-
-    #[inline(always)]
-    unsafe fn give_back(&self, at: usize) {
+    unsafe fn end(&self, at: usize) {
+        // SAFETY: the caller says it.
+        (self.reset)(unsafe { &mut *self.slot(at).0.get() });
         // SAFETY: the caller says it.
         unsafe { self.places.give_back(at) };
     }

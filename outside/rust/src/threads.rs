@@ -5,14 +5,15 @@
 use crate::growing::Growing;
 use crate::refuse;
 use crate::sys::{kdr_pool_new, kdr_pool_pull_near, kdr_pool_share, Handle};
-use std::cell::{Cell, RefCell, UnsafeCell};
+use std::cell::{Cell, RefCell};
 use std::iter;
+use std::marker::PhantomData;
 use std::sync::{Mutex, PoisonError, Weak};
 
 /// How many numbers come first. Those after them come in groups, each of as many as all before.
-pub(crate) const FIRST: usize = 8;
+pub(crate) const FIRST: usize = 32;
 /// How many such groups there are.
-pub(crate) const GROUPS: usize = 9;
+pub(crate) const GROUPS: usize = 7;
 /// How many threads have a number at a time.
 pub(crate) const NUMBERS: usize = FIRST << GROUPS;
 
@@ -36,11 +37,16 @@ thread_local! {
     };
 }
 
-/// The number of a thread. It is borrowed by one call at a time.
-pub(crate) struct Number(usize);
+/// The number of this thread, or what it has in place of one. It doesn't go to another thread.
+pub(crate) struct Number(usize, PhantomData<*const ()>);
 
 impl Number {
-    /// Returns the number, of which there are `NUMBERS`.
+    #[inline(always)]
+    fn new(number: usize) -> Number {
+        Number(number, PhantomData)
+    }
+
+    /// Returns the number, of which there are `NUMBERS`, or one that is none of them.
     #[inline(always)]
     pub(crate) fn get(&self) -> usize {
         self.0
@@ -57,22 +63,26 @@ impl Drop for Lent {
     }
 }
 
+/// Makes this call with the thread's number, if that is known. The call makes no other one.
+#[inline(always)]
+pub(crate) fn with_known<A>(call: impl FnOnce(&Number) -> A) -> A {
+    call(&Number::new(KNOWN.get()))
+}
+
 /// Makes this call with the thread's number. There is none if all are out, at the thread's end, and
 /// in a call within a call.
 #[inline(always)]
-pub(crate) fn with<A>(call: impl FnOnce(Option<&mut Number>) -> A) -> A {
-    let known = KNOWN.get();
-    let known = if known < NUMBERS { known } else { find() };
+pub(crate) fn with<A>(call: impl FnOnce(Option<&Number>) -> A) -> A {
+    let known = find();
     if known < NUMBERS {
         KNOWN.set(WITHIN);
-        call(Some(&mut Lent(Number(known)).0))
+        call(Some(&Lent(Number::new(known)).0))
     } else {
         call(None)
     }
 }
 
-/// Returns the number of a thread that isn't known to have one, or no number.
-#[inline(never)]
+/// Returns the thread's number, or no number.
 fn find() -> usize {
     let left = LEFT.get();
     match KNOWN.get() {
@@ -91,7 +101,7 @@ fn find() -> usize {
 /// A value of the thread that has a number.
 pub(crate) struct Owned<T> {
     number: usize,
-    value: UnsafeCell<T>,
+    value: T,
 }
 
 // SAFETY: the value is reached by the number, which one thread has at a time. So to share it is to
@@ -103,18 +113,17 @@ impl<T> Owned<T> {
     pub(crate) fn new(number: &Number, value: T) -> Owned<T> {
         Owned {
             number: number.0,
-            value: UnsafeCell::new(value),
+            value,
         }
     }
 
     /// Borrows the value, by its number.
     #[inline(always)]
-    pub(crate) fn get<'o>(&'o self, number: &'o mut Number) -> &'o mut T {
+    pub(crate) fn get<'o>(&'o self, number: &'o Number) -> &'o T {
         if self.number != number.0 {
             refuse();
         }
-        // SAFETY: one thread at a time has the number, and this borrow of it is the only one.
-        unsafe { &mut *self.value.get() }
+        &self.value
     }
 }
 
@@ -150,10 +159,10 @@ impl Holder {
 impl Drop for Holder {
     /// Returns what the thread keeps, and then its number.
     fn drop(&mut self) {
-        let mut number = Number(KNOWN.replace(ENDED));
+        let number = Number::new(KNOWN.replace(ENDED));
         let pools = self.pools.get_mut().drain(..);
         for pool in pools.filter_map(|pool| pool.upgrade()) {
-            pool.return_kept(&mut number);
+            pool.return_kept(&number);
         }
     }
 }

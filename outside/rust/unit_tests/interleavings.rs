@@ -272,7 +272,7 @@ fn a_pull_of_one_item_is_refused_only_while_it_is_held() {
         one
     };
     let works = [|one: &One| one.turn(0), |one: &One| one.turn(1)];
-    explore(500, free, works, One::check);
+    explore(150, free, works, One::check);
     explore(500, kept, works, One::check);
 }
 

@@ -1,6 +1,7 @@
 //! A pool that grows, by the names of lockfree-object-pool 0.1.6.
 use crate::cells::{Cells, Slot};
 use crate::growing::{Growing, Held, PartName, PARTS, SHARDS};
+use crate::guard::AtEnd;
 use crate::once::OnceBox;
 use crate::pool::Reset;
 use crate::refuse;
@@ -56,7 +57,7 @@ impl<T> LinearObjectPool<T> {
     /// Returns an item that was free, or a new one.
     #[inline(always)]
     pub fn pull(&self) -> LinearReusable<'_, T> {
-        let held = self.places.pull_kept().unwrap_or_else(|| self.find());
+        let held = self.places.pull_last().unwrap_or_else(|| self.find());
         // SAFETY: it was pulled just now.
         unsafe { LinearGuard::new(self, held) }
     }
@@ -64,21 +65,25 @@ impl<T> LinearObjectPool<T> {
     /// Returns an item as [`pull`](LinearObjectPool::pull) does, with a guard that keeps the pool.
     #[inline(always)]
     pub fn pull_owned(self: &Arc<Self>) -> LinearOwnedReusable<T> {
-        let held = self.places.pull_kept().unwrap_or_else(|| self.find());
+        let held = self.places.pull_last().unwrap_or_else(|| self.find());
         // SAFETY: as above.
         unsafe { LinearGuard::new(Arc::clone(self), held) }
     }
 
-    /// Pulls a place that the thread doesn't keep, and makes its item if there is none.
+    /// Pulls a place other than the thread's last one, and makes its item if there is none.
     #[inline(never)]
     fn find(&self) -> Held {
+        if let Some(held) = self.places.pull_kept() {
+            return held;
+        }
         let at = loop {
             match self.places.pull() {
                 Ok(at) => break at,
                 Err(name) => self.make(name).unwrap_or_else(Self::refused),
             }
         };
-        let empty = Empty { pool: self, at };
+        // SAFETY: it was pulled, and is returned here if making its item panics.
+        let empty = AtEnd(at, |at| unsafe { self.places.give_back_unkept(*at) });
         // SAFETY: it was pulled just now, and nobody else has it.
         let value = unsafe { &mut *self.slot(at).0.get() };
         let item = NonNull::from(value.get_or_insert_with(&self.init)).cast();
@@ -119,19 +124,6 @@ impl<T> LinearObjectPool<T> {
 
     fn refused<A>() -> A {
         handle_alloc_error(Layout::new::<T>())
-    }
-}
-
-/// A place whose item isn't made yet. If that panics, the place is returned.
-struct Empty<'p, T> {
-    pool: &'p LinearObjectPool<T>,
-    at: usize,
-}
-
-impl<T> Drop for Empty<'_, T> {
-    fn drop(&mut self) {
-        // SAFETY: it was pulled, and is returned here.
-        unsafe { self.pool.places.give_back_unkept(self.at) };
     }
 }
 

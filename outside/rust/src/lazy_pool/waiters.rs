@@ -42,7 +42,7 @@ impl Waiters {
         let mut slept = None;
         loop {
             let seen = self.told.load(SeqCst);
-            let is_last = is_over(limit);
+            let is_last = left(limit).is_zero();
             let answer = attempt();
             if answer.is_some() || is_last {
                 self.waiting.fetch_sub(1, SeqCst);
@@ -59,19 +59,16 @@ impl Waiters {
     /// Sleeps until a return is told or the limit is over, or for no reason. Returns `false` if one
     /// was told since `seen`, so that it didn't sleep.
     fn sleep(&self, seen: usize, limit: Limit) -> bool {
-        let mut locked = self.lock.lock().unwrap_or_else(PoisonError::into_inner);
+        let locked = self.lock.lock().unwrap_or_else(PoisonError::into_inner);
         self.asleep.fetch_add(1, SeqCst);
-        let sleeps = self.told.load(SeqCst) == seen;
-        if sleeps {
-            let left = |limit: Instant| limit.saturating_duration_since(Instant::now());
-            let left = limit.map_or(Duration::MAX, left);
-            let woken = self.wakes.wait_timeout(locked, left);
-            locked = woken.unwrap_or_else(PoisonError::into_inner).0;
-            self.is_woken.store(false, SeqCst);
+        if self.told.load(SeqCst) != seen {
+            self.asleep.fetch_sub(1, SeqCst);
+            return false;
         }
+        let _locked = self.wakes.wait_timeout(locked, left(limit));
+        self.is_woken.store(false, SeqCst);
         self.asleep.fetch_sub(1, SeqCst);
-        drop(locked);
-        sleeps
+        true
     }
 
     /// Wakes one that waits, after a place was returned. Returns whether the pool is closed.
@@ -85,12 +82,10 @@ impl Waiters {
     fn wake(&self) -> bool {
         self.told.fetch_add(1, SeqCst);
         let is_due = || self.asleep.load(SeqCst) != 0 && !self.is_woken.load(SeqCst);
-        if is_due() {
-            let _locked = self.lock.lock();
-            if is_due() {
-                self.is_woken.store(true, SeqCst);
-                self.wakes.notify_one();
-            }
+        let locked = is_due().then(|| self.lock.lock());
+        if locked.is_some() && is_due() {
+            self.is_woken.store(true, SeqCst);
+            self.wakes.notify_one();
         }
         self.is_closed()
     }
@@ -115,8 +110,10 @@ impl Waiters {
     }
 }
 
-pub(super) fn is_over(limit: Limit) -> bool {
-    limit.is_some_and(|limit| limit <= Instant::now())
+/// Returns how long a pull may still wait.
+pub(super) fn left(limit: Limit) -> Duration {
+    let left = |limit: Instant| limit.saturating_duration_since(Instant::now());
+    limit.map_or(Duration::MAX, left)
 }
 
 #[cfg(test)]

@@ -1,12 +1,15 @@
 //! How long a match of a short text takes by a `Regex` that threads share, and what a `Regex` costs
-//! that is made and used once: with the pool of regex, and with ours in its place.
+//! that is made and used once: of a crate as it is, and with our pool in it.
 use std::hint::black_box;
 use std::sync::Barrier;
 use std::time::Instant;
 use std::{env, thread};
 
+#[macro_use]
+mod client;
+
 /// How often each is measured, by turns. The middle one of its times is told.
-const ROUNDS: usize = 15;
+const ROUNDS: usize = 75;
 const PATTERN: &str = r"[a-z]+@[a-z]+\.[a-z]+";
 const TEXT: &str = "write to ann@example.org";
 const MADE: usize = 200;
@@ -35,17 +38,17 @@ macro_rules! work {
     ($name:ident) => {
         mod $name {
             use super::*;
-            use ::$name::Regex;
+            client!($name);
 
             /// Nanoseconds a match, of the thread that took longest.
             pub fn shared(threads: usize, turns: u32) -> f64 {
-                let regex = Regex::new(PATTERN).expect("it is one");
+                let regex = new();
                 let start = Barrier::new(threads);
                 let run = || {
                     start.wait();
                     let begun = Instant::now();
                     for _ in 0..turns {
-                        assert!(regex.is_match(black_box(TEXT)));
+                        assert!(is_match(&regex));
                     }
                     begun.elapsed().as_nanos() as f64 / f64::from(turns)
                 };
@@ -61,8 +64,8 @@ macro_rules! work {
                 let mut all = Vec::with_capacity(MADE);
                 let (before, begun) = (used(), Instant::now());
                 for _ in 0..MADE {
-                    let regex = Regex::new(PATTERN).expect("it is one");
-                    assert!(regex.is_match(black_box(TEXT)));
+                    let regex = new();
+                    assert!(is_match(&regex));
                     all.push(regex);
                 }
                 let time = begun.elapsed().as_nanos() as f64 / 1000.0;
@@ -97,7 +100,7 @@ fn print(name: &str, row: [f64; 5]) {
 }
 
 fn main() {
-    let turns = env::args().nth(1).map_or(200_000, |turns| {
+    let turns = env::args().nth(1).map_or(40_000, |turns| {
         turns.parse().expect("the number of turns")
     });
     let (mut own, mut pools) = (Vec::new(), Vec::new());
@@ -108,7 +111,7 @@ fn main() {
     let [own, pools] = [middle(&own), middle(&pools)];
     println!("| Pool | ns, 1 thread | 2 | 4 | made, us | bytes |");
     println!("|---|---:|---:|---:|---:|---:|");
-    print("regex's own", own);
+    print("its own", own);
     print("ours", pools);
     print("ratio", std::array::from_fn(|at| pools[at] / own[at]));
 }
